@@ -1,17 +1,17 @@
 -- Statements that are read in turn after a setup and a phase.
-use Rattle.std.proofs.Common.{ℕ, ◌≡◌, ◌+◌, ◌*◌, ◌<◌, ◌≤◌, Bool, true, false, ◌&&◌, ◌||◌, not, ltb, None, List, [], ◌∷◌}
+use Rattle.board_prelude.proofs.Common.{nat_tests, common_steps, find, list_any, AllZip, list_all}
+use Rattle.board_prelude.proofs.Common.{and_from, and_parts, reverse-append, All-head, All-tail, sum_by-cons, Statement}
+use Rattle.board_prelude.proofs.Common.{memory_of_cards, line_feed}
+use Rattle.std.proofs.Common.{ℕ, ◌≡◌, ◌+◌, ◌*◌, ◌<◌, ◌≤◌, Bool, true, false, ◌&&◌, not, None, List, [], ◌∷◌}
 use Rattle.std.proofs.Common.{◌++◌, length, map, filter, sum_by, All, refl, sym, ap, ◌∙◌, inl, inr, append_assoc}
-use Rattle.std.proofs.Common.{append-nil, arith, option_map, decimal}
+use Rattle.std.proofs.Common.{append-nil, arith, option_map}
 use Rattle.std.proofs.lemmas.Bool.{not_from_true}
-use Rattle.board_prelude.proofs.Common.{find, list_any, AllZip, onto_first, list_all, le-ltb, and_from, and_parts}
-use Rattle.board_prelude.proofs.Common.{reverse-append, All-head, All-tail, sum_by-cons, Statement, memory_of_cards}
-use Rattle.board_prelude.proofs.Common.{space, line_feed, event_text}
 use Rattle.script_spec.specs.Common.{lines_of, text_of_lines, Item, Ask, StandsFor, IsEventForm, item_text, reason}
-use Rattle.script_spec.specs.Common.{is_phase, is_statement, is_setup, cards_of, is_misplaced, is_repeated, lacks_setup}
+use Rattle.script_spec.specs.Common.{is_phase, is_statement, cards_of, is_misplaced, is_repeated, lacks_setup}
 use Rattle.script_spec.specs.Common.{is_in_range, is_event_in_range, is_placed, is_event_placed, is_there}
 use Rattle.script_spec.specs.Common.{is_cpus_above, is_card_there, pulses_of, pulses_of_event, passes_limits}
 use Rattle.script_spec.specs.Common.{least_reason, most_bytes, is_skipped, AreRead}
-use Rattle.script_spec.proofs.Common.{lacks, lacks-first, lacks-later, lacks-append, lacks-word, lacks-plain}
+use Rattle.script_spec.proofs.Common.{lacks, lacks-later, lacks-append, lacks-word, lacks-plain}
 use Rattle.script_spec.proofs.Common.{decimal_word, event_plain}
 use Rattle.script_spec.proofs.ReadingExists.{run_of}
 
@@ -21,9 +21,7 @@ line-cut : (line rest : List ℕ) → lacks line_feed line ≡ true
     → lines_of (line ++ line_feed ∷ rest) ≡ line ∷ lines_of rest
 unfolding lines_of
 line-cut [] rest lack = refl
-line-cut (c ∷ line) rest lack =
-    rw (lacks-first line_feed c line lack)
-    (ap (onto_first c) (line-cut line rest (lacks-later line_feed c line lack)))
+line-cut (c ∷ line) rest lack = grind (arith, nat_tests, line-cut line rest (lacks-later line_feed c line lack))
 
 -- the lines of a text are those that it was made of
 pub lines-back : (lines : List (List ℕ)) → list_all (λ line. lacks line_feed line) lines ≡ true
@@ -46,16 +44,11 @@ said statement = item_text (Ask statement)
 
 said-line : (statement : Statement) → lacks line_feed (said statement) ≡ true
 unfolding item_text
-said-line statement =
-    lacks-append line_feed (decimal statement.actor) (space ∷ event_text statement.event)
-    (lacks-word line_feed (decimal statement.actor) refl (decimal_word statement.actor))
-    (lacks-plain line_feed (event_text statement.event) refl (event_plain statement.event))
+said-line statement = simp (lacks-append, lacks-word, decimal_word, lacks-plain, event_plain)
 
 pub said-lines : (statements : List Statement) → list_all (λ line. lacks line_feed line) (map said statements) ≡ true
 said-lines [] = refl
-said-lines (statement ∷ later) =
-    and_from (lacks line_feed (said statement)) (list_all (λ line. lacks line_feed line) (map said later))
-    (said-line statement) (said-lines later)
+said-lines (statement ∷ later) = simp (and_from, said-line, said-lines later)
 
 -- one of two processors can ask it, wherever it stands
 pub record IsFine (statement : Statement) : Type 0 where
@@ -86,31 +79,15 @@ pub record AreAsked (count : ℕ) (before : List Item) : Type 0 where
 
 asked-more : (count : ℕ) (before : List Item) (statement : Statement) → AreAsked count before → IsFine statement
     → AreAsked (count + 1) (Ask statement ∷ before)
-asked-more count before statement has fine = record {
-  begun = has.begun;
-  cpus = has.cpus;
-  statements = omega (arith, has.statements);
-  phases = has.phases;
-  pulses = omega (arith, sum_by-cons pulses_of (Ask statement) before, has.pulses, fine.few);
-  memory = has.memory;
-}
+asked-more count before statement has fine = grind (arith, nat_tests, common_steps, sum_by-cons)
 
 all-false : (a b c d e f g : Bool) → a ≡ false → b ≡ false → c ≡ false → d ≡ false → e ≡ false → f ≡ false → g ≡ false
     → option_map (λ r. r.why) (find (λ r. r.holds)
     (reason 4 a ∷ reason 5 b ∷ reason 6 c ∷ reason 7 d ∷ reason 8 e ∷ reason 9 f ∷ reason 10 g ∷ [])) ≡ None
 all-false a b c d e f g one two three four five six seven = rw (one, two, three, four, five, six, seven) refl
 
-none-of-four : (a b c d : Bool) → a ≡ false → b ≡ false → c ≡ false → d ≡ false → (a || b || c || d) ≡ false
-none-of-four a b c d one two three four = rw (one, two, three, four) refl
-
 within-limits : (count : ℕ) (items : List Item) → AreAsked count items → count ≤ 250_000 → passes_limits items ≡ false
-within-limits count items has few =
-    none-of-four (ltb 250_000 (length (filter is_statement items))) (ltb 1_000 (length (filter is_phase items)))
-    (ltb 100_000_000 (sum_by pulses_of items)) (ltb 0x400_0000 (memory_of_cards (cards_of items)))
-    (le-ltb 250_000 (length (filter is_statement items)) (omega (arith, has.statements, few)))
-    (le-ltb 1_000 (length (filter is_phase items)) has.phases)
-    (le-ltb 100_000_000 (sum_by pulses_of items) (omega (arith, has.pulses, few)))
-    (le-ltb 0x400_0000 (memory_of_cards (cards_of items)) has.memory)
+within-limits count items has few = grind (arith, nat_tests)
 
 placed-after : (before : List Item) (statement : Statement) → list_any is_phase before ≡ true
     → is_misplaced before (Ask statement) ≡ false
@@ -167,7 +144,4 @@ pub asked-run : (statements : List Statement) (before : List Item)
     → run_of (items_asked statements before) ≡ run_of before ++ map Ask statements
 asked-run [] before = sym (append-nil (run_of before))
 asked-run (statement ∷ later) before =
-    asked-run later (Ask statement ∷ before)
-    ∙ ap (λ (items : List Item). items ++ map Ask later)
-    (reverse-append (Ask statement ∷ []) (filter (λ item. not (is_setup item)) before))
-    ∙ append_assoc (run_of before) (Ask statement ∷ []) (map Ask later)
+    grind (arith, nat_tests, common_steps, reverse-append, append_assoc, asked-run later (Ask statement ∷ before))

@@ -1,9 +1,8 @@
 -- The counts of one entry more.
-use Rattle.std.proofs.Common.{ℕ, ◌≡◌, ◌+◌, ◌≤◌, ◌<◌, Bool, cond, List, [], ◌∷◌, length, refl, ap, ◌∙◌, inl, inr, arith}
+use Rattle.board_prelude.proofs.Common.{nat_tests, All-head, All-tail}
+use Rattle.board_prelude.proofs.Common.{Event, Reply, Entry}
+use Rattle.std.proofs.Common.{ℕ, ◌≡◌, ◌+◌, ◌≤◌, ◌<◌, Bool, cond, List, [], ◌∷◌, length, refl, arith}
 use mir.Val.{bool_byte}
-use Rattle.board_prelude.proofs.Common.{cases_Bool, All-head, All-tail, Dram, Shadow, Rom, Card, Device, Config}
-use Rattle.board_prelude.proofs.Common.{Event, Reply, Bus, Entry}
-use Rattle.board_spec.specs.declared.event.Reply.TheVariants.{Parts as InParts}
 use Rattle.make_script.specs.Common.{is_dram, is_shadow, is_smram, is_rom, is_card, is_config, is_device, is_abort}
 use Rattle.make_script.specs.Common.{answers, is_look, count_where, IsCycleReply, KindsAddUp, AreCounts, HasRoomForOne}
 use Rattle.make_script.specs.Common.{most_counted}
@@ -13,23 +12,11 @@ pub count-more :
     (test : Entry → Bool) (entry : Entry) (history : List Entry) (mark : Bool) (n more : ℕ) → mark ≡ test entry
     → n ≡ count_where test history → more ≡ bool_byte mark
     → n + more ≡ count_where test (entry ∷ history)
-count-more test entry history mark n more marked before one =
-    elim (cases_Bool (test entry)) [
-      | inl passes ↦
-          let now : more ≡ 1 = one ∙ ap bool_byte (marked ∙ passes) in
-          rw passes (omega (arith, now, before))
-      | inr fails ↦
-          let now : more ≡ 0 = one ∙ ap bool_byte (marked ∙ fails) in
-          rw fails (omega (arith, now, before))
-    ]
+count-more test entry history mark n more marked before one = grind (arith, nat_tests)
 
 count-below : (test : Entry → Bool) (history : List Entry) → count_where test history ≤ length history
 count-below test [] = omega arith
-count-below test (entry ∷ before) =
-    elim (cases_Bool (test entry)) [
-      | inl passes ↦ rw passes (omega (arith, count-below test before))
-      | inr fails ↦ rw fails (omega (arith, count-below test before))
-    ]
+count-below test (entry ∷ before) = grind (arith, nat_tests, count-below test before)
 
 has-room : (test : Entry → Bool) (history : List Entry) (n : ℕ) → n ≡ count_where test history
     → length history < most_counted → n < most_counted
@@ -58,11 +45,7 @@ one test entry = cond {A = ℕ} (test entry) 1 0
 
 count-one : (test : Entry → Bool) (entry : Entry) (before : List Entry)
     → count_where test (entry ∷ before) ≡ one test entry + count_where test before
-count-one test entry before =
-    elim (cases_Bool (test entry)) [
-      | inl passes ↦ rw passes (omega arith)
-      | inr fails ↦ rw fails (omega arith)
-    ]
+count-one test entry before = grind (arith, nat_tests)
 
 abbrev kinds : Entry → ℕ
 kinds entry =
@@ -73,14 +56,7 @@ kinds entry =
 
 one-kind : (actor seq : ℕ) (event : Event) (reply : Reply) → IsCycleReply reply
     → kinds (record { actor = actor; seq = seq; event = event; reply = reply }) ≡ 1
-one-kind actor seq event (Bus value (Dram row) denial) cycle = refl
-one-kind actor seq event (Bus value (Shadow row) denial) cycle = refl
-one-kind actor seq event (Bus value (Rom off) denial) cycle = refl
-one-kind actor seq event (Bus value (Card dev base off) denial) cycle = refl
-one-kind actor seq event (Bus value (Config reg) denial) cycle = refl
-one-kind actor seq event (Bus value (Device dev) denial) cycle = refl
-one-kind actor seq event (InParts parts value) cycle = absurd cycle
-one-kind actor seq event _ cycle = refl
+one-kind actor seq event reply cycle = grind (arith, nat_tests)
 
 pub kinds-add-up : KindsAddUp
 kinds-add-up [] all = refl

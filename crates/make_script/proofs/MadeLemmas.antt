@@ -1,14 +1,14 @@
 -- The text that is made is that of the made script.
-use Rattle.std.proofs.Common.{ℕ, zero, suc, ◌≡◌, ◌+◌, ◌*◌, ◌%◌, ◌/◌, ◌<◌, ◌≤◌, true, false, List, [], ◌∷◌, ◌++◌, length}
+use Rattle.board_prelude.proofs.Common.{nat_tests, find, list_all, digits, and_from, map-append}
+use Rattle.board_prelude.proofs.Common.{length-append, All-nil, All-cons, length-map-range_with_len, IsCardList}
+use Rattle.board_prelude.proofs.Common.{IsRomSize, IsDisk, MemoryBase, IoBase, line_feed, event_text, Statement}
+use Rattle.std.proofs.Common.{ℕ, zero, suc, ◌≡◌, ◌*◌, ◌%◌, ◌/◌, ◌<◌, ◌≤◌, true, false, List, [], ◌∷◌, ◌++◌, length}
 use Rattle.std.proofs.Common.{map, Some, None, refl, sym, ap, ◌∙◌, inl, inr, append_assoc, append-nil, arith, codes}
-use Rattle.board_prelude.proofs.Common.{find, list_any, list_all, digits, and_from, map-append, length-append, All-nil}
-use Rattle.board_prelude.proofs.Common.{All-cons, length-map-range_with_len, IsCardList, IsRomSize, IsDisk, MemoryBase}
-use Rattle.board_prelude.proofs.Common.{IoBase, line_feed, event_text, Statement}
 use Rattle.std.proofs.lemmas.List.Folds.{list_all-append}
 use Rattle.std.proofs.lemmas.List.Sorted.{IsPermutation-reverse}
-use Rattle.script_spec.specs.Common.{lines_of, text_of_lines, Item, SetCpus, SetMemory, SetRom, SetDisk, FitCard}
+use Rattle.script_spec.specs.Common.{lines_of, Item, SetCpus, SetMemory, SetRom, SetDisk, FitCard}
 use Rattle.script_spec.specs.Common.{BeginPhase, Ask, IsBaseForm, IsForm, Says, item_text, is_cpus, is_memory, is_rom}
-use Rattle.script_spec.specs.Common.{is_disk, is_cpus_above, cards_of, lacks_setup, least_reason, most_bytes}
+use Rattle.script_spec.specs.Common.{is_disk, cards_of, lacks_setup, least_reason, most_bytes}
 use Rattle.script_spec.specs.Common.{is_skipped, IsGoodLine, AreRead, IsSaidBy}
 use Rattle.script_spec.proofs.Common.{lacks, scripts_are_in_range}
 use Rattle.make_script.specs.Common.{setup_lines, opening_lines, round_lines, lines_of_rounds, make_lines, make_text}
@@ -32,18 +32,10 @@ round-said i = refl
 rounds-said : (n : ℕ) → lines_of_rounds n ≡ map said (statements_of_rounds n)
 unfolding lines_of_rounds statements_of_rounds
 rounds-said zero = refl
-rounds-said (suc i) =
-    ap (λ (ls : List (List ℕ)). ls ++ round_lines i) (rounds-said i)
-    ∙ ap (λ (ls : List (List ℕ)). map said (statements_of_rounds i) ++ ls) (round-said i)
-    ∙ sym (map-append said (statements_of_rounds i) (round_statements i))
+rounds-said (suc i) = simp (said, round-said, map-append, rounds-said i)
 
 made-lines : (n : ℕ) → make_lines n ≡ setup_lines ++ map said (made_statements n)
-made-lines n =
-    append_assoc setup_lines opening_lines (lines_of_rounds n)
-    ∙ ap (λ (ls : List (List ℕ)). setup_lines ++ (ls ++ lines_of_rounds n)) opening-said
-    ∙ ap (λ (ls : List (List ℕ)). setup_lines ++ (map said (map (asks 0) opening_events) ++ ls)) (rounds-said n)
-    ∙ ap (λ (ls : List (List ℕ)). setup_lines ++ ls)
-    (sym (map-append said (map (asks 0) opening_events) (statements_of_rounds n)))
+made-lines n = simp (append_assoc, opening-said, said, rounds-said, map-append)
 
 setup-lines : list_all (λ line. lacks line_feed line) setup_lines ≡ true
 unfolding setup_lines
@@ -51,14 +43,7 @@ setup-lines = refl
 
 made-back : (n : ℕ) → lines_of (make_text n) ≡ setup_lines ++ map said (made_statements n)
 unfolding make_text
-made-back n =
-    let lines : List (List ℕ) = setup_lines ++ map said (made_statements n) in
-    ap (λ (ls : List (List ℕ)). lines_of (text_of_lines ls)) (made-lines n)
-    ∙ lines-back lines
-    (list_all-append (λ line. lacks line_feed line) setup_lines (map said (made_statements n))
-    ∙ and_from (list_all (λ line. lacks line_feed line) setup_lines)
-    (list_all (λ line. lacks line_feed line) (map said (made_statements n))) setup-lines
-    (said-lines (made_statements n)))
+made-back n = simp (said, made-lines, lines-back, list_all-append, and_from, setup-lines, said-lines)
 
 -- ---- the setup
 
@@ -73,26 +58,13 @@ setup_items =
     BeginPhase ∷ FitCard plain_card ∷ FitCard vga_card ∷ SetDisk (codes "make.disk") ∷ SetRom (codes "make.rom")
     ∷ SetMemory 16 ∷ SetCpus 2 ∷ []
 
-cpus-above : (actor : ℕ) → actor < 2 → list_any (is_cpus_above actor) setup_items ≡ true
-cpus-above zero few = refl
-cpus-above (suc zero) few = refl
-cpus-above (suc (suc n)) few = let none : ⊥ = omega (arith, few) in absurd none
-
 setup-asked : AreAsked 0 setup_items
-setup-asked = record {
-  begun = refl;
-  cpus = cpus-above;
-  statements = refl;
-  phases = omega arith;
-  pulses = omega arith;
-  memory = omega arith;
-}
+setup-asked = grind (arith, nat_tests)
 
 -- a setup line whose item is known
 good : (before : List Item) (line : List ℕ) (item : Item) → length line ≤ most_bytes → is_skipped line ≡ false
     → IsForm 1 item → Says line item → least_reason before item ≡ None → IsGoodLine 1 before line item
-good before line item short read form says none =
-    record { short = short; read = read; has = record { form = form; says = says }; none = none }
+good before line item short read form says none = grind (arith, nat_tests)
 
 setup-read : (later : List (List ℕ)) (items : List Item) → AreRead 1 setup_items later items
     → AreRead 1 [] (after_first later) items
@@ -155,15 +127,10 @@ round-count i = refl
 rounds-count : (n : ℕ) → length (statements_of_rounds n) ≡ 11 * n
 unfolding statements_of_rounds
 rounds-count zero = refl
-rounds-count (suc i) =
-    let joined : length (statements_of_rounds i ++ round_statements i)
-    ≡ length (statements_of_rounds i) + length (round_statements i) =
-    length-append (statements_of_rounds i) (round_statements i) in
-    omega (arith, joined, rounds-count i, round-count i)
+rounds-count (suc i) = grind (arith, nat_tests, length-append, round-count, rounds-count i)
 
 pub statement-count : StatementCount
-statement-count n =
-    omega (arith, length-append (map (asks 0) opening_events) (statements_of_rounds n), opening-count, rounds-count n)
+statement-count n = grind (arith, nat_tests, length-append, opening-count, rounds-count)
 
 said-by : (n : ℕ) → IsSaidBy (made_script n) (items_asked (made_statements n) setup_items)
 unfolding made_script
@@ -223,11 +190,4 @@ unfolding made_script
 made-cards = (made-is-in-range 0 (omega arith)).cards
 
 pub made-setup-fits : MadeSetupFits
-made-setup-fits = record {
-  some_memory = omega arith;
-  most_memory = omega arith;
-  cards = made-cards;
-  windows = omega arith;
-  rom = rom-fits;
-  disk = disk-fits;
-}
+made-setup-fits = grind (arith, nat_tests, made-cards, rom-fits, disk-fits)

@@ -1,7 +1,7 @@
 -- The lines of one round more.
+use Rattle.board_prelude.proofs.Common.{nat_tests, flat_map-append, line_feed}
 use Rattle.std.proofs.Common.{ℕ, suc, ◌≡◌, ◌+◌, List, [], ◌∷◌, ◌++◌, append-nil, sym, ap, ◌∙◌, append_assoc, arith}
 use Rattle.std.proofs.Common.{Result, OnOk}
-use Rattle.board_prelude.proofs.Common.{flat_map-append, line_feed}
 use Rattle.logs_and_maps.proofs.Joined.{appended_more, appended_twice}
 use Rattle.script_spec.specs.Lines.{text_of_lines}
 use Rattle.make_script.specs.MakeText.{setup_lines, opening_lines, round_lines, lines_of_rounds, make_lines}
@@ -32,8 +32,7 @@ text-more i old text new so_far round =
 pub text-begun : (text : List ℕ) → text ≡ text_of_lines (setup_lines ++ opening_lines)
     → text ≡ text_of_lines (make_lines 0)
 unfolding lines_of_rounds
-text-begun text begun =
-    begun ∙ ap (λ (ls : List (List ℕ)). text_of_lines ls) (sym (append-nil (setup_lines ++ opening_lines)))
+text-begun text begun = grind (arith, nat_tests, append-nil)
 
 -- ---- one round, in four pieces
 
@@ -45,6 +44,4 @@ pub appended_pieces : {T E : Type 0} (r : Result T E) (old a b c rest one two th
     → two ≡ one ++ b → three ≡ two ++ c → OnOk r (new ≡ three ++ rest) → whole ≡ a ++ (b ++ (c ++ rest))
     → OnOk r (new ≡ old ++ whole)
 appended_pieces r old a b c rest one two three new whole first second third last pieces =
-    appended_twice r old (a ++ b ++ c) three new rest whole
-    (appended_more old (a ++ b) two three c (appended_more old a one two b first second) third) last
-    (pieces ∙ in_pieces a b c rest)
+    grind (arith, nat_tests, appended_twice, appended_more, in_pieces)

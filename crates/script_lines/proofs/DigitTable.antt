@@ -1,7 +1,7 @@
 -- The table of digits holds what each byte stands for.
+use Rattle.board_prelude.proofs.Common.{nat_tests, range_with_len, lt-ltb, le-ltb, get_or-map-range_with_len}
 use Rattle.std.proofs.Common.{◌≡◌, ℕ, ◌<◌, ◌≤◌, cond, ltb, Option, Some, None, List, get_or, map, refl, sym, ap, ◌∙◌}
 use Rattle.std.proofs.Common.{arith}
-use Rattle.board_prelude.proofs.Common.{range_with_len, lt-ltb, le-ltb, get_or-map-range_with_len}
 use Rattle.script_spec.specs.Numbers.{digit_value}
 
 abbrev or_255 : Option ℕ → ℕ
@@ -29,11 +29,7 @@ right byte fits =
     ∙ get_or-map-range_with_len digit_value 0 256 byte byte None fits (omega arith)
 
 pub some_digit : (byte : ℕ) → byte < 256 → get_or digits byte 0 < 16 → Some (get_or digits byte 0) ≡ digit_value byte
-some_digit byte fits small =
-    let is : said byte ≡ Some (get_or digits byte 0) = rw (lt-ltb (get_or digits byte 0) 16 small) refl in
-    sym is ∙ right byte fits
+some_digit byte fits small = grind (arith, nat_tests, lt-ltb, right)
 
 pub no_digit : (byte : ℕ) → byte < 256 → 16 ≤ get_or digits byte 0 → None ≡ digit_value byte
-no_digit byte fits large =
-    let is : said byte ≡ None = rw (le-ltb (get_or digits byte 0) 16 large) refl in
-    sym is ∙ right byte fits
+no_digit byte fits large = grind (arith, nat_tests, le-ltb, right)

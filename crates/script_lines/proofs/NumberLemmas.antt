@@ -1,7 +1,7 @@
 -- Digits, one after the other.
+use Rattle.board_prelude.proofs.Common.{nat_tests, drop_more, drop_all, pow-le-pow_right, option_and_then}
 use Rattle.std.proofs.Common.{◌≡◌, ℕ, ◌+◌, ◌*◌, ◌^◌, ◌<◌, ◌≤◌, Option, Some, None, List, length, get_or, drop, refl}
-use Rattle.std.proofs.Common.{sym, ◌∙◌, arith}
-use Rattle.board_prelude.proofs.Common.{drop_more, drop_all, pow-le-pow_right, option_and_then}
+use Rattle.std.proofs.Common.{arith}
 use Rattle.std.proofs.lemmas.Nat.{mul-add-lt}
 use Rattle.std.proofs.lemmas.Grind.{pow_more}
 use Rattle.script_spec.specs.Numbers.{parse_digit, number_after}
@@ -32,21 +32,14 @@ pub goes_on : (base high digit i : ℕ) (field : List ℕ) (total : Option ℕ) 
     → Some digit ≡ parse_digit base (get_or field i 0)
     → number_after base high (drop i field) ≡ total
     → number_after base (high * base + digit) (drop (i + 1) field) ≡ total
-goes_on base high digit i field total lt is so_far =
-    let one : number_after base high (drop i field) ≡ number_after base (high * base + digit) (drop (i + 1) field) =
-    step base high i field lt ∙ rw (← is) refl in
-    sym one ∙ so_far
+goes_on base high digit i field total lt is so_far = grind (arith, nat_tests, step)
 
 pub stops : (base high i : ℕ) (field : List ℕ) (total : Option ℕ) → i < length field
     → None ≡ parse_digit base (get_or field i 0)
     → number_after base high (drop i field) ≡ total → None ≡ total
-stops base high i field total lt is so_far =
-    let one : number_after base high (drop i field) ≡ None = step base high i field lt ∙ rw (← is) refl in
-    sym one ∙ so_far
+stops base high i field total lt is so_far = grind (arith, nat_tests, step)
 
 pub ends : (base high i : ℕ) (field : List ℕ) (total : Option ℕ) → length field ≤ i
     → number_after base high (drop i field) ≡ total → Some high ≡ total
 unfolding number_after
-ends base high i field total le so_far =
-    let one : number_after base high (drop i field) ≡ Some high = rw (drop_all i field le) refl in
-    sym one ∙ so_far
+ends base high i field total le so_far = grind (arith, nat_tests, drop_all)

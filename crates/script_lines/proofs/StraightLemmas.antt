@@ -1,13 +1,13 @@
 -- A statement that is read straight from the bytes of its line is the one that its fields say.
-use Rattle.std.proofs.Common.{◌≡◌, ℕ, ◌+◌, ◌*◌, false, eqb, Option, Some, None, List, [], ◌∷◌, ◌++◌, length, All}
-use Rattle.std.proofs.Common.{refl, sym, ap, subst, ◌∙◌, IfSome, MatchOption}
-use Rattle.board_prelude.proofs.Common.{option_map, ne_eqb, All-nil, All-cons, Event, Width, Kind, Read, Fetch}
-use Rattle.board_prelude.proofs.Common.{bytes_of}
+use Rattle.board_prelude.proofs.Common.{nat_tests, option_map, All-nil, All-cons, Event, Width, Kind, Read}
+use Rattle.board_prelude.proofs.Common.{Fetch, bytes_of}
+use Rattle.std.proofs.Common.{arith, ◌≡◌, ℕ, ◌+◌, ◌*◌, false, eqb, Option, Some, None, List, [], ◌∷◌, ◌++◌, All}
+use Rattle.std.proofs.Common.{sym, ap, ◌∙◌, IfSome, MatchOption}
 use Rattle.std.proofs.lemmas.List.Splits.{slice_split_none, slice_split_at}
 use Rattle.script_spec.specs.Common.{HasForm, fields_of, parse_size, parse_width, parse_kind, parse_hex, parse_decimal}
-use Rattle.script_spec.specs.Common.{parse_digit, parse_digits, number_after, parse_smm, parse_read}
-use Rattle.script_spec.specs.Common.{parse_write, parse_in, parse_out, parse_look, ask, is_skipped}
-use Rattle.script_spec.specs.Common.{parse_by_verb, parse_statement_words, parse_item}
+use Rattle.script_spec.specs.Common.{parse_digit, number_after, parse_smm, parse_read, parse_write}
+use Rattle.script_spec.specs.Common.{parse_in, parse_out, parse_look, ask, is_skipped, parse_by_verb}
+use Rattle.script_spec.specs.Common.{parse_statement_words, parse_item}
 use Rattle.script_spec.specs.Events.{read_event, write_event, in_event, out_event, look_event}
 use Rattle.script_spec.proofs.Chains.{guarded, then_said}
 use Rattle.script_spec.proofs.NumberTexts.{decimal_read}
@@ -25,8 +25,7 @@ pub none_some : {A : Type 0} (x : A) → ◌≡◌ {A = Option A} None (Some x) 
 none_some x e = cc
 
 digit_lacks : (base byte digit : ℕ) → parse_digit base byte ≡ Some digit → is_space byte ≡ false
-digit_lacks base byte digit e =
-    ne_eqb byte 32 (λ is. none_some digit (subst (λ (b : ℕ). parse_digit base b ≡ Some digit) is e))
+digit_lacks base byte digit e = grind (arith, nat_tests)
 
 number_lacks : (base high n : ℕ) (field : List ℕ) → number_after base high field ≡ Some n → IsField field
 unfolding number_after
@@ -37,49 +36,36 @@ number_lacks base high n (byte ∷ rest) e =
     (number_lacks base (high * base + k.0) n rest k.2)
 
 hex_lacks : (digits n : ℕ) (field : List ℕ) → parse_hex digits field ≡ Some n → IsField field
-hex_lacks digits n field e =
-    number_lacks 16 0 n field (guarded (eqb (length field) digits) (parse_digits 16 field) n e).1
+hex_lacks digits n field e = grind (arith, nat_tests, number_lacks, guarded)
 
 size_lacks : (version size bytes : ℕ) → parse_size version (size ∷ []) ≡ Some bytes → is_space size ≡ false
-size_lacks version size bytes e =
-    ne_eqb size 32 (λ is. none_some bytes (subst (λ (b : ℕ). parse_size version (b ∷ []) ≡ Some bytes) is e))
+size_lacks version size bytes e = grind (arith, nat_tests)
 
 width_lacks : (byte : ℕ) (width : Width) → parse_width (byte ∷ []) ≡ Some width → is_space byte ≡ false
-width_lacks byte width e =
-    ne_eqb byte 32 (λ is. none_some width (subst (λ (b : ℕ). parse_width (b ∷ []) ≡ Some width) is e))
+width_lacks byte width e = grind (arith, nat_tests)
 
 kind_lacks : (byte : ℕ) (kind : Kind) → parse_kind (byte ∷ []) ≡ Some kind → is_space byte ≡ false
-kind_lacks byte kind e =
-    ne_eqb byte 32 (λ is. none_some kind (subst (λ (b : ℕ). parse_kind (b ∷ []) ≡ Some kind) is e))
+kind_lacks byte kind e = grind (arith, nat_tests)
 
 decimal_lacks : (byte n : ℕ) → parse_decimal (byte ∷ []) ≡ Some n → is_space byte ≡ false
 unfolding number_after
-decimal_lacks byte n e =
-    ne_eqb byte 32 (λ is. none_some n (subst (λ (b : ℕ). parse_decimal (b ∷ []) ≡ Some n) is e))
+decimal_lacks byte n e = grind (arith, nat_tests)
 
 -- ---- fields
 
 one_byte : (byte : ℕ) (rest : List ℕ) → is_space byte ≡ false
     → fields_of (byte ∷ 32 ∷ rest) ≡ (byte ∷ []) ∷ fields_of rest
-one_byte byte rest lacks =
-    slice_split_at is_space (byte ∷ []) 32 rest
-    (All-cons (λ byte. is_space byte ≡ false) byte [] lacks (All-nil (λ byte. is_space byte ≡ false))) refl
+one_byte byte rest lacks = grind (arith, nat_tests)
 
 last_field : (byte : ℕ) (field : List ℕ) → is_space byte ≡ false → IsField field
     → fields_of (byte ∷ 32 ∷ field) ≡ (byte ∷ []) ∷ field ∷ []
-last_field byte field lacks whole =
-    one_byte byte field lacks
-    ∙ ap (λ (fields : List (List ℕ)). (byte ∷ []) ∷ fields) (slice_split_none is_space field whole)
+last_field byte field lacks whole = simp (one_byte, slice_split_none, is_space)
 
 last_fields : (byte : ℕ) (text first second : List ℕ) → text ≡ first ++ 32 ∷ second → is_space byte ≡ false
     → IsField first
     → IsField second → fields_of (byte ∷ 32 ∷ text) ≡ (byte ∷ []) ∷ first ∷ second ∷ []
 last_fields byte text first second is lacks one two =
-    one_byte byte text lacks
-    ∙ ap (λ (fields : List (List ℕ)). (byte ∷ []) ∷ fields)
-    (ap fields_of is
-    ∙ slice_split_at is_space first 32 second one refl
-    ∙ ap (λ (fields : List (List ℕ)). first ∷ fields) (slice_split_none is_space second two))
+    grind (arith, nat_tests, one_byte, slice_split_at, is_space, slice_split_none)
 
 -- ---- events, as what was found says them
 
@@ -87,13 +73,8 @@ pub access_straight : (version size : ℕ) (kind : Kind) (text addr : List ℕ) 
     → text ≡ size ∷ 32 ∷ addr → found ≡ read_event version kind (size ∷ []) addr false
     → IfSome found (λ event. parse_read version kind (fields_of text) ≡ Some event)
 unfolding parse_read parse_smm read_event
-access_straight version size kind text addr None is made = tt
-access_straight version size kind text addr (Some event) is made =
-    let b = then_said (parse_size version (size ∷ [])) _ event (sym made) in
-    let a = then_said (parse_hex 8 addr) _ event b.2 in
-    ap (λ (t : List ℕ). parse_read version kind (fields_of t)) is
-    ∙ ap (parse_read version kind) (last_field size addr (size_lacks version size b.0 b.1) (hex_lacks 8 a.0 addr a.1))
-    ∙ sym made
+access_straight version size kind text addr found is made =
+    grind (arith, nat_tests, then_said, last_field, size_lacks, hex_lacks)
 
 write_read : (version size : ℕ) (text fields addr value : List ℕ) (event : Event) → text ≡ size ∷ 32 ∷ fields
     → fields ≡ addr ++ 32 ∷ value → Some event ≡ write_event version (size ∷ []) addr value false
@@ -112,12 +93,7 @@ write_read version size text fields addr value event is cut made =
 in_read : (byte : ℕ) (text port : List ℕ) (event : Event) → text ≡ byte ∷ 32 ∷ port
     → Some event ≡ in_event (byte ∷ []) port → parse_in (fields_of text) ≡ Some event
 unfolding parse_in in_event
-in_read byte text port event is made =
-    let w = then_said (parse_width (byte ∷ [])) _ event (sym made) in
-    let p = then_said (parse_hex 4 port) _ event w.2 in
-    ap (λ (t : List ℕ). parse_in (fields_of t)) is
-    ∙ ap parse_in (last_field byte port (width_lacks byte w.0 w.1) (hex_lacks 4 p.0 port p.1))
-    ∙ sym made
+in_read byte text port event is made = grind (arith, nat_tests, then_said, last_field, width_lacks, hex_lacks)
 
 out_read : (byte : ℕ) (text fields port value : List ℕ) (event : Event) → text ≡ byte ∷ 32 ∷ fields
     → fields ≡ port ++ 32 ∷ value → Some event ≡ out_event (byte ∷ []) port value
@@ -136,40 +112,30 @@ out_read byte text fields port value event is cut made =
 look_read : (byte : ℕ) (text addr : List ℕ) (event : Event) → text ≡ byte ∷ 32 ∷ addr
     → Some event ≡ look_event (byte ∷ []) addr false → parse_look (fields_of text) ≡ Some event
 unfolding parse_look parse_smm look_event
-look_read byte text addr event is made =
-    let k = then_said (parse_kind (byte ∷ [])) _ event (sym made) in
-    let a = then_said (parse_hex 8 addr) _ event k.2 in
-    ap (λ (t : List ℕ). parse_look (fields_of t)) is
-    ∙ ap parse_look (last_field byte addr (kind_lacks byte k.0 k.1) (hex_lacks 8 a.0 addr a.1))
-    ∙ sym made
+look_read byte text addr event is made = grind (arith, nat_tests, then_said, last_field, kind_lacks, hex_lacks)
 
 -- ---- verbs
 
 pub matched : {A : Type 0} (N : Type 0) (P : A → Type 0) (found : Option A) → MatchOption found N P → IfSome found P
-matched N P None m = tt
-matched N P (Some x) m = m
+matched N P found m = grind (arith, nat_tests)
 
 asks_read : (version : ℕ) (words text : List ℕ) (event : Event) → words ≡ 114 ∷ 32 ∷ text
     → parse_read version Read (fields_of text) ≡ Some event → Asks version words event
 unfolding parse_statement_words parse_by_verb
-asks_read version words text event is said actor =
-    ap (λ (t : List ℕ). parse_statement_words version actor (fields_of t)) is ∙ ap (option_map (ask actor)) said
+asks_read version words text event is said actor = grind (arith, nat_tests)
 
 pub each_read : (version : ℕ) (words text : List ℕ) (found : Option Event) → words ≡ 114 ∷ 32 ∷ text
     → IfSome found (λ event. parse_read version Read (fields_of text) ≡ Some event) → IfSome found (Asks version words)
-each_read version words text None is said = tt
-each_read version words text (Some event) is said = asks_read version words text event is said
+each_read version words text found is said = grind (arith, nat_tests, asks_read)
 
 asks_fetch : (version : ℕ) (words text : List ℕ) (event : Event) → words ≡ 102 ∷ 32 ∷ text
     → parse_read version Fetch (fields_of text) ≡ Some event → Asks version words event
 unfolding parse_statement_words parse_by_verb
-asks_fetch version words text event is said actor =
-    ap (λ (t : List ℕ). parse_statement_words version actor (fields_of t)) is ∙ ap (option_map (ask actor)) said
+asks_fetch version words text event is said actor = grind (arith, nat_tests)
 
 pub each_fetch : (version : ℕ) (words text : List ℕ) (found : Option Event) → words ≡ 102 ∷ 32 ∷ text
     → IfSome found (λ event. parse_read version Fetch (fields_of text) ≡ Some event) → IfSome found (Asks version words)
-each_fetch version words text None is said = tt
-each_fetch version words text (Some event) is said = asks_fetch version words text event is said
+each_fetch version words text found is said = grind (arith, nat_tests, asks_fetch)
 
 pub write_straight : (version size : ℕ) (words text fields addr value : List ℕ) (found : Option Event)
     → words ≡ 119 ∷ 32 ∷ text → text ≡ size ∷ 32 ∷ fields → fields ≡ addr ++ 32 ∷ value
@@ -184,10 +150,7 @@ pub in_straight : (version byte : ℕ) (words text port : List ℕ) (found : Opt
     → words ≡ 105 ∷ 110 ∷ 32 ∷ text → text ≡ byte ∷ 32 ∷ port → found ≡ in_event (byte ∷ []) port
     → IfSome found (Asks version words)
 unfolding parse_statement_words parse_by_verb
-in_straight version byte words text port None verb is made = tt
-in_straight version byte words text port (Some event) verb is made = λ actor.
-    ap (λ (t : List ℕ). parse_statement_words version actor (fields_of t)) verb
-    ∙ ap (option_map (ask actor)) (in_read byte text port event is made)
+in_straight version byte words text port found verb is made = grind (arith, nat_tests, in_read)
 
 pub out_straight : (version byte : ℕ) (words text fields port value : List ℕ) (found : Option Event)
     → words ≡ 111 ∷ 117 ∷ 116 ∷ 32 ∷ text → text ≡ byte ∷ 32 ∷ fields → fields ≡ port ++ 32 ∷ value
@@ -202,10 +165,7 @@ pub look_straight : (version byte : ℕ) (words text addr : List ℕ) (found : O
     → words ≡ 108 ∷ 111 ∷ 111 ∷ 107 ∷ 32 ∷ text → text ≡ byte ∷ 32 ∷ addr → found ≡ look_event (byte ∷ []) addr false
     → IfSome found (Asks version words)
 unfolding parse_statement_words parse_by_verb
-look_straight version byte words text addr None verb is made = tt
-look_straight version byte words text addr (Some event) verb is made = λ actor.
-    ap (λ (t : List ℕ). parse_statement_words version actor (fields_of t)) verb
-    ∙ ap (option_map (ask actor)) (look_read byte text addr event is made)
+look_straight version byte words text addr found verb is made = grind (arith, nat_tests, look_read)
 
 -- ---- the line
 
@@ -221,8 +181,7 @@ line_straight version digit actor line words event cut said asks =
 
 decimal_said : (byte n : ℕ) → parse_decimal (byte ∷ []) ≡ Some n → eqb byte 0x23 ≡ false
 unfolding number_after
-decimal_said byte n e =
-    ne_eqb byte 0x23 (λ is. none_some n (subst (λ (b : ℕ). parse_decimal (b ∷ []) ≡ Some n) is e))
+decimal_said byte n e = grind (arith, nat_tests)
 
 -- it is neither empty nor a comment
 pub line_said : (digit actor : ℕ) (line words : List ℕ) → line ≡ digit ∷ 32 ∷ words

@@ -1,9 +1,8 @@
 -- What digits add up to is the number that they make.
-use Rattle.std.proofs.Common.{◌≡◌, ℕ, ◌+◌, ◌*◌, ◌^◌, ◌<◌, ◌≤◌, Option, Some, None, cond, ltb, List, [], ◌∷◌, get_or}
+use Rattle.board_prelude.proofs.Common.{nat_tests, option_and_then, range_with_len, get_or-map-range_with_len}
+use Rattle.std.proofs.Common.{◌≡◌, ℕ, ◌+◌, ◌*◌, ◌^◌, ◌<◌, ◌≤◌, Option, Some, None, List, [], ◌∷◌, get_or}
 use Rattle.std.proofs.Common.{map, refl, sym, ap, subst, ◌∙◌, arith}
-use Rattle.board_prelude.proofs.Common.{option_and_then, ltb-true, range_with_len, get_or-map-range_with_len}
-use Rattle.script_spec.specs.Numbers.{digit_value, parse_digit, parse_digits, number_after}
-use Rattle.script_spec.proofs.Chains.{some_is, guarded, then_said}
+use Rattle.script_spec.specs.Numbers.{parse_digit, parse_digits, number_after}
 use Rattle.script_lines.specs.Sums.{IsSum, sum_after, summand_of, value_or_more}
 use Rattle.script_lines.specs.declared.numbers.TheConstants.{SUMMANDS}
 
@@ -23,19 +22,11 @@ abbrev IsDigit : Option ℕ → Type 0
 IsDigit None = Unit {0}
 IsDigit (Some digit) = digit < 16
 
-digit_small : (byte digit : ℕ) → parse_digit 16 byte ≡ Some digit → digit < 16
-digit_small byte digit e =
-    let s = then_said (digit_value byte) (λ value. cond (ltb value 16) (Some value) None) digit e in
-    let g = guarded (ltb s.0 16) (Some s.0) digit s.2 in
-    subst (λ (value : ℕ). value < 16) (some_is s.0 digit g.1) (ltb-true s.0 16 g.0)
-
 is_digit : (byte : ℕ) (said : Option ℕ) → parse_digit 16 byte ≡ said → IsDigit said
-is_digit byte None e = tt
-is_digit byte (Some digit) e = digit_small byte digit e
+is_digit byte said e = grind (arith, nat_tests)
 
 most : (said : Option ℕ) → IsDigit said → value_or_more said ≤ 2 ^ 32
-most None small = omega arith
-most (Some digit) small = let le : digit ≤ 2 ^ 32 = omega (arith, small) in le
+most said small = grind (arith, nat_tests)
 
 pub summand_most : (byte : ℕ) → summand_of byte ≤ 2 ^ 32
 summand_most byte = most (parse_digit 16 byte) (is_digit byte (parse_digit 16 byte) refl)
@@ -48,14 +39,7 @@ longer high digit = option_and_then (λ h. option_and_then (λ d. Some (h * 16 +
 more :
     (limit sum : ℕ) (high digit : Option ℕ) → limit * 16 ≤ 2 ^ 32 → IsDigit digit → IsSum limit high sum
     → IsSum (limit * 16) (longer high digit) (sum * 16 + value_or_more digit)
-more limit sum None digit few small is =
-    let le : limit * 16 ≤ sum * 16 + value_or_more digit = omega (arith, is) in le
-more limit sum (Some high) None few small is =
-    let le : limit * 16 ≤ sum * 16 + 2 ^ 32 = omega (arith, few) in le
-more limit sum (Some high) (Some digit) few small is =
-    let same : sum * 16 + digit ≡ high * 16 + digit = omega (arith, is.0) in
-    let lt : high * 16 + digit < limit * 16 = omega (arith, is.1, small) in
-    (same, lt)
+more limit sum high digit few small is = grind (arith, nat_tests)
 
 -- the number that digits make after those of a number, if that is one
 abbrev after : Option ℕ → List ℕ → Option ℕ
@@ -65,9 +49,7 @@ first_goes :
     (high digit : Option ℕ) (byte : ℕ) (field : List ℕ) → parse_digit 16 byte ≡ digit
     → after high (byte ∷ field) ≡ after (longer high digit) field
 unfolding number_after
-first_goes None digit byte field e = refl
-first_goes (Some high) None byte field e = rw e refl
-first_goes (Some high) (Some digit) byte field e = rw e refl
+first_goes high digit byte field e = grind (arith, nat_tests)
 
 step :
     (limit sum total whole : ℕ) (high : Option ℕ) (byte : ℕ) (field : List ℕ) → limit * 16 ≤ 2 ^ 32
@@ -75,16 +57,11 @@ step :
     → ((carried : Option ℕ) → IsSum (limit * 16) carried (sum * 16 + summand_of byte)
     → IsSum total (after carried field) whole)
     → IsSum total (after high (byte ∷ field)) whole
-step limit sum total whole high byte field few is go =
-    subst (λ (number : Option ℕ). IsSum total number whole)
-    (sym (first_goes high (parse_digit 16 byte) byte field refl))
-    (go (longer high (parse_digit 16 byte))
-    (more limit sum high (parse_digit 16 byte) few (is_digit byte (parse_digit 16 byte) refl) is))
+step limit sum total whole high byte field few is go = grind (arith, nat_tests, first_goes, more, is_digit)
 
 none_left : (carried : Option ℕ) → after carried [] ≡ carried
 unfolding number_after
-none_left None = refl
-none_left (Some number) = refl
+none_left carried = grind (arith, nat_tests)
 
 done : (total whole : ℕ) (carried : Option ℕ) → IsSum total carried whole → IsSum total (after carried []) whole
 done total whole carried is = subst (λ (number : Option ℕ). IsSum total number whole) (sym (none_left carried)) is
@@ -134,11 +111,7 @@ two_added a b x y is_x is_y =
 pub four_added :
     (a b c d x y z w : ℕ) → x ≡ summand_of a → y ≡ summand_of b → z ≡ summand_of c → w ≡ summand_of d
     → (x * 16 + y) * 0x100 + (z * 16 + w) ≡ sum_after 0 (a ∷ b ∷ c ∷ d ∷ [])
-four_added a b c d x y z w is_x is_y is_z is_w =
-    let flat : (x * 16 + y) * 0x100 + (z * 16 + w) ≡ (((0 * 16 + x) * 16 + y) * 16 + z) * 16 + w = omega arith in
-    let same : (((0 * 16 + x) * 16 + y) * 16 + z) * 16 + w ≡ sum_after 0 (a ∷ b ∷ c ∷ d ∷ []) =
-    rw (is_x, is_y, is_z, is_w) refl in
-    flat ∙ same
+four_added a b c d x y z w is_x is_y is_z is_w = grind (arith, nat_tests)
 
 pub four_is :
     (a b c d sum : ℕ) → sum ≡ sum_after 0 (a ∷ b ∷ c ∷ d ∷ [])
@@ -164,9 +137,7 @@ eight_is a b c d e f g h high low is_high is_low =
 -- ---- where the sum is below the limit, and where not
 
 pub within : (limit sum : ℕ) (number : Option ℕ) → sum < limit → IsSum limit number sum → Some sum ≡ number
-within limit sum None lt is = absurd (omega (arith, lt, is))
-within limit sum (Some number) lt is = ap (λ (n : ℕ). Some n) is.0
+within limit sum number lt is = grind (arith, nat_tests)
 
 pub past : (limit sum : ℕ) (number : Option ℕ) → limit ≤ sum → IsSum limit number sum → None ≡ number
-past limit sum None le is = refl
-past limit sum (Some number) le is = absurd (omega (arith, le, is.0, is.1))
+past limit sum number le is = grind (arith, nat_tests)

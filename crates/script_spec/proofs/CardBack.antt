@@ -8,18 +8,14 @@ use Rattle.script_spec.proofs.NumberBack.{decimal_back}
 use Rattle.script_spec.proofs.ItemWords.{kind_word, base_word, rom_words, tail_words}
 use Rattle.script_spec.proofs.CardTexts.{fresh}
 
-base_back : (base : Base) → IsBaseForm base → parse_base (base_word base) ≡ Some base
-unfolding parse_base
-base_back base form = grind (arith, nat_tests, decimal_back)
-
 no_rom : (version : ℕ) (base : Base) → parse_rom_bits version (base_word base) ≡ None
 unfolding parse_rom_bits
 no_rom version base = grind (arith, nat_tests)
 
 next_back : (version : ℕ) (before : List Base) (base : Base) → IsBaseForm base → length before < 6
     → with_field version (fresh before) (base_word base) ≡ Some (fresh (before ++ base ∷ []))
-unfolding with_field with_rom with_base
-next_back version before base form room = simp (no_rom, lt-ltb, base_back)
+unfolding parse_base with_base with_field with_rom
+next_back version before base form room = grind (arith, nat_tests, no_rom, lt-ltb, decimal_back)
 
 rom_back : (version : ℕ) (before : List Base) (bits : ℕ) → IsRomForm version (Some bits)
     → with_field version (fresh before) (codes "x" ++ decimal bits) ≡ Some (record { bases = before; rom = Some bits })

@@ -37,13 +37,9 @@ reason_is version before line item short read e None none =
 reason_is version before line item short read e (Some why) least =
     inr (inr (record { short = short; read = read; item = item; has = read_says version line item e; least = least }))
 
-form_is : (version : ℕ) (before : List Item) (line : List ℕ) → length line ≤ most_bytes → is_skipped line ≡ false →
-    (found : Option Item) → parse_line version line ≡ found → IsLine version before line (judged_form before found)
-form_is version before line short read found e = grind (arith, nat_tests, nothing_said, reason_is)
-
 line_is : (version : ℕ) (before : List Item) (line : List ℕ)
     → IsLine version before line (judged_line version before line)
-line_is version before line = grind (arith, nat_tests, lt-ltb, le-ltb, form_is)
+line_is version before line = grind (arith, nat_tests, lt-ltb, le-ltb, nothing_said, reason_is)
 
 -- ---- the lines after the first, of which the next has this number
 
@@ -135,12 +131,8 @@ version_is : (version : ℕ) (first : List ℕ) (later : List (List ℕ)) → Is
     AreJudged (first ∷ later) (with_version version result)
 version_is version first later known is result all = grind (arith, nat_tests)
 
-no_version : (first : List ℕ) (later : List (List ℕ)) → bytes_eq first (first_line 1) ≡ false →
-    bytes_eq first (first_line 2) ≡ false → BeginsBadly (first ∷ later)
-no_version first later one two version rest given e = grind (arith, nat_tests, bytes_eq-Decides, same_head)
-
 pub judged_is : (lines : List (List ℕ)) → AreJudged lines (judged lines)
-judged_is lines = grind (arith, nat_tests, not_nil, version_is, bytes_eq-Decides, lines_are, no_version)
+judged_is lines = grind (arith, nat_tests, not_nil, version_is, bytes_eq-Decides, lines_are, same_head)
 
 -- ---- what holds is decided so
 

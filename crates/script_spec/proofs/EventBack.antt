@@ -162,11 +162,6 @@ look_spelled kind addr smm _ small reads = grind arith
 pub number_is : (n : ℕ) (field : List ℕ) → IsDecimal n → Spells field (decimal n) → field ≡ decimal n
 number_is n field small spells = grind (arith, nat_tests, plain_is, plain-digits, digits_of_decimal)
 
-number_spelled : (n : ℕ) (words : List (List ℕ)) → IsDecimal n → Reads words (decimal n ∷ [])
-    → parse_number words ≡ Some n
-unfolding parse_number
-number_spelled n words small reads = grind (arith, nat_tests, number_is, decimal_back)
-
 -- a number and a level
 pub two_back : (m n : ℕ) → IsDecimal m → IsDecimal n → parse_two_numbers (decimal m ∷ decimal n ∷ []) ≡ Some (m, n)
 unfolding parse_two_numbers
@@ -187,8 +182,8 @@ level_spelled dev on words small reads = grind (arith, nat_tests, two_spelled, z
 given_spelled : (one : Stimulus) (number : ℕ) (on : Bool) (words : List (List ℕ)) → IsDecimal number
     → Reads words (given_words (stimulus_form one).has_level (decimal number) (level_text on))
     → parse_given one words ≡ Some (number, (if (stimulus_form one).has_level then level_of on else 0))
-unfolding parse_given
-given_spelled one number on words small reads = grind (arith, nat_tests, number_spelled, level_spelled)
+unfolding parse_given parse_number
+given_spelled one number on words small reads = grind (arith, nat_tests, level_spelled, number_is, decimal_back)
 
 pub by_stimulus : (version actor : ℕ) (one : Stimulus) (words : List (List ℕ)) (given : ℕ × ℕ)
     → parse_given one words ≡ Some given

@@ -29,14 +29,11 @@ rom_words (Some bits) = (codes "x" ++ decimal bits) ∷ []
 abbrev pub tail_words : List Base → Option ℕ → List (List ℕ)
 tail_words bases rom = map base_word bases ++ rom_words rom
 
-spaced_base : (base : Base) → space ∷ base_word base ≡ base_text base
-spaced_base base = grind (arith, nat_tests)
-
 spaced_tail : (bases : List Base) (rom : Option ℕ)
     → spaced (tail_words bases rom) ≡ flat_map base_text bases ++ rom_text rom
 spaced_tail [] None = refl
 spaced_tail [] (Some bits) = append-nil (codes " x" ++ decimal bits)
-spaced_tail (base ∷ bases) rom = grind (arith, nat_tests, spaced_base, append_assoc, spaced_tail bases rom)
+spaced_tail (base ∷ bases) rom = grind (arith, nat_tests, append_assoc, spaced_tail bases rom)
 
 card_joined : (dev : ℕ) (vga : Bool) (bases : List Base) (rom : Option ℕ)
     → join_with_byte space (decimal dev ∷ kind_word vga ∷ tail_words bases rom)

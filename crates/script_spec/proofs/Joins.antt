@@ -1,7 +1,6 @@
 -- Fields that are spelled make a line that is spelled.
 use Rattle.board_prelude.proofs.Common.{nat_tests, AllZip, join_with_byte, bytes_eq-Decides, space}
-use Rattle.std.proofs.Common.{arith, ◌≡◌, ℕ, true, cond, Option, Some, List, [], ◌∷◌, ◌++◌, inl, refl}
-use Rattle.std.proofs.Common.{subst, bytes_eq}
+use Rattle.std.proofs.Common.{arith, ◌≡◌, ℕ, true, cond, Option, Some, List, [], ◌∷◌, ◌++◌, inl, refl, subst, bytes_eq}
 use Rattle.script_spec.specs.Common.{StandsFor}
 
 abbrev pub Spells : List ℕ → List ℕ → Type 0

@@ -4,7 +4,7 @@ use Rattle.board_prelude.proofs.Common.{value_bytes, reply_text, line_text}
 use Rattle.std.proofs.Common.{◌≡◌, ℕ, ◌<◌, true, Option, Some, None, List, [], ◌∷◌, ◌++◌, refl, ap, ◌∙◌, inl, inr}
 use Rattle.std.proofs.Common.{append_assoc, arith, codes, decimal}
 use Rattle.script_spec.specs.Common.{Item, Ask, HasForm, item_text, IsWellFormed, fields_of, ◌>>=◌, ask, parse_line}
-use Rattle.script_spec.specs.Common.{cut, parse_spaced_reply, Pieces, but_last, parse_pieces, parse_actor}
+use Rattle.script_spec.specs.Common.{cut, parse_spaced_reply, Pieces, parse_pieces, parse_actor}
 use Rattle.script_spec.proofs.Digits.{lacks}
 use Rattle.script_spec.proofs.Fields.{lacks-append, lacks-decimal}
 use Rattle.script_spec.proofs.PlainText.{lacks-word, lacks-plain, decimal_word}
@@ -32,14 +32,11 @@ pieces entry = record {
   replied = replied_text entry;
 }
 
-but_last_push : (xs : List ℕ) (c : ℕ) → but_last (xs ++ c ∷ []) ≡ xs
-but_last_push xs c = grind (arith, common_steps)
-
 pieces_said : (line number rest actor later asked replied : List ℕ) → cut space line ≡ Some (number, rest)
     → cut 0x2E rest ≡ Some (actor, later) → cut 0x3D later ≡ Some (asked ++ space ∷ [], replied)
     → parse_pieces line ≡ Some (record { actor = actor; asked = asked; replied = replied })
 unfolding parse_pieces
-pieces_said line number rest actor later asked replied one two three = grind (arith, nat_tests, but_last_push)
+pieces_said line number rest actor later asked replied one two three = grind (arith, nat_tests, common_steps)
 
 -- what stands after the point, cut before its `=`
 later_parts : (seq event reply : List ℕ)

@@ -13,17 +13,12 @@ part_back : (mark n : ℕ) (rest : List ℕ) → n < 100
 unfolding parse_moment_part after_mark
 part_back mark n rest small = rw (eq-eqb mark mark refl) (two_back n rest small)
 
-year_back : (year : ℕ) (rest : List ℕ) → year < 10_000
-    → parse_year (two_digits (year / 100) ++ (two_digits (year % 100) ++ rest)) ≡ Some (year, rest)
-unfolding parse_year
-year_back year rest small = grind (arith, nat_tests, two_back)
-
 date_back : (year month day : ℕ) (rest : List ℕ) → year < 10_000 → month < 100 → day < 100
     → parse_date (two_digits
     (year / 100) ++ (two_digits (year % 100) ++ 0x2D ∷ (two_digits month ++ 0x2D ∷ (two_digits day ++ rest))))
     ≡ Some (record { first = year; second = month; third = day; rest = rest })
-unfolding parse_date
-date_back year month day rest y m d = simp (year_back, part_back)
+unfolding parse_date parse_year
+date_back year month day rest y m d = grind (arith, nat_tests, part_back, two_back)
 
 time_back : (hour minute second : ℕ) → hour < 100 → minute < 100 → second < 100
     → parse_time (0x54 ∷ (two_digits hour ++ 0x3A ∷ (two_digits minute ++ 0x3A ∷ (two_digits second ++ []))))

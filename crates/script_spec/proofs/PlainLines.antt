@@ -1,11 +1,10 @@
 -- Statements and replies are words and spaces.
-use Rattle.board_prelude.proofs.Common.{nat_tests, Kind, Moment, Target, Denial, bytes_of, Event, Memory, Wide, Port}
-use Rattle.board_prelude.proofs.Common.{Ack, Time, Stimulus, Applied, stimulus_form, applied_by, applied_text}
-use Rattle.board_prelude.proofs.Common.{option_map_or, Part, Reply, Bus, Saw, is_write, space, hex_number, hex_word}
-use Rattle.board_prelude.proofs.Common.{hex_long, area_text, size_text, kind_text, written_text, smm_text, memory_text}
-use Rattle.board_prelude.proofs.Common.{level_text, two_digits, moment_text, event_text, value_text, answered_text}
-use Rattle.board_prelude.proofs.Common.{reply_text}
-use Rattle.std.proofs.Common.{ℕ, ◌≡◌, Bool, true, Option, List, [], ◌∷◌, ◌++◌, flat_map, refl, arith, codes, decimal}
+use Rattle.board_prelude.proofs.Common.{nat_tests, Kind, Moment, bytes_of, Event, Memory, Wide, Port, Ack, Time}
+use Rattle.board_prelude.proofs.Common.{Applied, applied_by, applied_text, option_map_or, Part, Reply, Bus, Saw}
+use Rattle.board_prelude.proofs.Common.{is_write, space, hex_number, hex_word, hex_long, area_text, size_text}
+use Rattle.board_prelude.proofs.Common.{kind_text, written_text, smm_text, memory_text, level_text, two_digits}
+use Rattle.board_prelude.proofs.Common.{moment_text, event_text, value_text, answered_text, reply_text}
+use Rattle.std.proofs.Common.{ℕ, ◌≡◌, Bool, true, Option, List, [], ◌∷◌, ◌++◌, flat_map, refl, arith, decimal}
 use Rattle.std.proofs.Common.{if◌then◌else◌}
 use Rattle.board_spec.specs.declared.event.Event.TheVariants.{Look as LookAt}
 use Rattle.board_spec.specs.declared.event.Reply.TheVariants.{Parts as InParts}
@@ -51,33 +50,24 @@ port_plain write bytes port value verb plain =
     (size_plain bytes)) (hex_plain 2 port))
     (written_plain write bytes value)
 
-verb_plain : (write : Bool) → is_plain (if write then codes "out" else codes "in") ≡ true
-verb_plain write = grind (arith, nat_tests)
-
 two_plain : (n : ℕ) → is_plain (two_digits n) ≡ true
 two_plain n = grind (arith, nat_tests)
 
 moment_plain : (m : Moment) → is_plain (moment_text m) ≡ true
 moment_plain m = simp two_plain
 
-level_plain : (on : Bool) → is_plain (level_text on) ≡ true
-level_plain on = grind (arith, nat_tests)
-
-word_plain : (one : Stimulus) → is_plain (stimulus_form one).word ≡ true
-word_plain one = grind (arith, nat_tests)
-
 given_plain : (has_level : Bool) (number : ℕ) (on : Bool)
     → is_plain (if has_level then decimal number ++ space ∷ level_text on else decimal number) ≡ true
-given_plain has_level number on = grind (arith, nat_tests, plain-append, decimal_plain, level_plain)
+given_plain has_level number on = grind (arith, nat_tests, plain-append, decimal_plain)
 
 applied_plain : (found : Option Applied) → is_plain (option_map_or applied_text found []) ≡ true
-applied_plain found = grind (arith, nat_tests, plain-append, word_plain, given_plain)
+applied_plain found = grind (arith, nat_tests, plain-append, given_plain)
 
 pub event_plain : (event : Event) → is_plain (event_text event) ≡ true
 unfolding event_text
 event_plain (Memory access) = memory_plain access.kind (bytes_of access.width) access.addr access.value access.smm
 event_plain (Wide access) = memory_plain access.kind access.bytes access.addr access.value access.smm
-event_plain (Port access) = simp (port_plain, verb_plain)
+event_plain (Port access) = grind (arith, nat_tests, port_plain)
 event_plain (LookAt kind addr smm) = simp (plain-append, kind_plain, hex_plain, smm_plain)
 event_plain Ack = refl
 event_plain (Time moment) = moment_plain moment
@@ -88,16 +78,15 @@ event_plain event = applied_plain (applied_by event)
 pub value_word : (bytes : ℕ) (value : Option ℕ) → is_word (value_text bytes value) ≡ true
 value_word bytes value = grind (arith, nat_tests, hex_number_word)
 
-answered_plain : (target : Target) (denial : Option Denial) → is_plain (answered_text target denial) ≡ true
-answered_plain target denial = grind (arith, nat_tests, plain-append, plain-word, target_word, denial_word)
-
 parts_plain : (parts : List Part) → is_plain (flat_map (λ part. answered_text part.target part.denial) parts) ≡ true
 parts_plain [] = refl
-parts_plain (part ∷ later) = simp (plain-append, answered_plain, parts_plain later)
+parts_plain (part ∷ later) =
+    grind (arith, nat_tests, plain-append, parts_plain later, plain-word, target_word, denial_word)
 
 pub reply_plain : (bytes : ℕ) (reply : Reply) → is_plain (reply_text bytes reply) ≡ true
 unfolding reply_text
-reply_plain bytes (Bus value target denial) = simp (plain-append, plain-word, value_word, answered_plain)
+reply_plain bytes (Bus value target denial) =
+    grind (arith, nat_tests, plain-append, plain-word, value_word, target_word, denial_word)
 reply_plain bytes (InParts parts value) = simp (plain-append, plain-word, value_word, parts_plain)
 reply_plain bytes (Saw look) =
     let first : List ℕ = decimal look.version ++ space ∷ hex_long look.lo in

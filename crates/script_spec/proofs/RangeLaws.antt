@@ -1,11 +1,10 @@
 -- What a text says is in range.
-use Rattle.board_prelude.proofs.Common.{nat_tests, common_steps, option_map, find, list_any, list_all, IsPermutation}
-use Rattle.board_prelude.proofs.Common.{true≢false, false≢true, or_parts, or_cases, or_right, and_parts, cases_Bool}
-use Rattle.board_prelude.proofs.Common.{ltb-true, All-nil, All-cons, All-head, All-tail, All-append, sum_by-cons}
-use Rattle.board_prelude.proofs.Common.{sum_by-append, All-permutation, IsPermutation-sym, Statement, most_statements}
-use Rattle.board_prelude.proofs.Common.{most_phases, most_pulses, most_card_memory, Setup, Base, FittedCard, IsBase}
-use Rattle.board_prelude.proofs.Common.{IsExpansionRom, IsCard, Rises, memory_size, memory_of_cards, IsScripted}
-use Rattle.board_prelude.proofs.Common.{is_base_in_range, is_rom_in_range}
+use Rattle.board_prelude.proofs.Common.{nat_tests, common_steps, option_map, find, list_any, IsPermutation, true≢false}
+use Rattle.board_prelude.proofs.Common.{false≢true, or_parts, or_cases, or_right, and_parts, cases_Bool, ltb-true}
+use Rattle.board_prelude.proofs.Common.{All-nil, All-cons, All-head, All-tail, All-append, sum_by-cons, sum_by-append}
+use Rattle.board_prelude.proofs.Common.{All-permutation, IsPermutation-sym, Statement, most_statements, most_phases}
+use Rattle.board_prelude.proofs.Common.{most_pulses, most_card_memory, Setup, FittedCard, IsExpansionRom, IsCard, Rises}
+use Rattle.board_prelude.proofs.Common.{memory_size, memory_of_cards, IsScripted, is_rom_in_range}
 use Rattle.std.proofs.Common.{ℕ, ◌≡◌, ◌+◌, ◌-◌, ◌*◌, ◌<◌, ◌≤◌, Bool, true, false, not, ◌&&◌, cond, ltb, Option, Some}
 use Rattle.std.proofs.Common.{None, List, [], ◌∷◌, ◌++◌, length, map, reverse, All, filter, flat_map, refl, sym, ap}
 use Rattle.std.proofs.Common.{◌∙◌, inl, inr, get_or, add-one, arith, is_some, ◌==◌}
@@ -146,9 +145,6 @@ has_cards items cards setup same is dev has =
     rw is (found_some (λ card. card.dev == dev) cards (any_permutation (λ card. card.dev == dev)
     (cards_of items) cards same has))
 
-all_bases : (bases : List Base) → list_all is_base_in_range bases ≡ true → All IsBase bases
-all_bases bases test = grind (arith, nat_tests, common_steps, All-nil, and_parts, All-cons, is_within_parts)
-
 rom_there : (rom : Option ℕ) → is_rom_in_range rom ≡ true → IsExpansionRom rom
 rom_there rom test = grind (arith, nat_tests)
 
@@ -158,7 +154,18 @@ three a b c test = grind (arith, nat_tests)
 all_cards : (version : ℕ) (items : List Item) → AreGood version items → All IsCard (cards_of items)
 all_cards version [] good = All-nil IsCard
 all_cards version (FitCard card ∷ before) good =
-    grind (arith, nat_tests, three, is_within_parts, All-cons, all_bases, rom_there, all_cards version before good.2)
+    grind (
+      arith,
+      nat_tests,
+      three,
+      is_within_parts,
+      All-cons,
+      rom_there,
+      all_cards version before good.2,
+      common_steps,
+      All-nil,
+      and_parts,
+    )
 all_cards version (_ ∷ before) good = all_cards version before good.2
 
 -- devices that rise up to 9 are few

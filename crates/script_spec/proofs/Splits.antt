@@ -2,7 +2,7 @@
 use Rattle.board_prelude.proofs.Common.{nat_tests, common_steps, join_with_byte, All-nil, All-cons, space}
 use Rattle.std.proofs.Common.{◌≡◌, ℕ, Bool, true, false, eqb, List, [], ◌∷◌, ◌++◌, refl, ap, All, arith}
 use Rattle.std.proofs.lemmas.List.Splits.{slice_split_none, slice_split_at}
-use Rattle.script_spec.specs.Common.{StandsFor, fields_of}
+use Rattle.script_spec.specs.Common.{fields_of}
 use Rattle.script_spec.proofs.Digits.{lacks}
 use Rattle.script_spec.proofs.Fields.{lacks-first, lacks-later}
 use Rattle.script_spec.proofs.Joins.{Spells, Reads}
@@ -39,10 +39,6 @@ cut (c ∷ cs) (t ∷ ts) second spells =
       later = k.later;
     }
 
--- only a space stands for a space
-space_is : (written : ℕ) → StandsFor written 32 → written ≡ 32
-space_is written given = grind (arith, nat_tests)
-
 abbrev pub Lack : List (List ℕ) → Type 0
 Lack [] = Unit {0}
 Lack (text ∷ later) = (lacks space text ≡ true) × Lack later
@@ -55,7 +51,7 @@ split_at : (line front rest text next : List ℕ) (texts : List (List ℕ)) → 
     → Reads (fields_of line) (text ∷ next ∷ texts)
 split_at line front [] text next texts lack reads_later is spells later = absurd later
 split_at line front (c ∷ rest) text next texts lack reads_later is spells later =
-    grind (arith, nat_tests, space_is, slice_split_at, spelled_lacks)
+    grind (arith, nat_tests, slice_split_at, spelled_lacks)
 
 pub split : (line text : List ℕ) (texts : List (List ℕ)) → Lack (text ∷ texts)
     → Spells line (join_with_byte space (text ∷ texts))

@@ -106,9 +106,6 @@ lacks_written false bytes value flags lack = lack
 lacks_verb : (write : Bool) → lacks space (if write then codes "out" else codes "in") ≡ true
 lacks_verb write = grind (arith, nat_tests)
 
-lacks_level : (on : Bool) → lacks space (level_text on) ≡ true
-lacks_level on = grind (arith, nat_tests)
-
 pub lacks_stimulus : (one : Stimulus) → lacks space (stimulus_form one).word ≡ true
 lacks_stimulus one = grind (arith, nat_tests)
 
@@ -124,7 +121,7 @@ event_lacks (Port access) =
 event_lacks (LookAt kind addr smm) = (refl, (lacks_kind kind, (lacks_hex 4 addr, lacks_flags smm)))
 event_lacks Ack = (refl, tt)
 event_lacks (Time moment) = (refl, (lacks_moment moment, tt))
-event_lacks event = grind (arith, nat_tests, lacks_decimal, lacks_level)
+event_lacks event = grind (arith, nat_tests, lacks_decimal)
 
 pub applied_is : (one : Stimulus) (number : ℕ) (on : Bool)
     → event_words (event_applied one number on) ≡ applied_words (applied one number on)
