@@ -1,9 +1,9 @@
 -- How many edges a board has, and how many of them lie above an address.
-use Rattle.std.proofs.Common.{◌≡◌, ℕ, ◌+◌, ◌*◌, ◌<◌, ◌≤◌, inl, inr, true, false, List, [], ◌∷◌, ◌++◌, length, Option}
-use Rattle.std.proofs.Common.{Some, None, arith, nat_lt, All, filter, flat_map, IfSome}
-use Rattle.board_prelude.proofs.Common.{Contains, enumerate_from, cases_Bool, nat_tests, length-append, All-head}
-use Rattle.board_prelude.proofs.Common.{All-tail, Base, MemoryBase, IoBase, OutsideBase, FittedCard, Setup, IsCard}
-use Rattle.board_prelude.proofs.Common.{IsCardList, Bytes, memory_window, rom_window, rom_window_of}
+use Rattle.std.proofs.Common.{ℕ, ◌+◌, ◌*◌, ◌<◌, ◌≤◌, inl, inr, List, [], ◌∷◌, length, Option, Some, None, arith, nat_lt}
+use Rattle.std.proofs.Common.{All, filter, flat_map, IfSome}
+use Rattle.board_prelude.proofs.Common.{Contains, enumerate_from, nat_tests, length-append, All-head, All-tail, Base}
+use Rattle.board_prelude.proofs.Common.{IoBase, FittedCard, Setup, IsCard, IsCardList, Bytes, memory_window, rom_window}
+use Rattle.board_prelude.proofs.Common.{rom_window_of}
 use Rattle.addr_decode.specs.Edges.{fixed_edges, window_edges, card_edges, edges_of, edges_after, IsNextEdge}
 use Rattle.addr_decode.specs.Edges.{most_edges, FewEdges}
 use Rattle.addr_decode.proofs.EdgeSearchLemmas.{contains_cases}
@@ -14,9 +14,8 @@ few_of_bases :
     (flat_map (λ numbered. flat_map window_edges (memory_window bytes dev numbered.0 numbered.1))
     (enumerate_from k bases)) ≤ 2 * length bases
 few_of_bases bytes dev k [] = omega arith
-few_of_bases bytes dev k (MemoryBase bits ∷ later) = omega (arith, few_of_bases bytes dev (k + 1) later)
 few_of_bases bytes dev k (IoBase bits ∷ later) = omega (arith, few_of_bases bytes dev (k + 1) later)
-few_of_bases bytes dev k (OutsideBase bits ∷ later) = omega (arith, few_of_bases bytes dev (k + 1) later)
+few_of_bases bytes dev k (_ ∷ later) = omega (arith, few_of_bases bytes dev (k + 1) later)
 
 few_of_rom :
     (bytes : Bytes) (dev : ℕ) (rom : Option ℕ) → length (flat_map window_edges (rom_window_of bytes dev rom)) ≤ 2
@@ -28,39 +27,26 @@ few_of_cards :
     length (flat_map (card_edges bytes) cards) ≤ 14 * length cards
 few_of_cards bytes [] each = omega arith
 few_of_cards bytes (card ∷ later) each =
-    let here : IsCard card = All-head IsCard card later each in
-    let count : length card.bases ≤ 6 = here.count in
-    let bases : List ℕ =
-    flat_map (λ numbered. flat_map window_edges (memory_window bytes card.dev numbered.0 numbered.1))
-    (enumerate_from 0 card.bases) in
-    let rom : List ℕ = flat_map window_edges (rom_window bytes card) in
-    let two : length (card_edges bytes card) ≡ length bases + length rom = length-append bases rom in
-    let few : length bases ≤ 2 * length card.bases = few_of_bases bytes card.dev 0 card.bases in
-    let few_more : length rom ≤ 2 = few_of_rom bytes card.dev card.rom in
-    let rest : length (flat_map (card_edges bytes) later) ≤ 14 * length later =
-    few_of_cards bytes later (All-tail IsCard card later each) in
-    let all : length (card_edges bytes card ++ flat_map (card_edges bytes) later)
-    ≡ length (card_edges bytes card) + length (flat_map (card_edges bytes) later) =
-    length-append (card_edges bytes card) (flat_map (card_edges bytes) later) in
-    omega arith
+    omega (
+      arith,
+      length-append (card_edges bytes card) (flat_map (card_edges bytes) later),
+      length-append (flat_map (λ numbered. flat_map window_edges (memory_window bytes card.dev numbered.0 numbered.1))
+          (enumerate_from 0 card.bases)) (flat_map window_edges (rom_window bytes card)),
+      few_of_bases bytes card.dev 0 card.bases,
+      few_of_rom bytes card.dev card.rom,
+      few_of_cards bytes later (All-tail IsCard card later each),
+      (All-head IsCard card later each).count,
+    )
 
 pub few_edges : FewEdges
 unfolding edges_of fixed_edges
-few_edges setup bytes cards =
-    let count : length setup.cards ≤ 8 = cards.count in
-    let few : length (flat_map (card_edges bytes) setup.cards) ≤ 14 * length setup.cards =
-    few_of_cards bytes setup.cards cards.each in
-    omega arith
+few_edges setup bytes cards = omega (arith, cards.count, few_of_cards bytes setup.cards cards.each)
 
 -- ---- above an address
 
 few_kept : (addr : ℕ) (edges : List ℕ) → length (filter (nat_lt addr) edges) ≤ length edges
 few_kept addr [] = omega arith
-few_kept addr (edge ∷ later) =
-    elim (cases_Bool (nat_lt addr edge)) [
-      | inl kept ↦ rw kept (omega (arith, few_kept addr later))
-      | inr dropped ↦ rw dropped (omega (arith, few_kept addr later))
-    ]
+few_kept addr (edge ∷ later) = let few = few_kept addr later in grind (arith, nat_tests)
 
 -- a board has no more edges above an address
 pub few_edges_after :
@@ -72,17 +58,7 @@ pub no_more :
     (low high : ℕ) (edges : List ℕ) → low ≤ high →
     length (filter (nat_lt high) edges) ≤ length (filter (nat_lt low) edges)
 no_more low high [] order = omega arith
-no_more low high (edge ∷ later) order =
-    elim (cases_Bool (nat_lt high edge)) [
-      | inl kept ↦
-          let also : nat_lt low edge ≡ true = grind (arith, nat_tests) in
-          rw (kept, also) (omega (arith, no_more low high later order))
-      | inr dropped ↦
-          elim (cases_Bool (nat_lt low edge)) [
-            | inl kept ↦ rw (dropped, kept) (omega (arith, no_more low high later order))
-            | inr gone ↦ rw (dropped, gone) (no_more low high later order)
-          ]
-    ]
+no_more low high (edge ∷ later) order = let more = no_more low high later order in grind (arith, nat_tests)
 
 one_less :
     (addr edge : ℕ) (edges : List ℕ) → addr < edge → Contains edges edge →
@@ -90,21 +66,8 @@ one_less :
 one_less addr edge [] above (k, within, is) = absurd (omega arith)
 one_less addr edge (first ∷ later) above has =
     elim (contains_cases first edge later has) [
-      | inl here ↦
-          let kept : nat_lt addr first ≡ true = grind (arith, nat_tests) in
-          let dropped : nat_lt edge first ≡ false = grind (arith, nat_tests) in
-          rw (kept, dropped) (omega (arith, no_more addr edge later (omega arith)))
-      | inr there ↦
-          elim (cases_Bool (nat_lt edge first)) [
-            | inl kept ↦
-                let also : nat_lt addr first ≡ true = grind (arith, nat_tests) in
-                rw (kept, also) (omega (arith, one_less addr edge later above there))
-            | inr dropped ↦
-                elim (cases_Bool (nat_lt addr first)) [
-                  | inl kept ↦ rw (dropped, kept) (omega (arith, one_less addr edge later above there))
-                  | inr gone ↦ rw (dropped, gone) (one_less addr edge later above there)
-                ]
-          ]
+      | inl here ↦ let more = no_more addr edge later (omega arith) in grind (arith, nat_tests)
+      | inr there ↦ let less = one_less addr edge later above there in grind (arith, nat_tests)
     ]
 
 -- fewer edges lie above the next edge

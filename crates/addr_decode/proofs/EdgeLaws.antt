@@ -11,7 +11,7 @@ use Rattle.board_prelude.proofs.Common.{lower_high_bios, extended_bios, is_withi
 use Rattle.board_prelude.proofs.Common.{pam_register, is_high_window, is_shadow_range, is_shadowed, is_rom_selected}
 use Rattle.board_prelude.proofs.Common.{is_covered, memory_window, rom_window, is_rom_on, vga_window, memory_windows}
 use Rattle.board_prelude.proofs.Common.{is_enabled_for, first_window, memory_claim, area_of, xbcs as select_register}
-use Rattle.board_prelude.proofs.Common.{fdhc as hole_register, address_count, six_areas}
+use Rattle.board_prelude.proofs.Common.{address_count, six_areas}
 use Rattle.std.proofs.lemmas.List.Elements.{All-contains_itself}
 use Rattle.addr_decode.specs.Edges.{fixed_edges, row_edges, window_edges, card_edges, edges_of, IsNextEdge, NoEdgeAbove}
 use Rattle.addr_decode.specs.Edges.{SameAreas, AreasChangeAtEdges}
@@ -29,6 +29,11 @@ all_parts :
     AllByRecursion P xs × AllByRecursion P ys
 all_parts P [] ys all = (tt, all)
 all_parts P (x ∷ xs) ys all = let later = all_parts P xs ys all.1 in ((all.0, later.0), later.1)
+
+all_where : {X : Type 0} (P : X → Type 0) (holds : Bool) (xs : List X) → AllByRecursion P xs →
+    AllByRecursion P (if holds then xs else [])
+all_where P true xs all = all
+all_where P false xs all = tt
 
 all_listed :
     (P : ℕ → Type 0) (xs : List ℕ) (x : ℕ) → AllByRecursion P xs → list_any (λ other. x == other) xs ≡ true → P x
@@ -115,15 +120,9 @@ module _ (setup : Setup) (bytes : Bytes) (addr x : ℕ) (between : Between setup
   hole_same : is_in_hole bytes x ≡ is_in_hole bytes addr
   unfolding fixed_edges
   hole_same =
-      let fdhc : ℕ = bytes hole_register in
-      elim (cases_Bool (fdhc / 0x40 == 1)) [
-        | inl low ↦ rw low (range_same hole_at_512_kib.0 hole_at_512_kib.1 refl refl)
-        | inr not_low ↦
-            elim (cases_Bool (fdhc / 0x40 == 2)) [
-              | inl high ↦ rw (not_low, high) (range_same hole_at_15_mib.0 hole_at_15_mib.1 refl refl)
-              | inr not_high ↦ rw (not_low, not_high) refl
-            ]
-      ]
+      let low = range_same hole_at_512_kib.0 hole_at_512_kib.1 refl refl in
+      let high = range_same hole_at_15_mib.0 hole_at_15_mib.1 refl refl in
+      grind (arith, nat_tests)
 
   -- the ranges of the ROM
   rom_same : (xbcs : ℕ) → is_rom_selected xbcs x ≡ is_rom_selected xbcs addr
@@ -194,41 +193,25 @@ module _ (setup : Setup) (bytes : Bytes) (addr x : ℕ) (between : Between setup
 
   -- ---- cards
 
-  vga_alike : (card : FittedCard) → AllByRecursion (IsCoveredAlike addr x) (vga_window card)
-  unfolding fixed_edges
-  vga_alike card =
-      elim (cases_Bool card.vga) [
-        | inl vga ↦
-            rw vga
-            (windows_alike addr x between.order
-            (record { dev = card.dev; base = 7; inside = 0xA_0000; bits = 17 } ∷ [])
-            (fixed_clear 0xA_0000 refl, (fixed_clear 0xC_0000 refl, tt)))
-        | inr plain ↦ rw plain tt
-      ]
-
-  selected_alike :
-      (card : FittedCard) → AllByRecursion (Clear addr x) (flat_map window_edges (rom_window bytes card)) →
-      AllByRecursion (IsCoveredAlike addr x) (if is_rom_on bytes card.dev then rom_window bytes card else [])
-  selected_alike card clear =
-      elim (cases_Bool (is_rom_on bytes card.dev)) [
-        | inl selected ↦ rw selected (windows_alike addr x between.order (rom_window bytes card) clear)
-        | inr unselected ↦ rw unselected tt
-      ]
-
   cards_alike :
       (cards : List FittedCard) → AllByRecursion (Clear addr x) (flat_map (card_edges bytes) cards) →
       AllByRecursion (IsCoveredAlike addr x) (flat_map (memory_windows bytes) cards)
+  unfolding fixed_edges
   cards_alike [] clear = tt
   cards_alike (card ∷ later) clear =
       let parts = all_parts (Clear addr x) (card_edges bytes card) _ clear in
       let own = all_parts (Clear addr x) _ (flat_map window_edges (rom_window bytes card)) parts.0 in
+      let rom = windows_alike addr x between.order (rom_window bytes card) own.1 in
+      let vga = windows_alike addr x between.order
+      (record { dev = card.dev; base = 7; inside = 0xA_0000; bits = 17 } ∷ [])
+      (fixed_clear 0xA_0000 refl, (fixed_clear 0xC_0000 refl, tt)) in
       all_joined _ (memory_windows bytes card) _
       (all_joined _ _ (vga_window card)
       (all_joined _ _ (if is_rom_on bytes card.dev then rom_window bytes card else [])
       (each_alike addr x between.order (λ numbered. memory_window bytes card.dev numbered.0 numbered.1)
       (enumerate_from 0 card.bases) own.0)
-      (selected_alike card own.1))
-      (vga_alike card))
+      (all_where _ (is_rom_on bytes card.dev) _ rom))
+      (all_where _ card.vga _ vga))
       (cards_alike later parts.1)
 
   claim_same : memory_claim setup bytes x ≡ memory_claim setup bytes addr

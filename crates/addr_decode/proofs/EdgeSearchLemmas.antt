@@ -1,7 +1,7 @@
 -- The next edge as the code looks for it is the least edge above an address.
 use Rattle.std.proofs.Common.{◌≡◌, ℕ, zero, suc, ◌+◌, ◌*◌, ◌<◌, ◌≤◌, ◌⊎◌, inl, inr, ◌&&◌, List, [], ◌∷◌, ◌++◌, length}
-use Rattle.std.proofs.Common.{map, Option, Some, None, refl, sym, ◌∙◌, arith, nat_lt, min, subst, All, flat_map}
-use Rattle.std.proofs.Common.{slice_index, unwrap_or, IfSome, IsNone, ◌↔◌}
+use Rattle.std.proofs.Common.{map, Option, Some, None, refl, sym, ◌∙◌, arith, nat_lt, subst, All, flat_map, slice_index}
+use Rattle.std.proofs.Common.{unwrap_or, IfSome, IsNone, ◌↔◌}
 use Rattle.board_prelude.proofs.Common.{Contains, enumerate_from, cases_Bool, cases_lt, nat_tests, All-head, All-tail}
 use Rattle.board_prelude.proofs.Common.{Base, IoBase, Setup, IsCard, boundary_unit, Bytes, base_value, memory_window}
 use Rattle.board_prelude.proofs.Common.{rom_window_of, address_count, none-some}
@@ -115,24 +115,16 @@ module _ (addr : ℕ) where
   nearer_is : (edge : ℕ) (found : Option ℕ) →
       (nearer addr found edge ≡ found)
       ⊎ ((nearer addr found edge ≡ Some edge) × (addr < edge) × (edge < address_count))
-  nearer_is edge found =
+  nearer_is edge None =
       elim (cases_Bool (nat_lt addr edge && nat_lt edge address_count)) [
         | inr passed ↦ inl (rw passed refl)
-        | inl counts ↦
-            let one : nearer addr found edge ≡ Some (min (unwrap_or found edge) edge) = rw counts refl in
-            let above : addr < edge = grind (arith, nat_tests) in
-            let below : edge < address_count = grind (arith, nat_tests) in
-            elim (least found) [ inl kept ↦ inl (one ∙ kept) | inr now ↦ inr (one ∙ now, above, below) ]
+        | inl counts ↦ inr (grind (arith, nat_tests), grind (arith, nat_tests), grind (arith, nat_tests))
       ]
-    where
-      least : (found : Option ℕ) →
-          (Some (min (unwrap_or found edge) edge) ≡ found) ⊎ (Some (min (unwrap_or found edge) edge) ≡ Some edge)
-      least None = inr (grind (arith, nat_tests))
-      least (Some found) =
-          elim (cases_lt found edge) [
-            | inl before ↦ inl (grind (arith, nat_tests))
-            | inr after ↦ inr (grind (arith, nat_tests))
-          ]
+  nearer_is edge (Some least) =
+      elim (cases_Bool (nat_lt addr edge && nat_lt edge address_count && nat_lt edge least)) [
+        | inr passed ↦ inl (grind (arith, nat_tests))
+        | inl counts ↦ inr (grind (arith, nat_tests), grind (arith, nat_tests), grind (arith, nat_tests))
+      ]
 
   nearest_is : (edges : List ℕ) (found : Option ℕ) →
       (nearest addr found edges ≡ found)

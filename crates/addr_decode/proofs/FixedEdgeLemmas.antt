@@ -64,22 +64,15 @@ pub rows_below : (addr : ℕ) (found : Option ℕ) (drb : List ℕ) → 0x7F80_0
 unfolding nearest
 rows_below addr found [] high bytes = refl
 rows_below addr found (boundary ∷ later) high bytes =
-    let byte : boundary < 2 ^ 8 = bytes 0 in
-    let not_above : nat_lt addr (boundary * boundary_unit) ≡ false = grind (arith, nat_tests) in
-    let here : nearer addr found (boundary * boundary_unit) ≡ found = rw not_above refl in
+    let byte = bytes 0 in
+    let here : nearer addr found (boundary * boundary_unit) ≡ found = grind (arith, nat_tests) in
     ap (λ (least : Option ℕ). nearest addr least (map (λ boundary. boundary * boundary_unit) later)) here
     ∙ rows_below addr found later high (λ k. bytes (suc k))
 
 -- those above an address lie at the next multiple of 8 MiB or above it
 row_is_far : (addr least boundary : ℕ) → least ≤ (addr / boundary_unit + 1) * boundary_unit →
     nearer addr (Some least) (boundary * boundary_unit) ≡ Some least
-row_is_far addr least boundary near =
-    elim (cases_Bool (nat_lt addr (boundary * boundary_unit))) [
-      | inl above ↦
-          let over : addr < boundary * boundary_unit = grind (arith, nat_tests) in
-          nearer_stays addr least (boundary * boundary_unit) (omega arith)
-      | inr not_above ↦ rw not_above refl
-    ]
+row_is_far addr least boundary near = grind (arith, nat_tests)
 
 pub rows_are_far : (addr least : ℕ) (drb : List ℕ) → least ≤ (addr / boundary_unit + 1) * boundary_unit →
     nearest addr (Some least) (map (λ boundary. boundary * boundary_unit) drb) ≡ Some least

@@ -1,6 +1,6 @@
 -- The memory map in the order of the code is that of the definitions.
 use Rattle.std.proofs.Common.{◌≡◌, ℕ, Bool, true, false, not, ◌&&◌, Option, Some, None, IfSome, refl, sym, ◌∙◌, arith}
-use Rattle.std.proofs.Common.{is_some, unwrap_or, [], ◌∷◌, option_map, if◌then◌else◌}
+use Rattle.std.proofs.Common.{unwrap_or, [], ◌∷◌, option_map}
 use Rattle.board_prelude.proofs.Common.{cond_both, nat_tests, Area, Denial, Kind, top_of, memory_shut, rom_unselected}
 use Rattle.board_prelude.proofs.Common.{abort_denial, rom_denial, denial_in, denial_of, Setup, lies_in, upper_memory}
 use Rattle.board_prelude.proofs.Common.{Window, first_of, line_where, is_smram_range, is_shadow_range, card_area}

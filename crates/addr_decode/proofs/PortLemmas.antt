@@ -1,43 +1,18 @@
 -- The ports in the order of the code are those of the definitions.
-use Rattle.std.proofs.Common.{◌≡◌, ◌≢◌, ℕ, List, ◌/◌, Bool, true, false, Option, Some, None, refl, inl, inr, ◌∙◌, sym}
-use Rattle.std.proofs.Common.{ap, is_some, option_map, if◌then◌else◌}
-use Rattle.board_prelude.proofs.Common.{cases_Bool, cond-false, ne_eqb, Width, Dev, Reg, Decoded, nobody, Register}
-use Rattle.board_prelude.proofs.Common.{NoRegister, bytes_of, Select, Always, XbcsBit0, XbcsBit1, IdeChannel, device_at}
-use Rattle.board_prelude.proofs.Common.{select_of, Setup, FittedCard, card_at, is_bit, is_enabled, is_config_port}
-use Rattle.board_prelude.proofs.Common.{config_register, Bytes, ide_command as command_register, idetim_high}
-use Rattle.board_prelude.proofs.Common.{xbcs as select_register, config_port, by_xbcs, by_channel, selected_by}
-use Rattle.board_prelude.proofs.Common.{device_port, port_target_of, card_function, function_at, function_exists}
+use Rattle.std.proofs.Common.{◌≡◌, ◌≢◌, ℕ, List, ◌/◌, Bool, true, false, Option, Some, None, refl, inl, inr, sym, arith}
+use Rattle.std.proofs.Common.{is_some, option_map, if◌then◌else◌}
+use Rattle.board_prelude.proofs.Common.{nat_tests, cases_Bool, ne_eqb, Width, Dev, Decoded, nobody, NoRegister}
+use Rattle.board_prelude.proofs.Common.{bytes_of, Select, Always, IdeChannel, device_at, select_of, Setup, FittedCard}
+use Rattle.board_prelude.proofs.Common.{card_at, is_enabled, is_config_port, config_register, Bytes}
+use Rattle.board_prelude.proofs.Common.{ide_command as command_register, idetim_high, xbcs as select_register}
+use Rattle.board_prelude.proofs.Common.{config_port, selected_by, device_port, port_target_of, card_function}
+use Rattle.board_prelude.proofs.Common.{function_at, function_exists}
 use Rattle.std.proofs.lemmas.Bool.{true_from_ne_false}
 use Rattle.board_spec.specs.RegisterTable.{Line}
 use Rattle.cfg_ports.specs.declared.conf_add.Selected.{Selected}
 use Rattle.cfg_ports.specs.Selection.{existing}
 use Rattle.addr_decode.specs.declared.onboard.Onboard.{Onboard}
-use Rattle.addr_decode.specs.Common.{if_selected, if_decoded, by_select, response_of, IsChannelOf, register_answers}
-use Rattle.addr_decode.specs.Common.{after_onboard}
-
-xbcs_in_order :
-    (setup : Setup) (bytes : Bytes) (bit : ℕ) (dev : Dev) (port : ℕ) →
-    by_xbcs bit dev setup bytes port
-    ≡ after_onboard setup bytes port (if_selected (is_bit (bytes select_register) bit) dev (Register select_register))
-xbcs_in_order setup bytes bit dev port =
-    elim (cases_Bool (is_bit (bytes select_register) bit)) [ inl on ↦ rw on refl | inr off ↦ rw off refl ]
-
-channel_in_order :
-    (setup : Setup) (bytes : Bytes) (disk : Bool) (dev : Dev) (timing port : ℕ) →
-    timing / 0x100 ≡ bytes idetim_high →
-    by_channel disk dev setup bytes port
-    ≡ after_onboard setup bytes port (if_decoded disk dev (bytes command_register) timing)
-channel_in_order setup bytes false dev timing port is = refl
-channel_in_order setup bytes true dev timing port is =
-    rw is
-    elim (cases_Bool (is_bit (bytes command_register) 0)) [
-      | inl on ↦
-          elim (cases_Bool (is_bit (bytes idetim_high) 7)) [
-            | inl open' ↦ rw (on, open') refl
-            | inr shut ↦ rw (on, shut) refl
-          ]
-      | inr off ↦ rw off refl
-    ]
+use Rattle.addr_decode.specs.Common.{by_select, response_of, IsChannelOf, register_answers, after_onboard}
 
 select_in_order :
     (setup : Setup) (bytes : Bytes) (select : Select) (disk : Bool) (dev : Dev) (timing port : ℕ) →
@@ -46,9 +21,9 @@ select_in_order :
     ≡ after_onboard setup bytes port
     (by_select select dev (bytes select_register) disk (bytes command_register) timing)
 select_in_order setup bytes Always disk dev timing port is = refl
-select_in_order setup bytes XbcsBit0 disk dev timing port is = xbcs_in_order setup bytes 0 dev port
-select_in_order setup bytes XbcsBit1 disk dev timing port is = xbcs_in_order setup bytes 1 dev port
-select_in_order setup bytes IdeChannel disk dev timing port is = channel_in_order setup bytes disk dev timing port is
+select_in_order setup bytes IdeChannel false dev timing port is = refl
+select_in_order setup bytes IdeChannel true dev timing port is = rw is (grind (arith, nat_tests))
+select_in_order setup bytes _ disk dev timing port is = grind (arith, nat_tests)
 
 -- ---- what each part of the code gives
 
@@ -78,20 +53,13 @@ pub onboard_target :
     after_onboard setup bytes port response ≡ port_target_of setup bytes address disk port width
 unfolding port_target_of
 onboard_target setup bytes address disk port width xbcs ide_command idetim response not_config same_xbcs is_ide is =
-    let found : Option Dev = device_at port (bytes_of width) in
-    ap (λ (it : Onboard). after_onboard setup bytes port it)
-    (is
-    ∙ ap (λ (n : ℕ). response_of found n disk ide_command idetim) same_xbcs
-    ∙ ap (λ (n : ℕ). response_of found (bytes select_register) disk n idetim) is_ide.command)
-    ∙ sym (found_in_order setup bytes found disk idetim port is_ide.timing)
-    ∙ sym (cond-false (is_config_port port) (config_port address (config_register setup address port))
-    (device_port found disk setup bytes port) (sym not_config))
-
-by_existence : (address : ℕ) (exists' : Bool) (reg : Reg) → is_enabled address ≡ true →
-    (if exists' then register_answers reg else nobody NoRegister)
-    ≡ config_port address (if exists' then Some reg else None)
-by_existence address true reg on = refl
-by_existence address false reg on = rw on refl
+    rw (
+      ← not_config,
+      is,
+      same_xbcs,
+      is_ide.command,
+      found_in_order setup bytes (device_at port (bytes_of width)) disk idetim port is_ide.timing,
+    ) refl
 
 -- a selected register is reached where its function exists
 pub selected_target :
@@ -104,10 +72,12 @@ pub selected_target :
     nobody NoRegister) →
     answer ≡ config_port address (config_register setup address port)
 selected_target setup address port selected answer on register is =
-    is
-    ∙ by_existence address (function_exists setup selected.bus selected.reg.dev selected.reg.fun) selected.reg
-    (true_from_ne_false (is_enabled address) on)
-    ∙ sym (ap (λ (reg : Option Reg). config_port address reg) register)
+    let enabled = true_from_ne_false (is_enabled address) on in
+    rw (is, register)
+    elim (cases_Bool (function_exists setup selected.bus selected.reg.dev selected.reg.fun)) [
+      | inl here ↦ rw here refl
+      | inr none ↦ rw (none, enabled) refl
+    ]
 
 -- ---- functions
 

@@ -1,23 +1,17 @@
 -- What `==` says of areas and of rows of areas.
-use Rattle.std.proofs.Common.{◌≡◌, ℕ, Bool, true, List, Decides, refl, ap, subst, arith, ◌==◌, ◌&&◌}
+use Rattle.std.proofs.Common.{◌≡◌, Bool, true, List, Decides, refl, ap, subst, arith}
 use Rattle.std.specs.Cmp.Lexicographic.{pointwise}
 use Rattle.board_prelude.proofs.Common.{false≢true, eqb-true, eq-eqb, nat_tests, Area}
 use Rattle.std.proofs.lemmas.Slice.Eq.{slice_eq-Decides}
 use Rattle.board_base.specs.declared.target.Area.TheVariants.{Dram, Shadow, Smram, Rom, Card, Abort}
 use Rattle.board_base.specs.contracts.target.AreaPartialEq.TheImpl.{eq-value}
 
-card_same : (dev base dev' base' : ℕ) → (dev == dev' && base == base') ≡ true → Card dev base ≡ Card dev' base'
-card_same dev base dev' base' same =
-    let devs : dev ≡ dev' = grind (arith, nat_tests) in
-    let bases : base ≡ base' = grind (arith, nat_tests) in
-    cc
-
 area_eq_true : (a b : Area) → eq-value.it a b ≡ true → a ≡ b
 area_eq_true (Dram row) (Dram row') same = ap Dram (eqb-true row row' same)
 area_eq_true (Shadow row) (Shadow row') same = ap Shadow (eqb-true row row' same)
 area_eq_true Smram Smram same = refl
 area_eq_true Rom Rom same = refl
-area_eq_true (Card dev base) (Card dev' base') same = card_same dev base dev' base' same
+area_eq_true (Card dev base) (Card dev' base') same = grind (arith, nat_tests)
 area_eq_true Abort Abort same = refl
 area_eq_true _ _ same = absurd (false≢true same)
 

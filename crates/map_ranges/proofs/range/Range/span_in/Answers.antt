@@ -1,19 +1,12 @@
-use Rattle.std.proofs.Common.{subst, sym, arith}
-use Rattle.board_prelude.proofs.Common.{Area, IsSpan}
-use Rattle.map_ranges.specs.Find.{range_at}
 use Rattle.map_ranges.proofs.FindLemmas.{is_span}
 use Rattle.map_ranges.proofs.range.Range.span_in.Goals as goal
 
 pub returns : goal.returns
 returns c = record {
   span = λ setup bytes is_map.
-      subst
-      (λ (area : Area). IsSpan setup bytes c.args.addr c.args.kind c.args.smm
-      (range_at c.args.ranges.now c.first_alike-first.result).lo
-      (range_at c.args.ranges.now c.last_alike-last.result).hi area)
-      (sym c.area_at.ensures.area)
+      rw c.area_at.ensures.area
       (is_span setup bytes c.args.ranges.now c.column_of-column.result c.args.kind c.args.smm is_map
-      (c.column_of-column.ensures.column setup bytes)
-      c.index_of-index.result c.first_alike-first.result c.last_alike-last.result c.args.addr (omega arith)
-      c.index_of-index.ensures.holds c.first_alike-first.ensures.first c.last_alike-last.ensures.last);
+      (c.column_of-column.ensures.column setup bytes) c.index_of-index.result c.first_alike-first.result
+      c.last_alike-last.result c.args.addr c.index_of-index.ensures.holds c.first_alike-first.ensures.first
+      c.last_alike-last.ensures.last);
 }
