@@ -1,7 +1,7 @@
 -- The last covers of a store, register by register.
 use Rattle.std.proofs.Common.{◌≡◌, ℕ, zero, suc, ◌+◌, ◌<◌, ◌≤◌, inl, inr, Bool, true, false, ◌||◌, ◌&&◌, List, [], ◌∷◌}
-use Rattle.std.proofs.Common.{length, take, refl, sym, ap, ◌∙◌, arith, ◌==◌, nat_le, nat_lt, Option, Some, None}
-use Rattle.std.proofs.Common.{is_some, find, slice_index_or, replicate, option_and_then, if◌then◌else◌}
+use Rattle.std.proofs.Common.{length, take, refl, arith, ◌==◌, nat_le, nat_lt, Option, Some, None, is_some, find}
+use Rattle.std.proofs.Common.{slice_index_or, replicate, option_and_then, if◌then◌else◌}
 use Rattle.board_prelude.proofs.Common.{option_or, AllByRecursion, list_any, cases_Bool, eqb-true, false≢true, or-false}
 use Rattle.board_prelude.proofs.Common.{nat_tests, get_or-take, length-take, recursion_from_All, list_any_at, Width}
 use Rattle.board_prelude.proofs.Common.{One, Reg, MapChange, Store, Reset, FittedCard, Setup, IsCard, IsCardList}
@@ -25,10 +25,6 @@ covers_next : (at : Reg) (count : ℕ) (reg : Reg) →
     covers_first at (count + 1) reg ≡ (is_same reg (reg_after at count) || covers_first at count reg)
 covers_next at count reg = grind (arith, nat_tests)
 
-either_test : (a b : Bool) (x y : Option ℕ) → (if a then x else if b then x else y) ≡ (if a || b then x else y)
-either_test true b x y = refl
-either_test false b x y = refl
-
 pub cover_none : (at reg : Reg) (number : ℕ) (old : Option ℕ) →
     old ≡ (if covers_first at 0 reg then Some number else old)
 cover_none at reg number old = rw (covers_none at reg) refl
@@ -38,10 +34,8 @@ pub cover_next : (at : Reg) (count : ℕ) (reg : Reg) (number : ℕ) (old now ne
     next ≡ (if is_same reg (reg_after at count) then Some number else now) →
     next ≡ (if covers_first at (count + 1) reg then Some number else old)
 cover_next at count reg number old now next so_far step =
-    step
-    ∙ ap (λ n. if is_same reg (reg_after at count) then Some number else n) so_far
-    ∙ either_test (is_same reg (reg_after at count)) (covers_first at count reg) (Some number) old
-    ∙ ap (λ b. if b then Some number else old) (sym (covers_next at count reg))
+    rw (step, so_far, covers_next at count reg)
+    (elim (cases_Bool (is_same reg (reg_after at count))) [ inl here ↦ rw here refl | inr other ↦ rw other refl ])
 
 -- ---- of no changes
 
@@ -69,10 +63,6 @@ pub covers_of_reset : (changes : List MapChange) (covers : Covers) → AreCovers
 unfolding last_cover first_lock
 covers_of_reset changes covers none = record { last = none.last; lock = none.lock }
 
-where_set : (b : Bool) (number : ℕ) → then_some b number ≡ (if b then Some number else None)
-where_set true number = refl
-where_set false number = refl
-
 pub covers_of_store : (at : Reg) (width : Width) (value number : ℕ) (changes : List MapChange) (old new : Covers) →
     number ≡ length changes + 1 → AreCoversOf changes old →
     ((other : Reg) → is_placed other ≡ true →
@@ -81,15 +71,9 @@ pub covers_of_store : (at : Reg) (width : Width) (value number : ℕ) (changes :
     AreCoversOf (Store at width value ∷ changes) new
 unfolding last_cover first_lock
 covers_of_store at width value number changes old new is are last lock = record {
-  last = λ reg placed.
-      last reg placed
-      ∙ ap (λ n. if covers at width reg then Some number else n) (are.last reg placed)
-      ∙ ap (λ n. if covers at width reg then Some n else last_cover changes reg) is;
-  lock =
-      lock
-      ∙ ap (λ n. option_or old.lock n) (where_set (locks (Store at width value)) number)
-      ∙ ap (λ n. option_or n (if locks (Store at width value) then Some number else None)) are.lock
-      ∙ ap (λ n. option_or (first_lock changes) (if locks (Store at width value) then Some n else None)) is;
+  last = λ reg placed. rw (last reg placed, are.last reg placed, is) refl;
+  lock = rw (lock, are.lock, is)
+      (elim (cases_Bool (locks (Store at width value))) [ inl sets ↦ rw sets refl | inr clear ↦ rw clear refl ]);
 }
 
 -- ---- the registers that the map depends on have a place
@@ -127,9 +111,7 @@ map_byte_placed setup reg cards is =
 
 pub touches_one : (setup : Setup) (reg : Reg) → touches_map setup (Store reg One 0) ≡ is_map_byte setup reg
 touches_one setup reg =
-    let same : reg.off + 0 ≡ reg.off = omega arith in
-    or-false (is_map_byte setup (reg_after reg 0)) ∙ ap (λ (off : ℕ). is_map_byte setup (record reg { off = off }))
-    same
+    let same : reg.off + 0 ≡ reg.off = omega arith in rw same (or-false (is_map_byte setup reg))
 
 pub any_next : (test : ℕ → Bool) (k : ℕ) → k < 4 → list_any test (take k offsets) ≡ false → test k ≡ false →
     list_any test (take (k + 1) offsets) ≡ false
@@ -139,4 +121,4 @@ pub any_at : (test : ℕ → Bool) (count k : ℕ) → count ≤ 4 → k < count
     list_any test (take count offsets) ≡ true
 any_at test count k few below is =
     list_any_at test (take count offsets) k 0 (omega (arith, below, few, length-take count offsets))
-    (ap test (get_or-take count offsets k 0 below ∙ offset_at k (omega (arith, few, below))) ∙ is)
+    (rw (get_or-take count offsets k 0 below, offset_at k (omega (arith, few, below))) is)

@@ -1,15 +1,16 @@
 -- The kept changes alone leave each map byte as all changes do.
 use Rattle.std.proofs.Common.{◌≡◌, ℕ, zero, suc, max, ◌+◌, ◌-◌, ◌*◌, ◌/◌, ◌%◌, ◌<◌, ◌≤◌, ◌⊎◌, inl, inr, Bool, true}
-use Rattle.std.proofs.Common.{false, ◌||◌, ◌&&◌, List, [], ◌∷◌, length, refl, sym, ap, ◌∙◌, subst, arith, ◌==◌, Option}
-use Rattle.std.proofs.Common.{Some, None, bit_and, bit_or, if◌then◌else◌}
-use Rattle.board_prelude.proofs.Common.{option_or, and_zero_r, cases_Bool, cases_lt, eqb-true, and_parts, false≢true}
-use Rattle.board_prelude.proofs.Common.{nat_tests, Width, Reg, MapChange, Store, Reset, Setup, bit, is_bit, byte}
-use Rattle.board_prelude.proofs.Common.{merged, smram, is_same, writable_bits, covers, smram_after, changed_byte}
-use Rattle.board_prelude.proofs.Common.{is_map_byte, registers_after, or_right, or-false}
+use Rattle.std.proofs.Common.{false, ◌||◌, List, [], ◌∷◌, length, refl, sym, ap, ◌∙◌, arith, Option, Some, None}
+use Rattle.std.proofs.Common.{bit_and, bit_or, if◌then◌else◌, is_some}
+use Rattle.board_prelude.proofs.Common.{option_or, and_zero_r, cases_Bool, cases_lt, false≢true, nat_tests, Width, Reg}
+use Rattle.board_prelude.proofs.Common.{MapChange, Store, Reset, Setup, bit, is_bit, byte, merged, smram, is_same}
+use Rattle.board_prelude.proofs.Common.{writable_bits, covers, smram_after, changed_byte, is_map_byte, registers_after}
+use Rattle.board_prelude.proofs.Common.{or-false, reset_byte, host_bridge}
 use Rattle.std.specs.Int.Bits.{and_self}
 use Rattle.std.proofs.lemmas.Nat.{or_comm, and_assoc, and_or_apart}
 use Rattle.std.proofs.lemmas.Grind.{and-not_self}
 use Rattle.map_blame.specs.Common.{last_cover, first_lock, locks, is_among, chosen, KeptSuffice}
+use Rattle.addr_decode.proofs.StoreLemmas.{same_register}
 
 -- ---- what a mask leaves
 
@@ -28,10 +29,12 @@ apart_masks mask written = elim (cases_lt 0xFF mask) [
 
 left_merged : (mask old written : ℕ) → left mask (merged mask old written) ≡ left mask old
 left_merged mask old written =
-    ap (λ (n : ℕ). bit_and n (0xFF - mask)) (or_comm (bit_and written mask) (left mask old))
-    ∙ and_or_apart (0xFF - mask) (left mask old) (bit_and written mask) (apart_masks mask written)
-    ∙ and_assoc (0xFF - mask) old (0xFF - mask)
-    ∙ ap (λ (n : ℕ). bit_and old n) (and_self (0xFF - mask))
+    rw (
+      or_comm (bit_and written mask) (left mask old),
+      and_or_apart (0xFF - mask) (left mask old) (bit_and written mask) (apart_masks mask written),
+      and_assoc (0xFF - mask) old (0xFF - mask),
+      and_self (0xFF - mask),
+    ) refl
 
 -- ---- the lock
 
@@ -57,9 +60,7 @@ bit_of_test a b k same = let x : bit a k < 2 = omega arith in let y : bit b k < 
 
 write_same : (old other written : ℕ) → is_bit old 4 ≡ is_bit other 4 →
     smram_after old written ≡ smram_after other written
-write_same old other written same =
-    ap (λ (lock : ℕ). (1 - max lock (bit written 4)) * bit written 6 * 0x40 + bit written 5 * 0x20
-    + max lock (bit written 4) * 0x10 + bit written 3 * 0x08 + 0x02) (bit_of_test old other 4 same)
+write_same old other written same = rw (bit_of_test old other 4 same) refl
 
 -- ---- the numbers of the changes since the last reset
 
@@ -77,16 +78,30 @@ reset_among (Store at width value ∷ before) = omega (arith, reset_among before
 pub some_is : (a b : ℕ) → Some a ≡ Some b → a ≡ b
 some_is a b e = cc
 
-cover_after_reset : (changes : List MapChange) (reg : Reg) (number : ℕ) → last_cover changes reg ≡ Some number →
-    reset_number changes < number
+-- the number of a change after the last reset
+pub record IsNumber (changes : List MapChange) (number : ℕ) : Type 0 where
+  pub after : reset_number changes < number
+  pub most : number ≤ length changes
+
+last_number : (at : Reg) (width : Width) (value : ℕ) (before : List MapChange) (number : ℕ) →
+    length before + 1 ≡ number → IsNumber (Store at width value ∷ before) number
+last_number at width value before number last = record {
+  after = omega (arith, reset_among before);
+  most = omega arith;
+}
+
+earlier_number : (at : Reg) (width : Width) (value : ℕ) {before : List MapChange} {number : ℕ} →
+    IsNumber before number → IsNumber (Store at width value ∷ before) number
+earlier_number at width value is = record { after = is.after; most = omega (arith, is.most) }
+
+pub cover_number : (changes : List MapChange) (reg : Reg) (number : ℕ) → last_cover changes reg ≡ Some number →
+    IsNumber changes number
 unfolding last_cover
-cover_after_reset [] reg number is = cc
-cover_after_reset (Reset ∷ before) reg number is = cc
-cover_after_reset (Store at width value ∷ before) reg number is = elim (cases_Bool (covers at width reg)) [
-  | inl covered ↦
-      let last : length before + 1 ≡ number = some_is _ _ (rw covered at is) in
-      omega (arith, last, reset_among before)
-  | inr other ↦ cover_after_reset before reg number (rw other at is)
+cover_number [] reg number is = cc
+cover_number (Reset ∷ before) reg number is = cc
+cover_number (Store at width value ∷ before) reg number is = elim (cases_Bool (covers at width reg)) [
+  | inl covered ↦ last_number at width value before number (some_is _ _ (rw covered at is))
+  | inr other ↦ earlier_number at width value (cover_number before reg number (rw other at is))
 ]
 
 pub or_cases : (earlier later : Option ℕ) (number : ℕ) → option_or earlier later ≡ Some number →
@@ -99,23 +114,30 @@ pub where_true : (b : Bool) (number other : ℕ) → (if b then Some number else
 where_true true number other is = (refl, some_is number other is)
 where_true false number other is = cc
 
-lock_after_reset : (changes : List MapChange) (number : ℕ) → first_lock changes ≡ Some number →
-    reset_number changes < number
+pub lock_number : (changes : List MapChange) (number : ℕ) → first_lock changes ≡ Some number → IsNumber changes number
 unfolding first_lock
-lock_after_reset [] number is = cc
-lock_after_reset (Reset ∷ before) number is = cc
-lock_after_reset (Store at width value ∷ before) number is = elim (or_cases (first_lock before) _ number is) [
-  | inl earlier ↦ lock_after_reset before number earlier
+lock_number [] number is = cc
+lock_number (Reset ∷ before) number is = cc
+lock_number (Store at width value ∷ before) number is = elim (or_cases (first_lock before) _ number is) [
+  | inl earlier ↦ earlier_number at width value (lock_number before number earlier)
   | inr here ↦
-      let last : length before + 1 ≡ number = (where_true (locks (Store at width value)) _ number here.1).1 in
-      omega (arith, last, reset_among before)
+      last_number at width value before number (where_true (locks (Store at width value)) _ number here.1).1
 ]
 
 -- ---- numbers that choose changes
 
-either : (c : Bool) (P : List MapChange → Type 0) (a b : List MapChange) → P a → P b → P (if c then a else b)
-either true P a b one two = one
-either false P a b one two = two
+-- a change that is not chosen locks nothing that was open
+lock_left : (old : Option ℕ) (sets : Bool) (number : ℕ) → (old ≡ None → sets ≡ true → ⊥) →
+    is_some old ≡ is_some (option_or old (if sets then Some number else None))
+lock_left (Some first) sets number not = refl
+lock_left None true number not = absurd (not refl refl)
+lock_left None false number not = refl
+
+some_or : (old : Option ℕ) (sets : Bool) (number : ℕ) →
+    is_some (option_or old (if sets then Some number else None)) ≡ (is_some old || sets)
+some_or (Some first) sets number = refl
+some_or None true number = refl
+some_or None false number = refl
 
 module _ (setup : Setup) (keep : List ℕ) where
   -- no change up to the last reset is chosen
@@ -158,6 +180,18 @@ module _ (setup : Setup) (keep : List ℕ) where
   last_chosen reg at width value before covered has =
       let among : is_among (length before + 1) keep ≡ true = has (length before + 1) (rw covered refl) in rw among refl
 
+  -- a change that leaves what is looked at, chosen or not
+  left_alone : {X : Type 0} (look : ℕ → X) (reg at : Reg) (width : Width) (value : ℕ) (before : List MapChange) →
+      ((old : ℕ) → look (changed_byte setup (Store at width value) reg old) ≡ look old) →
+      look (value_after (chosen keep before) reg) ≡ look (value_after before reg) →
+      look (value_after (chosen keep (Store at width value ∷ before)) reg)
+      ≡ look (value_after (Store at width value ∷ before) reg)
+  unfolding registers_after chosen
+  left_alone look reg at width value before leaves rest = elim (cases_Bool (is_among (length before + 1) keep)) [
+    | inl among ↦ rw among (leaves _ ∙ rest ∙ sym (leaves _))
+    | inr none ↦ rw none (rest ∙ sym (leaves _))
+  ]
+
   -- ---- a register that is not SMRAM's
 
   module _ (reg : Reg) (plain : is_same reg smram ≡ false) where
@@ -171,9 +205,7 @@ module _ (setup : Setup) (keep : List ℕ) where
     left_stays : (at : Reg) (width : Width) (value old : ℕ) →
         left mask (changed_byte setup (Store at width value) reg old) ≡ left mask old
     left_stays at width value old = elim (cases_Bool (covers at width reg)) [
-      | inl covered ↦
-          ap (λ (n : ℕ). left mask n) (covered_is at width value old covered)
-          ∙ left_merged mask old (byte value (reg.off - at.off))
+      | inl covered ↦ rw (covered_is at width value old covered) (left_merged mask old (byte value (reg.off - at.off)))
       | inr other ↦ rw other refl
     ]
 
@@ -182,17 +214,9 @@ module _ (setup : Setup) (keep : List ℕ) where
         left mask (value_after (chosen keep changes) reg) ≡ left mask (value_after changes reg)
     unfolding registers_after chosen
     left_same [] since = refl
-    left_same (Reset ∷ before) since = ap (λ (n : ℕ). left mask n) (reset_same before reg since)
+    left_same (Reset ∷ before) since = ap (left mask) (reset_same before reg since)
     left_same (Store at width value ∷ before) since =
-        let change : MapChange = Store at width value in
-        let rest = left_same before since in
-        either (is_among (length before + 1) keep)
-        (λ changes. left mask (value_after changes reg)
-        ≡ left mask (changed_byte setup change reg (value_after before reg)))
-        (change ∷ chosen keep before) (chosen keep before)
-        (left_stays at width value (value_after (chosen keep before) reg) ∙ rest
-        ∙ sym (left_stays at width value (value_after before reg)))
-        (rest ∙ sym (left_stays at width value (value_after before reg)))
+        left_alone (left mask) reg at width value before (left_stays at width value) (left_same before since)
 
     -- the others are those of the last write
     plain_same : (changes : List MapChange) → Since changes → HasLast reg changes →
@@ -201,7 +225,6 @@ module _ (setup : Setup) (keep : List ℕ) where
     plain_same [] since has = refl
     plain_same (Reset ∷ before) since has = reset_same before reg since
     plain_same (Store at width value ∷ before) since has =
-        let change : MapChange = Store at width value in
         elim (cases_Bool (covers at width reg)) [
           | inl covered ↦
               ap (λ changes. value_after changes reg) (last_chosen reg at width value before covered has)
@@ -209,12 +232,8 @@ module _ (setup : Setup) (keep : List ℕ) where
               ∙ ap (λ (n : ℕ). bit_or (bit_and (byte value (reg.off - at.off)) mask) n) (left_same before since)
               ∙ sym (covered_is at width value (value_after before reg) covered)
           | inr other ↦
-              let through : (old : ℕ) → changed_byte setup change reg old ≡ old = λ old. rw other refl in
-              let rest = plain_same before since (has_earlier reg at width value before other has) in
-              either (is_among (length before + 1) keep)
-              (λ changes. value_after changes reg ≡ changed_byte setup change reg (value_after before reg))
-              (change ∷ chosen keep before) (chosen keep before)
-              (through _ ∙ rest ∙ sym (through _)) (rest ∙ sym (through _))
+              left_alone (λ old. old) reg at width value before (λ old. rw other refl)
+              (plain_same before since (has_earlier reg at width value before other has))
         ]
 
   -- ---- the SMRAM register
@@ -229,20 +248,15 @@ module _ (setup : Setup) (keep : List ℕ) where
     | inr other ↦ rw other (sym (or-false (is_locked old)))
   ]
 
-  -- once it is locked it stays so
-  locked_since : (changes : List MapChange) (number : ℕ) → first_lock changes ≡ Some number →
-      is_locked (value_after changes smram) ≡ true
-  unfolding registers_after first_lock
-  locked_since [] number is = cc
-  locked_since (Reset ∷ before) number is = cc
-  locked_since (Store at width value ∷ before) number is =
-      let after = is_locked_after at width value (value_after before smram) in
-      elim (or_cases (first_lock before) _ number is) [
-        | inl earlier ↦
-            let old : is_locked (value_after before smram) ≡ true = locked_since before number earlier in
-            after ∙ rw old refl
-        | inr here ↦ after ∙ or_right (is_locked (value_after before smram)) _ (where_true _ _ number here.1).0
-      ]
+  -- it is locked where a change since the last reset locks it
+  locked_is : (changes : List MapChange) → is_locked (value_after changes smram) ≡ is_some (first_lock changes)
+  unfolding registers_after first_lock reset_byte host_bridge
+  locked_is [] = refl
+  locked_is (Reset ∷ before) = refl
+  locked_is (Store at width value ∷ before) =
+      is_locked_after at width value (value_after before smram)
+      ∙ ap (λ old. old || locks (Store at width value)) (locked_is before)
+      ∙ sym (some_or (first_lock before) (locks (Store at width value)) (length before + 1))
 
   -- the first lock is chosen
   abbrev HasLock : List MapChange → Type 0
@@ -253,43 +267,23 @@ module _ (setup : Setup) (keep : List ℕ) where
   unfolding first_lock
   has_earlier_lock at width value before has number is = has number (rw is refl)
 
-  first_chosen : (at : Reg) (width : Width) (value : ℕ) (before : List MapChange) → first_lock before ≡ None →
-      locks (Store at width value) ≡ true → HasLock (Store at width value ∷ before) →
-      is_among (length before + 1) keep ≡ true
-  unfolding first_lock
-  first_chosen at width value before none sets has = has (length before + 1) (rw (none, sets) refl)
-
-  -- a change that is not chosen leaves the lock
-  lock_stays : (at : Reg) (width : Width) (value : ℕ) (before : List MapChange) (earlier : Option ℕ) →
-      first_lock before ≡ earlier → HasLock (Store at width value ∷ before) →
-      is_among (length before + 1) keep ≡ false →
-      is_locked (value_after before smram)
-      ≡ is_locked (changed_byte setup (Store at width value) smram (value_after before smram))
-  lock_stays at width value before (Some number) e has none =
-      let old : is_locked (value_after before smram) ≡ true = locked_since before number e in
-      old ∙ sym (is_locked_after at width value (value_after before smram) ∙ rw old refl)
-  lock_stays at width value before None e has none = elim (cases_Bool (locks (Store at width value))) [
-    | inl sets ↦ absurd (false≢true (sym none ∙ first_chosen at width value before e sets has))
-    | inr clear ↦
-        let old : Bool = is_locked (value_after before smram) in
-        sym (is_locked_after at width value (value_after before smram) ∙ ap (λ b. old || b) clear ∙ or-false old)
-  ]
-
   lock_same : (changes : List MapChange) → Since changes → HasLock changes →
-      is_locked (value_after (chosen keep changes) smram) ≡ is_locked (value_after changes smram)
-  unfolding registers_after chosen
+      is_some (first_lock (chosen keep changes)) ≡ is_some (first_lock changes)
+  unfolding first_lock chosen
   lock_same [] since has = refl
-  lock_same (Reset ∷ before) since has = ap is_locked (reset_same before smram since)
+  lock_same (Reset ∷ before) since has =
+      ap (λ changes. is_some (first_lock changes)) (none_of_reset before since)
   lock_same (Store at width value ∷ before) since has =
-      let change : MapChange = Store at width value in
-      let after = is_locked_after at width value in
-      let kept : ℕ = value_after (chosen keep before) smram in
-      let old : ℕ = value_after before smram in
-      let rest : is_locked kept ≡ is_locked old = lock_same before since (has_earlier_lock at width value before has) in
-      let both = after kept ∙ ap (λ b. b || locks change) rest ∙ sym (after old) in
-      elim (cases_Bool (is_among (length before + 1) keep)) [
-        | inl among ↦ rw among both
-        | inr none ↦ rw none (rest ∙ lock_stays at width value before (first_lock before) refl has none)
+      let sets : Bool = locks (Store at width value) in
+      let number : ℕ = length before + 1 in
+      let rest = lock_same before since (has_earlier_lock at width value before has) in
+      elim (cases_Bool (is_among number keep)) [
+        | inl among ↦
+            rw among (some_or (first_lock (chosen keep before)) sets _ ∙ ap (λ old. old || sets) rest
+            ∙ sym (some_or (first_lock before) sets number))
+        | inr none ↦
+            rw none (rest ∙ lock_left (first_lock before) sets number
+            (λ free set. false≢true (sym none ∙ has number (rw (free, set) refl))))
       ]
 
   smram_same : (changes : List MapChange) → Since changes → HasLast smram changes → HasLock changes →
@@ -298,44 +292,35 @@ module _ (setup : Setup) (keep : List ℕ) where
   smram_same [] since has lock = refl
   smram_same (Reset ∷ before) since has lock = reset_same before smram since
   smram_same (Store at width value ∷ before) since has lock =
-      let change : MapChange = Store at width value in
       let has_lock = has_earlier_lock at width value before lock in
       elim (cases_Bool (covers at width smram)) [
         | inl covered ↦
             ap (λ changes. value_after changes smram) (last_chosen smram at width value before covered has)
-            ∙ rw covered (write_same _ _ (byte value (smram.off - at.off)) (lock_same before since has_lock))
+            ∙ rw covered (write_same _ _ (byte value (smram.off - at.off))
+            (locked_is (chosen keep before) ∙ lock_same before since has_lock ∙ sym (locked_is before)))
         | inr other ↦
-            let through : (old : ℕ) → changed_byte setup change smram old ≡ old = λ old. rw other refl in
-            let rest = smram_same before since (has_earlier smram at width value before other has) has_lock in
-            either (is_among (length before + 1) keep)
-            (λ changes. value_after changes smram ≡ changed_byte setup change smram (value_after before smram))
-            (change ∷ chosen keep before) (chosen keep before)
-            (through _ ∙ rest ∙ sym (through _)) (rest ∙ sym (through _))
+            left_alone (λ old. old) smram at width value before (λ old. rw other refl)
+            (smram_same before since (has_earlier smram at width value before other has) has_lock)
       ]
 
 -- ---- both
 
 smram_is : (reg : Reg) → is_same reg smram ≡ true → reg ≡ smram
 smram_is reg is =
-    let two = and_parts (reg.dev == smram.dev && reg.fun == smram.fun) (reg.off == smram.off) is in
-    let one = and_parts (reg.dev == smram.dev) (reg.fun == smram.fun) two.0 in
-    ap (λ (d : ℕ). record { dev = d; fun = reg.fun; off = reg.off }) (eqb-true reg.dev smram.dev one.0)
-    ∙ ap (λ (f : ℕ). record { dev = smram.dev; fun = f; off = reg.off }) (eqb-true reg.fun smram.fun one.1)
-    ∙ ap (λ (o : ℕ). record { dev = smram.dev; fun = smram.fun; off = o }) (eqb-true reg.off smram.off two.1)
+    same_register reg smram (grind (arith, nat_tests)) (grind (arith, nat_tests)) (grind (arith, nat_tests))
 
 pub kept_suffice : KeptSuffice
 kept_suffice setup changes keep is reg map_byte =
     let since : Since setup keep changes = λ number among. elim (is.only number among) [
-      | inl cover ↦ cover_after_reset changes cover.reg number cover.last
-      | inr lock ↦ lock_after_reset changes number lock
+      | inl cover ↦ (cover_number changes cover.reg number cover.last).after
+      | inr lock ↦ (lock_number changes number lock).after
     ] in
     let last : (reg : Reg) → is_map_byte setup reg ≡ true → HasLast setup keep reg changes =
     λ reg map_byte number found. is.each number (inl (record { reg = reg; map_byte = map_byte; last = found })) in
     elim (cases_Bool (is_same reg smram)) [
       | inl same ↦
           let e : reg ≡ smram = smram_is reg same in
-          subst (λ (reg' : Reg). registers_after setup (chosen keep changes) reg' ≡ registers_after setup changes reg')
-          (sym e)
+          rw e
           (smram_same setup keep changes since (last smram (rw e at map_byte))
           (λ number found. is.each number (inr found)))
       | inr plain ↦ plain_same setup keep reg plain changes since (last reg map_byte)

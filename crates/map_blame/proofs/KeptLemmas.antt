@@ -1,7 +1,6 @@
 -- The kept changes as they are found, one after another.
 use Rattle.std.proofs.Common.{◌≡◌, ℕ, suc, ◌+◌, ◌-◌, ◌<◌, ◌≤◌, ◌⊎◌, inl, inr, Bool, true, false, ◌||◌, List, [], ◌∷◌}
-use Rattle.std.proofs.Common.{◌++◌, length, get_or, reverse, take, refl, sym, ap, ◌∙◌, subst, arith, ◌==◌, Option, Some}
-use Rattle.std.proofs.Common.{None}
+use Rattle.std.proofs.Common.{◌++◌, length, get_or, reverse, take, refl, sym, ap, ◌∙◌, arith, ◌==◌, Option, Some, None}
 use Rattle.board_prelude.proofs.Common.{list_any, AllPairs, cases_Bool, cases_lt, eq-eqb, eqb-true, and_parts, and_from}
 use Rattle.board_prelude.proofs.Common.{false≢true, nat_tests, get_or_default, length-reverse, list_any_at, Width, One}
 use Rattle.board_prelude.proofs.Common.{Reg, bytes_of, bytes_few, MapChange, Store, Reset, Setup, IsCardList, bridge}
@@ -11,10 +10,11 @@ use Rattle.std.proofs.lemmas.List.Folds.{list_any-append}
 use Rattle.std.proofs.lemmas.List.Quantifiers.{all_pairs_push}
 use Rattle.addr_decode.proofs.NameLemmas.{offsets}
 use Rattle.map_blame.specs.declared.covers.Covers.{Covers}
-use Rattle.map_blame.specs.Common.{last_cover, first_lock, locks, is_among, IsLastCover, RestsOn, IsKeep, AreCoversOf}
-use Rattle.map_blame.specs.Common.{is_number, number_at, is_last_at, is_last_of, is_kept_of}
+use Rattle.map_blame.specs.Common.{last_cover, is_among, IsLastCover, RestsOn, IsKeep, AreCoversOf, is_number}
+use Rattle.map_blame.specs.Common.{number_at, is_last_at, is_last_of, is_kept_of}
 use Rattle.map_blame.proofs.CoverLemmas.{map_byte_placed, any_at}
-use Rattle.map_blame.proofs.KeepLaws.{some_is, or_cases, where_true}
+use Rattle.map_blame.proofs.KeepLaws.{some_is, IsNumber, cover_number, lock_number}
+use Rattle.addr_decode.proofs.StoreLemmas.{same_register}
 
 -- ---- the change of a number
 
@@ -26,36 +26,6 @@ covers_by (Store at width value) reg = covers at width reg
 -- the change of a number
 abbrev pub change_at : List MapChange → (number : ℕ) → MapChange
 change_at changes number = get_or changes (length changes - number) Reset
-
-pub record IsNumber (changes : List MapChange) (number : ℕ) : Type 0 where
-  pub some : 1 ≤ number
-  pub most : number ≤ length changes
-
-cover_number : (changes : List MapChange) (reg : Reg) (number : ℕ) → last_cover changes reg ≡ Some number →
-    IsNumber changes number
-unfolding last_cover
-cover_number [] reg number is = cc
-cover_number (Reset ∷ before) reg number is = cc
-cover_number (Store at width value ∷ before) reg number is = elim (cases_Bool (covers at width reg)) [
-  | inl covered ↦
-      let last : length before + 1 ≡ number = some_is _ _ (rw covered at is) in
-      record { some = omega (arith, last); most = omega (arith, last) }
-  | inr other ↦
-      let earlier = cover_number before reg number (rw other at is) in
-      record { some = earlier.some; most = omega (arith, earlier.most) }
-]
-
-lock_number : (changes : List MapChange) (number : ℕ) → first_lock changes ≡ Some number → IsNumber changes number
-unfolding first_lock
-lock_number [] number is = cc
-lock_number (Reset ∷ before) number is = cc
-lock_number (Store at width value ∷ before) number is = elim (or_cases (first_lock before) _ number is) [
-  | inl earlier ↦
-      let found = lock_number before number earlier in record { some = found.some; most = omega (arith, found.most) }
-  | inr here ↦
-      let last : length before + 1 ≡ number = (where_true (locks (Store at width value)) _ number here.1).1 in
-      record { some = omega (arith, last); most = omega (arith, last) }
-]
 
 pub kept_number : (setup : Setup) (changes : List MapChange) (number : ℕ) → RestsOn setup changes number →
     IsNumber changes number
@@ -78,10 +48,9 @@ cover_covers (Store at width value ∷ before) reg number is = elim (cases_Bool 
       let here : length (Store at width value ∷ before) - number ≡ 0 = omega (arith, last) in
       rw here covered
   | inr other ↦
-      let earlier : last_cover before reg ≡ Some number = rw other at is in
+      let earlier = rw other at is in
       let found = cover_number before reg number earlier in
-      ap (λ change. covers_by change reg) (change_before (Store at width value) before number found.most)
-      ∙ cover_covers before reg number earlier
+      rw (change_before (Store at width value) before number found.most) (cover_covers before reg number earlier)
 ]
 
 -- what is read past the end of a list of changes
@@ -95,11 +64,12 @@ change_is changes index change d within is =
     let count : length (reverse changes) ≡ length changes = length-reverse changes in
     let place : length (reverse changes) - (index + 1) ≡ length changes - (index + 1) = omega (arith, count) in
     let back : length changes - 1 - (length changes - (index + 1)) ≡ index = omega (arith, within) in
-    ap (λ (k : ℕ). get_or (reverse changes) k Reset) place
-    ∙ get_or-reverse changes (length changes - (index + 1)) Reset (omega (arith, within))
-    ∙ ap (λ (k : ℕ). get_or changes k Reset) back
-    ∙ get_or_default changes index Reset d within
-    ∙ is
+    rw (
+      place,
+      get_or-reverse changes (length changes - (index + 1)) Reset (omega (arith, within)),
+      back,
+      get_or_default changes index Reset d within,
+    ) is
 
 -- ---- whether a change is kept
 
@@ -111,33 +81,19 @@ number_is : (number : ℕ) (found : Option ℕ) → found ≡ Some number → is
 number_is number found is = rw is (eq-eqb number number refl)
 
 -- a store that covers a register covers it at one of its bytes
-record CoversAt (at : Reg) (width : Width) (reg : Reg) : Type 0 where
-  pub k : ℕ
-  pub below : k < bytes_of width
-  pub is : reg_after at k ≡ reg
+covers_at : (at : Reg) (width : Width) (reg : Reg) → covers at width reg ≡ true →
+    (k : ℕ) × (k < bytes_of width) × (reg_after at k ≡ reg)
+covers_at at width reg is = (
+  reg.off - at.off,
+  grind (arith, nat_tests),
+  same_register (reg_after at (reg.off - at.off)) reg (grind (arith, nat_tests)) (grind (arith, nat_tests))
+      (grind (arith, nat_tests)),
+)
 
-reg_is : (at reg : Reg) (k : ℕ) → at.dev ≡ reg.dev → at.fun ≡ reg.fun → at.off + k ≡ reg.off → reg_after at k ≡ reg
-reg_is at reg k dev fun off =
-    ap (λ (d : ℕ). record { dev = d; fun = at.fun; off = at.off + k }) dev
-    ∙ ap (λ (f : ℕ). record { dev = reg.dev; fun = f; off = at.off + k }) fun
-    ∙ ap (λ (o : ℕ). record { dev = reg.dev; fun = reg.fun; off = o }) off
-
-covers_at : (at : Reg) (width : Width) (reg : Reg) → covers at width reg ≡ true → CoversAt at width reg
-covers_at at width reg is = record {
-  k = reg.off - at.off;
-  below = grind (arith, nat_tests);
-  is = reg_is at reg (reg.off - at.off) (grind (arith, nat_tests)) (grind (arith, nat_tests))
-      (grind (arith, nat_tests));
-}
-
-record SomeOf (test : ℕ → Bool) : Type 0 where
-  pub k : ℕ
-  pub is : test k ≡ true
-
-any_found : (test : ℕ → Bool) (numbers : List ℕ) → list_any test numbers ≡ true → SomeOf test
+any_found : (test : ℕ → Bool) (numbers : List ℕ) → list_any test numbers ≡ true → (k : ℕ) × (test k ≡ true)
 any_found test [] is = absurd (false≢true is)
 any_found test (k ∷ later) is = elim (cases_Bool (test k)) [
-  | inl here ↦ record { k = k; is = here }
+  | inl here ↦ (k, here)
   | inr other ↦ any_found test later (rw other at is)
 ]
 
@@ -163,16 +119,15 @@ module _ (setup : Setup) (changes : List MapChange) (covers : Covers) (cards : I
   last_change_found number Reset is = absurd (false≢true is)
   last_change_found number (Store at width value) is =
       let found = any_found (λ k. is_last_at setup covers number (reg_after at k)) (take (bytes_of width) offsets) is in
-      last_found number (reg_after at found.k) found.is
+      last_found number (reg_after at found.0) found.1
 
   last_change_is : (number : ℕ) (change : MapChange) (reg : Reg) → covers_by change reg ≡ true →
       is_last_at setup covers number reg ≡ true → is_last_of setup covers number change ≡ true
   last_change_is number Reset reg covered is = absurd (false≢true covered)
   last_change_is number (Store at width value) reg covered is =
       let place = covers_at at width reg covered in
-      any_at (λ k. is_last_at setup covers number (reg_after at k)) (bytes_of width) place.k (bytes_few width)
-      place.below
-      (ap (λ other. is_last_at setup covers number other) place.is ∙ is)
+      any_at (λ k. is_last_at setup covers number (reg_after at k)) (bytes_of width) place.0 (bytes_few width) place.1
+      (ap (is_last_at setup covers number) place.2 ∙ is)
 
   pub kept_found : (number : ℕ) (change : MapChange) → is_kept_of setup covers number change ≡ true →
       RestsOn setup changes number
@@ -188,18 +143,15 @@ module _ (setup : Setup) (changes : List MapChange) (covers : Covers) (cards : I
   kept_is number change here (inl cover) =
       or_right (is_number number covers.lock) _
       (last_change_is number change cover.reg
-      (ap (λ other. covers_by other cover.reg) (sym here) ∙ cover_covers changes cover.reg number cover.last)
+      (rw (← here) (cover_covers changes cover.reg number cover.last))
       (last_is number cover.reg cover.map_byte cover.last))
 
 -- ---- the numbers that were found among the first changes, so many
 
--- they rise up to that many
-pub record Rise (count : ℕ) (keep : List ℕ) : Type 0 where
+-- they are the kept ones, and rise up to that many
+pub record AreKept (setup : Setup) (changes : List MapChange) (count : ℕ) (keep : List ℕ) : Type 0 where
   pub rises : AllPairs (λ one later. one < later) keep
   pub most : (number : ℕ) → is_among number keep ≡ true → number ≤ count
-
--- they are the kept ones
-pub record AreKept (setup : Setup) (changes : List MapChange) (count : ℕ) (keep : List ℕ) : Type 0 where
   pub only : (number : ℕ) → is_among number keep ≡ true → RestsOn setup changes number
   pub each : (number : ℕ) → number ≤ count → RestsOn setup changes number → is_among number keep ≡ true
 
@@ -216,37 +168,15 @@ among_either number next keep is = elim (cases_Bool (is_among number keep)) [
   | inr other ↦ inr (eqb-true next number (rw other at (sym (among_pushed number next keep) ∙ is)))
 ]
 
-pub rise_on : (count : ℕ) (keep : List ℕ) → Rise count keep → Rise (count + 1) keep
-rise_on count keep rise = record {
-  rises = rise.rises;
-  most = λ number among. omega (arith, rise.most number among);
-}
-
-pub rise_pushed : (count : ℕ) (keep : List ℕ) → Rise count keep → Rise (count + 1) (keep ++ (count + 1) ∷ [])
-rise_pushed count keep rise = record {
-  rises =
-      all_pairs_push (λ one later. one < later) keep (count + 1) rise.rises
-      (λ k d below. omega (
-        arith,
-        rise.most (get_or keep k d)
-            (list_any_at (λ other. other == get_or keep k d) keep k d below (eq-eqb _ _ refl)),
-      ));
-  most =
-      λ number among. elim (among_either number (count + 1) keep among) [
-        | inl earlier ↦ omega (arith, rise.most number earlier)
-        | inr same ↦ omega (arith, same)
-      ];
-}
-
 pub kept_on : (setup : Setup) (changes : List MapChange) (count : ℕ) (keep : List ℕ) →
     (RestsOn setup changes (count + 1) → ⊥) → AreKept setup changes count keep → AreKept setup changes (count + 1) keep
 kept_on setup changes count keep other are = record {
+  rises = are.rises;
+  most = λ number among. omega (arith, are.most number among);
   only = are.only;
   each =
       λ number most kept. elim (cases_lt count number) [
-        | inl last ↦
-            let same : number ≡ count + 1 = omega (arith, most, last) in
-            absurd (other (subst (λ (n : ℕ). RestsOn setup changes n) same kept))
+        | inl last ↦ let same : number ≡ count + 1 = omega (arith, most, last) in absurd (other (rw same at kept))
         | inr earlier ↦ are.each number earlier kept
       ];
 }
@@ -255,10 +185,22 @@ pub kept_pushed : (setup : Setup) (changes : List MapChange) (count : ℕ) (keep
     RestsOn setup changes (count + 1) →
     AreKept setup changes count keep → AreKept setup changes (count + 1) (keep ++ (count + 1) ∷ [])
 kept_pushed setup changes count keep kept are = record {
+  rises =
+      all_pairs_push (λ one later. one < later) keep (count + 1) are.rises
+      (λ k d below. omega (
+        arith,
+        are.most (get_or keep k d)
+            (list_any_at (λ other. other == get_or keep k d) keep k d below (eq-eqb _ _ refl)),
+      ));
+  most =
+      λ number among. elim (among_either number (count + 1) keep among) [
+        | inl earlier ↦ omega (arith, are.most number earlier)
+        | inr same ↦ omega (arith, same)
+      ];
   only =
       λ number among. elim (among_either number (count + 1) keep among) [
         | inl earlier ↦ are.only number earlier
-        | inr same ↦ subst (λ (n : ℕ). RestsOn setup changes n) same kept
+        | inr same ↦ rw same at kept
       ];
   each =
       λ number most is. among_pushed number (count + 1) keep
@@ -266,27 +208,22 @@ kept_pushed setup changes count keep kept are = record {
         | inl last ↦
             let same : count + 1 ≡ number = omega (arith, most, last) in
             or_right (is_among number keep) _ (eq-eqb (count + 1) number same)
-        | inr earlier ↦ let among : is_among number keep ≡ true = are.each number earlier is in rw among refl
+        | inr earlier ↦ rw (are.each number earlier is) refl
       ];
 }
 
-pub all_kept : (setup : Setup) (changes : List MapChange) (keep : List ℕ) → Rise (length changes) keep →
+pub all_kept : (setup : Setup) (changes : List MapChange) (keep : List ℕ) →
     AreKept setup changes (length changes) keep → IsKeep setup changes keep
-all_kept setup changes keep rise are = record {
-  rises = rise.rises;
+all_kept setup changes keep are = record {
+  rises = are.rises;
   only = are.only;
   each = λ number kept. are.each number (kept_number setup changes number kept).most kept;
 }
 
-pub none_rise : Rise 0 []
-none_rise = record {
-  rises = λ i j d order below. absurd (omega (arith, below));
-  most = λ number among. absurd (false≢true among);
-}
-
 pub none_kept : (setup : Setup) (changes : List MapChange) → AreKept setup changes 0 []
 none_kept setup changes = record {
+  rises = λ i j d order below. absurd (omega (arith, below));
+  most = λ number among. absurd (false≢true among);
   only = λ number among. absurd (false≢true among);
-  each = λ number most kept. let found = kept_number setup changes number kept in
-      absurd (omega (arith, most, found.some));
+  each = λ number most kept. absurd (omega (arith, most, (kept_number setup changes number kept).after));
 }

@@ -1,6 +1,6 @@
 -- There is only one report of a list of changes.
-use Rattle.std.proofs.Common.{◌≡◌, ℕ, suc, ◌<◌, ◌≤◌, ◌⊎◌, inl, inr, true, List, [], ◌∷◌, length, get_or, map}
-use Rattle.std.proofs.Common.{refl, sym, ap, ◌∙◌, subst, arith, ◌==◌}
+use Rattle.std.proofs.Common.{◌≡◌, ℕ, suc, ◌<◌, ◌≤◌, ◌⊎◌, inl, inr, true, List, [], ◌∷◌, length, get_or, map, refl, sym}
+use Rattle.std.proofs.Common.{arith, ◌==◌}
 use Rattle.board_prelude.proofs.Common.{AllPairs, AllByRecursion, cases_Bool, eq-eqb, eqb-true, false≢true}
 use Rattle.board_prelude.proofs.Common.{recursion_from_All, MapChange, Setup, registers_after, MapRange, OneFlatMap}
 use Rattle.map_blame.specs.declared.blamed.Blamed.{Blamed}
@@ -17,18 +17,12 @@ rise_later : (number : ℕ) (later : List ℕ) → AllPairs (λ one other. one <
     AllPairs (λ one other. one < other) later
 rise_later number later rises i j d order below = rises (suc i) (suc j) d (omega (arith, order)) (omega (arith, below))
 
-record Place (number : ℕ) (numbers : List ℕ) : Type 0 where
-  pub k : ℕ
-  pub within : k < length numbers
-  pub is : get_or numbers k 0 ≡ number
-
-place_of : (number : ℕ) (numbers : List ℕ) → is_among number numbers ≡ true → Place number numbers
+place_of : (number : ℕ) (numbers : List ℕ) → is_among number numbers ≡ true →
+    (k : ℕ) × (k < length numbers) × (get_or numbers k 0 ≡ number)
 place_of number [] is = absurd (false≢true is)
 place_of number (first ∷ later) is = elim (cases_Bool (first == number)) [
-  | inl here ↦ record { k = 0; within = omega arith; is = eqb-true first number here }
-  | inr other ↦
-      let rest = place_of number later (rw other at is) in
-      record { k = suc rest.k; within = omega (arith, rest.within); is = rest.is }
+  | inl here ↦ (0, omega arith, eqb-true first number here)
+  | inr other ↦ let rest = place_of number later (rw other at is) in (suc rest.0, omega (arith, rest.1), rest.2)
 ]
 
 rise_is : (numbers : List ℕ) → AllPairs (λ one other. one < other) numbers → Rise numbers
@@ -36,9 +30,8 @@ rise_is [] rises = tt
 rise_is (number ∷ later) rises = (
   (λ other among.
       let place = place_of other later among in
-      let below : number < get_or later place.k 0 =
-      rises 0 (suc place.k) 0 (omega arith) (omega (arith, place.within)) in
-      omega (arith, below, place.is)),
+      let below = rises 0 (suc place.0) 0 (omega arith) (omega (arith, place.1)) in
+      omega (arith, place.2)),
   rise_is later (rise_later number later rises),
 )
 
@@ -85,13 +78,16 @@ same_numbers [] [] rise rise' to from = refl
 same_numbers [] (first ∷ later) rise rise' to from = absurd (false≢true (from first (among_first first later)))
 same_numbers (first ∷ later) [] rise rise' to from = absurd (false≢true (to first (among_first first later)))
 same_numbers (first ∷ later) (first' ∷ later') rise rise' to from =
-    let low : first' ≤ first = least_first first first' later later' rise rise' to in
-    let high : first ≤ first' = least_first first' first later' later rise' rise from in
-    let same : first ≡ first' = omega (arith, low, high) in
-    let rest : later ≡ later' =
-    same_numbers later later' rise.1 rise'.1 (within_later first first' later later' same rise to)
-    (within_later first' first later' later (sym same) rise' from) in
-    ap (λ (n : ℕ). n ∷ later) same ∙ ap (λ (numbers : List ℕ). first' ∷ numbers) rest
+    let same : first ≡ first' = omega (
+      arith,
+      least_first first first' later later' rise rise' to,
+      least_first first' first later' later rise' rise from,
+    ) in
+    rw (
+      same,
+      same_numbers later later' rise.1 rise'.1 (within_later first first' later later' same rise to)
+          (within_later first' first later' later (sym same) rise' from),
+    ) refl
 
 pub one_keep : (setup : Setup) (changes : List MapChange) (keep other : List ℕ) → IsKeep setup changes keep →
     IsKeep setup changes other → keep ≡ other
@@ -115,11 +111,10 @@ one_since setup changes (one ∷ later) [] each each' same = cc
 one_since setup changes (one ∷ later) (one' ∷ later') each each' same =
     let range : map_range_of one ≡ map_range_of one' = cc in
     let rest : map map_range_of later ≡ map map_range_of later' = cc in
-    let here : one.since ≡ one'.since =
-    same_since setup changes (map_range_of one') one.since one'.since
-    (subst (λ (range : MapRange). IsSince setup changes range one.since) range each.0) each'.0 in
-    ap (λ (n : ℕ). n ∷ map (λ one. one.since) later) here
-    ∙ ap (λ (numbers : List ℕ). one'.since ∷ numbers) (one_since setup changes later later' each.1 each'.1 rest)
+    rw (
+      same_since setup changes (map_range_of one') one.since one'.since (rw range at each.0) each'.0,
+      one_since setup changes later later' each.1 each'.1 rest,
+    ) refl
 
 pub one_report : OneFlatMap → OneReport
 one_report one_map setup changes blamed blamed' kept kept' is is' =

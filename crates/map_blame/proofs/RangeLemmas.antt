@@ -1,9 +1,9 @@
 -- Lists of ranges that are watched.
-use Rattle.std.proofs.Common.{◌≡◌, ℕ, ◌+◌, ◌<◌, ◌≤◌, inl, inr, false, List, [], ◌∷◌, length, get_or, set, map, sym, ap}
-use Rattle.std.proofs.Common.{◌∙◌, subst, arith, All}
+use Rattle.std.proofs.Common.{◌≡◌, ℕ, ◌+◌, ◌<◌, ◌≤◌, inl, inr, false, List, [], ◌∷◌, length, get_or, set, map, sym, ◌∙◌}
+use Rattle.std.proofs.Common.{arith, All, refl}
 use Rattle.board_prelude.proofs.Common.{cases_lt, get_or-set_same, get_or-set_other, get_or_default, get_or-map}
 use Rattle.board_prelude.proofs.Common.{length-map, ext_get_or, All-nil, All-cons, MapChange, Setup, registers_after}
-use Rattle.board_prelude.proofs.Common.{Tiles, IsRight, IsFlatMapOf}
+use Rattle.board_prelude.proofs.Common.{Tiles, IsFlatMapOf}
 use Rattle.std.proofs.lemmas.Simd.{map-map}
 use Rattle.board_spec.proofs.FlatMapLaws.{tiles_below}
 use Rattle.map_builder.specs.Common.{Range, range_of, no_range}
@@ -19,16 +19,11 @@ pub all_set : {X : Type 0} (P : X → X → Type 0) (old now : List X) (index : 
     ((k : ℕ) (d : X) → index ≤ k → get_or now k d ≡ get_or old k d) → P (get_or now index d₀) new →
     (k : ℕ) (d : X) → k < index + 1 → P (get_or old k d) (get_or (set now index new) k d)
 all_set P old now index new d₀ long within done rest here k d below = elim (cases_lt k index) [
-  | inl earlier ↦
-      subst (P (get_or old k d)) (sym (get_or-set_other now index k new d (omega (arith, earlier)))) (done k d earlier)
+  | inl earlier ↦ rw (get_or-set_other now index k new d (omega (arith, earlier))) (done k d earlier)
   | inr last ↦
       let same : k ≡ index = omega (arith, below, last) in
-      let there : get_or now index d₀ ≡ get_or old k d =
-      rest index d₀ (omega arith) ∙ get_or_default old index d₀ d (omega (arith, within, long))
-      ∙ ap (λ (j : ℕ). get_or old j d) (sym same) in
-      let put : get_or (set now index new) k d ≡ new =
-      ap (λ (j : ℕ). get_or (set now index new) j d) same ∙ get_or-set_same now index new d within in
-      subst (P (get_or old k d)) (sym put) (subst (λ x. P x new) there here)
+      rw (same, get_or-set_same now index new d within, ← get_or_default old index d₀ d (omega (arith, within, long)))
+      (rw (rest index d₀ (omega arith)) at here)
 ]
 
 pub rest_set : {X : Type 0} (old now : List X) (index : ℕ) (new : X) →
@@ -57,10 +52,9 @@ pub are_watchable : (watched : List Watched) (ranges : List Range) → map watch
     All IsInterval ranges →
     All IsWatchable watched
 are_watchable watched ranges same are k d within =
-    let long : length (map watched_range watched) ≡ length watched = length-map watched watched_range in
-    subst IsInterval
-    (ap (λ (all : List Range). get_or all k no_range) (sym same) ∙ get_or-map watched_range watched k d no_range within)
-    (are k no_range (omega (arith, within, long, ap length same)))
+    let all = rw (← same) at are in
+    rw (get_or-map watched_range watched k d no_range within)
+    at (all k no_range (omega (arith, within, length-map watched watched_range)))
 
 -- ---- the ranges at the end
 
@@ -86,9 +80,12 @@ module _ (setup : Setup) (changes : List MapChange) (old new : List Watched) (ra
 
   all_ranges : map map_range_of blamed ≡ map range_of ranges
   all_ranges =
-      map-map map_range_of (λ (one : Watched). one.blamed) new
-      ∙ sym (map-map range_of watched_range new)
-      ∙ ap (map range_of) (same_ranges old new long same ∙ begun)
+      rw (
+        map-map map_range_of (λ (one : Watched). one.blamed) new,
+        ← map-map range_of watched_range new,
+        same_ranges old new long same,
+        begun,
+      ) refl
 
   range_since : (k : ℕ) (d : Blamed) → k < length blamed →
       IsSince setup changes (map_range_of (get_or blamed k d)) (get_or blamed k d).since
@@ -97,16 +94,13 @@ module _ (setup : Setup) (changes : List MapChange) (old new : List Watched) (ra
       let one : Watched = get_or new k no_watched in
       let is : get_or blamed k d ≡ one.blamed = get_or-map (λ (one : Watched). one.blamed) new k no_watched d below in
       let long_map : length (map map_range_of blamed) ≡ length blamed = length-map blamed map_range_of in
-      let right : IsRight setup (registers_after setup changes) (map_range_of one.blamed) =
-      subst (IsRight setup (registers_after setup changes))
-      (ap (λ all. get_or all k (map_range_of no_watched.blamed)) (sym all_ranges)
-      ∙ get_or-map map_range_of blamed k d (map_range_of no_watched.blamed) within ∙ ap map_range_of is)
-      (is_map.right k (map_range_of no_watched.blamed) (omega (arith, within, long_map, ap length all_ranges))) in
-      subst (λ (one : Blamed). IsSince setup changes (map_range_of one) one.since) (sym is)
-      (since_is setup changes one (watched k no_watched below) right)
+      let whole = rw (← all_ranges) at is_map.right in
+      let right = rw (get_or-map map_range_of blamed k d (map_range_of no_watched.blamed) within, is)
+      at (whole k (map_range_of no_watched.blamed) (omega (arith, within, long_map))) in
+      rw is (since_is setup changes one (watched k no_watched below) right)
 
   pub are_blamed : AreBlamed setup changes blamed
   are_blamed = record {
-    map = subst (IsFlatMapOf setup (registers_after setup changes)) (sym all_ranges) is_map;
+    map = rw all_ranges is_map;
     since = range_since;
   }

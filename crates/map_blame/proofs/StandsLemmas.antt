@@ -1,5 +1,5 @@
 -- Whether a range stands in a map, by the range of the map that holds its first address.
-use Rattle.std.proofs.Common.{◌≡◌, ◌≢◌, ℕ, ◌+◌, ◌<◌, ◌≤◌, inl, inr, List, length, map, sym, ◌∙◌, subst, arith}
+use Rattle.std.proofs.Common.{◌≡◌, ◌≢◌, ℕ, ◌+◌, ◌<◌, ◌≤◌, inl, inr, List, length, map, sym, ◌∙◌, arith}
 use Rattle.board_prelude.proofs.Common.{cases_lt, get_or-map, length-map, Setup, Bytes, six_areas, IsRight, IsFlatMapOf}
 use Rattle.map_builder.specs.Common.{Range, range_of, no_range, range_at, Holds}
 use Rattle.map_builder.proofs.Common.{Placed, placed, row_at, differ_at}
@@ -12,10 +12,8 @@ module _ (setup : Setup) (bytes : Bytes) (ranges : List Range) (is_map : IsFlatM
 
     areas_held : (k addr : ℕ) → Holds ranges k addr → six_areas setup bytes addr ≡ row_at ranges k
     areas_held k addr holds =
-        let long : length (map range_of ranges) ≡ length ranges = length-map ranges range_of in
-        let right : IsRight setup bytes (range_of (range_at ranges k)) =
-        subst (IsRight setup bytes) (get_or-map range_of ranges k no_range (range_of no_range) holds.within)
-        (is_map.right k (range_of no_range) (omega (arith, holds.within))) in
+        let right = rw (get_or-map range_of ranges k no_range (range_of no_range) holds.within)
+        at (is_map.right k (range_of no_range) (omega (arith, length-map ranges range_of, holds.within))) in
         right.at_each addr holds.above holds.below
 
     module _ (range : Range) (is : IsInterval range) (k : ℕ) (holds : Holds ranges k range.lo) where
@@ -43,11 +41,8 @@ module _ (setup : Setup) (bytes : Bytes) (ranges : List Range) (is_map : IsFlatM
         | inl more ↦
             let next : ℕ = (range_at ranges k).hi + 1 in
             let joined : (range_at ranges (k + 1)).lo ≡ next = is_placed.next k more in
-            let there : Holds ranges (k + 1) next = record {
-              within = more;
-              above = omega (arith, joined);
-              below = omega (arith, joined, is_placed.whole (k + 1) more);
-            } in
+            let there : Holds ranges (k + 1) next =
+            record { within = more; above = omega arith; below = omega (arith, is_placed.whole (k + 1) more) } in
             let inside : range.lo ≤ next = omega (arith, holds.below) in
             differ_at ranges k is_map.least more
             (sym (areas_held (k + 1) next there) ∙ right.at_each next inside (omega (arith, ends))

@@ -1,12 +1,11 @@
 -- What is known of a range that is watched, before and after a change.
 use Rattle.std.proofs.Common.{◌≡◌, ℕ, suc, ◌+◌, ◌-◌, ◌<◌, ◌≤◌, ◌⊎◌, inl, inr, Bool, true, false, List, [], ◌∷◌, length}
-use Rattle.std.proofs.Common.{get_or, take, reverse, refl, sym, ap, ◌∙◌, subst, arith}
+use Rattle.std.proofs.Common.{get_or, take, reverse, refl, sym, ◌∙◌, arith}
 use Rattle.board_prelude.proofs.Common.{cases_Bool, cases_lt, false≢true, take_more, reverse-append, length-reverse}
 use Rattle.board_prelude.proofs.Common.{length-take-le, MapChange, Setup, IsCardList, Bytes, top_of, reset_byte}
-use Rattle.board_prelude.proofs.Common.{host_bridge, registers_after, MapRange, IsRight}
-use Rattle.map_builder.specs.Common.{Changed, Range}
+use Rattle.board_prelude.proofs.Common.{host_bridge, registers_after, MapRange, IsRight, six_areas}
+use Rattle.map_builder.specs.Common.{Changed, Range, Mapped, range_of, changed_windows, bounds_or_zero, IsApplied}
 use Rattle.addr_decode.specs.MapRegs.{StandsFor}
-use Rattle.map_builder.specs.Common.{Mapped, range_of, IsOutside, changed_windows, bounds_or_zero, IsApplied}
 use Rattle.map_builder.proofs.KeptStores.{top_after, bounds_hold_changes}
 use Rattle.map_blame.specs.declared.watch.Watched.{Watched}
 use Rattle.map_blame.specs.Common.{first_changes, IsRightAfter, StandsFrom, IsSince, map_range_of, IsInterval, IsAfter}
@@ -28,26 +27,22 @@ module _ (setup : Setup) (range : MapRange) where
   RightNow changes = IsRight setup (registers_after setup changes) range
 
   pub right_now : (changes : List MapChange) → IsRightAfter setup changes range (length changes) → RightNow changes
-  right_now changes right = subst RightNow (all_changes changes) right
+  right_now changes right = rw (all_changes changes) at right
 
   now_right : (changes : List MapChange) (count : ℕ) → count ≡ length changes → RightNow changes →
       IsRightAfter setup changes range count
-  now_right changes count is right = rw is (subst RightNow (sym (all_changes changes)) right)
+  now_right changes count is right = rw (is, all_changes changes) right
 
   right_before : (change : MapChange) (before : List MapChange) (count : ℕ) → count ≤ length before →
       IsRightAfter setup (change ∷ before) range count → IsRightAfter setup before range count
-  right_before change before count few right = subst RightNow (earlier_changes change before count few) right
-
-  before_right : (change : MapChange) (before : List MapChange) (count : ℕ) → count ≤ length before →
-      IsRightAfter setup before range count → IsRightAfter setup (change ∷ before) range count
-  before_right change before count few right = subst RightNow (sym (earlier_changes change before count few)) right
+  right_before change before count few right = rw (earlier_changes change before count few) at right
 
   stands_on : (change : MapChange) (before : List MapChange) (since : ℕ) → since ≤ length before + 1 →
       ((count : ℕ) → since ≤ count → count ≤ length before → IsRightAfter setup before range count) →
       RightNow (change ∷ before) → StandsFrom setup (change ∷ before) range since
   stands_on change before since most earlier now count from few = elim (cases_lt (length before) count) [
     | inl last ↦ now_right (change ∷ before) count (omega (arith, few, last)) now
-    | inr not_last ↦ before_right change before count not_last (earlier count from not_last)
+    | inr not_last ↦ rw (earlier_changes change before count not_last) (earlier count from not_last)
   ]
 
 -- ---- the changes up to an index of a list with the oldest first
@@ -55,7 +50,7 @@ module _ (setup : Setup) (range : MapRange) where
 pub taken_more : (changes : List MapChange) (index : ℕ) (d : MapChange) → index < length changes →
     reverse (take (index + 1) changes) ≡ get_or changes index d ∷ reverse (take index changes)
 taken_more changes index d within =
-    ap reverse (take_more changes index d within) ∙ reverse-append (take index changes) (get_or changes index d ∷ [])
+    rw (take_more changes index d within, reverse-append (take index changes) (get_or changes index d ∷ [])) refl
 
 pub taken_count : (changes : List MapChange) (index : ℕ) → index ≤ length changes →
     length (reverse (take index changes)) ≡ index
@@ -73,23 +68,18 @@ after_change setup before change old new bounds applied after =
 module _ (setup : Setup) (range : Range) (is : IsInterval range) (bounds : Changed) (change : MapChange)
     (before : List MapChange)
     (hold : HoldChange bounds setup before change) (beside : (range.hi < bounds.lo) ⊎ (bounds.hi < range.lo)) where
-  outside : (addr : ℕ) → range.lo ≤ addr → addr ≤ range.hi → IsOutside addr bounds
-  outside addr low high = elim beside [
-    | inl below ↦ inl (omega (arith, below, high))
-    | inr above ↦ inr (omega (arith, above, low))
-  ]
+  same : (addr : ℕ) → range.lo ≤ addr → addr ≤ range.hi →
+      six_areas setup (registers_after setup (change ∷ before)) addr
+      ≡ six_areas setup (registers_after setup before) addr
+  same addr low high =
+      hold addr (omega (arith, is.last))
+      (elim beside [ inl below ↦ inl (omega (arith, below)) | inr above ↦ inr (omega (arith, above)) ])
 
   same_after : RightNow setup (range_of range) before → RightNow setup (range_of range) (change ∷ before)
-  same_after right = record {
-    at_each = λ addr low high. hold addr (omega (arith, high, is.last)) (outside addr low high)
-        ∙ right.at_each addr low high;
-  }
+  same_after right = record { at_each = λ addr low high. same addr low high ∙ right.at_each addr low high }
 
   same_before : RightNow setup (range_of range) (change ∷ before) → RightNow setup (range_of range) before
-  same_before right = record {
-    at_each = λ addr low high. sym (hold addr (omega (arith, high, is.last)) (outside addr low high))
-        ∙ right.at_each addr low high;
-  }
+  same_before right = record { at_each = λ addr low high. sym (same addr low high) ∙ right.at_each addr low high }
 
   pub watched_beside : (since : ℕ) (stands : Bool) →
       IsWatched setup before (record { blamed = record { range = range; since = since }; stands = stands }) →
@@ -145,8 +135,7 @@ module _ (map : Mapped) (bounds : Changed) (number : ℕ) (self : Watched) (is :
             fallen = λ is_false. absurd (false≢true (sym is_false ∙ stands_now));
             before = λ some right.
                 watched.fallen fell
-                (subst (λ (k : ℕ). IsRightAfter setup before range k) last
-                (right_before setup range change before (number - 1) (omega (arith, last)) right));
+                (rw last at (right_before setup range change before (number - 1) (omega (arith, last)) right));
             most = omega (arith, count);
           };
     }
@@ -218,4 +207,4 @@ pub holds_change : (setup : Setup) (before : List MapChange) (change : MapChange
 unfolding registers_after
 holds_change setup before change bounds cards is addr address outside =
     bounds_hold_changes setup (registers_after setup before) change addr cards (top_after_changes setup before) address
-    (subst (λ (bounds' : Changed). IsOutside addr bounds') is outside)
+    (rw is at outside)

@@ -1,6 +1,5 @@
-use Rattle.std.proofs.Common.{◌≡◌, true, false, ap, sym, ◌∙◌, ◌&&◌}
+use Rattle.std.proofs.Common.{◌≡◌, true, false, sym, ◌∙◌, refl}
 use Rattle.board_spec.specs.MapWrites.{is_map_byte}
-use Rattle.map_blame.specs.Covers.{is_number, number_at}
 use Rattle.map_blame.proofs.CoverLemmas.{touches_one}
 use Rattle.map_blame.proofs.keep.is_last.Goals as goal
 
@@ -9,7 +8,7 @@ returns-then-touches c = record {
   last = λ setup bytes stands.
       let map_byte : is_map_byte setup c.args.reg ≡ true =
       sym (touches_one setup c.args.reg) ∙ sym (c.touches.ensures.touched setup bytes stands) ∙ c.if-touches.true in
-      rw map_byte (c.eq.ensures ∙ ap (λ found. is_number c.args.number found) c.last_of.ensures.number);
+      rw (map_byte, c.eq.ensures, c.last_of.ensures.number) refl;
 }
 
 pub returns-else-touches : goal.returns-else-touches
@@ -17,6 +16,5 @@ returns-else-touches c = record {
   last = λ setup bytes stands.
       let map_byte : is_map_byte setup c.args.reg ≡ false =
       sym (touches_one setup c.args.reg) ∙ sym (c.touches.ensures.touched setup bytes stands) ∙ c.if-touches.false in
-      c.if-touches.false
-      ∙ ap (λ b. b && is_number c.args.number (number_at c.args.covers.now.last c.args.reg)) (sym map_byte);
+      rw (c.if-touches.false, map_byte) refl;
 }

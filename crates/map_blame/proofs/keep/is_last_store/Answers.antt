@@ -1,6 +1,5 @@
-use Rattle.std.proofs.Common.{◌≡◌, ℕ, false, sym, ◌∙◌, subst, arith, take}
-use Rattle.board_prelude.proofs.Common.{list_any, bytes_of, bytes_few, reg_after}
-use Rattle.addr_decode.proofs.NameLemmas.{offsets}
+use Rattle.std.proofs.Common.{◌≡◌, sym, ◌∙◌, arith}
+use Rattle.board_prelude.proofs.Common.{bytes_of, bytes_few, reg_after}
 use Rattle.map_blame.specs.Covers.{is_last_at}
 use Rattle.map_blame.proofs.CoverLemmas.{any_next, any_at}
 use Rattle.map_blame.proofs.keep.is_last_store.Goals as goal
@@ -25,8 +24,5 @@ pub returns : goal.returns
 returns c = record {
   last = λ setup bytes stands cards.
       let all : c.loop-k.k ≡ bytes_of c.args.width = omega arith in
-      sym (subst
-      (λ (n : ℕ). list_any (λ k. is_last_at setup c.args.covers.now c.args.number (reg_after c.args.reg k))
-      (take n offsets) ≡ false)
-      all (c.loop-k.invariant.none setup bytes stands cards));
+      sym (rw all at (c.loop-k.invariant.none setup bytes stands cards));
 }

@@ -1,13 +1,12 @@
-use Rattle.std.proofs.Common.{◌≡◌, ℕ, ◌+◌, reverse, length, get_or, sym, ◌∙◌, subst, arith, refl}
+use Rattle.std.proofs.Common.{◌≡◌, ℕ, ◌+◌, reverse, length, get_or, sym, ◌∙◌, arith, refl}
 use Rattle.board_prelude.proofs.Common.{false≢true, length-reverse}
-use Rattle.map_blame.proofs.KeptLemmas.{no_change, Rise, AreKept, none_rise, none_kept, rise_on, rise_pushed, kept_on}
-use Rattle.map_blame.proofs.KeptLemmas.{kept_pushed, kept_found, kept_is, change_is, all_kept}
+use Rattle.map_blame.proofs.KeptLemmas.{no_change, none_kept, kept_on, kept_pushed, kept_found, kept_is, change_is}
+use Rattle.map_blame.proofs.KeptLemmas.{all_kept}
 use Rattle.map_blame.proofs.keep.kept_changes.Goals as goal
 use Rattle.map_blame.proofs.keep.kept_changes.Goals.{then-is_kept+in_ok-push, else-is_kept}
 
 pub loop-index-init : goal.loop-index-init
 loop-index-init c = rw c.new-keep.ensures.items (record {
-  rise = none_rise;
   kept = λ setup bytes stands cards. none_kept setup (reverse c.args.changes.now);
 })
 
@@ -16,12 +15,6 @@ loop-index-preserved c =
     let index : ℕ = c.loop-index.index in
     let changes = reverse c.args.changes.now in
     record {
-      rise = elim c.if-is_kept.branch [
-        | then-is_kept+in_ok-push w ↦
-            rw (w.keep-is, w.in_ok-push.ensures.items)
-            (rise_pushed index c.loop-index.keep.items c.loop-index.invariant.rise)
-        | else-is_kept w ↦ rw w.keep-is (rise_on index c.loop-index.keep.items c.loop-index.invariant.rise)
-      ];
       kept =
           λ setup bytes stands cards.
           let so_far = c.loop-index.invariant.kept setup bytes stands cards in
@@ -49,7 +42,5 @@ returns c = record {
       let all : c.loop-index.index ≡ length (reverse c.args.changes.now) =
       omega (arith, length-reverse c.args.changes.now) in
       all_kept setup (reverse c.args.changes.now) c.loop-index.keep.items
-      (subst (λ (n : ℕ). Rise n c.loop-index.keep.items) all c.loop-index.invariant.rise)
-      (subst (λ (n : ℕ). AreKept setup (reverse c.args.changes.now) n c.loop-index.keep.items) all
-      (c.loop-index.invariant.kept setup bytes stands cards));
+      (rw all at (c.loop-index.invariant.kept setup bytes stands cards));
 }

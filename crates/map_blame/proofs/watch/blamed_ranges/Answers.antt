@@ -1,21 +1,20 @@
-use Rattle.std.proofs.Common.{◌≡◌, [], map, reverse, subst, sym, ap, ◌∙◌, All}
-use Rattle.board_prelude.proofs.Common.{take_at, Setup, IsCardList, registers_after, Tiles, IsFlatMapOf}
+use Rattle.std.proofs.Common.{◌≡◌, [], map, reverse, ap, ◌∙◌}
+use Rattle.board_prelude.proofs.Common.{take_at, Setup, IsCardList, registers_after}
 use Rattle.std.proofs.lemmas.Result.{IfOk-weaker}
-use Rattle.map_blame.specs.Common.{AreBlamed, IsAfter, IsWatched}
+use Rattle.map_blame.specs.Common.{AreBlamed, IsAfter}
 use Rattle.map_blame.proofs.RangeLemmas.{are_intervals, are_watchable, are_blamed, watched_range}
 use Rattle.map_blame.proofs.watch.blamed_ranges.Goals as goal
 
 pub begin-requires : goal.begin-requires
 begin-requires c = record {
-  ranges =
-      are_intervals 0 c.ranges-2.result.now (subst (Tiles 0) (sym c.ranges-2.ensures.ranges) c.ranges-2.ensures.tiles);
+  ranges = are_intervals 0 c.ranges-2.result.now (rw c.ranges-2.ensures.ranges c.ranges-2.ensures.tiles);
 }
 
 pub watch-requires-clause-ranges : goal.watch-requires-clause-ranges
 watch-requires-clause-ranges c =
     rw c.deref_mut.ensures.value
     (are_watchable c.in_ok-watched.watched.items c.ranges-2.result.now c.in_ok-watched.ensures.ranges
-    (are_intervals 0 c.ranges-2.result.now (subst (Tiles 0) (sym c.ranges-2.ensures.ranges) c.ranges-2.ensures.tiles)))
+    (are_intervals 0 c.ranges-2.result.now (rw c.ranges-2.ensures.ranges c.ranges-2.ensures.tiles)))
 
 pub returns : goal.returns
 returns c = record {
@@ -27,14 +26,11 @@ returns c = record {
       let changes = reverse c.args.changes.now in
       let new = c.watch.new.watched in
       let lent = c.deref_mut.ensures.value in
-      let whole : c.deref.result.now ≡ new =
-      c.deref.ensures.value ∙ take_at new _ _ (c.watch.ensures.length ∙ c.deref_mut.ensures.len) in
-      subst (AreBlamed setup changes) (sym (items ∙ ap (map (λ one. one.blamed)) whole))
+      rw (items, c.deref.ensures.value, take_at new _ _ (c.watch.ensures.length ∙ c.deref_mut.ensures.len))
       (are_blamed setup changes c.deref_mut.result.now new c.ranges-2.result.now
       (ap (map watched_range) lent ∙ c.in_ok-watched.ensures.ranges) c.watch.ensures.length c.watch.ensures.ranges
-      (subst (IsFlatMapOf setup (registers_after setup changes)) (sym c.ranges-2.ensures.ranges)
+      (rw c.ranges-2.ensures.ranges
       (c.ranges-2.ensures.map setup (registers_after setup changes) (c.changed_map-last.ensures.after setup start)))
-      (c.watch.ensures.watched setup cards start
-      (subst (All (IsWatched setup [])) (sym lent) (c.in_ok-watched.ensures.watched setup start)))))
+      (c.watch.ensures.watched setup cards start (rw lent (c.in_ok-watched.ensures.watched setup start)))))
       c.all_blamed.ensures.blamed;
 }

@@ -1,6 +1,4 @@
-use Rattle.std.proofs.Common.{subst, sym, List, take, take_all, reverse, arith}
-use Rattle.board_spec.specs.declared.map_change.MapChange.{MapChange}
-use Rattle.map_blame.specs.Watch.{IsAfter}
+use Rattle.std.proofs.Common.{take, take_all, reverse, arith}
 use Rattle.map_blame.proofs.KeptLemmas.{no_change}
 use Rattle.map_blame.proofs.WatchLemmas.{taken_more, after_change}
 use Rattle.map_blame.proofs.watch.changed_map.Goals as goal
@@ -8,17 +6,14 @@ use Rattle.map_blame.proofs.watch.changed_map.Goals as goal
 pub loop-change-preserved : goal.loop-change-preserved
 loop-change-preserved c = record {
   after = λ setup start.
-      subst (λ (changes : List MapChange). IsAfter setup changes c.apply.new.self)
-      (sym (taken_more c.args.changes.now c.loop-change.change-index no_change c.loop-change-test.true))
+      rw (taken_more c.args.changes.now c.loop-change.change-index no_change c.loop-change-test.true)
       (after_change setup (reverse (take c.loop-change.change-index c.args.changes.now)) _ c.loop-change.map
-      c.apply.new.self
-      c.apply.result c.apply.ensures.applied (c.loop-change.invariant.after setup start));
+      c.apply.new.self c.apply.result c.apply.ensures.applied (c.loop-change.invariant.after setup start));
 }
 
 pub returns : goal.returns
 returns c = record {
   after = λ setup start.
-      subst (λ (changes : List MapChange). IsAfter setup (reverse changes) c.loop-change.map)
-      (take_all c.loop-change.change-index c.args.changes.now (omega (arith, c.loop-change-test.false)))
-      (c.loop-change.invariant.after setup start);
+      rw (take_all c.loop-change.change-index c.args.changes.now (omega (arith, c.loop-change-test.false)))
+      at (c.loop-change.invariant.after setup start);
 }

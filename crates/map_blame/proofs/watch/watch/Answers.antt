@@ -1,6 +1,5 @@
-use Rattle.std.proofs.Common.{◌≡◌, ◌<◌, List, length, get_or, refl, subst, sym, ◌∙◌, arith, take, reverse, All}
-use Rattle.board_prelude.proofs.Common.{take_all, MapChange, registers_after}
-use Rattle.map_blame.specs.Watch.{IsInterval, IsAfter, IsWatched}
+use Rattle.std.proofs.Common.{◌<◌, length, get_or, refl, ◌∙◌, arith, take, reverse}
+use Rattle.board_prelude.proofs.Common.{take_all, registers_after}
 use Rattle.map_blame.proofs.KeptLemmas.{no_change}
 use Rattle.map_blame.proofs.WatchLemmas.{taken_more, taken_count, after_change, holds_change}
 use Rattle.map_blame.proofs.watch.watch.Goals as goal
@@ -17,7 +16,7 @@ pub look_again-requires : goal.look_again-requires
 look_again-requires c = record {
   ranges = λ k d within.
       let known : k < length c.args.watched.now = omega (arith, within, c.loop-index.invariant.count) in
-      subst IsInterval (sym (c.loop-index.invariant.ranges k d known)) (c.requires.ranges k d known);
+      rw (c.loop-index.invariant.ranges k d known) (c.requires.ranges k d known);
 }
 
 pub loop-index-preserved : goal.loop-index-preserved
@@ -32,13 +31,13 @@ loop-index-preserved c =
           let known : k < length c.loop-index.watched = omega (arith, within, c.loop-index.invariant.count) in
           (c.look_again.ensures.next k d known).range ∙ c.loop-index.invariant.ranges k d within;
       after = λ setup start.
-          subst (λ (changes : List MapChange). IsAfter setup changes c.apply-bounds.new.self) (sym more)
+          rw more
           (after_change setup before change c.loop-index.map c.apply-bounds.new.self c.apply-bounds.result
           c.apply-bounds.ensures.applied (c.loop-index.invariant.after setup start));
       watched = λ setup cards start all k d within.
           let known : k < length c.loop-index.watched = omega (arith, within, c.look_again.ensures.length) in
           let after = c.loop-index.invariant.after setup start in
-          subst (λ (changes : List MapChange). IsWatched setup changes (get_or c.look_again.new.watched k d)) (sym more)
+          rw more
           ((c.look_again.ensures.next k d known).watched setup before change
           (omega (arith, taken_count c.args.changes.now index (omega arith)))
           (after_change setup before change c.loop-index.map c.apply-bounds.new.self c.apply-bounds.result
@@ -53,7 +52,5 @@ returns-clause-ranges c = c.loop-index.invariant.ranges
 
 pub returns-clause-watched : goal.returns-clause-watched
 returns-clause-watched c = λ setup cards start all.
-    let whole : take c.loop-index.index c.args.changes.now ≡ c.args.changes.now =
-    take_all c.loop-index.index c.args.changes.now c.loop-index-test.false in
-    subst (λ (changes : List MapChange). All (IsWatched setup (reverse changes)) c.loop-index.watched) whole
-    (c.loop-index.invariant.watched setup cards start all)
+    rw (take_all c.loop-index.index c.args.changes.now c.loop-index-test.false)
+    at (c.loop-index.invariant.watched setup cards start all)
