@@ -53,7 +53,8 @@ listed cards few =
 -- the same of bases
 pub bases_at : (bases : List BaseSpec) (i : ℕ) (d : BaseSpec) → i < length bases →
     All IsBase (map base_of bases) ↔ All IsBase (map base_of (drop i bases)) →
-    All IsBase (map base_of bases) ↔ (IsBase (base_of (get_or bases i d)) × All IsBase (map base_of (drop (i + 1) bases)))
+    All IsBase (map base_of bases)
+    ↔ (IsBase (base_of (get_or bases i d)) × All IsBase (map base_of (drop (i + 1) bases)))
 bases_at bases i d within so_far =
     let here = rw (drop_more bases i d within) at so_far in
     let base = base_of (get_or bases i d) in

@@ -201,7 +201,8 @@ module _ {old new : List (List ℕ)} {dev base off : ℕ} {bytes : List ℕ} (is
 
   copied_byte : (d b at : ℕ) → IsBaseNumber d b →
       slice_index (held new d b) at
-      ≡ unwrap_or (all_put (in_card dev base (CardCell d b at)) off bytes (length bytes)) (slice_index (held old d b) at)
+      ≡ unwrap_or (all_put (in_card dev base (CardCell d b at)) off bytes (length bytes))
+      (slice_index (held old d b) at)
   copied_byte d b at number = elim (cases_Bool (dev == d && base == b)) [
     | inl both ↦
         let here = copied_here d b both in

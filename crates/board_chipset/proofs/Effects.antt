@@ -1,6 +1,6 @@
 -- What an access at a port writes, by what it reaches.
-use Rattle.std.proofs.Common.{◌≡◌, ℕ, ◌+◌, ◌%◌, ◌≤◌, true, false, ◌&&◌, List, Option, Some, None, refl, sym, subst}
-use Rattle.std.proofs.Common.{arith, inl, inr, ◌==◌, is_some}
+use Rattle.std.proofs.Common.{◌≡◌, ℕ, ◌+◌, ◌%◌, ◌≤◌, true, false, ◌&&◌, List, Option, Some, None, refl, arith, inl}
+use Rattle.std.proofs.Common.{inr, ◌==◌, is_some}
 use Rattle.std.proofs.lemmas.Option.{cond_some}
 use Rattle.board_prelude.proofs.Common.{cases_Bool, and_parts, cond_both, nat_tests, Width, One, PortAccess, Reg}
 use Rattle.board_prelude.proofs.Common.{Target, Card, Device, Config, Abort, bytes_of, largest_of, Port, Entry}
@@ -96,26 +96,22 @@ pub target_reached :
     (setup : Setup) (history : List Entry) (access : PortAccess) (target : Target) →
     target ≡ (reached setup history access).target → Reached setup history access target
 target_reached setup history access target is =
-    subst (Reached setup history access) (sym is)
-    (reaches setup (byte_of setup history) (config_address history) (is_some setup.disk) access.port access.width)
+    rw is (reaches setup (byte_of setup history) (config_address history) (is_some setup.disk) access.port access.width)
 
 pub reached_in :
     {state : State} {access : PortAccess} {target : Target} → (reaching : Reaching state access target) →
     IsReached reaching.kept.setup reaching.kept.sound.registers.bytes state.registers.address access.port access.width
     target
-reached_in {state} {access} {target} reaching =
-    let setup = reaching.kept.setup in
-    let bytes = reaching.kept.sound.registers.bytes in
-    let address = state.registers.address in
-    subst (IsReached setup bytes address access.port access.width) (sym reaching.target_is)
-    (reaches setup bytes address reaching.disk access.port access.width)
+reached_in {state} {access} reaching =
+    rw (reaching.target_is) (reaches reaching.kept.setup reaching.kept.sound.registers.bytes state.registers.address
+    reaching.disk access.port access.width)
 
 pub entry_reached :
     {setup : Setup} {history : List Entry} {access : PortAccess} {target shown : Target} {entry : Entry} →
     target ≡ shown →
     IsEntryOf setup history access target entry → Reached setup history access shown
-entry_reached {setup} {history} {access} same is =
-    subst (Reached setup history access) same (target_reached setup history access _ is.target_is)
+entry_reached {setup} {history} {access} {shown = shown} same is =
+    target_reached setup history access shown (rw same at is.target_is)
 
 pub entry_writes :
     {setup : Setup} {history : List Entry} {access : PortAccess} {target shown : Target} {entry : Entry} →

@@ -1,5 +1,5 @@
 -- Which register bytes a chipset holds.
-use Rattle.std.proofs.Common.{◌≡◌, List, sym, subst}
+use Rattle.std.proofs.Common.{◌≡◌, List}
 use Rattle.board_prelude.proofs.Common.{Bytes, Entry, Setup, byte_of}
 use Rattle.addr_decode.specs.MapRegs.{MapBytes, StandsFor}
 use Rattle.board_chipset.specs.declared.state.State.{State}
@@ -16,7 +16,4 @@ holds chipset history left = left.registers.kept.map
 pub held_as : {chipset : Running} {regs : MapBytes} (setup : Setup) (state : State) (bytes : Bytes) →
     record { setup = setup; state = state } ≡ chipset → regs ≡ state.registers.map.regs → HoldsBytes chipset bytes →
     StandsFor setup bytes regs
-held_as setup state bytes same is held =
-    let there : StandsFor setup bytes state.registers.map.regs =
-    subst (λ (it : Running). HoldsBytes it bytes) (sym same) held in
-    subst (λ (regs : MapBytes). StandsFor setup bytes regs) (sym is) there
+held_as setup state bytes same is held = rw is (rw (← same) at held)

@@ -1,6 +1,6 @@
 -- What an access reaches has the bytes that it asks for.
 use Rattle.std.proofs.Common.{◌≡◌, ℕ, ◌+◌, ◌%◌, ◌^◌, ◌≤◌, Bool, true, false, ◌&&◌, not, List, [], ◌∷◌, length, Option}
-use Rattle.std.proofs.Common.{Some, None, refl, sym, subst, arith, is_some, unwrap_or, option_map}
+use Rattle.std.proofs.Common.{Some, None, refl, sym, arith, is_some, unwrap_or, option_map}
 use Rattle.board_prelude.proofs.Common.{Kind, Width, Dev, Reg, Area, Target, Device, Config, Card, Abort, bytes_of}
 use Rattle.board_prelude.proofs.Common.{Part, Setup, IsRomSize, IsBusAccess, is_write, lies_in, upper_memory, Bytes}
 use Rattle.board_prelude.proofs.Common.{Window, first_of, line_where, card_area, row_of, is_smram_range, is_shadowed}
@@ -73,8 +73,7 @@ lies_in_base setup contents window dev base place width sized device number lies
 module _ {setup : Setup} {state : State} (kept : IsSound setup state) where
   -- registers that are those of the map
   pub stands : {regs : MapBytes} → regs ≡ state.registers.map.regs → StandsFor setup kept.registers.bytes regs
-  stands same =
-      subst (λ (regs : MapBytes). StandsFor setup kept.registers.bytes regs) (sym same) kept.registers.kept.map
+  stands same = rw same kept.registers.kept.map
 
   cards_fitted : AreFitted state.registers.map.regs.cards
   cards_fitted =

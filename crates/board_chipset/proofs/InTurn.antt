@@ -1,11 +1,9 @@
 -- Entries that put a byte each, one after another from a place on. They write no register and reach no device.
-use Rattle.std.proofs.Common.{◌≡◌, ◌≢◌, ℕ, zero, suc, ◌+◌, ◌-◌, ◌<◌, ◌&&◌, ◌==◌, nat_le, nat_lt, if◌then◌else◌, List}
-use Rattle.std.proofs.Common.{[], ◌∷◌, ◌++◌, length, slice_index, unwrap_or, Option, Some, None, refl, sym, ◌∙◌, ap}
-use Rattle.std.proofs.Common.{inl, inr, arith}
-use Rattle.board_prelude.proofs.Common.{cases_eq, nat_tests, Event, Reply, Entry, Setup, Cell, DramCell, CardCell}
-use Rattle.board_prelude.proofs.Common.{entry_put, stored_of, device_reached}
-use Rattle.pci_bars.specs.Contents.{IsBaseNumber, held}
-use Rattle.pci_bars.proofs.ContentsLemmas.{contents_of, stored_byte}
+use Rattle.std.proofs.Common.{◌≡◌, ℕ, zero, suc, ◌+◌, ◌-◌, ◌&&◌, ◌==◌, nat_le, nat_lt, if◌then◌else◌, List, [], ◌∷◌}
+use Rattle.std.proofs.Common.{◌++◌, length, slice_index, unwrap_or, Option, Some, None, refl, sym, ◌∙◌, ap, inl, inr}
+use Rattle.std.proofs.Common.{arith}
+use Rattle.board_prelude.proofs.Common.{cases_eq, nat_tests, Event, Reply, Entry, Setup, Cell, entry_put, stored_of}
+use Rattle.board_prelude.proofs.Common.{device_reached}
 use Rattle.board_devices.specs.Common.{DevicesValue, AreDevicesOf, PassesBy, LeavesDevices}
 use Rattle.board_stores.specs.declared.stores.Stores.{Stores}
 use Rattle.board_chipset.specs.declared.registers.Registers.{Registers}
@@ -13,6 +11,7 @@ use Rattle.board_chipset.specs.declared.state.State.{State}
 use Rattle.board_chipset.specs.Common.{HasRegisters, IsStateOf, Writes}
 use Rattle.board_chipset.proofs.RegisterSteps.{quiet}
 use Rattle.board_chipset.proofs.StateSteps.{soft}
+use Rattle.board_chipset.proofs.StoreSteps.{HavePut, stores_after}
 
 -- an event with its reply puts these bytes, and does nothing else
 pub record IsPut (put : Cell → Option ℕ) (event : Event) (reply : Reply) : Type 0 where
@@ -36,18 +35,6 @@ InTurn place from bytes [] = Unit {0}
 InTurn place from bytes (entry ∷ earlier) =
     IsPut (λ cell. one_put (place cell) from bytes (length earlier)) entry.event entry.reply
     × InTurn place from bytes earlier
-
--- so many bytes were put into what is kept
-pub record AreWritten (place : Cell → Option ℕ) (from : ℕ) (bytes : List ℕ) (old new : Stores) : Type 0 where
-  pub size : length new.dram ≡ length old.dram
-  pub dram : (at : ℕ) → at < length old.dram →
-      slice_index new.dram at
-      ≡ unwrap_or (all_put (place (DramCell at)) from bytes (length bytes)) (slice_index old.dram at)
-  pub sizes : (dev base : ℕ) → IsBaseNumber dev base → length (held new.contents dev base) ≡ length (held old.contents dev base)
-  pub contents : (dev base at : ℕ) → IsBaseNumber dev base → base ≢ 6 → at < length (held old.contents dev base) →
-      slice_index (held new.contents dev base) at
-      ≡ unwrap_or (all_put (place (CardCell dev base at)) from bytes (length bytes))
-      (slice_index (held old.contents dev base) at)
 
 none_put : (at from was : ℕ) (bytes : List ℕ) → was ≡ unwrap_or (all_put (Some at) from bytes 0) was
 none_put at from was bytes = grind (arith, nat_tests)
@@ -102,29 +89,14 @@ module _ (place : Cell → Option ℕ) (from : ℕ) (bytes : List ℕ) where
   -- the state after all of them
   pub state_in_turn : {setup : Setup} {history : List Entry} {old : State} {new : Stores} → LeavesDevices →
       IsStateOf setup history old → (entries : List Entry) → length entries ≡ length bytes →
-      InTurn place from bytes entries → AreWritten place from bytes old.stores new →
+      InTurn place from bytes entries →
+      HavePut (λ cell. all_put (place cell) from bytes (length bytes)) old.stores new →
       IsStateOf setup (entries ++ history) (record old { stores = new })
-  state_in_turn {setup} {history} {old} {new} law kept entries all each are = record {
+  state_in_turn {history = history} law kept entries all each are = record {
     fits = kept.fits;
     registers = registers_stay kept.registers entries each;
-    stores = record {
-      dram = record {
-        size = are.size ∙ kept.stores.dram.size;
-        each = λ at within.
-            let before : at < length old.stores.dram = omega (arith, are.size) in
-            rw (stored history (DramCell at) entries each, all, ← kept.stores.dram.each at before)
-            (are.dram at before);
-      };
-      contents = contents_of (λ dev base number. are.sizes dev base number ∙ kept.stores.contents.sizes dev base number)
-          (λ dev base at number other within.
-          let before : at < length (held old.stores.contents dev base) =
-          omega (arith, within, are.sizes dev base number) in
-          rw (
-            stored history (CardCell dev base at) entries each,
-            all,
-            ← stored_byte kept.stores.contents dev base at number other before,
-          ) (are.contents dev base at number other before));
-    };
+    stores = stores_after {put = λ cell. all_put (place cell) from bytes (length bytes)} kept.stores
+        (λ cell. rw (← all) (stored history cell entries each)) are;
     devices = devices_stay law kept.registers kept.devices entries each;
   }
 

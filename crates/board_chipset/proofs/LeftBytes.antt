@@ -88,10 +88,9 @@ left_disk : (fitted : Option (List ℕ)) (disk : Option Disk) → HasDisk fitted
     (option_map (holding (zeros (unwrap_or (sectors_in disk) []))) disk)
 unfolding fitted_bytes
 left_disk None None has own = refl
-left_disk None (Some disk) has own = absurd (let never = has in cc)
-left_disk (Some bytes) None has own = absurd (let never = has in cc)
 left_disk (Some bytes) (Some disk) has own =
     left_over bytes disk (some_is _ _ has ∙ sym (some_is _ _ own))
+left_disk _ _ has own = absurd (let never = has in cc)
 
 pub left_devices : (fitted : Option (List ℕ)) (devices : DevicesValue) → HasDisk fitted devices.disk →
     HasDisk (sectors_in devices.disk) devices.disk →

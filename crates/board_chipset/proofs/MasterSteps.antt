@@ -16,7 +16,8 @@ use Rattle.board_chipset.specs.Masters.{IsOutsideSmram, master_target}
 
 -- what holds of each line that holds, and of nobody, holds of what answers
 of_lines :
-    (P : Area → Type 0) (shadow dram rom : Bool) (row : ℕ) (claim : Option Window) → (shadow ≡ true → P (ShadowArea row)) →
+    (P : Area → Type 0) (shadow dram rom : Bool) (row : ℕ) (claim : Option Window) →
+    (shadow ≡ true → P (ShadowArea row)) →
     (dram ≡ true → P (DramArea row)) → P RomArea → ((dev base : ℕ) → P (CardArea dev base)) → P AbortArea →
     P (first_of
     (line_where shadow (ShadowArea row) ∷ line_where dram (DramArea row) ∷ line_where rom RomArea
@@ -32,7 +33,8 @@ of_lines P false false false row (Some window) in_shadow in_dram in_rom in_card 
 of_master :
     (P : Area → Type 0) (setup : Setup) (bytes : Bytes) (addr : ℕ) (kind : Kind) →
     ((row : ℕ) → (is_some (row_of bytes addr) && is_shadowed bytes addr kind) ≡ true → P (ShadowArea row)) →
-    ((row : ℕ) → (not (lies_in upper_memory addr) && is_some (row_of bytes addr) && not (is_in_hole bytes addr)) ≡ true →
+    ((row : ℕ) →
+    (not (lies_in upper_memory addr) && is_some (row_of bytes addr) && not (is_in_hole bytes addr)) ≡ true →
     P (DramArea row)) → P RomArea → ((dev base : ℕ) → P (CardArea dev base)) → P AbortArea →
     P (master_area setup bytes addr kind)
 unfolding master_area

@@ -1,17 +1,8 @@
 -- Where an access would land, from what the decode tells.
-use Rattle.std.proofs.Common.{◌≡◌, List, Option, None, refl, ap}
+use Rattle.std.proofs.Common.{◌≡◌, List, None, refl}
 use Rattle.board_base.specs.declared.access.Access.{Access}
-use Rattle.board_prelude.proofs.Common.{PortAccess, Target, Denial, Event, Memory, Port, Part, Entry, Setup, Decoded}
-use Rattle.addr_decode.specs.Ports.{as_decoded}
-use Rattle.board_chipset.specs.Common.{reached, place_of, port_part}
-
-abbrev pub part_with : Decoded → Part
-part_with decoded = record { target = decoded.target; denial = decoded.denial }
-
-pub part_reached : (setup : Setup) (history : List Entry) (access : PortAccess) (found : Target × Option Denial) →
-    as_decoded found ≡ reached setup history access →
-    part_with (as_decoded found) ≡ port_part setup history access
-part_reached setup history access found is = ap part_with is
+use Rattle.board_prelude.proofs.Common.{PortAccess, Event, Memory, Port, Entry, Setup}
+use Rattle.board_chipset.specs.Common.{place_of}
 
 pub no_place : (setup : Setup) (history : List Entry) (event : Event) →
     ((access : Access) → event ≡ Memory access → ⊥) → ((access : PortAccess) → event ≡ Port access → ⊥) →

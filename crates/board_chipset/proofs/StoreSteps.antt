@@ -1,10 +1,41 @@
 -- The bytes behind the addresses after one more entry.
-use Rattle.std.proofs.Common.{◌≡◌, ℕ, ◌<◌, List, ◌∷◌, length, Option, None, refl, sym, ◌∙◌, arith}
+use Rattle.std.proofs.Common.{◌≡◌, ◌≢◌, slice_index, unwrap_or, ℕ, ◌<◌, List, ◌∷◌, length, Option, None, refl, sym}
+use Rattle.std.proofs.Common.{◌∙◌, arith}
 use Rattle.board_prelude.proofs.Common.{Entry, Setup, Cell, DramCell, CardCell, entry_put, stored_of}
-use Rattle.pci_bars.specs.Contents.{held, held_byte}
+use Rattle.pci_bars.specs.Contents.{IsBaseNumber, held}
 use Rattle.pci_bars.proofs.ContentsLemmas.{contents_of, held_within, stored_byte}
 use Rattle.board_stores.specs.declared.stores.Stores.{Stores}
 use Rattle.board_stores.specs.Puts.{HasStores, ArePut}
+
+-- bytes were put into what is kept
+pub record HavePut (put : Cell → Option ℕ) (old new : Stores) : Type 0 where
+  pub size : length new.dram ≡ length old.dram
+  pub dram : (at : ℕ) → at < length old.dram →
+      slice_index new.dram at ≡ unwrap_or (put (DramCell at)) (slice_index old.dram at)
+  pub sizes : (dev base : ℕ) → IsBaseNumber dev base →
+      length (held new.contents dev base) ≡ length (held old.contents dev base)
+  pub contents : (dev base at : ℕ) → IsBaseNumber dev base → base ≢ 6 → at < length (held old.contents dev base) →
+      slice_index (held new.contents dev base) at
+      ≡ unwrap_or (put (CardCell dev base at)) (slice_index (held old.contents dev base) at)
+
+pub stores_after :
+    {setup : Setup} {history later : List Entry} {put : Cell → Option ℕ} {old new : Stores} →
+    HasStores setup history old →
+    ((cell : Cell) → stored_of later cell ≡ unwrap_or (put cell) (stored_of history cell)) →
+    HavePut put old new → HasStores setup later new
+stores_after {old = old} has same is = record {
+  dram = record {
+    size = is.size ∙ has.dram.size;
+    each = λ at within.
+        let before : at < length old.dram = omega (arith, is.size) in
+        rw (same (DramCell at), ← has.dram.each at before) (is.dram at before);
+  };
+  contents = contents_of (λ dev base number. is.sizes dev base number ∙ has.contents.sizes dev base number)
+      (λ dev base at number kept within.
+      let before : at < length (held old.contents dev base) = omega (arith, within, is.sizes dev base number) in
+      rw (same (CardCell dev base at), ← stored_byte has.contents dev base at number kept before)
+      (is.contents dev base at number kept before));
+}
 
 -- an entry puts the bytes that were put
 pub stores_put :
@@ -13,22 +44,16 @@ pub stores_put :
     ((cell : Cell) → entry_put entry.event entry.reply cell ≡ put cell) → ArePut put old new →
     HasStores setup (entry ∷ history) new
 unfolding stored_of
-stores_put {setup} {history} {entry} {put} {old} {new} has same is = record {
-  dram = record {
-    size = is.size ∙ has.dram.size;
-    each = λ at within.
-        let before : at < length old.dram = omega (arith, is.size) in
-        rw (same (DramCell at), ← has.dram.each at before) (is.dram at before);
-  };
-  contents = contents_of (λ dev base number. is.sizes dev base ∙ has.contents.sizes dev base number)
-      (λ dev base off number kept within.
-      let inside : off < length (held old.contents dev base) = omega (arith, within, is.sizes dev base) in
-      let before : held_byte old.contents dev base off ≡ stored_of history (CardCell dev base off) =
-      held_within old.contents dev base off kept inside ∙ stored_byte has.contents dev base off number kept inside in
-      sym (held_within new.contents dev base off kept within)
-      ∙ is.contents dev base off number inside
-      ∙ rw (before, same (CardCell dev base off)) refl);
-}
+stores_put {put = put} {old} {new} has same is =
+    stores_after {put = put} has (λ cell. rw (same cell) refl) (record {
+      size = is.size;
+      dram = is.dram;
+      sizes = λ dev base number. is.sizes dev base;
+      contents = λ dev base at number kept within.
+          sym (held_within new.contents dev base at kept (omega (arith, within, is.sizes dev base)))
+          ∙ is.contents dev base at number within
+          ∙ rw (held_within old.contents dev base at kept within) refl;
+    })
 
 -- an entry that puts no byte leaves all as it is
 pub stores_stay :

@@ -1,8 +1,8 @@
 -- Wide accesses: their cycles can be done.
 use Rattle.std.proofs.Common.{◌≡◌, ℕ, List, [], ◌∷◌, ◌∙◌, true, false, None, Some, refl, ap, arith, map, All}
-use Rattle.board_prelude.proofs.Common.{All-head, All-tail, All-cons, WideAccess, Part, Parts, parts_of, parts_list}
-use Rattle.board_prelude.proofs.Common.{joined, Cell, is_write, parts_put, Entry, Setup, IsPart, AreParts, part_answer}
-use Rattle.board_prelude.proofs.Common.{IsWideAnswer, wide_value, value_at, memory_target}
+use Rattle.board_prelude.proofs.Common.{get_or-map, length-map, All-head, All-tail, All-cons, WideAccess, Part, Parts}
+use Rattle.board_prelude.proofs.Common.{parts_of, parts_list, joined, Cell, is_write, parts_put, Entry, Setup, IsPart}
+use Rattle.board_prelude.proofs.Common.{AreParts, part_answer, IsWideAnswer, wide_value, value_at, memory_target}
 use Rattle.board_base.specs.declared.access.Access.{Access}
 use Rattle.board_stores.specs.declared.cut.Cycle.{Cycle}
 use Rattle.board_stores.specs.Common.{IsReady, accesses, answers, AreReady, part_in}
@@ -34,11 +34,10 @@ module _
 pub all_write : (access : WideAccess) (cycles : List Cycle) → is_write access.kind ≡ true →
     All (IsPart access) (accesses cycles) →
     All (λ cycle. is_write cycle.access.kind ≡ true) cycles
-all_write access [] writes each = λ k d within. absurd (omega arith)
-all_write access (cycle ∷ later) writes each =
-    let first = All-head (IsPart access) cycle.access (accesses later) each in
-    All-cons (λ (it : Cycle). is_write it.access.kind ≡ true) cycle later (ap is_write first.kind ∙ writes)
-    (all_write access later writes (All-tail (IsPart access) cycle.access (accesses later) each))
+all_write access cycles writes each =
+    λ k d within. let part = each k d.access (omega (arith, within, length-map cycles (λ (it : Cycle). it.access))) in
+    let it = rw (get_or-map (λ (it : Cycle). it.access) cycles k d d.access within) at part in
+    ap is_write it.kind ∙ writes
 
 -- parts that read put nothing
 pub parts_none : (access : WideAccess) (parts : List Access) (replies : List Part) (cell : Cell) →
