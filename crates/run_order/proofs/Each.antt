@@ -1,6 +1,6 @@
 -- What holds of each processor's statements, where a call of the bus passes.
-use Rattle.std.proofs.Common.{◌≡◌, ℕ, suc, ◌+◌, ◌<◌, ◌≤◌, ◌==◌, true, false, List, [], ◌∷◌, length, All, refl}
-use Rattle.std.proofs.Common.{ap, arith, inl, inr, MatchBool}
+use Rattle.std.proofs.Common.{◌≡◌, ℕ, ◌+◌, ◌<◌, ◌≤◌, ◌==◌, true, false, List, [], ◌∷◌, length, All, refl}
+use Rattle.std.proofs.Common.{arith, inl, inr, MatchBool}
 use Rattle.board_prelude.proofs.Common.{length-map, All-head, All-tail, cases_Bool, nat_tests, Entry, Setup, version_of}
 use Rattle.run_order.specs.declared.done.Done.{Done}
 use Rattle.run_order.specs.Common.{left_after, all_left, without_first, passed, done_by}
@@ -119,6 +119,10 @@ pub few_passed : (v : ℕ) (entry : Entry) (later : List Entry) (rests : List (L
     → All (λ e. e.actor < length (passed 0 entry.actor (all_left v rests))) later
 few_passed v entry later rests few =
     let next = without_first (get_or (all_left v rests) entry.actor []) in
-    rw ((from_first (all_left v rests) entry.actor).1, length-set (all_left v rests) entry.actor next, length-map rests
-    (left_after v))
+    rw (
+      (from_first (all_left v rests) entry.actor).1,
+      length-set (all_left v rests) entry.actor next,
+      length-map rests
+          (left_after v),
+    )
     (All-tail (λ (e : Entry). e.actor < length rests) entry later few)
