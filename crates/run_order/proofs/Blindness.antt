@@ -1,17 +1,17 @@
 -- No answer depends on the looks and the numbers before it: each definition over histories gives the same without them.
-use Rattle.std.proofs.Common.{◌≡◌, ℕ, zero, suc, ◌==◌, nat_lt, Bool, true, false, List, [], ◌∷◌, ◌++◌, length, refl, sym, ◌∙◌}
-use Rattle.std.proofs.Common.{ap, inl, inr, Option, Some, None, unwrap_or, option_and_then, if◌then◌else◌}
-use Rattle.board_prelude.proofs.Common.{option_to_list, option_map_or, cases_Bool, WideAccess, PortAccess, Kind, Width}
+use Rattle.std.proofs.Common.{◌≡◌, ℕ, zero, suc, ◌==◌, nat_lt, Bool, true, false, List, [], ◌∷◌, length, refl, sym, ◌∙◌}
+use Rattle.std.proofs.Common.{ap, inl, inr, Option, Some, None, unwrap_or, if◌then◌else◌}
+use Rattle.board_prelude.proofs.Common.{option_map_or, cases_Bool, WideAccess, PortAccess, Kind, Width}
 use Rattle.board_prelude.proofs.Common.{Reg, Target, Rom, Card, Device, Config, Abort, Dev, Pic0}
 use Rattle.board_prelude.proofs.Common.{Pic1, Pit, Elcr, Ata, largest_of}
 use Rattle.board_prelude.proofs.Common.{Triggers, trigger_byte, PitState, out_of, pulses, port_read}
 use Rattle.board_prelude.proofs.Common.{Clock, read_value}
 use Rattle.board_prelude.proofs.Common.{Disk, read_of, Pair, pair_after_lines, port_byte, answer_of}
 use Rattle.board_prelude.proofs.Common.{Event, Memory, Wide, Port, Ack, Pulses, Look}
-use Rattle.board_prelude.proofs.Common.{Reply, Bus, Saw, Entry, MapChange, Setup, installed, version_of, wide}
+use Rattle.board_prelude.proofs.Common.{Reply, Bus, Saw, Entry, Setup, installed, version_of, wide}
 use Rattle.board_prelude.proofs.Common.{pirq, control_written, control_after, reset_control}
 use Rattle.board_prelude.proofs.Common.{address_written, config_address, config_store, register_change}
-use Rattle.board_prelude.proofs.Common.{byte_with, byte_of, touches_map, map_change_of, map_writes_of, Cell, DramCell}
+use Rattle.board_prelude.proofs.Common.{byte_of, map_change_of, map_writes_of, Cell, DramCell}
 use Rattle.board_prelude.proofs.Common.{CardCell, entry_put, stored_of, dram_byte, expansion_byte, parts_of, wire_set}
 use Rattle.board_prelude.proofs.Common.{wire_of, line_set, irq_of, triggers_of, PlainPorts}
 use Rattle.board_prelude.proofs.Common.{plain_of, timer_of}

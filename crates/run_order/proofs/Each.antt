@@ -1,10 +1,13 @@
 -- What holds of each processor's statements, where a call of the bus passes.
-use Rattle.std.proofs.Common.{◌≡◌, ℕ, suc, ◌+◌, ◌<◌, ◌≤◌, ◌==◌, true, false, List, [], ◌∷◌, length, All, refl}
-use Rattle.std.proofs.Common.{ap, arith, inl, inr, MatchBool}
+use Rattle.std.proofs.Common.{◌≡◌, ℕ, ◌+◌, ◌<◌, ◌≤◌, ◌==◌, true, false, List, [], ◌∷◌, length, All, refl}
+use Rattle.std.proofs.Common.{arith, inl, inr, MatchBool}
 use Rattle.board_prelude.proofs.Common.{length-map, All-head, All-tail, cases_Bool, nat_tests, Entry, Setup, version_of}
 use Rattle.run_order.specs.declared.done.Done.{Done}
 use Rattle.run_order.specs.Common.{left_after, all_left, without_first, passed, done_by}
 use Rattle.run_order.proofs.Fitting.{IsHeaded, Fits}
+use Rattle.run_order.proofs.Steps.{from_first}
+use Rattle.std.proofs.Common.{get_or}
+use Rattle.board_prelude.proofs.Common.{length-set}
 
 -- K holds of each processor's statements, the lists being those of the processors from `first` on
 abbrev pub Each : (ℕ → List Done → Type 0) → ℕ → List (List Done) → Type 0
@@ -105,15 +108,6 @@ module _ (setup : Setup) (entry : Entry) (before later : List Entry) where
       let is : (entry.actor == entry.actor) ≡ true = grind (arith, nat_tests) in
       rw is at (each_at (Beside setup entry before later) left 0 entry.actor (omega arith) (omega (arith, few)) each)
 
-passed_length : (actor first : ℕ) (rests : List (List Done)) → length (passed first actor rests) ≡ length rests
-unfolding passed
-passed_length actor first [] = refl
-passed_length actor first (items ∷ rests) =
-    elim (cases_Bool (actor == first)) [
-      | inl is ↦ rw is refl
-      | inr not ↦ rw not (ap suc (passed_length actor (first + 1) rests))
-    ]
-
 -- a processor of the phase, when its looks are left out and when one has done its call
 pub few_left : (v : ℕ) (entry : Entry) (later : List Entry) (rests : List (List Done))
     → All (λ e. e.actor < length rests) (entry ∷ later) → entry.actor < length (all_left v rests)
@@ -124,5 +118,11 @@ pub few_passed : (v : ℕ) (entry : Entry) (later : List Entry) (rests : List (L
     → All (λ e. e.actor < length rests) (entry ∷ later)
     → All (λ e. e.actor < length (passed 0 entry.actor (all_left v rests))) later
 few_passed v entry later rests few =
-    rw (passed_length entry.actor 0 (all_left v rests), length-map rests (left_after v))
+    let next = without_first (get_or (all_left v rests) entry.actor []) in
+    rw (
+      (from_first (all_left v rests) entry.actor).1,
+      length-set (all_left v rests) entry.actor next,
+      length-map rests
+          (left_after v),
+    )
     (All-tail (λ (e : Entry). e.actor < length rests) entry later few)

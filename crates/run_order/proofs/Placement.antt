@@ -124,7 +124,8 @@ module _ (blind : AnswersAreBlind) (setup : Setup) (history : List Entry) where
       let here = all_looks_hold before since ends (Beside setup entry before later) rests 0 final
       (record { looks = []; holds = holds; lower = tt }) fit direct in
       let have = here.0.1 in let then : List Entry = have.looks ++ since in
-      let head = own_head setup entry before later left (few_left v entry later rests few) here.1 in
+      let within : entry.actor < length left = few_left v entry later rests few in
+      let head = own_head setup entry before later left within here.1 in
       let next : IsNext setup before entry = (legal_front setup later (entry ∷ before) legal).0 in
       let same = bare_bus entry before looked have.holds.bare in
       let old_version : version_of setup (then ++ history) ≡ v =
@@ -159,7 +160,7 @@ module _ (blind : AnswersAreBlind) (setup : Setup) (history : List Entry) where
       rw (head.version_is v) (record {
         added = rest.added;
         holds = rest.holds;
-        own = λ c. rest.own c ∙ (call_own c new looked left head.events ∙ all_own v rests 0 c final);
+        own = λ c. rest.own c ∙ (call_own c new looked left within head.events ∙ all_own v rests 0 c final);
       })
     where
       late : (rests : List (List Done)) (first : ℕ)

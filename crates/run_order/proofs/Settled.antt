@@ -78,8 +78,10 @@ one_looks version first (suc k) (done ∷ rests) history so less =
     let one = not_due version first done history (so 0 (λ e. cc)) in
     let more = one_looks version (first + 1) k rests history (λ j other. so (suc j) (λ e. other (cc e)))
     (omega (arith, less)) in
-    rw (one.0, one.1) (more.0 ∙ ap (λ (n : ℕ). with_looks version n (get_or rests k []) history) at,
-    ap (λ (r : List (List Done)). done ∷ r) more.1)
+    rw (one.0, one.1) (
+      more.0 ∙ ap (λ (n : ℕ). with_looks version n (get_or rests k []) history) at,
+      ap (λ (r : List (List Done)). done ∷ r) more.1,
+    )
 
 -- one processor's looks are those of all
 pub record AreAll (version : ℕ) (rests left : List (List Done)) (before now : List Entry) (spare spare' : ℕ) : Type 0

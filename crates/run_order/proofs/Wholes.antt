@@ -1,13 +1,15 @@
 -- Each processor's events stand in the placed history, in its order.
-use Rattle.std.proofs.Common.{◌≡◌, ℕ, ◌+◌, ◌<◌, ◌==◌, nat_le, true, false, List, [], ◌∷◌, map, refl, ◌∙◌, ap, subst}
-use Rattle.std.proofs.Common.{arith, inl, inr, if◌then◌else◌}
-use Rattle.board_prelude.proofs.Common.{cases_Bool, nat_tests, Event, Saw, Entry, entries_by, next_entry}
+use Rattle.std.proofs.Common.{◌≡◌, ◌≢◌, ℕ, ◌+◌, ◌<◌, ◌==◌, nat_le, true, false, List, [], ◌∷◌, map, length, get_or, set}
+use Rattle.std.proofs.Common.{refl, ◌∙◌, ap, subst, arith, inl, inr}
+use Rattle.board_prelude.proofs.Common.{cases_Bool, nat_tests, get_or-set_at, get_or-set_other, Event, Saw, Entry}
+use Rattle.board_prelude.proofs.Common.{entries_by, next_entry}
 use Rattle.board_spec.specs.declared.event.Event.TheVariants.{Look as LookAt}
 use Rattle.run_order.specs.declared.done.Done.{Done}
 use Rattle.run_order.specs.declared.done.Done.TheVariants.{Went, Looked}
 use Rattle.run_order.specs.Placing.{event_of, with_looks, left_after, with_all_looks, all_left, without_first, passed}
 use Rattle.run_order.specs.Placing.{done_by}
 use Rattle.run_order.proofs.Histories.{onto}
+use Rattle.run_order.proofs.Steps.{from_first}
 
 -- a processor's events in a history, the newest first
 abbrev pub own : ℕ → List Entry → List Event
@@ -65,39 +67,33 @@ all_own v (items ∷ rests) first c final =
           ∙ ap (onto (map event_of (done_by (first + 1) c rests))) (with_looks_other v first c items final other))
     ]
 
-passed_own : (actor first : ℕ) (rests : List (List Done))
-    → done_by first actor (passed first actor rests) ≡ without_first (done_by first actor rests)
-unfolding passed done_by
-passed_own actor first [] = refl
-passed_own actor first (items ∷ rests) =
-    elim (cases_Bool (actor == first)) [
-      | inl is ↦ rw is (rw is refl)
-      | inr not ↦ rw not (rw not (passed_own actor (first + 1) rests))
-    ]
+passed_own : (actor : ℕ) (rests : List (List Done)) → actor < length rests
+    → done_by 0 actor (passed 0 actor rests) ≡ without_first (done_by 0 actor rests)
+passed_own actor rests few =
+    let next : List Done = without_first (get_or rests actor []) in
+    let at = from_first rests actor in let after = from_first (set rests actor next) actor in
+    rw (at.1, at.0, after.0) (get_or-set_at rests actor actor next [] refl few)
 
-passed_other : (actor c first : ℕ) (rests : List (List Done)) → (actor == c) ≡ false
-    → done_by first c (passed first actor rests) ≡ done_by first c rests
-unfolding passed done_by
-passed_other actor c first [] other = refl
-passed_other actor c first (items ∷ rests) other =
-    elim (cases_Bool (actor == first)) [
-      | inl is ↦ let apart : (c == first) ≡ false = grind (arith, nat_tests) in rw is (rw apart refl)
-      | inr not ↦ rw not (ap (λ (r : List Done). if c == first then items else r)
-          (passed_other actor c (first + 1) rests other))
-    ]
+passed_other : (actor c : ℕ) (rests : List (List Done)) → c ≢ actor
+    → done_by 0 c (passed 0 actor rests) ≡ done_by 0 c rests
+passed_other actor c rests other =
+    let next : List Done = without_first (get_or rests actor []) in
+    let at = from_first rests actor in let after = from_first (set rests actor next) c in let before = from_first rests c in
+    rw (at.1, after.0, before.0) (get_or-set_other rests actor c next [] other)
 
 -- a call takes a processor's first statement
-pub call_own : (c : ℕ) (new : Entry) (looked : List Entry) (left : List (List Done))
+pub call_own : (c : ℕ) (new : Entry) (looked : List Entry) (left : List (List Done)) → new.actor < length left
     → map event_of (done_by 0 new.actor left) ≡ new.event ∷ map event_of (without_first (done_by 0 new.actor left))
     → onto (map event_of (done_by 0 c (passed 0 new.actor left))) (own c (new ∷ looked))
     ≡ onto (map event_of (done_by 0 c left)) (own c looked)
-call_own c new looked left events =
+call_own c new looked left few events =
     elim (cases_Bool (new.actor == c)) [
       | inl is ↦
           let same : new.actor ≡ c = grind (arith, nat_tests) in
           let self : (new.actor == new.actor) ≡ true = grind (arith, nat_tests) in
           subst (λ (k : ℕ). onto (map event_of (done_by 0 k (passed 0 new.actor left))) (own k (new ∷ looked))
           ≡ onto (map event_of (done_by 0 k left)) (own k looked)) same
-          (rw (self, passed_own new.actor 0 left, events) refl)
-      | inr not ↦ rw (not, passed_other new.actor c 0 left not) refl
+          (rw (self, passed_own new.actor left few, events) refl)
+      | inr not ↦
+          let other : c ≢ new.actor = grind (arith, nat_tests) in rw (not, passed_other new.actor c left other) refl
     ]
