@@ -1,6 +1,6 @@
 -- Two flat maps of the same registers are one list, and every address has one span.
 use Rattle.std.proofs.Common.{◌≡◌, ℕ, ◌+◌, ◌<◌, ◌≤◌, inl, inr, List, [], ◌∷◌, refl, sym, ◌∙◌, subst, arith}
-use Rattle.board_spec.specs.Common.{AllByRecursion, Area, Setup, Bytes, address_count, six_areas, MapRange, Tiles}
+use Rattle.board_spec.specs.Common.{AllByRecursion, Setup, Bytes, address_count, six_areas, MapRange, Tiles}
 use Rattle.board_spec.specs.Common.{Differs, NeighboursDiffer, IsRight, OneFlatMap}
 use Rattle.device_spec.proofs.Common.{recursion_from_All, cases_lt}
 
@@ -44,13 +44,8 @@ same_end setup bytes from x y xs ys tx ty rx rxs ry rys dx dy =
           ]
     ]
 
-range_of : ℕ → ℕ → List Area → MapRange
-range_of lo hi areas = record { lo = lo; hi = hi; areas = areas }
-
 same_range : (x y : MapRange) → x.lo ≡ y.lo → x.hi ≡ y.hi → x.areas ≡ y.areas → x ≡ y
-unfolding range_of
-same_range x y p q r =
-    let same : range_of x.lo x.hi x.areas ≡ range_of y.lo y.hi y.areas = cc in same
+same_range x y p q r = grind arith
 
 one_tiling :
     (setup : Setup) (bytes : Bytes) (from : ℕ) (xs ys : List MapRange) →

@@ -1,6 +1,6 @@
 -- A begun history that is not complete goes on by a statement of the phase where it stands.
 use Rattle.std.proofs.Common.{◌≡◌, ◌≢◌, ℕ, suc, ◌+◌, ◌≤◌, ◌<◌, inl, inr, List, [], ◌∷◌, ◌++◌, length, take, drop, min}
-use Rattle.std.proofs.Common.{refl, sym, ◌∙◌, ap, subst, arith}
+use Rattle.std.proofs.Common.{refl, sym, ap, subst, arith}
 use Rattle.device_spec.proofs.Common.{nat_tests}
 use Rattle.board_spec.specs.Common.{AllByRecursion, entries_by, statements_of, events_by, BeginsWith, IsWholePhase}
 use Rattle.board_spec.specs.Common.{IsFrontOfPhase, HasPhases, HasPhasesSoFar, IsAddressed, in_file_order, BegunGoesOn}
@@ -14,16 +14,6 @@ use Rattle.board_spec.proofs.OrderLawProofs.{statements-newest}
 
 abbrev AllAddressed : List Statement → Type 0
 AllAddressed statements = AllByRecursion (λ (statement : Statement). IsAddressed statement.event) statements
-
-pub events-own :
-    (actor : ℕ) (first : Statement) (later : List Statement) → first.actor ≡ actor →
-    events_by actor (first ∷ later) ≡ first.event ∷ events_by actor later
-events-own actor first later own = grind (arith, nat_tests)
-
-pub events-other :
-    (actor : ℕ) (first : Statement) (later : List Statement) → first.actor ≢ actor →
-    events_by actor (first ∷ later) ≡ events_by actor later
-events-other actor first later other = grind (arith, nat_tests)
 
 -- two lists with the same first statement agree for an actor where their rests do
 events-same :
@@ -45,25 +35,19 @@ without_first :
 without_first actor event events [] is = cc
 without_first actor event events (first ∷ later) is =
     elim (cases_eq first.actor actor) [
-      | inl own ↦
-          let whole : first.event ∷ events_by actor later ≡ event ∷ events =
-          sym (events-own actor first later own) ∙ is in
-          let same : first.event ≡ event = cc in
-          record {
-            rest = later;
-            size = refl;
-            own = events-own actor first later own ∙ ap (λ (e : Event). e ∷ events_by actor later) same;
-            others = λ other apart. events-other other first later (λ e. apart (sym own ∙ e));
-            addressed = λ all. all.1;
-          }
+      | inl own ↦ record {
+        rest = later;
+        size = refl;
+        own = grind (arith, nat_tests);
+        others = λ other apart. grind (arith, nat_tests);
+        addressed = λ all. all.1;
+      }
       | inr other ↦
-          let more = without_first actor event events later (sym (events-other actor first later other) ∙ is) in
+          let more = without_first actor event events later (grind (arith, nat_tests)) in
           record {
             rest = first ∷ more.rest;
             size = ap suc more.size;
-            own =
-                events-other actor first later other ∙ more.own
-                ∙ ap (λ (es : List Event). event ∷ es) (sym (events-other actor first more.rest other));
+            own = grind (arith, nat_tests, more.own);
             others = λ another apart. events-same another first later more.rest (more.others another apart);
             addressed = λ all. (all.0, more.addressed all.1);
           }
@@ -79,53 +63,21 @@ first_taken :
 first_taken phase part first begins =
     let here = begins first.actor in
     without_first first.actor first.event (events_by first.actor part ++ here.rest) phase
-    (here.whole ∙ ap (λ (events : List Event). events ++ here.rest) (events-own first.actor first part refl))
+    (grind (arith, nat_tests, here.whole))
 
 begins_left :
     (phase part : List Statement) (first : Statement) (taken : Without first.actor first.event phase) →
     Begins phase (first ∷ part) → Begins taken.rest part
 begins_left phase part first taken begins actor =
-    elim (cases_eq first.actor actor) [
-      | inl own ↦
-          let here = begins actor in
-          let mine : events_by actor phase ≡ first.event ∷ events_by actor taken.rest =
-          subst (λ (a : ℕ). events_by a phase ≡ first.event ∷ events_by a taken.rest) own taken.own in
-          let whole : first.event ∷ events_by actor taken.rest ≡ first.event ∷ (events_by actor part ++ here.rest) =
-          sym mine ∙ here.whole ∙ ap (λ (events : List Event). events ++ here.rest) (events-own actor first part own) in
-          record { rest = here.rest; whole = cc }
-      | inr other ↦
-          let here = begins actor in
-          record {
-            rest = here.rest;
-            whole =
-                sym (taken.others actor other) ∙ here.whole
-                ∙ ap (λ (events : List Event). events ++ here.rest) (events-other actor first part other);
-          }
-    ]
+    let here = begins actor in
+    record { rest = here.rest; whole = grind (arith, nat_tests, taken.own, taken.others actor, here.whole) }
 
 begins_again :
     (phase part : List Statement) (first : Statement) (taken : Without first.actor first.event phase) →
     Begins taken.rest part → Begins phase (first ∷ part)
 begins_again phase part first taken begins actor =
     let here = begins actor in
-    elim (cases_eq first.actor actor) [
-      | inl own ↦
-          let mine : events_by actor phase ≡ first.event ∷ events_by actor taken.rest =
-          subst (λ (a : ℕ). events_by a phase ≡ first.event ∷ events_by a taken.rest) own taken.own in
-          record {
-            rest = here.rest;
-            whole =
-                mine ∙ ap (λ (events : List Event). first.event ∷ events) here.whole
-                ∙ ap (λ (events : List Event). events ++ here.rest) (sym (events-own actor first part own));
-          }
-      | inr other ↦
-          record {
-            rest = here.rest;
-            whole =
-                taken.others actor other ∙ here.whole
-                ∙ ap (λ (events : List Event). events ++ here.rest) (sym (events-other actor first part other));
-          }
-    ]
+    record { rest = here.rest; whole = grind (arith, nat_tests, taken.own, taken.others actor, here.whole) }
 
 -- a front that is shorter than its phase has a next statement
 record Next (phase part : List Statement) : Type 0 where
@@ -136,18 +88,8 @@ record Next (phase part : List Statement) : Type 0 where
 alone_begins : (first : Statement) (later : List Statement) → Begins (first ∷ later) (first ∷ [])
 alone_begins first later actor =
     elim (cases_eq first.actor actor) [
-      | inl own ↦ record {
-        rest = events_by actor later;
-        whole =
-            events-own actor first later own
-            ∙ ap (λ (events : List Event). events ++ events_by actor later) (sym (events-own actor first [] own));
-      }
-      | inr other ↦ record {
-        rest = events_by actor (first ∷ later);
-        whole =
-            ap (λ (events : List Event). events ++ events_by actor (first ∷ later))
-            (sym (events-other actor first [] other));
-      }
+      | inl own ↦ record { rest = events_by actor later; whole = grind (arith, nat_tests) }
+      | inr other ↦ record { rest = events_by actor (first ∷ later); whole = grind (arith, nat_tests) }
     ]
 
 next_of :
@@ -176,15 +118,9 @@ full_front [] [] begins same actor = refl
 full_front [] (first ∷ later) begins same actor = absurd (omega arith)
 full_front (first ∷ part) phase begins same actor =
     let taken = first_taken phase part first begins in
-    let size : length phase ≡ suc (length taken.rest) = taken.size in
-    let rest = full_front part taken.rest (begins_left phase part first taken begins) (omega arith) actor in
-    elim (cases_eq first.actor actor) [
-      | inl own ↦
-          let mine : events_by actor phase ≡ first.event ∷ events_by actor taken.rest =
-          subst (λ (a : ℕ). events_by a phase ≡ first.event ∷ events_by a taken.rest) own taken.own in
-          events-own actor first part own ∙ ap (λ (events : List Event). first.event ∷ events) rest ∙ sym mine
-      | inr other ↦ events-other actor first part other ∙ rest ∙ sym (taken.others actor other)
-    ]
+    let left = begins_left phase part first taken begins in
+    let rest = full_front part taken.rest left (omega (arith, taken.size)) actor in
+    grind (arith, nat_tests, taken.own, taken.others actor, rest)
 
 -- ---- the phases
 
@@ -213,9 +149,7 @@ in_front phase later statements short next = record {
   statement = next.statement;
   addressed = next.addressed;
   begun = inl (record {
-    size =
-        let e : length (statements ++ next.statement ∷ [])
-        ≡ length statements + 1 = length-append statements (next.statement ∷ []) in omega arith;
+    size = omega (arith, length-append statements (next.statement ∷ []));
     each = next.begins;
   });
 }
@@ -228,8 +162,8 @@ past_phase phase later statements full whole more = record {
   statement = more.statement;
   addressed = more.addressed;
   begun = inr (
-    subst (IsWholePhase phase) (sym (take-append-le (length phase) statements (more.statement ∷ []) full)) whole,
-    subst (HasPhasesSoFar later) (sym (drop-append-le (length phase) statements (more.statement ∷ []) full)) more.begun,
+    rw (take-append-le (length phase) statements (more.statement ∷ []) full) whole,
+    rw (drop-append-le (length phase) statements (more.statement ∷ []) full) more.begun,
   );
 }
 
@@ -238,8 +172,8 @@ pub whole_front :
     (phase statements : List Statement) → IsFrontOfPhase phase statements → length phase ≤ length statements →
     IsWholePhase phase (take (length phase) statements)
 whole_front phase statements front full =
-    let size : length statements ≡ length phase = let s = front.size in omega arith in
-    subst (IsWholePhase phase) (sym (take_all (length phase) statements (omega arith)))
+    let size : length statements ≡ length phase = omega (arith, front.size) in
+    rw (take_all (length phase) statements front.size)
     (record { size = size; each = full_front statements phase front.each size })
 
 pub nothing_left :

@@ -63,9 +63,7 @@ no_reset_change setup before event soft = grind (arith, nat_tests)
 stays_locked : (setup : Setup) (before : List Entry) (entry : Entry) → is_hard_reset before entry.event ≡ false →
     IsLocked setup before → IsLocked setup (entry ∷ before)
 unfolding byte_of IsLocked
-stays_locked setup before entry soft locked =
-    stored_stays setup (register_change setup before entry.event) (byte_of setup before smram)
-    (no_reset_change setup before entry.event soft) locked
+stays_locked setup before entry soft locked = grind (arith, stored_stays, no_reset_change)
 
 set_locks : (setup : Setup) (change : Option MapChange) (old : ℕ) → SetsLock change →
     bit (byte_with setup change smram old) 4 ≡ 1
@@ -74,8 +72,7 @@ set_locks setup change old sets = grind (arith, nat_tests)
 is_locked_by : (setup : Setup) (before : List Entry) (lock : Entry) →
     SetsLock (register_change setup before lock.event) → IsLocked setup (lock ∷ before)
 unfolding byte_of IsLocked
-is_locked_by setup before lock sets = set_locks setup (register_change setup before lock.event)
-    (byte_of setup before smram) sets
+is_locked_by setup before lock sets = grind (arith, set_locks)
 
 locked_since : (setup : Setup) (between older : List Entry) → NoHardReset between older → IsLocked setup older →
     IsLocked setup (between ++ older)

@@ -1,17 +1,17 @@
 -- Areas and denials depend on the map bytes alone.
-use Rattle.std.proofs.Common.{◌≡◌, ℕ, zero, suc, ◌+◌, ◌<◌, ◌≤◌, inl, inr, Bool, true, false, ◌&&◌, ◌||◌, not}
-use Rattle.std.proofs.Common.{List, [], ◌∷◌, ◌++◌, length, get_or, Option, Some, None, refl, ◌∙◌, ap, arith, lit<, ◌==◌}
+use Rattle.std.proofs.Common.{◌≡◌, ℕ, zero, suc, ◌+◌, ◌<◌, ◌≤◌, Bool, true, false, ◌&&◌, ◌||◌, not}
+use Rattle.std.proofs.Common.{List, [], ◌∷◌, length, get_or, Option, Some, None, refl, ◌∙◌, ap, arith, ◌==◌}
 use Rattle.std.proofs.Common.{is_some, find, flat_map, All, if◌then◌else◌}
 use Rattle.board_spec.specs.Common.{AllByRecursion, enumerate_from, Kind, Reg, Base, IoBase}
-use Rattle.board_spec.specs.Common.{FittedCard, Setup, IsCard, IsCardList, Rises, card_at, rom_base, vga_base, vga_bits}
+use Rattle.board_spec.specs.Common.{FittedCard, Setup, IsCard, IsCardList, Rises, card_at}
 use Rattle.board_spec.specs.Common.{has_rom, is_within, Bytes, boundary, row_of}
 use Rattle.board_spec.specs.Common.{is_shadow_range, is_shadowed, Window, is_covered, base_value, memory_window}
-use Rattle.board_spec.specs.Common.{vga_window, memory_windows, rom_value, rom_window, rom_window_of, is_rom_on}
+use Rattle.board_spec.specs.Common.{vga_window, memory_windows, rom_window, rom_window_of, is_rom_on}
 use Rattle.board_spec.specs.Common.{unselected_windows, rom_unselected, pam_register, is_enabled_for, first_window}
-use Rattle.board_spec.specs.Common.{memory_claim, memory_shut, area_of, denial_of, bridge, pam, fdhc, smram, xbcs}
-use Rattle.board_spec.specs.Common.{card_register, card_command, base_register, expansion_rom, smram_range}
+use Rattle.board_spec.specs.Common.{memory_claim, memory_shut, area_of, denial_of, bridge, pam, fdhc, smram}
+use Rattle.board_spec.specs.Common.{card_register, card_command, base_register, expansion_rom}
 use Rattle.board_spec.specs.Common.{SameMapBytes, MapBytesDecide}
-use Rattle.device_spec.proofs.Common.{cases_Bool, nat_tests, All-nil, All-cons, All-append, recursion_from_All}
+use Rattle.device_spec.proofs.Common.{nat_tests, All-nil, All-cons, All-append, recursion_from_All}
 
 -- ---- searches in lists
 
@@ -102,10 +102,9 @@ module _ (setup : Setup) (bytes other : Bytes) (same : SameMapBytes setup bytes 
 
   rom_windows_with : (card : FittedCard) (rom : Option ℕ) → card.rom ≡ rom →
       (is_some rom ≡ true → HasRom card.dev) → SameRom card
-  rom_windows_with card None is has =
-      record { selected = rw is (both_empty _ _); unselected = rw is (both_empty _ _) }
-  rom_windows_with card (Some bits) is has =
-      let same = λ (off : ℕ). rom_same card.dev off (has refl) in grind (arith, nat_tests, same)
+  rom_windows_with card rom is has =
+      let bytes_same = λ (off : ℕ) (some : is_some rom ≡ true). rom_same card.dev off (has some) in
+      grind (arith, nat_tests, bytes_same, both_empty)
 
   base_same : (dev k : ℕ) → IsFitted dev → k < 6 → base_value bytes dev k ≡ base_value other dev k
   base_same dev k fitted below = grind (arith, nat_tests)
@@ -151,39 +150,23 @@ module _ (setup : Setup) (bytes other : Bytes) (same : SameMapBytes setup bytes 
   of_bases dev first (IoBase bits ∷ later) fitted = of_bases dev (first + 1) later fitted
   of_bases dev first (_ ∷ later) fitted = search (All-cons, fitted, of_bases dev (first + 1) later fitted)
 
-  of_vga : (card : FittedCard) → IsFitted card.dev → All IsOfCard (vga_window card)
-  of_vga card fitted =
-      elim (cases_Bool card.vga) [
-        | inl vga ↦ rw vga
-            (All-cons IsOfCard (record { dev = card.dev; base = vga_base; inside = smram_range.0; bits = vga_bits }) []
-            fitted (All-nil IsOfCard))
-        | inr plain ↦ rw plain (All-nil IsOfCard)
-      ]
-
-  of_rom : (dev : ℕ) (rom : Option ℕ) → IsFitted dev → All IsOfCard (rom_window_of other dev rom)
-  of_rom dev None fitted = All-nil IsOfCard
-  of_rom dev (Some bits) fitted =
-      All-cons IsOfCard (record { dev = dev; base = rom_base; inside = rom_value other dev; bits = bits }) [] fitted
-      (All-nil IsOfCard)
-
   of_choice : (on : Bool) (left right : List Window) → All IsOfCard left → All IsOfCard right →
       All IsOfCard (if on then left else right)
   of_choice true left right l r = l
   of_choice false left right l r = r
 
+  of_vga : (card : FittedCard) → IsFitted card.dev → All IsOfCard (vga_window card)
+  of_vga card fitted = search (of_choice, All-cons, All-nil)
+
+  of_rom : (dev : ℕ) (rom : Option ℕ) → IsFitted dev → All IsOfCard (rom_window_of other dev rom)
+  of_rom dev None fitted = All-nil IsOfCard
+  of_rom dev (Some bits) fitted = search (All-cons, All-nil)
+
   of_card : (card : FittedCard) → IsFitted card.dev → All IsOfCard (memory_windows other card)
-  of_card card fitted =
-      let rom : List Window = if is_rom_on other card.dev then rom_window other card else [] in
-      All-append IsOfCard (windows_from other card.dev 0 card.bases ++ rom) (vga_window card)
-      (All-append IsOfCard (windows_from other card.dev 0 card.bases) rom (of_bases card.dev 0 card.bases fitted)
-      (of_choice (is_rom_on other card.dev) (rom_window other card) [] (of_rom card.dev card.rom fitted)
-      (All-nil IsOfCard)))
-      (of_vga card fitted)
+  of_card card fitted = search (All-append, of_choice, of_rom, of_vga, of_bases, All-nil)
 
   of_unselected : (card : FittedCard) → IsFitted card.dev → All IsOfCard (unselected_windows other card)
-  of_unselected card fitted =
-      of_choice (is_rom_on other card.dev) [] (rom_window other card) (All-nil IsOfCard)
-      (of_rom card.dev card.rom fitted)
+  of_unselected card fitted = search (of_choice, All-nil, of_rom)
 
   of_all :
       (windows : FittedCard → List Window) → ((card : FittedCard) → IsFitted card.dev → All IsOfCard (windows card)) →
@@ -215,13 +198,10 @@ module _ (setup : Setup) (bytes other : Bytes) (same : SameMapBytes setup bytes 
       ((dev : ℕ) → IsFitted dev → left dev ≡ right dev) →
       first_window left addr windows ≡ first_window right addr windows
   first_same left right addr windows each counted =
-      find_same (λ window. left window.dev && is_covered addr window)
-      (λ window. right window.dev && is_covered addr window) windows
+      find_same _ _ windows
       (recursion_from_All (λ window. (left window.dev && is_covered addr window)
       ≡ (right window.dev && is_covered addr window)) windows
-      (λ k d below.
-      let window : Window = get_or windows k d in
-      ap (λ counts. counts && is_covered addr window) (counted window.dev (each k d below))))
+      (λ k d below. rw (counted (get_or windows k d).dev (each k d below)) refl))
 
   memory_same :
       (left right : ℕ → Bool) (addr : ℕ) → ((dev : ℕ) → IsFitted dev → left dev ≡ right dev) → IsCardList setup.cards →
@@ -256,26 +236,13 @@ module _ (setup : Setup) (bytes other : Bytes) (same : SameMapBytes setup bytes 
       area_of setup bytes addr kind smm ≡ area_of setup other addr kind smm
   unfolding area_of
   area_same addr kind smm list =
-      rw (
-        row_same addr,
-        same smram refl,
-        shadow_same addr kind,
-        same fdhc refl,
-        same xbcs refl,
-        claim_same addr list,
-      ) refl
+      grind (arith, row_same addr, shadow_same addr kind, claim_same addr list, same)
 
   denial_same : (addr : ℕ) (kind : Kind) (smm : Bool) → IsCardList setup.cards →
       denial_of setup bytes addr kind smm ≡ denial_of setup other addr kind smm
   unfolding denial_of
   denial_same addr kind smm list =
-      rw (
-        area_same addr kind smm list,
-        boundary_same 7 (lit< tt),
-        shut_same addr list,
-        not_selected_same addr list,
-        same xbcs refl,
-      ) refl
+      grind (arith, area_same addr kind smm list, boundary_same, shut_same addr list, not_selected_same addr list)
 
 pub map_bytes_decide : MapBytesDecide
 map_bytes_decide setup bytes other list same addr kind smm =

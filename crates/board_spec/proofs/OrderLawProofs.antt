@@ -1,6 +1,6 @@
 -- The orders in which a script may run: complete, begun, and how a begun history goes on.
 use Rattle.std.proofs.Common.{◌≡◌, ◌≢◌, ℕ, ◌+◌, inl, inr, List, [], ◌∷◌, ◌++◌, length, take, drop, refl, sym, ◌∙◌, ap}
-use Rattle.std.proofs.Common.{subst, arith, append_assoc, map, reverse, filter, ◌==◌}
+use Rattle.std.proofs.Common.{subst, arith, append_assoc}
 use Rattle.device_spec.proofs.Common.{take-append_seam, drop-append_seam, take-append-le, drop-append-le, length-append}
 use Rattle.device_spec.proofs.Common.{take_all, map-append, append-nil, reverse-append, filter-append, cases_lt}
 use Rattle.board_spec.specs.declared.event.Event.{Event}
@@ -41,17 +41,11 @@ complete_is_begun phases history complete = so_far phases (statements_of history
 pub events-append :
     (actor : ℕ) (first later : List Statement) →
     events_by actor (first ++ later) ≡ events_by actor first ++ events_by actor later
-events-append actor first later =
-    ap (map (λ (statement : Statement). statement.event))
-    (filter-append (λ (statement : Statement). statement.actor == actor) first later)
-    ∙ map-append (λ (statement : Statement). statement.event)
-    (filter (λ (statement : Statement). statement.actor == actor) first)
-    (filter (λ (statement : Statement). statement.actor == actor) later)
+events-append actor first later = simp (filter-append, map-append)
 
 pub statements-append :
     (more before : List Entry) → statements_of (more ++ before) ≡ statements_of before ++ statements_of more
-statements-append more before =
-    ap (map statement_of) (reverse-append more before) ∙ map-append statement_of (reverse before) (reverse more)
+statements-append more before = simp (reverse-append, map-append)
 
 pub statements-newest :
     (entry : Entry) (before : List Entry) →

@@ -1,10 +1,10 @@
 -- The parts of a wide access cover it, and their values joined are its value.
-use Rattle.std.proofs.Common.{◌≡◌, ℕ, zero, suc, ◌+◌, ◌-◌, ◌*◌, ◌/◌, ◌%◌, ◌^◌, ◌≤◌, ◌<◌, Bool, true, false, List, []}
+use Rattle.std.proofs.Common.{◌≡◌, ℕ, zero, suc, ◌+◌, ◌-◌, ◌*◌, ◌/◌, ◌%◌, ◌^◌, ◌≤◌, ◌<◌, Bool, List, []}
 use Rattle.std.proofs.Common.{◌∷◌, refl, sym, ◌∙◌, ap, subst, arith, All}
-use Rattle.std.proofs.Math.Nat.{zero-div, zero-mod, div-div-eq-div-mul, mul_comm, div-one}
+use Rattle.std.proofs.Math.Nat.{div-div-eq-div-mul, mul_comm, div-one}
 use Rattle.device_spec.proofs.Common.{mod-eq_of_lt, pow-add, All-nil, All-cons}
 use Rattle.std.proofs.Math.Arith.{mod-mul}
-use Rattle.board_spec.specs.Common.{Width, One, Two, Four, WideAccess, bytes_of, FitsAccess, FitsBytes, part_at, joined}
+use Rattle.board_spec.specs.Common.{Width, WideAccess, bytes_of, FitsAccess, FitsBytes, part_at, joined}
 use Rattle.board_spec.specs.Common.{is_write, Covers, IsPart, AreParts, CutIntoParts}
 use Rattle.board_spec.proofs.PartLemmas.{made, length-made, total, Aligned, is_cut}
 
@@ -14,22 +14,15 @@ covers-made :
     (access : WideAccess) (from end : ℕ) (widths : List Width) → from + total widths ≡ end →
     Covers from end (made access from widths)
 unfolding made
-covers-made access from end [] sum = let e : from + 0 ≡ end = sum in omega arith
-covers-made access from end (width ∷ later) sum =
-    (refl, covers-made access (from + bytes_of width) end later (omega arith))
+covers-made access from end [] sum = omega arith
+covers-made access from end (width ∷ later) sum = (refl, covers-made access (from + bytes_of width) end later (omega arith))
 
 -- ---- values
 
 part_fits :
     (writes : Bool) (width : Width) (bytes value places : ℕ) → FitsBytes writes bytes value →
     FitsAccess writes width (value / places % 256 ^ bytes_of width)
-part_fits true One bytes value places fits = omega arith
-part_fits true Two bytes value places fits = omega arith
-part_fits true Four bytes value places fits = omega arith
-part_fits false width bytes value places fits =
-    ap (λ (n : ℕ). n / places % 256 ^ bytes_of width) fits
-    ∙ ap (λ (n : ℕ). n % 256 ^ bytes_of width) (zero-div places)
-    ∙ zero-mod (256 ^ bytes_of width)
+part_fits writes width bytes value places fits = grind arith
 
 is_part :
     (access : WideAccess) (from : ℕ) (width : Width) → FitsBytes (is_write access.kind) access.bytes access.value →
@@ -68,17 +61,9 @@ some_power (suc n) =
 pub further : (value d w : ℕ) → value / 256 ^ (d + w) ≡ value / 256 ^ d / 256 ^ w
 further value d w = ap (λ (n : ℕ). value / n) (pow-add 256 d w) ∙ sym (div-div-eq-div-mul value (256 ^ d) (256 ^ w))
 
-add_turned : (a b : ℕ) → a + b ≡ b + a
-add_turned a b = omega arith
-
 two_digits : (x w t : ℕ) → x % 256 ^ w + 256 ^ w * (x / 256 ^ w % 256 ^ t) ≡ x % 256 ^ (w + t)
 two_digits x w t =
-    let whole : x % (256 ^ t * 256 ^ w) ≡ (x / 256 ^ w % 256 ^ t) * 256 ^ w + x % 256 ^ w =
-    mod-mul x (some_power t) (some_power w) in
-    let power : 256 ^ (w + t) ≡ 256 ^ t * 256 ^ w = pow-add 256 w t ∙ mul_comm (256 ^ w) (256 ^ t) in
-    let turned : 256 ^ w * (x / 256 ^ w % 256 ^ t) ≡ (x / 256 ^ w % 256 ^ t) * 256 ^ w =
-    mul_comm (256 ^ w) (x / 256 ^ w % 256 ^ t) in
-    rw (turned, power, whole) (add_turned (x % 256 ^ w) ((x / 256 ^ w % 256 ^ t) * 256 ^ w))
+    grind (arith, mod-mul x (some_power t) (some_power w), pow-add 256 w t, mul_comm)
 
 -- the parts from a place d on give the digits of the value from there
 joined-made :
@@ -88,22 +73,15 @@ unfolding made
 joined-made access from d [] here = omega arith
 joined-made access from d (width ∷ later) here =
     let place : from - access.addr ≡ d = omega arith in
-    let rest : joined (λ part. part.value) (made access (from + bytes_of width) later)
-    ≡ access.value / 256 ^ d / 256 ^ bytes_of width % 256 ^ total later =
-    joined-made access (from + bytes_of width) (d + bytes_of width) later (omega arith)
-    ∙ ap (λ (n : ℕ). n % 256 ^ total later) (further access.value d (bytes_of width)) in
-    ap (λ (k : ℕ). access.value / 256 ^ k % 256 ^ bytes_of width
-    + 256 ^ bytes_of width * joined (λ part. part.value) (made access (from + bytes_of width) later)) place
-    ∙ ap (λ (n : ℕ). access.value / 256 ^ d % 256 ^ bytes_of width + 256 ^ bytes_of width * n) rest
-    ∙ two_digits (access.value / 256 ^ d) (bytes_of width) (total later)
+    let w : ℕ = bytes_of width in
+    rw (joined-made access (from + w) (d + w) later (omega arith), place, further access.value d w)
+    (two_digits (access.value / 256 ^ d) w (total later))
 
 value_fits : (writes : Bool) (bytes value : ℕ) → FitsBytes writes bytes value → value < 256 ^ bytes
-value_fits true bytes value fits = fits
-value_fits false bytes value none = subst (λ (n : ℕ). n < 256 ^ bytes) (sym none) (some_power bytes)
+value_fits writes bytes value fits = grind (arith, some_power)
 
 whole_value : (value bytes sum : ℕ) → sum ≡ bytes → value < 256 ^ bytes → value / 256 ^ 0 % 256 ^ sum ≡ value
-whole_value value bytes sum same fits =
-    ap (λ (n : ℕ). n % 256 ^ sum) (div-one value) ∙ ap (λ (n : ℕ). value % 256 ^ n) same ∙ mod-eq_of_lt fits
+whole_value value bytes sum same fits = rw (div-one value, same) (mod-eq_of_lt fits)
 
 pub cut_into_parts : CutIntoParts
 cut_into_parts access legal =

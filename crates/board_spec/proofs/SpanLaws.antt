@@ -1,61 +1,11 @@
 -- Every address lies in exactly one span of a column.
-use Rattle.std.proofs.Common.{◌≡◌, ◌≢◌, ℕ, zero, suc, ◌+◌, ◌-◌, ◌≤◌, ◌⊎◌, inl, inr, Bool, refl, sym, ◌∙◌, ap, subst}
-use Rattle.std.proofs.Common.{arith, ◌==◌, if◌then◌else◌}
-use Rattle.std.proofs.lemmas.Bool.{cases_lt, cases_eq}
+use Rattle.std.proofs.Common.{◌≡◌, ◌≢◌, ℕ, zero, suc, ◌+◌, ◌-◌, ◌≤◌, ◌⊎◌, inl, inr, Bool, refl, sym, ◌∙◌, subst}
+use Rattle.std.proofs.Common.{arith}
+use Rattle.std.proofs.lemmas.Bool.{cases_lt}
 use Rattle.board_spec.specs.Common.{Kind, Area, Setup, Bytes, area_of, address_count, IsSpan, SomeSpan, OneSpan}
-use Rattle.board_base.specs.declared.target.Area.TheVariants.{Dram, Shadow, Smram, Rom, Card, Abort}
-
--- ---- areas are equal or not
-
-abbrev tag : Area → ℕ
-tag (Dram row) = 0
-tag (Shadow row) = 1
-tag Smram = 2
-tag Rom = 3
-tag (Card dev base) = 4
-tag Abort = 5
-
-abbrev first : Area → ℕ
-first (Dram row) = row
-first (Shadow row) = row
-first (Card dev base) = dev
-first _ = 0
-
-abbrev second : Area → ℕ
-second (Card dev base) = base
-second _ = 0
-
-abbrev made : ℕ → ℕ → ℕ → Area
-made tag first second =
-    if tag == 0 then Dram first else
-    if tag == 1 then Shadow first else
-    if tag == 2 then Smram else
-    if tag == 3 then Rom else
-    if tag == 4 then Card first second else Abort
-
-made_again : (area : Area) → made (tag area) (first area) (second area) ≡ area
-made_again (Dram row) = refl
-made_again _ = refl
-
-same_area : (a b : Area) → tag a ≡ tag b → first a ≡ first b → second a ≡ second b → a ≡ b
-same_area a b p q r =
-    let parts : made (tag a) (first a) (second a) ≡ made (tag b) (first b) (second b) = rw (p, q, r) refl in
-    sym (made_again a) ∙ parts ∙ made_again b
 
 cases_area : (a b : Area) → (a ≡ b) ⊎ (a ≢ b)
-cases_area a b =
-    elim (cases_eq (tag a) (tag b)) [
-      | inr other ↦ inr (λ same. other (ap tag same))
-      | inl p ↦
-          elim (cases_eq (first a) (first b)) [
-            | inr other ↦ inr (λ same. other (ap first same))
-            | inl q ↦
-                elim (cases_eq (second a) (second b)) [
-                  | inr other ↦ inr (λ same. other (ap second same))
-                  | inl r ↦ inl (same_area a b p q r)
-                ]
-          ]
-    ]
+cases_area a b = grind arith
 
 -- ---- the ends of the interval round a place in which a function keeps its value
 
@@ -66,7 +16,7 @@ record LowEnd (f : ℕ → Area) (place : ℕ) : Type 0 where
   pub begins : (lo ≡ 0) ⊎ (f (lo - 1) ≢ f place)
 
 only_here : (f : ℕ → Area) (place : ℕ) (x : ℕ) → place ≤ x → x ≤ place → f x ≡ f place
-only_here f place x h k = let e : x ≡ place = omega arith in ap f e
+only_here f place x h k = grind arith
 
 low_end : (f : ℕ → Area) (place : ℕ) → LowEnd f place
 low_end f zero = record { lo = 0; above = omega arith; same = only_here f 0; begins = inl refl }
@@ -156,29 +106,13 @@ no_lower :
     (setup : Setup) (bytes : Bytes) (addr : ℕ) (kind : Kind) (smm : Bool) (lo hi lo' hi' : ℕ) (area area' : Area) →
     IsSpan setup bytes addr kind smm lo hi area → IsSpan setup bytes addr kind smm lo' hi' area' →
     area ≡ area' → lo' ≤ lo
-no_lower setup bytes addr kind smm lo hi lo' hi' area area' s t e =
-    elim (cases_lt lo lo') [
-      | inr not_lower ↦ not_lower
-      | inl lower ↦
-          elim t.begins [
-            | inl at_zero ↦ absurd (omega arith)
-            | inr other ↦ absurd (other (s.same (lo' - 1) (omega arith) (omega (arith, s.below, t.above)) ∙ e))
-          ]
-    ]
+no_lower setup bytes addr kind smm lo hi lo' hi' area area' s t e = grind (arith, s.same (lo' - 1))
 
 no_higher :
     (setup : Setup) (bytes : Bytes) (addr : ℕ) (kind : Kind) (smm : Bool) (lo hi lo' hi' : ℕ) (area area' : Area) →
     IsSpan setup bytes addr kind smm lo hi area → IsSpan setup bytes addr kind smm lo' hi' area' →
     area ≡ area' → hi ≤ hi'
-no_higher setup bytes addr kind smm lo hi lo' hi' area area' s t e =
-    elim (cases_lt hi' hi) [
-      | inr not_higher ↦ not_higher
-      | inl higher ↦
-          elim t.ends [
-            | inl at_last ↦ absurd (omega (arith, s.last))
-            | inr other ↦ absurd (other (s.same (hi' + 1) (omega (arith, s.above, t.below)) (omega arith) ∙ e))
-          ]
-    ]
+no_higher setup bytes addr kind smm lo hi lo' hi' area area' s t e = grind (arith, s.same (hi' + 1))
 
 pub one_span : OneSpan
 one_span setup bytes addr kind smm lo hi lo' hi' area area' s t =

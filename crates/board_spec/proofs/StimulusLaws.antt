@@ -1,26 +1,20 @@
 -- What one may expect of the table of stimuli: what was written by it is read by it, and only that.
-use Rattle.std.proofs.Common.{◌≡◌, ℕ, Bool, true, ◌&&◌, List, [], ◌∷◌, Some, unwrap_or, refl}
-use Rattle.std.proofs.Common.{ap, subst, inl, inr, ◌==◌, eqb-true, bytes_eq, find}
+use Rattle.std.proofs.Common.{arith}
+use Rattle.std.proofs.Common.{◌≡◌, ℕ, Bool, true, ◌&&◌, List, [], ◌∷◌, Some}
+use Rattle.std.proofs.Common.{◌==◌, eqb-true, bytes_eq, find}
 use Rattle.std.proofs.lemmas.Slice.Eq.{bytes_eq-Decides}
-use Rattle.device_spec.proofs.Common.{cases_Bool}
 use Rattle.board_spec.specs.declared.stimulus.Stimulus.{Stimulus}
-use Rattle.board_spec.specs.declared.stimulus.Stimulus.TheVariants.{Pulses}
 use Rattle.board_spec.specs.Stimuli.{stimulus_form, stimuli, stimulus_of_word, stimulus_of_code, applied, event_applied}
 use Rattle.board_spec.specs.Stimuli.{applied_by}
 
 -- what a search finds passes its test
 pub find_passes : {X : Type 0} (test : X → Bool) (xs : List X) (x : X) → find test xs ≡ Some x → test x ≡ true
 find_passes test [] x is = absurd cc
-find_passes test (y ∷ ys) x is =
-    elim (cases_Bool (test y)) [
-      | inl here ↦ subst (λ z. test z ≡ true) (ap (λ found. unwrap_or found y) (rw here at is)) here
-      | inr past ↦ find_passes test ys x (rw past at is)
-    ]
+find_passes test (y ∷ ys) x is = grind (arith, find_passes test ys x)
 
 -- the word and the number of a stimulus find it, and no other word and number do
 pub word_finds : (one : Stimulus) → stimulus_of_word (stimulus_form one).word ≡ Some one
-word_finds Pulses = refl
-word_finds _ = refl
+word_finds one = grind arith
 
 pub word_found : (word : List ℕ) (one : Stimulus) → stimulus_of_word word ≡ Some one → word ≡ (stimulus_form one).word
 word_found word one is =
@@ -28,8 +22,7 @@ word_found word one is =
     (find_passes (λ one. bytes_eq word (stimulus_form one).word) stimuli one is)
 
 pub code_finds : (one : Stimulus) → stimulus_of_code (stimulus_form one).code ≡ Some one
-code_finds Pulses = refl
-code_finds _ = refl
+code_finds one = grind arith
 
 pub code_found : (code : ℕ) (one : Stimulus) → stimulus_of_code code ≡ Some one → code ≡ (stimulus_form one).code
 code_found code one is =
@@ -38,5 +31,4 @@ code_found code one is =
 -- the event that is applied applies that
 pub applied_again : (one : Stimulus) (number : ℕ) (on : Bool) →
     applied_by (event_applied one number on) ≡ Some (applied one number ((stimulus_form one).has_level && on))
-applied_again Pulses number on = refl
-applied_again _ number on = refl
+applied_again one number on = grind arith

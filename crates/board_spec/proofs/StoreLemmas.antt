@@ -1,8 +1,7 @@
 -- A store of one byte changes the register at its offset, and no other. A store of several is one of each byte.
-use Rattle.std.proofs.Common.{◌≡◌, ◌≢◌, ℕ, zero, suc, ◌+◌, ◌-◌, ◌<◌, Bool, false, true, ◌&&◌, ◌∙◌, refl, sym, ap, arith}
+use Rattle.std.proofs.Common.{◌≡◌, ◌≢◌, ℕ, zero, suc, ◌+◌, ◌-◌, ◌<◌, Bool, false, ◌&&◌, sym, arith}
 use Rattle.std.proofs.Common.{inl, inr, ◌==◌, nat_le, nat_lt, if◌then◌else◌}
-use Rattle.std.proofs.lemmas.Bool.{le-leb, lt-ltb, le-ltb}
-use Rattle.std.proofs.lemmas.Bool.{cases_eq, cases_Bool}
+use Rattle.std.proofs.lemmas.Bool.{cases_eq}
 use Rattle.device_spec.proofs.Common.{nat_tests}
 use Rattle.board_spec.specs.Common.{One, Reg, bytes_of, Setup, byte, merged, smram, is_same, writable_bits}
 use Rattle.board_spec.specs.Common.{byte_after, changed_byte, after_stores, ByteByByte}
@@ -38,35 +37,24 @@ lowest_of value k = let small : byte value k < 256 = omega arith in omega arith
 last_byte : (setup : Setup) (at : Reg) (value k : ℕ) (reg : Reg) (old : ℕ) → reg.off ≡ at.off + k →
     one_more setup at value k reg (at_once setup at value k reg old) ≡ at_once setup at value (suc k) reg old
 last_byte setup at value k reg old here =
-    let from : nat_le at.off reg.off ≡ true = le-leb _ _ (omega arith) in
-    let from_k : nat_le (at.off + k) reg.off ≡ true = le-leb _ _ (omega arith) in
-    let past : nat_lt reg.off (at.off + k) ≡ false = le-ltb _ _ (omega arith) in
-    let below : nat_lt reg.off (at.off + k + 1) ≡ true = lt-ltb _ _ (omega arith) in
-    let within : nat_lt reg.off (at.off + suc k) ≡ true = lt-ltb _ _ (omega arith) in
     let none : reg.off - (at.off + k) ≡ 0 = omega arith in
     let far : reg.off - at.off ≡ k = omega arith in
-    elim (cases_Bool (same_function at reg)) [
-      | inl same ↦ rw (same, from, from_k, past, below, within, none, far, lowest_of value k) refl
-      | inr other ↦ rw (other) refl
-    ]
+    rw (none, far, lowest_of value k) (grind (arith, nat_tests))
 
 other_byte : (setup : Setup) (at : Reg) (value k : ℕ) (reg : Reg) (old : ℕ) → reg.off ≢ at.off + k →
     one_more setup at value k reg (at_once setup at value k reg old) ≡ at_once setup at value (suc k) reg old
 other_byte setup at value k reg old apart = grind (arith, nat_tests)
 
-none_at_once : (setup : Setup) (at : Reg) (value : ℕ) (reg : Reg) (old : ℕ) → at_once setup at value 0 reg old ≡ old
-none_at_once setup at value reg old = grind (arith, nat_tests)
-
 byte_stores : (setup : Setup) (at : Reg) (value count : ℕ) (reg : Reg) (old : ℕ) →
     after_stores setup at value count reg old ≡ at_once setup at value count reg old
 unfolding after_stores
-byte_stores setup at value zero reg old = sym (none_at_once setup at value reg old)
+byte_stores setup at value zero reg old = grind (arith, nat_tests)
 byte_stores setup at value (suc k) reg old =
-    ap (λ (now : ℕ). one_more setup at value k reg now) (byte_stores setup at value k reg old)
-    ∙ elim (cases_eq reg.off (at.off + k)) [
+    rw (byte_stores setup at value k reg old)
+    (elim (cases_eq reg.off (at.off + k)) [
       | inl here ↦ last_byte setup at value k reg old here
       | inr apart ↦ other_byte setup at value k reg old apart
-    ]
+    ])
 
 pub byte_by_byte : ByteByByte
 byte_by_byte setup at width value reg old = sym (byte_stores setup at value (bytes_of width) reg old)

@@ -1,36 +1,29 @@
 -- One line of a table of registers, and what holds from an offset on.
-use Rattle.std.proofs.Common.{◌≡◌, ℕ, zero, suc, ◌+◌, ◌-◌, ◌<◌, ◌≤◌, List, ◌∷◌, length, get_or, inl, inr, subst, arith}
-use Rattle.std.proofs.Common.{◌&&◌, nat_le, nat_lt}
-use Rattle.std.proofs.lemmas.Bool.{and_from, and_left, and_right, le-leb, lt-leb, lt-ltb, le-ltb, cond-true, cond-false}
-use Rattle.std.proofs.lemmas.Bool.{cases_lt}
+use Rattle.std.proofs.Common.{◌≡◌, ℕ, zero, suc, ◌+◌, ◌-◌, ◌<◌, ◌≤◌, List, ◌∷◌, length, get_or, inl, inr, arith}
+use Rattle.std.proofs.lemmas.Bool.{cases_eq}
+use Rattle.device_spec.proofs.Common.{nat_tests}
 use Rattle.board_spec.specs.RegisterTable.{Line, listed}
 
 pub listed-past :
     (column : Line → List ℕ) (entry : Line) (later : List Line) (off : ℕ) → entry.first + length entry.reset ≤ off →
     listed column (entry ∷ later) off ≡ listed column later off
-listed-past column entry later off past =
-    cond-false (nat_le entry.first off && nat_lt off (entry.first + length entry.reset)) _ _
-    (and_right _ _ (le-ltb _ _ past))
+listed-past column entry later off past = grind (arith, nat_tests)
 
 pub listed-before :
     (column : Line → List ℕ) (entry : Line) (later : List Line) (off : ℕ) → off < entry.first →
     listed column (entry ∷ later) off ≡ listed column later off
-listed-before column entry later off before =
-    cond-false (nat_le entry.first off && nat_lt off (entry.first + length entry.reset)) _ _
-    (and_left _ _ (lt-leb _ _ before))
+listed-before column entry later off before = grind (arith, nat_tests)
 
 pub listed-here :
     (column : Line → List ℕ) (entry : Line) (later : List Line) (off : ℕ) → entry.first ≤ off →
     off < entry.first + length entry.reset →
     listed column (entry ∷ later) off ≡ get_or (column entry) (off - entry.first) 0
-listed-here column entry later off from below =
-    cond-true (nat_le entry.first off && nat_lt off (entry.first + length entry.reset)) _ _
-    (and_from _ _ (le-leb _ _ from) (lt-ltb _ _ below))
+listed-here column entry later off from below = grind (arith, nat_tests)
 
 -- what holds at an offset and after it
 at_or_above : (P : ℕ → Type 0) (first off : ℕ) → first ≤ off → P first → (first + 1 ≤ off → P off) → P off
 at_or_above P first off from here above =
-    elim (cases_lt first off) [ inl below ↦ above (omega arith) | inr past ↦ subst P (omega arith) here ]
+    elim (cases_eq first off) [ inl is ↦ rw (← is) here | inr past ↦ above (omega arith) ]
 
 -- what holds at this many offsets from a first one on
 abbrev pub Each : (P : ℕ → Type 0) (first count : ℕ) → Type 0
