@@ -1,19 +1,18 @@
 -- A command moves exactly its count of sectors, or stops at the first that fails.
-use Rattle.std.proofs.Common.{◌≡◌, ◌≢◌, ℕ, zero, suc, ◌+◌, ◌*◌, ◌%◌, ◌<◌, ◌≤◌, ◌⊎◌, Bool, true, false, eqb, ltb, List}
-use Rattle.std.proofs.Common.{[], ◌∷◌, ◌++◌, length, Some, Result, Ok, Err, inl, inr, refl, ap, subst, ◌∙◌, arith}
+use Rattle.std.proofs.Common.{◌≡◌, ◌≢◌, ℕ, zero, suc, ◌+◌, ◌*◌, ◌%◌, ◌<◌, ◌≤◌, ◌⊎◌, Bool, true, false, eqb, List, []}
+use Rattle.std.proofs.Common.{◌∷◌, ◌++◌, length, Some, Result, Ok, Err, inl, inr, refl, ap, subst, ◌∙◌, arith}
 use Rattle.std.proofs.Common.{length-set}
-use Rattle.device_spec.proofs.Common.{cond-true, cond-false, eq-eqb, ne_eqb, lt-ltb, Medium, Activity, Reading}
-use Rattle.device_spec.proofs.Common.{Writing, Drive, Disk, sectors_of, sector_bytes, stored, named, naming, counted}
-use Rattle.device_spec.proofs.Common.{left_of, readable, found, reads_found, writes_found, finished, ended}
-use Rattle.device_spec.proofs.Common.{begin_read, begin_write, sector_read, sector_written, verified, counted_down}
-use Rattle.device_spec.proofs.Common.{moved_to, word_of, word_read, word_written, with_drive}
+use Rattle.device_spec.proofs.Common.{cond-true, cond-false, eq-eqb, ne_eqb, Medium, Activity, Reading, Writing, Drive}
+use Rattle.device_spec.proofs.Common.{Disk, sectors_of, sector_bytes, stored, named, left_of, readable, found}
+use Rattle.device_spec.proofs.Common.{reads_found, writes_found, finished, ended, begin_read, begin_write, sector_read}
+use Rattle.device_spec.proofs.Common.{sector_written, verified, counted_down, moved_to, word_of, word_read}
+use Rattle.device_spec.proofs.Common.{word_written, with_drive, nat_tests}
 use Rattle.ata_pio.specs.Ata.Laws.{IsWhole, IsChosen, words_read, after_words_read, after_words_written, sector_words}
 use Rattle.ata_pio.specs.Ata.Laws.{bytes_of_words, moved_on, AllReadable, MovesOn, words_of_sectors, reading_disk}
 use Rattle.ata_pio.specs.Ata.Laws.{ReadMovesItsSectors, VerifyLooksAtItsSectors, writing_disk, all_stored, AreSectors}
 use Rattle.ata_pio.specs.Ata.Laws.{all_words, request_of, WriteMovesItsSectors}
-use Rattle.ata_pio.proofs.AddressLaws.{written_back_names, naming-drive_one, naming-srst}
 use Rattle.ata_pio.proofs.StoreLaws.{stored-other, stored-whole}
-use Rattle.ata_pio.proofs.Verifies.{naming-count, verified-fails, verified-last, verified-more}
+use Rattle.ata_pio.proofs.Verifies.{verified-fails, verified-last, verified-more}
 use Rattle.ata_pio.proofs.WordLaws.{sector_is_read, sector_is_written, length-bytes_of_words}
 
 -- the drive at the next sector
@@ -31,21 +30,11 @@ one_less n m e h = omega arith
 
 goes_on : (drive : Drive) (sector : ℕ) → IsChosen drive → 0 < left_of drive.registers → sector + 1 ≤ 65536 →
     IsNext sector drive (next sector drive)
-goes_on drive sector h more l =
-    let r = counted drive.registers in
-    record {
-      names = written_back_names r (sector + 1) l;
-      left = one_less (drive.registers.count + 255) (naming r (sector + 1)).count (naming-count r (sector + 1)) more;
-      chosen = record {
-        drive_zero = naming-drive_one r (sector + 1) ∙ h.drive_zero;
-        free = naming-srst r (sector + 1) ∙ h.free;
-      };
-    }
+goes_on drive sector h more l = grind (arith, nat_tests)
 
 pub moves_on : MovesOn
 unfolding moved_on
-moves_on drive sector zero h e n l =
-    record { names = e ∙ ap Some (omega arith); left = omega arith; chosen = h }
+moves_on drive sector zero h e n l = grind (arith, nat_tests)
 moves_on drive sector (suc n) h e more l =
     let first = goes_on drive sector h (omega arith) (omega arith) in
     let fits : n ≤ left_of (next sector drive).registers = omega (arith, first.left) in
@@ -58,9 +47,7 @@ moves_on drive sector (suc n) h e more l =
 
 -- the first of some sectors, and the others
 first_readable : (m : Medium) (sector n : ℕ) → AllReadable m sector (suc n) → readable m (Some sector) ≡ Ok sector
-first_readable m sector n h =
-    let same : sector + 0 ≡ sector = omega arith in
-    subst (λ s. readable m (Some s) ≡ Ok s) same (h 0 (omega arith))
+first_readable m sector n h = grind (arith, nat_tests)
 
 later_readable : (m : Medium) (sector n : ℕ) → AllReadable m sector (suc n) → AllReadable m (sector + 1) n
 later_readable m sector n h = λ k l.
@@ -87,8 +74,7 @@ after_words_read-add (suc a) b disk =
 -- a read looks at its sector whatever was under way
 reads_found-other : (x : Result ℕ ℕ) (d : Drive) (a : Activity) (q : Bool) →
     reads_found x (record d { activity = a; request = q }) ≡ reads_found x d
-reads_found-other (Ok s) d a q = refl
-reads_found-other (Err e) d a q = refl
+reads_found-other x d a q = grind (arith, nat_tests)
 
 begin_read-other : (m : Medium) (d : Drive) (a : Activity) (q : Bool) →
     begin_read m (record d { activity = a; request = q }) ≡ begin_read m d
@@ -107,8 +93,7 @@ reading sector d = record d { activity = Reading sector 0; request = true }
 begins : (disk : Disk) (sector : ℕ) (d : Drive) → named d.registers ≡ Some sector →
     readable disk.medium (Some sector) ≡ Ok sector
     → reading_disk disk d ≡ with_drive disk (reading sector d)
-begins disk sector d e h =
-    ap (with_drive disk) (begin_read-is disk.medium d (Ok sector) (ap (readable disk.medium) e ∙ h))
+begins disk sector d e h = grind (arith, nat_tests, begin_read-is)
 
 sector_read-more : (m : Medium) (sector : ℕ) (d : Drive) → 0 < left_of d.registers →
     sector_read m sector (reading sector d) ≡ begin_read m (next sector d)
@@ -230,8 +215,7 @@ after_words_written-append (x ∷ xs) ys disk = after_words_written-append xs ys
 
 writes_found-other : (x : Result ℕ ℕ) (q p : Bool) (d : Drive) (a : Activity) →
     writes_found x q (record d { activity = a; request = p }) ≡ writes_found x q d
-writes_found-other (Ok s) q p d a = refl
-writes_found-other (Err e) q p d a = refl
+writes_found-other x q p d a = grind (arith, nat_tests)
 
 begin_write-other : (m : Medium) (q p : Bool) (d : Drive) (a : Activity) →
     begin_write m q (record d { activity = a; request = p }) ≡ begin_write m q d
@@ -244,9 +228,7 @@ writing sector q d = record d { activity = Writing sector []; request = q }
 begin_write-there : (m : Medium) (sector : ℕ) (q : Bool) (d : Drive) → named d.registers ≡ Some sector →
     sector < sectors_of m → begin_write m q d ≡ writing sector q d
 unfolding begin_write
-begin_write-there m sector q d e h =
-    ap (λ (x : Result ℕ ℕ). writes_found x q d) (ap (found m) e
-    ∙ cond-true (ltb sector (sectors_of m)) _ _ (lt-ltb sector (sectors_of m) h))
+begin_write-there m sector q d e h = grind (arith, nat_tests)
 
 sector_written-more : (m : Medium) (sector : ℕ) (q : Bool) (d : Drive) → 0 < left_of d.registers →
     sector_written m sector (ended (writing sector q d)) ≡ begin_write m true (next sector d)
@@ -283,8 +265,7 @@ full words e = omega (arith, length-bytes_of_words words)
 
 -- after a sector there was a request
 still : (rest : List (List ℕ)) → request_of rest true ≡ true
-still [] = refl
-still (words ∷ rest) = refl
+still rest = grind (arith, nat_tests)
 
 writes_on : (sectors : List (List ℕ)) (m : Medium) (sector : ℕ) (q : Bool) (d : Drive) → IsChosen d →
     named d.registers ≡ Some sector

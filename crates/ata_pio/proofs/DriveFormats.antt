@@ -1,15 +1,15 @@
 -- The state of the drive is spelled and read back.
+use Rattle.board_base.proofs.Common.{nat_tests}
 use Rattle.board_base.specs.Common.{w32, to_le_bytes}
 use Rattle.std.proofs.lemmas.List.{nil_from_length}
-use Rattle.std.proofs.Common.{◌≡◌, ℕ, zero, suc, ◌-◌, ◌/◌, ◌^◌, ◌<◌, ◌≤◌, Bool, true, false, List, [], ◌∷◌, ◌++◌}
-use Rattle.std.proofs.Common.{length, refl, sym, arith, nat_lt}
-use Rattle.device_spec.specs.Common.{Activity, Ready, Failed, Reading, Writing, Identifying}
+use Rattle.std.proofs.Common.{◌≡◌, ℕ, ◌-◌, ◌^◌, ◌<◌, ◌≤◌, Bool, List, ◌∷◌, ◌++◌, length, refl, arith, nat_lt}
+use Rattle.device_spec.specs.Common.{Activity}
 use Rattle.byte_fields.specs.Fields.{plain, bound_where}
 use Rattle.byte_fields.proofs.Formats.{IsFormat, format_as, fields_format, ◌then◌, ◌&◌, last_field, plain_format}
 use Rattle.byte_fields.proofs.Numbers.{any_byte, byte_to, number_to, wide32, flag_format, bound_where-small}
-use Rattle.ata_pio.specs.DriveState.{AreRegisters, registers_bytes, registers_fields, IsActivity, number_of}
-use Rattle.ata_pio.specs.DriveState.{sector_of, next_word_of, came_of, came_size, activity_bytes, activity_with}
-use Rattle.ata_pio.specs.DriveState.{activity_fields, IsDrive, drive_bytes, drive_fields}
+use Rattle.ata_pio.specs.DriveState.{AreRegisters, registers_bytes, registers_fields, IsActivity, number_of, sector_of}
+use Rattle.ata_pio.specs.DriveState.{next_word_of, came_of, came_size, activity_bytes, activity_with, activity_fields}
+use Rattle.ata_pio.specs.DriveState.{IsDrive, drive_bytes, drive_fields}
 
 -- ---- the registers
 
@@ -55,11 +55,7 @@ AreNumbers sectors a =
     × (a ≡ activity_with (number_of a) (sector_of a) (next_word_of a) (came_of a))
 
 activity_to : (sectors : ℕ) (a : Activity) → IsActivity sectors a → AreNumbers sectors a
-activity_to sectors Ready is = (omega arith, omega arith, omega arith, refl, refl)
-activity_to sectors Failed is = (omega arith, omega arith, omega arith, refl, refl)
-activity_to sectors (Identifying word) is = (omega arith, omega arith, omega (arith, is), refl, refl)
-activity_to sectors (Reading sector word) is = (omega arith, omega (arith, is.0), omega (arith, is.1), refl, refl)
-activity_to sectors (Writing sector bytes) is = (omega arith, omega (arith, is.0), omega (arith, is.1), is.2, refl)
+activity_to sectors a is = grind (arith, nat_tests)
 
 abbrev spelled : (number sector word : ℕ) → List ℕ → List ℕ
 spelled number sector word came = number ∷ (to_le_bytes w32 sector ++ (word ∷ came))
@@ -74,36 +70,13 @@ activity_from :
     length came ≡ came_size number word →
     IsActivity sectors (activity_with number sector word came)
     × (activity_bytes (activity_with number sector word came) ≡ spelled number sector word came)
-activity_from sectors zero sector word came some few at_most small long =
-    (tt, spelled_same 0 0 sector 0 word [] came (omega arith) (omega arith) (sym (nil_from_length came long)))
-activity_from sectors (suc zero) sector word came some few at_most small long =
-    (tt, spelled_same 1 0 sector 0 word [] came (omega arith) (omega arith) (sym (nil_from_length came long)))
-activity_from sectors (suc (suc zero)) sector word came some few at_most small long = (
-  omega (arith, small),
-  spelled_same 2 0 sector word word [] came (omega arith) refl (sym (nil_from_length came long)),
-)
-activity_from sectors (suc (suc (suc zero))) sector word came some few at_most small long = (
-  (omega (arith, some, at_most), omega (arith, small)),
-  spelled_same 3 sector sector word word [] came refl refl (sym (nil_from_length came long)),
-)
-activity_from sectors (suc (suc (suc (suc zero)))) sector word came some few at_most small long = (
-  (omega (arith, some, at_most), omega (arith, small, long), omega (arith, long)),
-  spelled_same 4 sector sector (length came / 2) word came came refl (omega (arith, long)) refl,
-)
-activity_from sectors (suc (suc (suc (suc (suc n))))) sector word came some few at_most small long =
-    absurd (omega arith)
+activity_from sectors number sector word came some few at_most small long = grind (arith, nat_tests, spelled_same, nil_from_length)
 
 sector_small : (there : Bool) (bound : ℕ) → bound < 2 ^ 32 → bound_where there bound < 2 ^ 32
-sector_small true bound few = few
-sector_small false bound few = omega arith
+sector_small there bound few = grind (arith, nat_tests)
 
 came_small : (number word : ℕ) → number ≤ 4 → word ≤ bound_where (nat_lt 1 number) 255 → came_size number word ≤ 512
-came_small zero word few small = omega arith
-came_small (suc zero) word few small = omega arith
-came_small (suc (suc zero)) word few small = omega arith
-came_small (suc (suc (suc zero))) word few small = omega arith
-came_small (suc (suc (suc (suc zero)))) word few small = omega (arith, small)
-came_small (suc (suc (suc (suc (suc n))))) word few small = absurd (omega arith)
+came_small number word few small = grind (arith, nat_tests)
 
 -- so many bytes that came
 came_format : (number word : ℕ) → number ≤ 4 → word ≤ bound_where (nat_lt 1 number) 255 →

@@ -1,7 +1,7 @@
 -- The state of a disk is spelled and read back.
-use Rattle.std.proofs.Common.{◌≡◌, ℕ, ◌+◌, ◌*◌, ◌%◌, ◌<◌, ◌≤◌, Bool, true, eqb, ltb, leb, ◌&&◌, List, [], ◌∷◌, length}
-use Rattle.std.proofs.Common.{map, flat_map, refl, ap, ◌∙◌, arith}
-use Rattle.device_spec.proofs.Common.{and_parts, ltb-true, leb-true, eqb-true, flat_map-cons}
+use Rattle.std.proofs.Common.{rules, ◌≡◌, ℕ, ◌+◌, ◌*◌, ◌<◌, ◌≤◌, Bool, true, List, [], ◌∷◌, length, map, flat_map, refl}
+use Rattle.std.proofs.Common.{ap, ◌∙◌, arith}
+use Rattle.device_spec.proofs.Common.{flat_map-cons, nat_tests}
 use Rattle.device_spec.specs.Common.{is_disk_length}
 use Rattle.byte_fields.specs.Fields.{Reading as Reader, flag_byte, flag_field}
 use Rattle.byte_fields.specs.Loads.{OneSpelling}
@@ -71,14 +71,7 @@ pub record HasSectors (fitted : List ℕ) : Type 0 where
   pub whole : length fitted ≡ 512 * count_of fitted
 
 pub sectors_of_length : (fitted : List ℕ) → is_disk_length (length fitted) ≡ true → HasSectors fitted
-sectors_of_length fitted is =
-    let n = length fitted in
-    let parts = and_parts (eqb (n % 512) 0) (ltb 0 n && leb n (512 * 65536)) is in
-    let range = and_parts (ltb 0 n) (leb n (512 * 65536)) parts.1 in
-    let whole : n % 512 ≡ 0 = eqb-true (n % 512) 0 parts.0 in
-    let low : 0 < n = ltb-true 0 n range.0 in
-    let high : n ≤ 512 * 65536 = leb-true n (512 * 65536) range.1 in
-    record { some = omega arith; few = omega arith; whole = omega arith }
+sectors_of_length fitted is = grind (arith, nat_tests)
 
 abbrev pub most_bytes : (fitted : List ℕ) → ℕ
 most_bytes fitted = 528 + (2 * length fitted + count_of fitted)
@@ -95,5 +88,4 @@ disk_format fitted size =
     (λ t. (record { size = size; drive = t.1; medium = t.2.1 }, refl))
 
 pub one_disk : (fitted : List ℕ) → OneSpelling (disk_bytes fitted) (IsDisk fitted)
-one_disk fitted left right of_left of_right same =
-    one_spelling (disk_format fitted of_left.size) left right of_left of_right same
+one_disk fitted left right of_left of_right same = search (rules, one_spelling, disk_format)

@@ -1,7 +1,7 @@
 -- A sector that is stored, and the other ones.
 use Rattle.std.proofs.Common.{◌≡◌, ◌≢◌, ℕ, ◌+◌, ◌-◌, ◌*◌, ◌<◌, ◌≤◌, List, ◌++◌, length, take, drop, get_or, inl, inr}
 use Rattle.std.proofs.Common.{ap, sym, ◌∙◌, arith, length-set, get_or-take, get_or-drop}
-use Rattle.device_spec.proofs.Common.{cases_lt, drop-drop, Medium, sectors_of, sector_bytes, stored, word_at}
+use Rattle.device_spec.proofs.Common.{cases_lt, drop-drop, Medium, sectors_of, sector_bytes, stored, word_at, nat_tests}
 use Rattle.std.proofs.lemmas.Slice.{take-put_mid_below, drop-put_mid, between-put_mid, between_is}
 use borrow.Rule.Slice.PartMut.{put_mid}
 use Rattle.ata_pio.specs.Ata.Laws.{IsWhole}
@@ -51,8 +51,7 @@ stored-other m s t ys w h e ne = elim (cases_lt s t) [
 
 pub stored-whole : (m : Medium) (s : ℕ) (ys : List ℕ) → IsWhole m → s < sectors_of m → length ys ≡ 512 →
     IsWhole (stored m s ys)
-stored-whole m s ys w h e =
-    length-store m.bytes ys s (room m s w h) e ∙ w ∙ ap (λ n. 512 * n) (sym (length-set m.bad s _))
+stored-whole m s ys w h e = grind (arith, nat_tests, length-store, length-set)
 
 -- a byte of a sector
 byte_of : (m : Medium) (s i : ℕ) → i < 512 → get_or m.bytes (512 * s + i) 0 ≡ get_or (sector_bytes m s) i 0

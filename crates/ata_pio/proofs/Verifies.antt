@@ -1,16 +1,14 @@
 -- One turn of verify: it fails, it was the last sector, or it goes on.
-use Rattle.std.proofs.Common.{◌≡◌, ◌≢◌, ℕ, zero, suc, ◌+◌, ◌%◌, cond, Bool, true, false, Ok, Err, refl, ap, sym, ◌∙◌}
-use Rattle.std.proofs.Common.{arith}
+use Rattle.std.proofs.Common.{◌≡◌, ◌≢◌, ℕ, suc, ◌+◌, ◌%◌, cond, Bool, Ok, Err, refl, ap, sym, ◌∙◌, arith}
 use Rattle.device_spec.proofs.Common.{Medium, Registers, Drive, is_lba, named, naming, counted, left_of, readable}
-use Rattle.device_spec.proofs.Common.{failed, finished, counted_down, moved_to, verified}
+use Rattle.device_spec.proofs.Common.{failed, finished, counted_down, moved_to, verified, nat_tests}
 
 -- the sectors that are left, but for the next
 more_left : (n : ℕ) → n % 256 ≢ 0 → n % 256 ≡ suc ((n % 256 + 255) % 256)
 more_left n h = omega arith
 
 cond-count : (b : Bool) (x y : Registers) (n : ℕ) → x.count ≡ n → y.count ≡ n → (cond b x y).count ≡ n
-cond-count true x y n e f = e
-cond-count false x y n e f = f
+cond-count b x y n e f = grind (arith, nat_tests)
 
 -- a sector that is written back keeps the count
 pub naming-count : (r : Registers) (s : ℕ) → (naming r s).count ≡ r.count
@@ -19,8 +17,7 @@ naming-count r s = cond-count (is_lba r) _ _ r.count refl refl
 pub verified-fails : (m : Medium) (left e : ℕ) (d : Drive) → readable m (named d.registers) ≡ Err e →
     verified m left d ≡ failed e d
 unfolding verified
-verified-fails m zero e d h = rw (h, verified) refl
-verified-fails m (suc left) e d h = rw (h, verified) refl
+verified-fails m left e d h = grind (arith, nat_tests)
 
 pub verified-end : (m : Medium) (s : ℕ) (d : Drive) → readable m (named d.registers) ≡ Ok s →
     verified m 0 d ≡ finished (counted_down d)

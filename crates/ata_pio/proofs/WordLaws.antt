@@ -1,11 +1,11 @@
 -- A sector moves as 256 words.
-use Rattle.std.proofs.Common.{◌≡◌, ◌≢◌, ℕ, zero, suc, ◌+◌, ◌*◌, ◌/◌, ◌%◌, ◌<◌, ◌≤◌, true, cond, eqb, List, [], ◌∷◌}
-use Rattle.std.proofs.Common.{◌++◌, length, drop, get_or, Result, Ok, Err, refl, ap, sym, subst, ◌∙◌, arith}
-use Rattle.std.proofs.Common.{length-append, get_or-drop, append_assoc}
+use Rattle.std.proofs.Common.{rules, ◌≡◌, ◌≢◌, ℕ, zero, suc, ◌+◌, ◌*◌, ◌/◌, ◌%◌, ◌<◌, ◌≤◌, true, cond, eqb, List, []}
+use Rattle.std.proofs.Common.{◌∷◌, ◌++◌, length, drop, get_or, Result, refl, ap, sym, subst, ◌∙◌, arith, length-append}
+use Rattle.std.proofs.Common.{get_or-drop, append_assoc}
 use Rattle.device_spec.proofs.Common.{cond-true, cond-false, eq-eqb, ne_eqb, drop-drop, Medium, Activity, Reading}
 use Rattle.device_spec.proofs.Common.{Writing, Drive, Disk, sectors_of, sector_bytes, word_at, is_drq, named, left_of}
 use Rattle.device_spec.proofs.Common.{counted, naming, readable, reads_found, begin_read, sector_read, ended, word_of}
-use Rattle.device_spec.proofs.Common.{word_read, word_written, after_word, with_drive, bytes_written}
+use Rattle.device_spec.proofs.Common.{word_read, word_written, after_word, with_drive, bytes_written, nat_tests}
 use Rattle.ata_pio.specs.Ata.Laws.{IsChosen, words_read, after_words_read, after_words_written, sector_words}
 use Rattle.ata_pio.specs.Ata.Laws.{bytes_of_words, AreWords, SectorIsRead, SectorIsWritten, written_disk, ReadsBack}
 use Rattle.ata_pio.specs.Ata.Laws.{IsSound, IsUnderWay, after_all}
@@ -27,8 +27,7 @@ drq-writing d s bytes h = rw (h.drive_zero, h.free) refl
 
 -- what was under way shows nowhere in what follows a sector that was read
 found-acting : (x : Result ℕ ℕ) (d : Drive) (a : Activity) → reads_found x (acting d a) ≡ reads_found x d
-found-acting (Ok s) d a = refl
-found-acting (Err e) d a = refl
+found-acting x d a = grind (arith, nat_tests)
 
 begin_read-acting : (m : Medium) (d : Drive) (a : Activity) → begin_read m (acting d a) ≡ begin_read m d
 unfolding begin_read
@@ -48,19 +47,12 @@ word_of-reading disk s w h = cond-true (is_drq (acting disk.drive (Reading s w))
 word_read-more : (disk : Disk) (s w : ℕ) → IsChosen disk.drive → w ≢ 255 →
     word_read (disk_acting disk (Reading s w)) ≡ disk_acting disk (Reading s (w + 1))
 unfolding after_word
-word_read-more disk s w h n =
-    ap (with_drive disk)
-    (cond-true (is_drq (acting disk.drive (Reading s w))) _ _ (drq-reading disk.drive s w h)
-    ∙ cond-false (eqb w 255) _ _ (ne_eqb w 255 n))
+word_read-more disk s w h n = grind (arith, nat_tests)
 
 word_read-last : (disk : Disk) (s w : ℕ) → IsChosen disk.drive → w ≡ 255 →
     word_read (disk_acting disk (Reading s w)) ≡ with_drive disk (sector_read disk.medium s disk.drive)
 unfolding after_word
-word_read-last disk s w h e =
-    ap (with_drive disk)
-    (cond-true (is_drq (acting disk.drive (Reading s w))) _ _ (drq-reading disk.drive s w h)
-    ∙ cond-true (eqb w 255) _ _ (eq-eqb w 255 e)
-    ∙ sector_read-acting disk.medium s disk.drive (Reading s w))
+word_read-last disk s w h e = grind (arith, nat_tests, cond-true, drq-reading, eqb, eq-eqb, sector_read-acting)
 
 -- the rest of a sector that is read, from a word on
 words_rest : (n : ℕ) (disk : Disk) (s w : ℕ) → IsChosen disk.drive → w + n ≡ 255 →
@@ -94,8 +86,7 @@ word_written-bytes : (disk : Disk) (s word : ℕ) (bytes : List ℕ) → IsChose
     → word_written word (disk_acting disk (Writing s bytes))
     ≡ bytes_written s (bytes ++ word % 256 ∷ word / 256 ∷ []) disk
 unfolding word_written
-word_written-bytes disk s word bytes h = cond-true (is_drq (acting disk.drive (Writing s bytes))) _ _
-    (drq-writing disk.drive s bytes h)
+word_written-bytes disk s word bytes h = grind (arith, nat_tests)
 
 joined : (bytes rest : List ℕ) (a b : ℕ) → (bytes ++ a ∷ b ∷ []) ++ rest ≡ bytes ++ a ∷ (b ∷ rest)
 joined bytes rest a b = append_assoc bytes (a ∷ b ∷ []) rest
@@ -105,11 +96,7 @@ words_fill : (words : List ℕ) (word : ℕ) (disk : Disk) (s : ℕ) (bytes : Li
     → after_words_written (word ∷ words) (disk_acting disk (Writing s bytes))
     ≡ written_disk disk s (bytes ++ bytes_of_words (word ∷ words))
 unfolding after_words_written
-words_fill [] word disk s bytes h e =
-    word_written-bytes disk s word bytes h
-    ∙ cond-true (eqb (length (bytes ++ word % 256 ∷ word / 256 ∷ [])) 512) _ _
-    (eq-eqb (length (bytes ++ word % 256 ∷ word / 256 ∷ [])) 512
-    (omega (arith, length-append bytes (word % 256 ∷ word / 256 ∷ []))))
+words_fill [] word disk s bytes h e = search (rules, word_written-bytes, cond-true, eqb, eq-eqb, length-append)
 words_fill (next ∷ words) word disk s bytes h e =
     let more = bytes ++ word % 256 ∷ word / 256 ∷ [] in
     ap (after_words_written (next ∷ words))

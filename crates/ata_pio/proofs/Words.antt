@@ -1,6 +1,7 @@
 -- The bytes of a word.
-use Rattle.std.proofs.Common.{◌≡◌, ℕ, ◌+◌, ◌-◌, ◌*◌, ◌/◌, ◌%◌, ◌<◌, ◌≤◌, List, [], ◌∷◌, ◌++◌, length, take, drop}
-use Rattle.std.proofs.Common.{refl, ap, ◌∙◌, arith, length-drop, length-take}
+use Rattle.board_base.proofs.Common.{nat_tests}
+use Rattle.std.proofs.Common.{◌≡◌, ℕ, ◌+◌, ◌-◌, ◌*◌, ◌/◌, ◌%◌, ◌<◌, ◌≤◌, List, [], ◌∷◌, ◌++◌, length, take, drop, refl}
+use Rattle.std.proofs.Common.{arith, length-drop, length-take}
 use Rattle.std.proofs.lemmas.List.{nil_from_length}
 use Rattle.std.proofs.lemmas.Slice.{take-put_mid}
 use Rattle.byteorder.specs.Endian.{little_bytes}
@@ -14,10 +15,4 @@ two_bytes v h = let e : v / 256 % 256 ≡ v / 256 = omega arith in rw e refl
 pub word_put : (xs ys : List ℕ) (w v : ℕ) → v < 65536 → 2 * w + 2 ≤ length xs
     → ys ≡ little_bytes 2 v ++ drop 2 (take (2 * w + 2 - 2 * w) (drop (2 * w) xs))
     → take (2 * w + 2) (put_mid (2 * w) (2 * w + 2 - 2 * w) xs ys) ≡ take (2 * w) xs ++ v % 256 ∷ v / 256 ∷ []
-word_put xs ys w v h n e =
-    let part = take (2 * w + 2 - 2 * w) (drop (2 * w) xs) in
-    let rest : drop 2 part ≡ [] = nil_from_length (drop 2 part)
-    (omega (arith, length-drop 2 part, length-take (2 * w + 2 - 2 * w) (drop (2 * w) xs))) in
-    let is : ys ≡ v % 256 ∷ v / 256 ∷ [] = e ∙ ap (λ zs. little_bytes 2 v ++ zs) rest
-    ∙ ap (λ zs. zs ++ []) (two_bytes v h) in
-    rw is (take-put_mid (2 * w) (2 * w + 2 - 2 * w) xs (v % 256 ∷ v / 256 ∷ []) (2 * w + 2) refl (omega arith))
+word_put xs ys w v h n e = grind (arith, nat_tests, nil_from_length, length-drop, length-take, two_bytes, take-put_mid)

@@ -415,6 +415,7 @@ impl Controller {
 }
 
 /// Puts a word into a sector's buffer, its lower byte first.
+#[tactic(auto, using(crate::proofs::Words::word_put))]
 fn put_word(buffer: &mut [u8], word: u8, value: u16)
     requires { length buffer.old ≡ 512 }
     ensures put { take (2 * word + 2) buffer.new ≡ take (2 * word) buffer.old ++ value % 256 ∷ value / 256 ∷ [] }

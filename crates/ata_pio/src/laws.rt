@@ -11,11 +11,13 @@ pub fn alternate_status_reads()
 
 /// The address registers that were written back for a sector name it, by LBA and by cylinder, head
 /// and sector.
+#[tactic(auto, using(crate::proofs::AddressLaws::written_back_names))]
 pub fn written_back_names()
     ensures law { WrittenBackNames }
 {}
 
 /// A disk that was opened has 1 to 65,536 whole sectors.
+#[tactic(auto, using(crate::proofs::SoundLaws::power_on_is_sound))]
 pub fn power_on_is_sound()
     ensures law { PowerOnIsSound }
 {}
@@ -27,6 +29,7 @@ pub fn stays_sound()
 {}
 
 /// No access changes the bytes of a sector but the one that brings the last word of it.
+#[tactic(auto, using(crate::proofs::SoundLaws::only_stores_change))]
 pub fn only_stores_change()
     ensures law { OnlyStoresChange }
 {}
@@ -37,11 +40,13 @@ pub fn sector_is_read()
 {}
 
 /// A sector that is written holds the 256 words that came, and then the drive goes on.
+#[tactic(auto, using(crate::proofs::WordLaws::sector_is_written))]
 pub fn sector_is_written()
     ensures law { SectorIsWritten }
 {}
 
 /// A sector that was written and not stored again reads back the same, whatever happens between.
+#[tactic(auto, using(crate::proofs::WordLaws::reads_back))]
 pub fn reads_back()
     ensures law { ReadsBack }
 {}
@@ -58,6 +63,7 @@ pub fn read_moves_its_sectors()
 {}
 
 /// A verify looks at exactly its sectors, or stops at the first that cannot be read.
+#[tactic(auto, using(crate::proofs::CountLaws::verify_looks_at_its_sectors))]
 pub fn verify_looks_at_its_sectors()
     ensures law { VerifyLooksAtItsSectors }
 {}

@@ -78,6 +78,7 @@ impl Sectors {
     }
 
     /// Stores the bytes of a sector, which is then no longer bad.
+    #[tactic(auto, using(crate::proofs::Stores::stored_items))]
     pub fn store(&mut self, sector: u32, bytes: &[u8])
         requires there { sector < sectors_of (medium_of self.old) }
         requires whole { length bytes.now ≡ 512 }

@@ -114,6 +114,7 @@ impl Ata {
 }
 
 /// Over one disk as fitted one state has one spelling, and one spelling is of one state.
+#[tactic(auto, using(crate::proofs::StateFormats::one_disk))]
 pub fn law_one_disk()
     ensures one { (fitted : List ℕ) → OneSpelling (disk_bytes fitted) (IsDisk fitted) }
 {}

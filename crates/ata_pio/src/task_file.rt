@@ -158,6 +158,7 @@ impl TaskFile {
     }
 
     /// Writes the head, or bits 27:24 of an LBA.
+    #[tactic(auto, using(crate::proofs::Bits::head_put))]
     fn set_head(&mut self, head: u8)
         requires { head < 16 }
         ensures head { registers_of self.new

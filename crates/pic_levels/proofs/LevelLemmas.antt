@@ -1,86 +1,57 @@
 -- Sets of levels and the bits of their bytes.
-use Rattle.std.proofs.Common.{◌≡◌, ℕ, zero, suc, ◌-◌, ◌*◌, ◌%◌, ◌^◌, ◌<◌, min, max, Bool, true, not, eqb, ◌||◌, ◌&&◌}
-use Rattle.std.proofs.Common.{refl, ap, ◌∙◌, ◌↔◌, inl, inr, arith, bit_or, bit_and}
+use Rattle.std.proofs.Common.{rules, ◌≡◌, ℕ, ◌-◌, ◌*◌, ◌%◌, ◌^◌, ◌<◌, min, max, Bool, true, not, eqb, ◌||◌, ◌&&◌, refl}
+use Rattle.std.proofs.Common.{ap, ◌∙◌, ◌↔◌, arith, bit_or, bit_and}
 use Rattle.std.specs.Int.{Width, bit_at, bit_not}
 use mir.Val.{bits}
 use mir.Syntax.{w8}
 use Rattle.device_spec.proofs.Common.{cases_eq, eq-eqb, ne_eqb, agree_below_at, eqb-true, is_bit, levels_where-same}
 use Rattle.device_spec.proofs.Common.{has-levels_where, has, levels_where, no_levels, with_level, without_level}
-use Rattle.device_spec.proofs.Common.{levels_of_byte, byte_of_levels}
+use Rattle.device_spec.proofs.Common.{levels_of_byte, byte_of_levels, nat_tests}
 use Rattle.std.proofs.lemmas.Nat.Bits.{bit_at-lt, bit_at_or, bit_at_and, bit_at_not, bit_at_set_same, bit_at_set_other}
 use Rattle.std.proofs.lemmas.Nat.Bits.{bit_at_clear_same, bit_at_clear_other}
 
 -- ---- bits
 
 max-bits : (x y : ℕ) → x < 2 → y < 2 → eqb (max x y) 1 ≡ (eqb x 1 || eqb y 1)
-max-bits zero zero p q = refl
-max-bits zero (suc zero) p q = refl
-max-bits (suc zero) zero p q = refl
-max-bits (suc zero) (suc zero) p q = refl
-max-bits (suc (suc x)) y p q = absurd (omega arith)
-max-bits x (suc (suc y)) p q = absurd (omega arith)
+max-bits x y p q = grind (arith, nat_tests)
 
 min-bits : (x y : ℕ) → x < 2 → y < 2 → eqb (min x y) 1 ≡ (eqb x 1 && eqb y 1)
-min-bits zero zero p q = refl
-min-bits zero (suc zero) p q = refl
-min-bits (suc zero) zero p q = refl
-min-bits (suc zero) (suc zero) p q = refl
-min-bits (suc (suc x)) y p q = absurd (omega arith)
-min-bits x (suc (suc y)) p q = absurd (omega arith)
+min-bits x y p q = grind (arith, nat_tests)
 
 not-bit : (x : ℕ) → x < 2 → eqb (1 - x) 1 ≡ not (eqb x 1)
-not-bit zero p = refl
-not-bit (suc zero) p = refl
-not-bit (suc (suc x)) p = absurd (omega arith)
+not-bit x p = grind (arith, nat_tests)
 
 -- bit l of a byte after a bit operation
 pub is_bit-or : (a b l : ℕ) → is_bit (bit_or a b) l ≡ (is_bit a l || is_bit b l)
-is_bit-or a b l = ap (λ x. eqb x 1) (bit_at_or a b l) ∙ max-bits (bit_at a l) (bit_at b l) (bit_at-lt a l)
-    (bit_at-lt b l)
+is_bit-or a b l = grind (arith, nat_tests, eqb, bit_at_or, max-bits, bit_at-lt)
 
 pub is_bit-and : (a b l : ℕ) → is_bit (bit_and a b) l ≡ (is_bit a l && is_bit b l)
-is_bit-and a b l = ap (λ x. eqb x 1) (bit_at_and a b l) ∙ min-bits (bit_at a l) (bit_at b l) (bit_at-lt a l)
-    (bit_at-lt b l)
+is_bit-and a b l = grind (arith, nat_tests, eqb, bit_at_and, min-bits, bit_at-lt)
 
 pub is_bit-not : (b l : ℕ) → b < 256 → l < 8 → is_bit (255 - b) l ≡ not (is_bit b l)
 is_bit-not b l small h = ap (λ x. eqb x 1) (bit_at_not w8 b l small h) ∙ not-bit (bit_at b l) (bit_at-lt b l)
 
 pub is_bit-set : (w : Width) (n k l : ℕ) → k < bits w →
     is_bit (bit_or n (1 * 2 ^ k % 2 ^ bits w)) l ≡ (eqb l k || is_bit n l)
-is_bit-set w n k l hk =
-    elim (cases_eq l k) [
-      | inl same ↦ rw (same, eq-eqb k k refl) (ap (λ x. eqb x 1) (bit_at_set_same w n k hk))
-      | inr other ↦ rw (ne_eqb l k other) (ap (λ x. eqb x 1) (bit_at_set_other w n k hk l other))
-    ]
+is_bit-set w n k l hk = grind (arith, nat_tests, cases_eq, eq-eqb, eqb, bit_at_set_same, ne_eqb, bit_at_set_other)
 
 pub is_bit-clear : (w : Width) (n k l : ℕ) → k < bits w → l < bits w →
     is_bit (bit_and n (bit_not w (1 * 2 ^ k % 2 ^ bits w))) l ≡ (not (eqb l k) && is_bit n l)
-is_bit-clear w n k l hk hl =
-    elim (cases_eq l k) [
-      | inl same ↦ rw (same, eq-eqb k k refl) (ap (λ x. eqb x 1) (bit_at_clear_same w n k hk))
-      | inr other ↦ rw (ne_eqb l k other) (ap (λ x. eqb x 1) (bit_at_clear_other w n k hk l hl other))
-    ]
+is_bit-clear w n k l hk hl = search (rules, cases_eq, eq-eqb, eqb, bit_at_clear_same, ne_eqb, bit_at_clear_other)
 
 -- ---- what the operations on masks do to the sets
 
 pub levels-union : (a b : ℕ) → levels_of_byte (bit_or a b)
     ≡ levels_where (λ l. has (levels_of_byte a) l || has (levels_of_byte b) l)
-levels-union a b =
-    levels_where-same _ (λ l. has (levels_of_byte a) l || has (levels_of_byte b) l)
-    (λ l h. rw (has-levels_where (is_bit a) l h, has-levels_where (is_bit b) l h) (is_bit-or a b l))
+levels-union a b = grind (arith, nat_tests, levels_where-same, has-levels_where, is_bit-or)
 
 pub levels-both : (a b : ℕ) → levels_of_byte (bit_and a b)
     ≡ levels_where (λ l. has (levels_of_byte a) l && has (levels_of_byte b) l)
-levels-both a b =
-    levels_where-same _ (λ l. has (levels_of_byte a) l && has (levels_of_byte b) l)
-    (λ l h. rw (has-levels_where (is_bit a) l h, has-levels_where (is_bit b) l h) (is_bit-and a b l))
+levels-both a b = grind (arith, nat_tests, levels_where-same, has-levels_where, is_bit-and)
 
 pub levels-rest : (a b : ℕ) → b < 256 → levels_of_byte (bit_and a (255 - b))
     ≡ levels_where (λ l. has (levels_of_byte a) l && not (has (levels_of_byte b) l))
-levels-rest a b small =
-    levels_where-same _ (λ l. has (levels_of_byte a) l && not (has (levels_of_byte b) l))
-    (λ l h. rw (has-levels_where (is_bit a) l h, has-levels_where (is_bit b) l h) (is_bit-and a (255 - b) l
-    ∙ ap (λ x. is_bit a l && x) (is_bit-not b l small h)))
+levels-rest a b small = grind (arith, nat_tests, levels_where-same, has-levels_where, is_bit-and, is_bit-not)
 
 pub levels-set : (n k : ℕ) → k < 8 → levels_of_byte (bit_or n (1 * 2 ^ k % 256)) ≡ with_level (levels_of_byte n) k
 levels-set n k hk =
@@ -105,7 +76,4 @@ byte-levels n small =
 -- and that of no levels is 0
 pub levels-none : (n : ℕ) → n < 256 → (eqb n 0 ≡ true) ↔ (levels_of_byte n ≡ no_levels)
 unfolding byte_of_levels levels_where
-levels-none n small = (
-  λ zero. ap levels_of_byte (eqb-true n 0 zero),
-  λ none. eq-eqb n 0 (byte-levels n small ∙ ap byte_of_levels none),
-)
+levels-none n small = grind (arith, nat_tests)

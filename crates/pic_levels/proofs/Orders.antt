@@ -1,10 +1,9 @@
 -- The order of priority of the levels.
-use Rattle.std.proofs.Common.{◌≡◌, ℕ, ◌+◌, ◌%◌, ◌<◌, Bool, true, eqb, length, get_or, drop, take, refl, length-append}
-use Rattle.std.proofs.Common.{length-drop, length-take, arith, ◌∙◌}
+use Rattle.std.proofs.Common.{◌≡◌, ℕ, ◌+◌, ◌%◌, ◌<◌, Bool, true, eqb, length, get_or, refl, length-append, length-drop}
+use Rattle.std.proofs.Common.{length-take, arith}
 use Rattle.std.proofs.lemmas.Bool.{agree_below}
 use Rattle.device_spec.specs.Common.{priority_order}
-use Rattle.device_spec.specs.Levels.{all_levels}
-use Rattle.device_spec.proofs.Common.{agree_below_at, eqb-true}
+use Rattle.device_spec.proofs.Common.{agree_below_at, eqb-true, nat_tests}
 
 -- the places of an order stand for the levels behind the lowest, and round to it
 stands_at : ℕ → ℕ → Bool
@@ -22,6 +21,4 @@ level-at lowest place small within =
     (agree_below_at (stands_at lowest) (λ _. true) 8 place here within)
 
 pub order-length : (lowest : ℕ) → length (priority_order lowest) ≡ 8
-order-length lowest =
-    length-append (drop (lowest + 1) all_levels) (take (lowest + 1) all_levels)
-    ∙ omega (arith, length-drop (lowest + 1) all_levels, length-take (lowest + 1) all_levels)
+order-length lowest = grind (arith, nat_tests, length-append, length-drop, length-take)

@@ -50,7 +50,8 @@ runs_quiet gate c (suc n) quiet =
     let now = quiet_step gate c n (quiet n (omega arith)) in
     record {
       state = ap (pulse gate) before.state ∙ now;
-      rose = rw (before.rose, before.state, now, out_stays gate n c, out_stays gate (suc n) c) (grind (arith, nat_tests));
+      rose = rw (before.rose, before.state, now, out_stays gate n c, out_stays gate (suc n) c)
+          (grind (arith, nat_tests));
     }
 
 -- the first pulses are quiet, as many as `quiet_pulses` counts

@@ -14,4 +14,4 @@ returns-clause-part g c =
 pub returns-clause-done : goal.returns-clause-done
 returns-clause-done g c =
     left_none_of_two _ _ _ _ _ _ _ c.advance-run.ensures.part c.advance-run.ensures.left c.advance-run-2.ensures.part
-    c.advance-run-2.ensures.left _ (omega arith) c.skip.ensures.left (strobes c.args.gate c.args.self.now c.requires.settled c.requires.mode)
+    c.advance-run-2.ensures.left _ (omega arith) c.skip.ensures.left (strobes _ _ c.requires.settled c.requires.mode)

@@ -8,4 +8,5 @@ returns-clause-part g c = part_join _ _ _ _ _ _ _ c.advance-run.ensures.part c.s
 
 pub returns-clause-done : goal.returns-clause-done
 returns-clause-done g c =
-    left_none _ _ _ _ _ c.advance-run.ensures.part c.advance-run.ensures.left _ (omega arith) c.skip.ensures.left (ends c.args.gate c.args.self.now c.requires.settled c.requires.mode)
+    left_none _ _ _ _ _ c.advance-run.ensures.part c.advance-run.ensures.left _ (omega arith) c.skip.ensures.left
+    (ends _ _ c.requires.settled c.requires.mode)
