@@ -6,7 +6,7 @@ use Rattle.std.proofs.Common.{length-take-le, ◌==◌, nat_le, nat_lt, find, if
 use Rattle.std.proofs.Common.{vec_len}
 use Rattle.board_prelude.proofs.Common.{with_items}
 use Rattle.board_prelude.proofs.Common.{cases_lt, cases_eq, nat_tests, get_or_past}
-use Rattle.board_prelude.proofs.Common.{length-replicate, length-map, map-set, get_or-map, with_items_is, drop-drop}
+use Rattle.board_prelude.proofs.Common.{length-replicate, length-map, map-set, get_or-map, with_items_is}
 use Rattle.board_prelude.proofs.Common.{Width, Card, bytes_of, Entry, FittedCard, Setup, card_at}
 use Rattle.board_prelude.proofs.Common.{kept_size, byte, CardCell, byte_put, card_byte, entry_put, stored_of}
 use Rattle.board_prelude.proofs.Common.{expansion_byte}
