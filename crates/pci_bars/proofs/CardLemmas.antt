@@ -187,7 +187,8 @@ module _ (setup : Setup) (bytes : Bytes) (card : FittedCard) (off written : ℕ)
   module _ (fit : IsCard card) (below : written < 256) (fitted : card_at setup card.dev ≡ Some card) where
     stored-same :
         stored setup bytes card.dev off written (card_register card.dev off)
-        ≡ merged (listed (λ entry. entry.writable) (card_function card) off) (bytes (card_register card.dev off)) written
+        ≡ merged (listed (λ entry. entry.writable) (card_function card) off) (bytes (card_register card.dev off))
+        written
     stored-same =
         rw (← writable_bits-card setup card off fit.first fitted)
         (changed_byte-one_same setup (card_register card.dev off) (bytes (card_register card.dev off)) written below
