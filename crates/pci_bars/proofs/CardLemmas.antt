@@ -187,7 +187,8 @@ module _ (setup : Setup) (bytes : Bytes) (card : FittedCard) (off written : ℕ)
   module _ (fit : IsCard card) (below : written < 256) (fitted : card_at setup card.dev ≡ Some card) where
     stored-same :
         stored setup bytes card.dev off written (card_register card.dev off)
-        ≡ merged (listed (λ entry. entry.writable) (card_function card) off) (bytes (card_register card.dev off)) written
+        ≡ merged (listed (λ entry. entry.writable) (card_function card) off) (bytes (card_register card.dev off))
+        written
     stored-same =
         rw (← writable_bits-card setup card off fit.first fitted)
         (changed_byte-one_same setup (card_register card.dev off) (bytes (card_register card.dev off)) written below
@@ -213,91 +214,30 @@ module _ (setup : Setup) (bytes : Bytes) (card : FittedCard) (off written : ℕ)
 
 -- ---- the registers on which the address map depends
 
--- what a card's base register is after a byte at an offset is written
-pub record IsBaseStore (card : CardBytes) (off index lane written new : ℕ) : Type 0 where
-  pub in_bases : index < 6
-  pub place : off ≡ 0x10 + 4 * index + lane
-  pub write : IsByteWrite (of_base base_writable card.card.bases index) (slice_index card.bases index) lane written new
+module _ (card : CardBytes) (off written : ℕ) (setup : Setup) (bytes : Bytes) (is : DecodesAs setup bytes card) where
+  command-stays : off ≢ 0x04 →
+      stored setup bytes card.card.dev off written (card_register card.card.dev 0x04) ≡ card.command
+  command-stays apart = stored-other setup bytes card.card off written 0x04 (λ e. apart (sym e)) ∙ is.command
 
--- what the register of a card's expansion ROM is after a byte at an offset is written
-pub record IsRomStore (card : CardBytes) (off lane written new : ℕ) : Type 0 where
-  pub place : off ≡ 0x30 + lane
-  pub write : IsByteWrite (rom_writable card.card.rom) card.rom lane written new
+  base-stays : (k : ℕ) → k < 6 → IsOffLong (0x10 + 4 * k) off →
+      HoldsLong (stored setup bytes card.card.dev off written) (base_register card.card.dev k)
+      (slice_index card.bases k)
+  base-stays k below apart =
+      long-apart setup bytes card.card off written (0x10 + 4 * k) (slice_index card.bases k) apart (is.bases k below)
 
-module _ (card : CardBytes) (off written : ℕ) where
-  module _ (setup : Setup) (bytes : Bytes) (is : DecodesAs setup bytes card) where
-    command-stays : off ≢ 0x04 →
-        stored setup bytes card.card.dev off written (card_register card.card.dev 0x04) ≡ card.command
-    command-stays apart = stored-other setup bytes card.card off written 0x04 (λ e. apart (sym e)) ∙ is.command
+  rom-stays : IsOffLong 0x30 off →
+      HoldsRom (stored setup bytes card.card.dev off written) card.card.dev card.rom card.card.rom
+  rom-stays apart = rom-apart setup bytes card.card off written card.rom apart card.card.rom is.rom
 
-    base-stays : (k : ℕ) → k < 6 → IsOffLong (0x10 + 4 * k) off →
-        HoldsLong (stored setup bytes card.card.dev off written) (base_register card.card.dev k)
-        (slice_index card.bases k)
-    base-stays k below apart =
-        long-apart setup bytes card.card off written (0x10 + 4 * k) (slice_index card.bases k) apart (is.bases k below)
-
-    rom-stays : IsOffLong 0x30 off →
-        HoldsRom (stored setup bytes card.card.dev off written) card.card.dev card.rom card.card.rom
-    rom-stays apart = rom-apart setup bytes card.card off written card.rom apart card.card.rom is.rom
-
-  pub decodes-apart : (line : ℕ) → IsApart off → IsDecodedWritten card (record card { line = line }) off written
-  decodes-apart line apart setup bytes is =
-      let outside = apart.bases in
-      record {
-        fitted = is.fitted;
-        command = command-stays setup bytes is apart.command;
-        bases = λ k below. base-stays setup bytes is k below (grind arith);
-        rom = rom-stays setup bytes is apart.rom;
-      }
-
-  module _ (fit : IsCard card.card) (below : written < 256) where
-    decodes-base : (index lane new : ℕ) → length card.bases ≡ 6 → IsBaseStore card off index lane written new →
-        IsDecodedWritten card (record card { bases = set card.bases index new }) off written
-    decodes-base index lane new six store setup bytes is =
-        let in_long = store.write.in_long in
-        record {
-          fitted = is.fitted;
-          command = command-stays setup bytes is (λ e. omega arith);
-          bases = λ k k_below. elim (cases_eq k index) [
-            | inl same ↦
-                rw (same, get_or-set_same card.bases index new 0 (omega arith))
-                (long-stored setup bytes card.card off written fit below is.fitted (0x10 + 4 * index) lane _ _ new
-                store.place (in_bases (λ entry. entry.writable) card.card base_writable index lane refl store.in_bases in_long)
-                store.write (is.bases index store.in_bases))
-            | inr apart ↦
-                rw (get_or-set_other card.bases index k new 0 apart) (base-stays setup bytes is k k_below (grind arith))
-          ];
-          rom = rom-stays setup bytes is (inl (omega arith));
-        }
-
-    decodes-rom : (lane new : ℕ) → IsRomStore card off lane written new →
-        IsDecodedWritten card (record card { rom = new }) off written
-    decodes-rom lane new store setup bytes is =
-        let in_long = store.write.in_long in
-        record {
-          fitted = is.fitted;
-          command = command-stays setup bytes is (λ e. omega arith);
-          bases = λ k k_below. base-stays setup bytes is k k_below (inr (omega arith));
-          rom = rom_held card.card.rom is.rom;
-        }
-      where
-        rom_held : (rom : Option ℕ) → HoldsRom bytes card.card.dev card.rom rom →
-            HoldsRom (stored setup bytes card.card.dev off written) card.card.dev new rom
-        rom_held None held = tt
-        rom_held (Some bits) held =
-            long-stored setup bytes card.card off written fit below is.fitted 0x30 lane _ _ new store.place
-            (writable-rom card.card lane fit.count store.write.in_long) store.write held
-
-decodes-command :
-    (card : CardBytes) (written : ℕ) → IsCard card.card → written < 256 →
-    IsDecodedWritten card (record card { command = merged (command_writable card.card) card.command written }) 0x04
-    written
-decodes-command card written fit below setup bytes is =
+decodes-apart : (card : CardBytes) (off written line : ℕ) → IsApart off →
+    IsDecodedWritten card (record card { line = line }) off written
+decodes-apart card off written line apart setup bytes is =
+    let outside = apart.bases in
     record {
       fitted = is.fitted;
-      command = stored-same setup bytes card.card 0x04 written fit below is.fitted ∙ rw is.command refl;
-      bases = λ k k_below. base-stays card 0x04 written setup bytes is k k_below (inl (omega arith));
-      rom = rom-stays card 0x04 written setup bytes is (inl (lit< tt));
+      command = command-stays card off written setup bytes is apart.command;
+      bases = λ k below. base-stays card off written setup bytes is k below (grind arith);
+      rom = rom-stays card off written setup bytes is apart.rom;
     }
 
 -- nothing is written to the register of a ROM that a card does not have
@@ -358,23 +298,50 @@ module _ (card : CardBytes) (off written : ℕ) (fit : IsCard card.card) (below 
   unwritten apart not_line =
       card-stored card not_line refl refl (λ _ none. none) (decodes-apart card off written card.line apart)
 
-  pub base-written : (index lane new : ℕ) → length card.bases ≡ 6 → IsBaseStore card off index lane written new →
+  pub base-written :
+      (index lane new : ℕ) → length card.bases ≡ 6 → index < 6 → off ≡ 0x10 + 4 * index + lane →
+      IsByteWrite (of_base base_writable card.card.bases index) (slice_index card.bases index) lane written new →
       AreWritten card (record card { bases = set card.bases index new }) off written
-  base-written index lane new six store =
-      let in_bases = store.in_bases in
-      let place = store.place in
-      let in_long = store.write.in_long in
+  base-written index lane new six in_range place write =
+      let in_long = write.in_long in
       card-stored (record card { bases = set card.bases index new }) (λ e. omega arith) refl refl (λ _ none. none)
-      (decodes-base card off written fit below index lane new six store)
+      (λ setup bytes is. record {
+        fitted = is.fitted;
+        command = command-stays card off written setup bytes is (λ e. omega arith);
+        bases = λ k k_below. elim (cases_eq k index) [
+          | inl same ↦
+              rw (same, get_or-set_same card.bases index new 0 (omega arith))
+              (long-stored setup bytes card.card off written fit below is.fitted (0x10 + 4 * index) lane _ _ new place
+              (in_bases (λ entry. entry.writable) card.card base_writable index lane refl in_range in_long) write
+              (is.bases index in_range))
+          | inr apart ↦
+              rw (get_or-set_other card.bases index k new 0 apart)
+              (base-stays card off written setup bytes is k k_below (grind arith))
+        ];
+        rom = rom-stays card off written setup bytes is (inl (omega arith));
+      })
 
-  pub rom-written : (lane new : ℕ) → IsRomStore card off lane written new →
+  pub rom-written : (lane new : ℕ) → off ≡ 0x30 + lane →
+      IsByteWrite (rom_writable card.card.rom) card.rom lane written new →
       AreWritten card (record card { rom = new }) off written
-  rom-written lane new store =
-      let place = store.place in
-      let in_long = store.write.in_long in
+  rom-written lane new place write =
+      let in_long = write.in_long in
       card-stored (record card { rom = new }) (λ e. omega arith) refl refl
-      (λ none zero. none_written lane written new (rw (zero, none) at store.write))
-      (decodes-rom card off written fit below lane new store)
+      (λ none zero. none_written lane written new (rw (zero, none) at write))
+      (λ setup bytes is. record {
+        fitted = is.fitted;
+        command = command-stays card off written setup bytes is (λ e. omega arith);
+        bases = λ k k_below. base-stays card off written setup bytes is k k_below (inr (omega arith));
+        rom = rom_held setup bytes is.fitted card.card.rom is.rom;
+      })
+    where
+      rom_held : (setup : Setup) (bytes : Bytes) → card_at setup card.card.dev ≡ Some card.card → (rom : Option ℕ) →
+          HoldsRom bytes card.card.dev card.rom rom →
+          HoldsRom (stored setup bytes card.card.dev off written) card.card.dev new rom
+      rom_held setup bytes fitted None held = tt
+      rom_held setup bytes fitted (Some bits) held =
+          long-stored setup bytes card.card off written fit below fitted 0x30 lane _ _ new place
+          (writable-rom card.card lane fit.count write.in_long) write held
 
 pub card-apart :
     (setup : Setup) (bytes : Bytes) (card : CardBytes) (off written : ℕ) → IsCard card.card → written < 256 →
@@ -405,4 +372,9 @@ module _ (card : CardBytes) (written : ℕ) (fit : IsCard card.card) (below : wr
   command-written =
       card-stored card 0x04 written fit below
       (record card { command = merged (command_writable card.card) card.command written }) (λ e. omega arith) refl refl
-      (λ _ none. none) (decodes-command card written fit below)
+      (λ _ none. none) (λ setup bytes is. record {
+        fitted = is.fitted;
+        command = stored-same setup bytes card.card 0x04 written fit below is.fitted ∙ rw is.command refl;
+        bases = λ k k_below. base-stays card 0x04 written setup bytes is k k_below (inl (omega arith));
+        rom = rom-stays card 0x04 written setup bytes is (inl (lit< tt));
+      })

@@ -6,7 +6,7 @@ use Rattle.std.proofs.Common.{length-take-le, ◌==◌, nat_le, nat_lt, find, if
 use Rattle.std.proofs.Common.{vec_len}
 use Rattle.board_prelude.proofs.Common.{with_items}
 use Rattle.board_prelude.proofs.Common.{cases_lt, cases_eq, nat_tests, get_or_past}
-use Rattle.board_prelude.proofs.Common.{length-replicate, length-map, map-set, get_or-map, with_items_is, drop-drop}
+use Rattle.board_prelude.proofs.Common.{length-replicate, length-map, map-set, get_or-map, with_items_is}
 use Rattle.board_prelude.proofs.Common.{Width, Card, bytes_of, Entry, FittedCard, Setup, card_at}
 use Rattle.board_prelude.proofs.Common.{kept_size, byte, CardCell, byte_put, card_byte, entry_put, stored_of}
 use Rattle.board_prelude.proofs.Common.{expansion_byte}
@@ -92,7 +92,7 @@ written_here :
     ≡ (if nat_le off at && nat_lt at (off + bytes_of width) then byte value (at - off) else old)
 written_here dev base off width value at old kept = grind (arith, nat_tests)
 
-same_slot :
+pub same_slot :
     {dev base d b : ℕ} → IsBaseNumber dev base → IsBaseNumber d b → slot_number d b ≡ slot_number dev base →
     (d ≡ dev) × (b ≡ base)
 same_slot {dev} {base} {d} {b} place other same =
@@ -255,20 +255,3 @@ pub stretch_length : (now bytes copied : List ℕ) (off : ℕ) → off + length 
 stretch_length now bytes copied off fits is =
     let size : off + length bytes - off ≡ length bytes = omega arith in
     rw (size, is) (simp (length-append, length-drop) (omega (arith, length-take-le off now (omega arith))))
-
-pub stretch_here :
-    (contents : List (List ℕ)) (dev base off : ℕ) (now bytes copied : List ℕ) →
-    slot_number dev base < length contents → held contents dev base ≡ now → copied ≡ bytes →
-    held (set contents (slot_number dev base) (stretch now copied off (length bytes))) dev base
-    ≡ take off (held contents dev base) ++ (bytes ++ drop (off + length bytes) (held contents dev base))
-stretch_here contents dev base off now bytes copied within old is =
-    let size : off + length bytes - off ≡ length bytes = omega arith in
-    get_or-set_same contents (slot_number dev base) (stretch now copied off (length bytes)) [] within
-    ∙ rw (size, is, drop-drop (length bytes) off now, old) refl
-
-pub stretch_beside :
-    (contents : List (List ℕ)) (dev base d b : ℕ) (new : List ℕ) → IsBaseNumber dev base → IsBaseNumber d b →
-    (d ≡ dev → b ≡ base → ⊥) → held (set contents (slot_number dev base) new) d b ≡ held contents d b
-stretch_beside contents dev base d b new place other apart =
-    get_or-set_other contents (slot_number dev base) (slot_number d b) new []
-    (λ same. let both = same_slot place other same in apart both.0 both.1)

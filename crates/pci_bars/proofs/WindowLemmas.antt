@@ -133,7 +133,8 @@ module _ (setup : Setup) (bytes : Bytes) (card : FittedCard) (fit : IsCard card)
   sized_card : (windows : Windows) → All (IsSized setup) (windows_in windows bytes card)
   sized_card windows =
       let few = fit.count in
-      All-append (IsSized setup) (base_windows windows bytes card.dev 0 card.bases ++ rom_windows windows bytes card.dev card.rom) _
+      All-append (IsSized setup)
+      (base_windows windows bytes card.dev 0 card.bases ++ rom_windows windows bytes card.dev card.rom) _
       (All-append (IsSized setup) (base_windows windows bytes card.dev 0 card.bases) _
       (sized_bases windows 0 card.bases (omega arith) (λ i. ap (slice_get card.bases) (omega arith)))
       (sized_rom windows))

@@ -1,8 +1,9 @@
-use Rattle.std.proofs.Common.{◌≡◌, ◌≤◌, ◌+◌, length, set, sym, ◌∙◌, arith}
-use Rattle.board_prelude.proofs.Common.{with_items}
+use Rattle.std.proofs.Common.{◌≡◌, ◌≤◌, ◌+◌, ◌-◌, [], length, set, sym, refl, ◌∙◌, arith}
+use Rattle.std.proofs.Common.{get_or-set_same, get_or-set_other}
+use Rattle.board_prelude.proofs.Common.{with_items, drop-drop}
 use Rattle.pci_bars.specs.Contents.{slot_number, held}
 use Rattle.pci_bars.proofs.ContentsLemmas.{IsBuffer, buffer_held, buffer_set, buffer_there, lists, stretch}
-use Rattle.pci_bars.proofs.ContentsLemmas.{stretch_length, stretch_here, stretch_beside}
+use Rattle.pci_bars.proofs.ContentsLemmas.{stretch_length, same_slot}
 use Rattle.pci_bars.proofs.contents.Contents.write_bytes.Goals.{After-copy_from_slice}
 use Rattle.pci_bars.proofs.contents.Contents.write_bytes.Goals as goal
 
@@ -35,11 +36,19 @@ new c =
 pub returns-clause-here : goal.returns-clause-here
 returns-clause-here c =
     let at = (goal.at.returns-clause-here c).After-copy_from_slice in
-    rw (new at)
-    (stretch_here c.args.self.now c.args.dev c.args.base c.args.off c.deref_mut.result.now c.args.bytes.now
-    c.copy_from_slice.new.self (buffer_there (there at)) (old at) c.copy_from_slice.ensures.after)
+    let size : c.args.off + length c.args.bytes.now - c.args.off ≡ length c.args.bytes.now = omega arith in
+    rw (
+      new at,
+      get_or-set_same c.args.self.now (slot_number c.args.dev c.args.base) _ [] (buffer_there (there at)),
+      size,
+      c.copy_from_slice.ensures.after,
+      drop-drop (length c.args.bytes.now) c.args.off c.deref_mut.result.now,
+      old at,
+    ) refl
 
 pub returns-clause-others : goal.returns-clause-others
 returns-clause-others c = λ d b other apart.
     let at = (goal.at.returns-clause-others c).After-copy_from_slice in
-    rw (new at) (stretch_beside c.args.self.now c.args.dev c.args.base d b _ c.requires.number other apart)
+    rw (new at)
+    (get_or-set_other c.args.self.now (slot_number c.args.dev c.args.base) (slot_number d b) _ []
+    (λ same. let both = same_slot c.requires.number other same in apart both.0 both.1))
