@@ -5,6 +5,7 @@ use Rattle.std.proofs.Common.{find, is_some, option_map, option_and_then, if◌t
 use Rattle.board_prelude.proofs.Common.{position, AllByRecursion, list_any, and-true, and-false, cases_Bool, cases_eq}
 use Rattle.board_prelude.proofs.Common.{ne_eqb, eqb-true, nat_tests, get_or-map, Width, One, Reg, bytes_of, MapChange}
 use Rattle.board_prelude.proofs.Common.{Store, Reset, FittedCard, Setup, card_at, is_within, bridge, isa, card_register}
+use Rattle.board_prelude.proofs.Common.{is_host_byte}
 use Rattle.board_prelude.proofs.Common.{has_rom, is_map_byte, reg_after, touches_map, bytes_few, each_below, third}
 use Rattle.board_prelude.proofs.Common.{fourth, or-false, get_or-take, length-take}
 use Rattle.std.proofs.lemmas.List.{map_more}
@@ -30,10 +31,7 @@ no_rom : (card : Option FittedCard) → is_some card ≡ false → has_rom card 
 no_rom None none = refl
 no_rom (Some card) none = absurd (cc)
 
--- the offsets of those of the host bridge, and of the ISA bridge
-abbrev pub is_host_byte : ℕ → Bool
-is_host_byte off = is_within 0x59 0x68 off || off == 0x72
-
+-- the offset of that of the ISA bridge
 abbrev pub is_isa_byte : ℕ → Bool
 is_isa_byte off = off == 0x4E
 
@@ -48,7 +46,7 @@ isa_byte setup off none = simp (none, no_rom (card_at setup 1) none, or-false)
 -- PAM, the boundaries of rows and the registers of one byte are map bytes, and so are those of a fitted card
 pub block_is_byte : (setup : Setup) (off : ℕ) → 0x59 ≤ off → off ≤ 0x67 → is_map_byte setup (bridge off) ≡ true
 block_is_byte setup off from to =
-    let within : is_within 0x59 0x68 off ≡ true = grind (arith, nat_tests) in rw within refl
+    let is : is_host_byte off ≡ true = grind (arith, nat_tests) in rw is refl
 
 pub single_is_byte : (setup : Setup) (k : ℕ) → k < single_count → is_map_byte setup (single k) ≡ true
 single_is_byte setup k below =

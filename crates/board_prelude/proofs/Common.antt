@@ -81,7 +81,7 @@ pub use Rattle.board_prelude.specs.Common.{rom_window, rom_window_of, rom_writab
 pub use Rattle.board_prelude.specs.Common.{routes_of, sectors_of, select_of, selectable_bios, selected_by, settled}
 pub use Rattle.board_prelude.specs.Common.{shadow_range, six_areas, size_text, slave_ports, smm_text, smram}
 pub use Rattle.board_prelude.specs.Common.{smram_after, smram_answers, smram_range, space, statement_of, statements_of}
-pub use Rattle.board_prelude.specs.Common.{is_bios_selected, is_in_hole, is_smram_open}
+pub use Rattle.board_prelude.specs.Common.{is_bios_selected, is_host_byte, is_in_hole, is_smram_open}
 pub use Rattle.board_prelude.specs.Common.{string_bytes, system_accessed, system_at_reset, system_bios}
 pub use Rattle.board_prelude.specs.Common.{system_of, system_port, system_value, target_at, target_text, tell}
 pub use Rattle.board_prelude.specs.Common.{time_bytes}

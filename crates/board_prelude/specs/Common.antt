@@ -83,7 +83,7 @@ pub use Rattle.board_spec.specs.Common.{rom_value, rom_window, rom_window_of, ro
 pub use Rattle.board_spec.specs.Common.{routes_after_write, routes_of, second_alarm_at, second_at, sector_bytes}
 pub use Rattle.board_spec.specs.Common.{sectors_of, select_of, selectable_bios, selected_by, settled, shadow_range}
 pub use Rattle.board_spec.specs.Common.{six_areas, size_text, slave_ports, smm_text, smram, smram_after, smram_answers}
-pub use Rattle.board_spec.specs.Common.{is_bios_selected, is_in_hole, is_smram_open}
+pub use Rattle.board_spec.specs.Common.{is_bios_selected, is_host_byte, is_in_hole, is_smram_open}
 pub use Rattle.board_spec.specs.Common.{smram_range, space, statement_of, statements_of, string_bytes, system_accessed}
 pub use Rattle.board_spec.specs.Common.{system_at_reset, system_bios, system_of, system_port, system_value}
 pub use Rattle.board_spec.specs.Common.{target_at, target_text, tell, time_bytes, timer_accessed, timer_after}

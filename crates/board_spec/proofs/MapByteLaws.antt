@@ -4,7 +4,7 @@ use Rattle.std.proofs.Common.{List, [], ◌∷◌, length, get_or, Option, Some,
 use Rattle.std.proofs.Common.{is_some, find, flat_map, All, if◌then◌else◌}
 use Rattle.board_spec.specs.Common.{AllByRecursion, enumerate_from, Kind, Reg, Base, IoBase}
 use Rattle.board_spec.specs.Common.{FittedCard, Setup, IsCard, IsCardList, Rises, card_at}
-use Rattle.board_spec.specs.Common.{has_rom, is_within, Bytes, boundary, row_of}
+use Rattle.board_spec.specs.Common.{has_rom, is_host_byte, is_within, Bytes, boundary, row_of}
 use Rattle.board_spec.specs.Common.{is_shadow_range, is_shadowed, Window, is_covered, base_value, memory_window}
 use Rattle.board_spec.specs.Common.{vga_window, memory_windows, rom_window, rom_window_of, is_rom_on}
 use Rattle.board_spec.specs.Common.{unselected_windows, rom_unselected, pam_register, is_enabled_for, first_window}
@@ -48,7 +48,7 @@ found_rom (card ∷ later) rises (suc k) d below = grind (arith, nat_tests, rise
 module _ (setup : Setup) (bytes other : Bytes) (same : SameMapBytes setup bytes other) where
   -- ---- rows and windows of the host bridge
 
-  bridge_same : (off : ℕ) → is_within (pam 0).off fdhc.off off ≡ true → bytes (bridge off) ≡ other (bridge off)
+  bridge_same : (off : ℕ) → is_host_byte off ≡ true → bytes (bridge off) ≡ other (bridge off)
   bridge_same off within = grind (arith, nat_tests)
 
   boundary_same : (row : ℕ) → row < 8 → boundary bytes row ≡ boundary other row
@@ -79,7 +79,7 @@ module _ (setup : Setup) (bytes other : Bytes) (same : SameMapBytes setup bytes 
 
   -- the registers of the map that are no card's
   abbrev is_of_bridge : Reg → Bool
-  is_of_bridge reg = reg.dev == 0 && reg.fun == 0 && (is_within (pam 0).off fdhc.off reg.off || reg.off == smram.off)
+  is_of_bridge reg = reg.dev == 0 && reg.fun == 0 && is_host_byte reg.off
 
   card_same : (dev off : ℕ) → IsFitted dev → is_command_or_base dev off ≡ true →
       bytes (card_register dev off) ≡ other (card_register dev off)

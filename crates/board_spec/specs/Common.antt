@@ -44,7 +44,7 @@ pub use Rattle.board_spec.specs.LogText.{memory_text, moment_text, port_text, si
 pub use Rattle.board_spec.specs.LogText.{value_bytes, value_text, wide_text, width_text, written_text}
 unfoldable pub use Rattle.board_spec.specs.LogText.{event_text, line_text, lines_text, reply_text}
 pub use Rattle.board_spec.specs.MapText.{areas_text, map_text, range_text}
-pub use Rattle.board_spec.specs.MapWrites.{has_rom, is_map_byte, reg_after, touches_map, version_of}
+pub use Rattle.board_spec.specs.MapWrites.{has_rom, is_host_byte, is_map_byte, reg_after, touches_map, version_of}
 unfoldable pub use Rattle.board_spec.specs.MapWrites.{map_change_of, map_writes_of, registers_after}
 pub use Rattle.board_spec.specs.OrderLaws.{BegunGoesOn, BegunIsBounded, CompleteIsBegun, CompleteIsWhole, FrontIsBegun}
 pub use Rattle.board_spec.specs.OrderLaws.{ReplayIsComplete, WholeIsComplete, in_file_order}

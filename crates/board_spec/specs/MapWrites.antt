@@ -17,11 +17,15 @@ abbrev pub has_rom : Option FittedCard → Bool
 has_rom None = false
 has_rom (Some card) = is_some card.rom
 
+-- the offsets of those of the host bridge that the address map depends on: PAM, DRB, FDHC and SMRAM
+abbrev pub is_host_byte : ℕ → Bool
+is_host_byte off = is_within (pam 0).off fdhc.off off || off == smram.off
+
 -- the bytes that the address map depends on: PAM, DRB, FDHC and SMRAM of 00.0, XBCS of 01.0, the command and
 -- the bases of each card, and the register of each expansion ROM
 abbrev pub is_map_byte : Setup → Reg → Bool
 is_map_byte setup reg =
-    reg.dev == 0 && reg.fun == 0 && (is_within (pam 0).off fdhc.off reg.off || reg.off == smram.off)
+    reg.dev == 0 && reg.fun == 0 && is_host_byte reg.off
     || is_same reg xbcs
     || is_some (card_at setup reg.dev) && reg.fun == 0
     && (reg.off == (card_command reg.dev).off

@@ -7,11 +7,12 @@ use Rattle.board_prelude.proofs.Common.{Bytes, memory_claim, area_of, bridge, is
 use Rattle.board_prelude.proofs.Common.{touches_map, MapChange, untouched, SameMapBytes, map_bytes_decide}
 use Rattle.map_builder.specs.Changed.{after}
 use Rattle.pci_bars.specs.Cards.{CardBytes, HoldsRom, DecodesAs, cards_of}
+use Rattle.board_prelude.proofs.Common.{is_host_byte}
 use Rattle.addr_decode.specs.declared.register.MapRegister.{MapRegister}
 use Rattle.addr_decode.specs.declared.register.MapRegister.TheVariants.{Pam, RowBoundary, Single, Card}
 use Rattle.addr_decode.specs.MapRegister.{place_of, IsNumbered, in_bridge, in_isa_bridge}
 use Rattle.addr_decode.specs.MapRegs.{MapBytes, StandsFor}
-use Rattle.addr_decode.proofs.NameLemmas.{IsNameAt, is_host_byte, is_isa_byte, bridge_named, isa_named, bridge_place}
+use Rattle.addr_decode.proofs.NameLemmas.{IsNameAt, is_isa_byte, bridge_named, isa_named, bridge_place}
 use Rattle.addr_decode.proofs.NameLemmas.{single_place}
 use Rattle.addr_decode.proofs.StoreLemmas.{same_register}
 
