@@ -1,4 +1,6 @@
 -- Cards: how much memory their bases decode, and where a card is put among the others.
+use Rattle.board_prelude.proofs.Common.{common_steps}
+use Rattle.board_prelude.proofs.Common.{nat_tests}
 use Rattle.std.proofs.Common.{◌≡◌, ℕ, ◌+◌, ◌<◌, ◌≤◌, not, List, length, map, take, get_or, sum_by, All, refl, subst}
 use Rattle.std.proofs.Common.{arith, lit<, lit≤, inl, inr, nat_lt, position, unwrap_or}
 use Rattle.board_prelude.proofs.Common.{position_or_len, cases_Bool, ltb-false, All-get_or, get_or-map, length-map}
@@ -53,10 +55,4 @@ pub place_is : (dev : ℕ) (cards : List FittedCard)
     → unwrap_or (position (λ other. nat_lt dev other.dev) cards) (length cards) ≡ position_or_len
     (λ other. nat_lt dev other.dev) cards
 place_is dev cards =
-    let le : position_or_len (λ other. nat_lt dev other.dev) cards ≤ length cards =
-    prefix_len-le-length (λ other. not (nat_lt dev other.dev)) cards in
-    elim (cases_Bool (nat_lt (position_or_len (λ other. nat_lt dev other.dev) cards) (length cards))) [
-      | inl below ↦ rw below refl
-      | inr none ↦ let end : length cards ≤ position_or_len (λ other. nat_lt dev other.dev) cards =
-          ltb-false _ _ none in rw none (omega arith)
-    ]
+    grind (arith, nat_tests, common_steps, position_or_len, nat_lt, prefix_len-le-length, cases_Bool, ltb-false)

@@ -1,4 +1,5 @@
 -- A text up to its first line feed, and after it.
+use Rattle.board_prelude.proofs.Common.{nat_tests}
 use Rattle.std.proofs.Common.{◌≡◌, ℕ, ◌+◌, ◌<◌, ◌-◌, Bool, true, false, cond, eqb, Some, None, List, [], ◌∷◌, ◌++◌}
 use Rattle.std.proofs.Common.{length, get_or, take, drop, refl, sym, ap, subst, ◌∙◌, All, arith}
 use Rattle.board_prelude.proofs.Common.{position_or_len, onto_first, eqb-true, take_rest, common_steps, All-head}
@@ -57,11 +58,7 @@ not_so false never = refl
 pub cut_at : (bytes : List ℕ) (end : ℕ) → IsFirstByte is_feed bytes (Some end)
     → lines_of bytes ≡ take end bytes ∷ lines_of (take (length bytes - (end + 1)) (drop (end + 1) bytes))
 cut_at bytes end first =
-    let place : position_or_len is_feed bytes ≡ end =
-    position_or_len_is is_feed bytes end 0 (omega (arith, first.0.high))
-    (λ k lt. not_so (is_feed (get_or bytes k 0)) (first.0.before k (omega arith) lt)) (λ lt. first.1) in
-    rw take_rest (subst (λ (n : ℕ). lines_of bytes ≡ take n bytes ∷ lines_of (drop (n + 1) bytes)) place
-    (lines_cut bytes (subst (λ (n : ℕ). n < length bytes) (sym place) first.0.high)))
+    grind (arith, nat_tests, common_steps, position_or_len, position_or_len_is, not_so, before, take_rest, lines_cut)
 
 -- with none it is the whole text
 pub uncut : (bytes : List ℕ) → false ≡ eqb (length bytes) 0 → IsFirstByte is_feed bytes None

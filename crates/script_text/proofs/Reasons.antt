@@ -1,4 +1,6 @@
 -- The least reason for an item, by what is kept of the lines before it.
+use Rattle.board_prelude.proofs.Common.{common_steps}
+use Rattle.board_prelude.proofs.Common.{nat_tests}
 use Rattle.std.proofs.Common.{ℕ, ◌≡◌, ◌+◌, ◌<◌, ◌≤◌, Bool, true, false, not, ◌&&◌, ◌||◌, Option, Some, None, Result, Ok}
 use Rattle.std.proofs.Common.{Err, List, [], ◌∷◌, length, filter, flat_map, sum_by, refl, sym, ap, ◌∙◌, arith, ◌==◌}
 use Rattle.std.proofs.Common.{nat_le, nat_lt, is_some, if◌then◌else◌}
@@ -185,20 +187,12 @@ asked_all : (P : Item → Type 0) → ((statement : Statement) → P (Ask statem
     (actor : ℕ) (asked : Asked) → P (asked_said actor asked)
 asked_all P asks levels actor (AnEvent event) = asks (record { actor = actor; event = event })
 asked_all P asks levels actor (AMoment moment) = asks (record { actor = actor; event = Time (moment_said moment) })
-asked_all P asks levels actor (Applies one number level) =
-    let off : Event = event_applied one number false in
-    let on : Event = event_applied one number true in
-    of_level P (level == 0) (level == 1) (ask actor off) (ask actor on) (AskLevel actor one number level)
-    (asks (record { actor = actor; event = off })) (asks (record { actor = actor; event = on }))
-    (levels actor one number level)
+asked_all P asks levels actor (Applies one number level) = grind (arith, nat_tests)
 
 -- of what a statement asks, in range or not
 pub asked_place : (items : List Item) (actor : ℕ) (asked : Asked) (any : Bool) → list_any is_phase items ≡ any →
     is_misplaced items (asked_said actor asked) ≡ not any
-asked_place items actor asked any e =
-    asked_all (λ item. is_misplaced items item ≡ not any)
-    (λ statement. statement_place items (Ask statement) any refl refl e)
-    (λ n one number level. statement_place items (AskLevel n one number level) any refl refl e) actor asked
+asked_place items actor asked any e = grind (arith, nat_tests)
 
 pub asked_repeated : (items : List Item) (actor : ℕ) (asked : Asked)
     → is_repeated items (asked_said actor asked) ≡ false
@@ -207,9 +201,7 @@ asked_repeated items actor asked =
 
 pub asked_begun : (items : List Item) (actor : ℕ) (asked : Asked) →
     (is_phase (asked_said actor asked) && lacks_setup items) ≡ false
-asked_begun items actor asked =
-    asked_all (λ item. (is_phase item && lacks_setup items) ≡ false) (λ statement. refl) (λ n one number level. refl)
-    actor asked
+asked_begun items actor asked = grind (arith, nat_tests)
 
 pub few_pulses : (event : Event) → is_event_in_range event ≡ true → pulses_of_event event ≤ 1_000_000
 few_pulses (Pulses count) e = leb-true count 1_000_000 (and_parts (nat_le 1 count) (nat_le count 1_000_000) e).1
@@ -233,13 +225,7 @@ past statements phases pulses memory =
 
 pub within : (statements phases pulses memory : ℕ) → statements ≤ 250_000 → phases ≤ 1_000 → pulses ≤ 100_000_000 →
     memory ≤ 0x400_0000 → past statements phases pulses memory ≡ false
-within statements phases pulses memory few_statements few_phases few_pulses little =
-    rw (
-      le-ltb 250_000 statements few_statements,
-      le-ltb 1_000 phases few_phases,
-      le-ltb 100_000_000 pulses few_pulses,
-      le-ltb 0x400_0000 memory little,
-    ) refl
+within statements phases pulses memory few_statements few_phases few_pulses little = grind (arith, nat_tests)
 
 only_two : (a b : Bool) → (a || false || b || false) ≡ (a || b)
 only_two true b = refl
@@ -248,9 +234,7 @@ only_two false false = refl
 
 pub past_two : (statements phases pulses memory : ℕ) → phases ≤ 1_000 → memory ≤ 0x400_0000 →
     past statements phases pulses memory ≡ (nat_lt 250_000 statements || nat_lt 100_000_000 pulses)
-past_two statements phases pulses memory few little =
-    rw (le-ltb 1_000 phases few, le-ltb 0x400_0000 memory little)
-    (only_two (nat_lt 250_000 statements) (nat_lt 100_000_000 pulses))
+past_two statements phases pulses memory few little = grind (arith, nat_tests)
 
 pub past_phases : (statements phases pulses memory : ℕ) → 1_000 < phases → past statements phases pulses memory ≡ true
 past_phases statements phases pulses memory more =
@@ -258,9 +242,7 @@ past_phases statements phases pulses memory more =
 
 pub past_memory : (statements phases pulses memory : ℕ) → 0x400_0000 < memory →
     past statements phases pulses memory ≡ true
-past_memory statements phases pulses memory more =
-    or_right (nat_lt 250_000 statements || nat_lt 1_000 phases || nat_lt 100_000_000 pulses) (nat_lt 0x400_0000 memory)
-    (lt-ltb 0x400_0000 memory more)
+past_memory statements phases pulses memory more = grind (arith, nat_tests)
 
 pub memory_cons : (card : FittedCard) (cards : List FittedCard) →
     memory_of_cards (card ∷ cards) ≡ sum_by memory_size card.bases + memory_of_cards cards
@@ -288,28 +270,13 @@ pub limits_with : (items : List Item) (reading : Reading) (item : Item) → IsRe
     passes_limits (item ∷ items)
     ≡ past (one_more (is_statement item) reading.statements) (one_more (is_phase item) (length reading.phases.items))
     (pulses_of item + reading.pulses) (memory_with item reading.memory)
-limits_with items reading item is =
-    rw (
-      count_more is_statement (is_statement item) item items,
-      count_more is_phase (is_phase item) item items,
-      sum_by-cons pulses_of item items,
-      memory_more item items,
-      is.statements,
-      is.count,
-      is.pulses,
-      is.memory,
-    ) refl
+limits_with items reading item is = grind (arith, nat_tests, common_steps, count_more, sum_by-cons, memory_more)
 
 pub setup_within : (items : List Item) (reading : Reading) (item : Item) → IsReadingOf items reading →
     is_setup item ≡ true → pulses_of item ≡ 0 →
     memory_with item reading.memory ≤ 0x400_0000 → passes_limits (item ∷ items) ≡ false
 setup_within items reading item is setup pulses little =
-    let kind : (is_phase item ≡ false) × (is_statement item ≡ false) = neither (is_phase item) (is_statement item)
-    setup in
-    let few : pulses_of item + reading.pulses ≤ 100_000_000 = omega (arith, pulses, is.limits.pulses) in
-    limits_with items reading item is
-    ∙ rw (kind.0, kind.1) (within reading.statements (length reading.phases.items) (pulses_of item + reading.pulses)
-    (memory_with item reading.memory) is.limits.statements is.limits.phases few little)
+    grind (arith, nat_tests, common_steps, neither, limits_with, within)
 
 -- a reason that is handed on
 pub refused : {X : Type 0} (said : X → Item) (items : List Item) (item : Item) (result : Result X Reason)
@@ -324,9 +291,6 @@ pub name_judged : (items : List Item) (reading : Reading) (item : Item) (result 
     IsReadingOf items reading → is_setup item ≡ true → is_in_range item ≡ true → is_placed item ≡ true →
     is_there items item ≡ true → memory_with item reading.memory ≡ reading.memory → pulses_of item ≡ 0 →
     Stands items item result → Judges (λ done. item) items item result
-name_judged items reading item (Ok done) is setup range placed there memory pulses stands = (
-  no_reason items item stands.0 stands.1 (begun_setup items item setup) range placed there
-      (setup_within items reading item is setup pulses (rw memory is.limits.memory)),
-  refl,
-)
+name_judged items reading item (Ok done) is setup range placed there memory pulses stands =
+    grind (arith, nat_tests, common_steps, no_reason, begun_setup, setup_within)
 name_judged items reading item (Err reason) is setup range placed there memory pulses stands = stands

@@ -1,4 +1,6 @@
 -- The run over the lines.
+use Rattle.board_prelude.proofs.Common.{common_steps}
+use Rattle.board_prelude.proofs.Common.{nat_tests}
 use Rattle.std.proofs.Common.{◌≡◌, ℕ, ◌+◌, true, false, Result, Ok, Err, List, [], ◌∷◌, ◌++◌, length, refl, sym, ap}
 use Rattle.std.proofs.Common.{◌∙◌, inl, inr, append_assoc, append-nil, length-append, arith, IfOk, codes, bytes_eq}
 use Rattle.board_prelude.proofs.Common.{digits, true≢false, bytes_eq-Decides}
@@ -37,11 +39,9 @@ second_version lines later line cut e =
 pub no_version : (lines later : List (List ℕ)) (line : List ℕ) → lines ≡ line ∷ later →
     bytes_eq line (codes "board 1") ≡ false → bytes_eq line (codes "board 2") ≡ false → BeginsBadly lines
 no_version lines later line cut one two version rest (inl is) e =
-    other_text line (codes "board 1") one
-    (same_head line (first_line version) later rest (sym cut ∙ e) ∙ ap first_line is ∙ first_is)
+    grind (arith, nat_tests, common_steps, other_text, codes, same_head, cut, first_is)
 no_version lines later line cut one two version rest (inr is) e =
-    other_text line (codes "board 2") two
-    (same_head line (first_line version) later rest (sym cut ∙ e) ∙ ap first_line is ∙ second_is)
+    grind (arith, nat_tests, common_steps, other_text, codes, same_head, cut, second_is)
 
 -- ---- the lines after it
 
@@ -88,34 +88,14 @@ pub bad_line : (fault : ScriptFault) (version : ℕ) (lines rest later : List (L
     OnBad fault (λ place why. (place ≡ number)
     × ((items : List Item) → IsReadingOf items reading → IsBadLine version items line why)) →
     OnBad fault (IsBadLater (first_line version ∷ lines))
-bad_line (Bad place why) version lines rest later line number reading known cut run bad = record {
-  version = version;
-  known = known;
-  good = run.good;
-  rest = line ∷ later;
-  cut = ap (λ (l : List (List ℕ)). first_line version ∷ l) (run.cut ∙ ap (λ (l : List (List ℕ)). run.good ++ l) cut);
-  items = run.items;
-  read = run.read;
-  bad = bad.1 run.items run.known;
-  place = bad.0 ∙ run.place;
-}
+bad_line (Bad place why) version lines rest later line number reading known cut run bad = grind (arith, nat_tests)
 bad_line NoMemory version lines rest later line number reading known cut run bad = tt
 
 pub bad_end : (version : ℕ) (lines rest : List (List ℕ)) (number : ℕ) (reading : Reading) →
     IsVersion version → rest ≡ [] → IsRun version lines rest number reading →
     ((items : List Item) → IsReadingOf items reading → lacks_setup items ≡ true) →
     IsBadLater (first_line version ∷ lines) number 6
-bad_end version lines rest number reading known end run lacks = record {
-  version = version;
-  known = known;
-  good = run.good;
-  rest = [];
-  cut = ap (λ (l : List (List ℕ)). first_line version ∷ l) (run.cut ∙ ap (λ (l : List (List ℕ)). run.good ++ l) end);
-  items = run.items;
-  read = run.read;
-  bad = (lacks run.items run.known, refl);
-  place = run.place;
-}
+bad_end version lines rest number reading known end run lacks = grind (arith, nat_tests)
 
 pub whole_end : (version : ℕ) (lines rest : List (List ℕ)) (number : ℕ) (reading : Reading) (said : Said) →
     IsVersion version → rest ≡ [] → IsRun version lines rest number reading → said.version ≡ version →

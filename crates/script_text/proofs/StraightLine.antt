@@ -1,4 +1,5 @@
 -- A line that is read straight.
+use Rattle.board_prelude.proofs.Common.{nat_tests}
 use Rattle.std.proofs.Common.{◌≡◌, ℕ, true, false, Some, None, List, [], ◌∷◌, ◌++◌, Result, Ok, Err, OnOk, IfErr, refl}
 use Rattle.std.proofs.Common.{ap, ◌∙◌, inl, inr, leb, All, arith, decimal}
 use Rattle.board_prelude.proofs.Common.{AllZip, All-nil, All-cons, and_parts, leb-true, ne_eqb, Event, space}
@@ -18,9 +19,7 @@ use Rattle.script_text.proofs.LineLemmas.{is_feed, line_ended}
 
 stands_lacks : (c t : ℕ) → StandsFor c t → is_feed t ≡ false → is_feed c ≡ false
 stands_lacks c t (inl is) lack = ap is_feed is ∙ lack
-stands_lacks c t (inr small) lack =
-    let parts = and_parts (leb 0x41 t) (leb t 0x46) small.0 in
-    ne_eqb c 10 (λ same. absurd (omega (arith, same, small.1, leb-true 0x41 t parts.0)))
+stands_lacks c t (inr small) lack = grind (arith, nat_tests)
 
 spelled_line :
     (line text : List ℕ) → AllZip StandsFor line text → lacks 10 text ≡ true → All (λ byte. is_feed byte ≡ false) line
@@ -58,12 +57,7 @@ pub line_taken : {T E : Type 0} (r : Result T E) (version : ℕ) (line : List �
     → (least_reason items (ask actor event) ≡ None) × IsReadingOf (ask actor event ∷ items) new)
     → OnOk r ((items : List Item) → IsReadingOf items old
     → (more : List Item) × IsReadingOf more new × AreRead version items (line ∷ []) more)
-line_taken (Ok x) version line actor event old new is taken = λ items known.
-    let k = taken items known in (
-      ask actor event ∷ items,
-      k.1,
-      inr (ask actor event, record { short = is.short; read = is.read; has = is.has; none = k.0 }, refl),
-    )
+line_taken (Ok x) version line actor event old new is taken = grind (arith, nat_tests)
 line_taken (Err e) version line actor event old new is taken = tt
 
 -- and where it is refused, the line is bad
@@ -76,15 +70,5 @@ pub line_refused :
     → IfErr r (λ fault. OnBad fault (λ place why. (place ≡ number)
     × ((items : List Item) → IsReadingOf items old → IsBadLine version items line why)))
 line_refused (Ok x) version number line actor event old is bad = tt
-line_refused (Err (Bad place why)) version number line actor event old is bad = (
-  bad.0,
-  λ items known.
-      inr (inr (record {
-        short = is.short;
-        read = is.read;
-        item = ask actor event;
-        has = is.has;
-        least = bad.1 items known;
-      })),
-)
+line_refused (Err (Bad place why)) version number line actor event old is bad = grind (arith, nat_tests)
 line_refused (Err NoMemory) version number line actor event old is bad = tt

@@ -1,4 +1,6 @@
 -- What `phase` and statements add to what is kept.
+use Rattle.board_prelude.proofs.Common.{common_steps}
+use Rattle.board_prelude.proofs.Common.{nat_tests}
 use Rattle.std.proofs.Common.{◌≡◌, ℕ, ◌+◌, ◌-◌, ◌<◌, ◌≤◌, true, false, not, List, [], ◌∷◌, ◌++◌, Vec, Global, vec_len}
 use Rattle.std.proofs.Common.{length, get_or, map, filter, set, sum_by, refl, sym, ap, ◌∙◌, inl, inr, arith}
 use Rattle.std.proofs.Common.{length-append, append_assoc}
@@ -19,10 +21,7 @@ list_of phase = phase.items
 statements_more : (front : List (List Statement)) (last : List Statement) (statement : Statement) →
     phase_items (front ++ (last ++ statement ∷ []) ∷ []) ≡ phase_items (front ++ last ∷ []) ++ Ask statement ∷ []
 statements_more front last statement =
-    phases_more front (last ++ statement ∷ [])
-    ∙ ap (λ (items : List Item). phase_items front ++ BeginPhase ∷ items) (map-append Ask last (statement ∷ []))
-    ∙ sym (append_assoc (phase_items front) (BeginPhase ∷ map Ask last) (Ask statement ∷ []))
-    ∙ ap (λ (items : List Item). items ++ Ask statement ∷ []) (sym (phases_more front last))
+    grind (arith, nat_tests, common_steps, phases_more, front, last, map-append, append_assoc)
 
 -- no limit is passed
 record Within (items : List Item) : Type 0 where
@@ -31,26 +30,14 @@ record Within (items : List Item) : Type 0 where
   pulses : sum_by pulses_of items ≤ 100_000_000
 
 within : (items : List Item) → passes_limits items ≡ false → Within items
-within items none =
-    let outer = or_parts _ _ none in
-    let inner = or_parts _ _ outer.0 in
-    let most = or_parts _ _ inner.0 in
-    record {
-      statements = ltb-false 250_000 (length (filter is_statement items)) most.0;
-      phases = ltb-false 1_000 (length (filter is_phase items)) most.1;
-      pulses = ltb-false 100_000_000 (sum_by pulses_of items) inner.1;
-    }
+within items none = grind (arith, nat_tests)
 
 -- ---- `phase`
 
 setup_whole :
     (items : List Item) → (list_any is_phase items ≡ true → has_setup items ≡ true) → NoReason items BeginPhase →
     has_setup items ≡ true
-setup_whole items whole none =
-    elim (cases_Bool (list_any is_phase items)) [
-      | inl begun ↦ whole begun
-      | inr first ↦ let lacks = rw first at none.begun in not-false (has_setup items) lacks
-    ]
+setup_whole items whole none = grind (arith, nat_tests)
 
 pub phase_taken :
     (old : Reading) (phases : Vec (Vec Statement Global) Global) (empty : Vec Statement Global) →
@@ -118,11 +105,7 @@ last_longer phases front last old new statement are here longer =
 -- a phase has begun
 has_begun : (items : List Item) (statement : Statement) → NoReason items (Ask statement) →
     list_any is_phase items ≡ true
-has_begun items statement none =
-    elim (cases_Bool (list_any is_phase items)) [
-      | inl begun ↦ begun
-      | inr first ↦ let place = rw first at none.place in absurd (true≢false place)
-    ]
+has_begun items statement none = grind (arith, nat_tests)
 
 some_phase : (items : List Item) → list_any is_phase items ≡ true → 0 < length (filter is_phase items)
 some_phase [] any = absurd (false≢true any)

@@ -1,4 +1,5 @@
 -- What the lines of the setup add to what is kept.
+use Rattle.board_prelude.proofs.Common.{nat_tests}
 use Rattle.std.proofs.Common.{◌≡◌, ℕ, ◌+◌, ◌<◌, ◌≤◌, ◌≢◌, true, false, Some, List, [], ◌∷◌, Vec, Global, get_or, insert}
 use Rattle.std.proofs.Common.{sum_by, All, refl, sym, ap, ◌∙◌, inl, inr, arith, one-add, nat_lt, ◌==◌}
 use Rattle.board_prelude.proofs.Common.{list_any, position_or_len, IsPermutation, true≢false, cases_Bool, or_parts}
@@ -16,11 +17,7 @@ use Rattle.script_text.specs.Reading.{Takes}
 -- a line of the setup is not misplaced: no phase has begun
 no_phase : (items : List Item) (item : Item) → is_setup item ≡ true → NoReason items item →
     list_any is_phase items ≡ false
-no_phase items item setup none =
-    elim (cases_Bool (list_any is_phase items)) [
-      | inl begun ↦ let place = rw (begun, setup) at none.place in absurd (true≢false place)
-      | inr none ↦ none
-    ]
+no_phase items item setup none = grind (arith, nat_tests)
 
 -- ---- processors
 
@@ -67,10 +64,7 @@ put card cards = insert cards (place_in card cards) card
 pub card_inserted :
     (card : FittedCard) (dev place : ℕ) (read cards new : List FittedCard) → dev ≡ card.dev → read ≡ cards →
     place ≡ position_or_len (λ other. nat_lt dev other.dev) read → new ≡ insert cards place card → new ≡ put card cards
-card_inserted card dev place read cards new device same at_place is =
-    let here : place ≡ place_in card cards =
-    at_place ∙ ap (λ d. position_or_len (λ other. nat_lt d other.dev) read) device ∙ ap (place_in card) same in
-    is ∙ ap (λ n. insert cards n card) here
+card_inserted card dev place read cards new device same at_place is = grind (arith, nat_tests)
 
 put_below : (card first : FittedCard) (later : List FittedCard) → nat_lt card.dev first.dev ≡ true →
     put card (first ∷ later) ≡ card ∷ first ∷ later
@@ -124,9 +118,7 @@ apart_from items cards card same none k d inside =
 
 memory_within : (items : List Item) (card : FittedCard) → NoReason items (FitCard card) →
     memory_of_cards (card ∷ cards_of items) ≤ 0x400_0000
-memory_within items card none =
-    let memory : ℕ = memory_of_cards (card ∷ cards_of items) in
-    ltb-false 0x400_0000 memory (or_parts _ (nat_lt 0x400_0000 memory) none.limits).1
+memory_within items card none = grind (arith, nat_tests)
 
 pub card_taken :
     (old : Reading) (card : FittedCard) (cards : Vec FittedCard Global) (memory : ℕ) →

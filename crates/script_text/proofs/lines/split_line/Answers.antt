@@ -1,3 +1,6 @@
+use Rattle.std.proofs.Common.{arith}
+use Rattle.board_prelude.proofs.Common.{common_steps}
+use Rattle.board_prelude.proofs.Common.{nat_tests}
 use Rattle.std.proofs.Common.{subst}
 use Rattle.memchr.specs.Find.{IsFirstByte}
 use Rattle.script_text.proofs.LineLemmas.{is_feed, cut_at, uncut, none_left, begun_empty}
@@ -12,9 +15,7 @@ returns-in-Some-clause-cases c =
     cut_at c.args.bytes.now c.in-Some.end (subst (IsFirstByte is_feed c.args.bytes.now) c.in-Some.is c.memchr.ensures)
 
 pub returns-in-None-clause-cases : goal.returns-in-None-clause-cases
-returns-in-None-clause-cases c =
-    uncut c.args.bytes.now c.if-is_empty.ensures
-    (subst (IsFirstByte is_feed c.args.bytes.now) c.in-None.is c.memchr.ensures)
+returns-in-None-clause-cases c = grind (arith, nat_tests, common_steps, uncut, is_feed)
 
 pub returns-then-is_empty-clause-cases : goal.returns-then-is_empty-clause-cases
 returns-then-is_empty-clause-cases c = none_left c.args.bytes.now c.if-is_empty.ensures

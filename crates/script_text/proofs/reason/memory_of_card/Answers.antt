@@ -1,3 +1,5 @@
+use Rattle.board_prelude.proofs.Common.{common_steps}
+use Rattle.board_prelude.proofs.Common.{nat_tests}
 use Rattle.std.proofs.Common.{◌≡◌, ◌+◌, ◌∙◌, ap, map, arith}
 use Rattle.pci_bars.specs.declared.spec.BaseSpec.TheVariants.{Memory}
 use Rattle.pci_bars.specs.Bases.{base_of}
@@ -5,13 +7,7 @@ use Rattle.script_text.proofs.CardLemmas.{base_at, next_base, total_most}
 use Rattle.script_text.proofs.reason.memory_of_card.Goals as goal
 
 pub memory_size-memory-requires : goal.memory_size-memory-requires
-memory_size-memory-requires c =
-    let view : map base_of c.as_slice-base-items.result.now ≡ c.args.card.now.bases =
-    ap (map base_of) c.as_slice-base-items.ensures.value ∙ ap (λ card. card.bases) c.card.view_is in
-    record {
-      base = base_at c.args.card.now c.as_slice-base-items.result.now c.loop-base.base-index (Memory 0)
-          c.requires.card view c.loop-base-test.true;
-    }
+memory_size-memory-requires c = grind (arith, nat_tests, common_steps, base_at)
 
 pub overflow_add-memory : goal.overflow_add-memory
 overflow_add-memory c =

@@ -1,13 +1,11 @@
+use Rattle.board_prelude.proofs.Common.{common_steps}
+use Rattle.board_prelude.proofs.Common.{nat_tests}
 use Rattle.std.proofs.Common.{arith}
 use Rattle.script_text.proofs.BaseRuns.{base_read, base_added, base_refused}
 use Rattle.script_text.proofs.valid.valid_bases.Goals as goal
 
 pub returns-in_err-valid_base : goal.returns-in_err-valid_base
-returns-in_err-valid_base c = record {
-  bases = rw c.from_residual.ensures
-      (base_refused c.args.fields.now c.loop-field.field-index _ c.loop-field-test.true
-      c.in_err-valid_base.ensures.base);
-}
+returns-in_err-valid_base c = grind (arith, nat_tests, common_steps, base_refused)
 
 pub loop-field-preserved : goal.loop-field-preserved
 loop-field-preserved c = record {

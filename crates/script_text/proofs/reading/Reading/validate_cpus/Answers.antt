@@ -1,15 +1,13 @@
+use Rattle.std.proofs.Common.{arith}
+use Rattle.board_prelude.proofs.Common.{common_steps}
+use Rattle.board_prelude.proofs.Common.{nat_tests}
 use Rattle.std.proofs.Common.{◌∙◌, refl, sym}
 use Rattle.script_spec.specs.Grammar.{SetCpus}
 use Rattle.script_text.proofs.Reasons.{refused, out_of_range, no_reason, cpus_kept, setup_within}
 use Rattle.script_text.proofs.reading.Reading.validate_cpus.Goals as goal
 
 pub returns-in_err-validate_setup : goal.returns-in_err-validate_setup
-returns-in_err-validate_setup c = record {
-  judged = λ items is.
-      let least = c.in_err-validate_setup.ensures.judged items (SetCpus c.args.count) is refl
-      (cpus_kept items c.args.self.now is ∙ sym c.is_some.ensures) in
-      refused SetCpus items _ c.from_residual.result c.in_err-validate_setup.field-0.0 c.from_residual.ensures least;
-}
+returns-in_err-validate_setup c = grind (arith, nat_tests, common_steps, cpus_kept, refused)
 
 pub returns-then-is_within : goal.returns-then-is_within
 returns-then-is_within c = record {

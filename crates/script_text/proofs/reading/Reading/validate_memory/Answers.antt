@@ -1,15 +1,13 @@
+use Rattle.std.proofs.Common.{arith}
+use Rattle.board_prelude.proofs.Common.{common_steps}
+use Rattle.board_prelude.proofs.Common.{nat_tests}
 use Rattle.std.proofs.Common.{◌∙◌, refl, sym}
 use Rattle.script_spec.specs.Grammar.{SetMemory}
 use Rattle.script_text.proofs.Reasons.{refused, out_of_range, no_reason, memory_kept, setup_within}
 use Rattle.script_text.proofs.reading.Reading.validate_memory.Goals as goal
 
 pub returns-in_err-validate_setup : goal.returns-in_err-validate_setup
-returns-in_err-validate_setup c = record {
-  judged = λ items is.
-      let least = c.in_err-validate_setup.ensures.judged items (SetMemory c.args.mib) is refl
-      (memory_kept items c.args.self.now is ∙ sym c.is_some.ensures) in
-      refused SetMemory items _ c.from_residual.result c.in_err-validate_setup.field-0.0 c.from_residual.ensures least;
-}
+returns-in_err-validate_setup c = grind (arith, nat_tests, common_steps, memory_kept, refused)
 
 pub returns-then-is_within : goal.returns-then-is_within
 returns-then-is_within c = record {

@@ -1,24 +1,15 @@
+use Rattle.std.proofs.Common.{arith}
+use Rattle.board_prelude.proofs.Common.{common_steps}
+use Rattle.board_prelude.proofs.Common.{nat_tests}
 use Rattle.std.proofs.Common.{◌∙◌, true, false, sym}
 use Rattle.script_text.proofs.Reasons.{misplaced, repeated, setup_place}
 use Rattle.script_text.proofs.reading.Reading.validate_setup.Goals as goal
 
 pub returns-then-has_phase : goal.returns-then-has_phase
-returns-then-has_phase c = record {
-  judged = λ items item is setup came. misplaced items item
-      (setup_place items item true setup (sym (c.has_phase.ensures.phase items is) ∙ c.if-has_phase.true));
-}
+returns-then-has_phase c = grind (arith, nat_tests, common_steps, misplaced, setup_place)
 
 pub returns-then-came : goal.returns-then-came
-returns-then-came c = record {
-  judged = λ items item is setup came. repeated items item
-      (setup_place items item false setup (sym (c.has_phase.ensures.phase items is) ∙ c.if-has_phase.false))
-      (came ∙ c.if-came.true);
-}
+returns-then-came c = grind (arith, nat_tests, common_steps, repeated, setup_place)
 
 pub returns : goal.returns
-returns c = record {
-  judged = λ items item is setup came. (
-    setup_place items item false setup (sym (c.has_phase.ensures.phase items is) ∙ c.if-has_phase.false),
-    came ∙ c.if-came.false,
-  );
-}
+returns c = grind (arith, nat_tests)

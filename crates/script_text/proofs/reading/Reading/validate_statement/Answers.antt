@@ -1,3 +1,6 @@
+use Rattle.std.proofs.Common.{arith}
+use Rattle.board_prelude.proofs.Common.{common_steps}
+use Rattle.board_prelude.proofs.Common.{nat_tests}
 use Rattle.std.proofs.Common.{◌≡◌, ◌+◌, ◌∙◌, true, false, length, refl, sym, ap}
 use Rattle.board_prelude.proofs.Common.{and_from, list_any, option_map, and_right}
 use Rattle.script_spec.specs.Common.{Item, is_cpus_above, is_card_there, is_in_range, is_there, pulses_of_event}
@@ -9,10 +12,7 @@ use Rattle.script_text.proofs.Reasons.{few_pulses, none_in_case, some_in_case, l
 use Rattle.script_text.proofs.reading.Reading.validate_statement.Goals as goal
 
 pub returns-then-not-has_phase-clause-judged : goal.returns-then-not-has_phase-clause-judged
-returns-then-not-has_phase-clause-judged c items is =
-    misplaced items (asked_said c.args.actor c.args.asked)
-    (asked_place items c.args.actor c.args.asked false (sym (c.has_phase.ensures.phase items is)
-    ∙ c.if-not-has_phase.true))
+returns-then-not-has_phase-clause-judged c items is = grind (arith, nat_tests, common_steps, misplaced, asked_place)
 
 pub returns-in_default-clause-judged : goal.returns-in_default-clause-judged
 returns-in_default-clause-judged c items is =
@@ -52,17 +52,7 @@ returns-then-not-has_processor-clause-judged c items is =
 
 pub returns-then-not-has_card_of-clause-judged : goal.returns-then-not-has_card_of-clause-judged
 returns-then-not-has_card_of-clause-judged c items is =
-    let item : Item = asked_said c.args.actor c.args.asked in
-    let asks : Item = ask c.args.actor c.in-Some.event in
-    let read : (is_in_range item ≡ true) × (asks ≡ item) = some_in_case (is_in_range item) item asks
-    (c.in-Some.ensures.event c.args.actor) in
-    let there : is_card_there items c.in-Some.event ≡ false = sym (c.has_card_of.ensures.there items is)
-    ∙ c.if-not-has_card_of.true in
-    ap (least_reason items) (sym read.1)
-    ∙ not_there items asks
-    (statement_place items asks true refl refl (sym (c.has_phase.ensures.phase items is) ∙ c.if-not-has_phase.false))
-    refl refl (ap is_in_range read.1 ∙ read.0) (sym c.is_placed.ensures.placed ∙ c.if-not-is_placed.false)
-    (and_right (list_any (is_cpus_above c.args.actor) items) (is_card_there items c.in-Some.event) there)
+    grind (arith, nat_tests, common_steps, some_in_case, not_there, statement_place, and_right, list_any)
 
 pub is_past_limit-requires-clause-few : goal.is_past_limit-requires-clause-few
 is_past_limit-requires-clause-few c =
