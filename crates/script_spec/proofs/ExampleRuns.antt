@@ -38,16 +38,6 @@ each_bad (text ∷ texts) e =
     All-cons IsBadText text texts (is_bad (text_of_lines text.lines) text.line text.why (same_head _ _ _ _ e))
     (each_bad texts (same_tail _ _ _ _ e))
 
-pub are_bad : AreBad
-unfolding AreBad bad_texts lines_of digits judged_lines number_after parse_two_digits after_mark parse_moment_part
-    parse_year parse_date parse_time whole_moment parse_moment parse_base parse_rom_bits with_base with_rom with_field
-    with_fields parse_card parse_smm memory_event read_event write_event in_event out_event look_event parse_read
-    parse_write parse_in parse_out parse_look parse_ack parse_number parse_two_numbers parse_only_moment
-    parse_time_item parse_stimulus_item parse_given parse_by_verb parse_statement_words is_name
-    parse_name parse_phase parse_statement parse_by_key parse_item least_reason weekday_of days_since_1980 days_of_years
-    days_of_months
-are_bad = each_bad bad_texts refl
-
 -- ---- the numbers of a script
 
 abbrev is_good : Judged → Bool
@@ -72,16 +62,6 @@ each_bound (row ∷ rows) good bad =
       bad = is_bad (text_of_lines (with_line row.place row.bad)) row.place row.why (same_head _ _ _ _ bad);
     })
     (each_bound rows (same_tail _ _ _ _ good) (same_tail _ _ _ _ bad))
-
-pub are_bounds : AreBounds
-unfolding AreBounds bounds lines_of digits judged_lines number_after parse_two_digits after_mark parse_moment_part
-    parse_year parse_date parse_time whole_moment parse_moment parse_base parse_rom_bits with_base with_rom with_field
-    with_fields parse_card parse_smm memory_event read_event write_event in_event out_event look_event parse_read
-    parse_write parse_in parse_out parse_look parse_ack parse_number parse_two_numbers parse_only_moment
-    parse_time_item parse_stimulus_item parse_given parse_by_verb parse_statement_words is_name
-    parse_name parse_phase parse_statement parse_by_key parse_item least_reason weekday_of days_since_1980 days_of_years
-    days_of_months
-are_bounds = each_bound bounds refl refl
 
 -- ---- good texts
 
@@ -111,59 +91,69 @@ says : (bytes : List ℕ) (script : Script) → is_good (judge bytes) ≡ true �
     IsSaidBy script (items_in (judge bytes)) → IsScriptText bytes script
 says bytes script = judged_so bytes script (judge bytes) (judged_is (lines_of bytes))
 
+-- ---- the worked texts
+
+pub record AreWorked : Type 0 where
+  pub bad : AreBad
+  pub bounds : AreBounds
+  pub processors : TwoProcessors
+  pub orders : TwoOrders
+  pub wide : WideScript
+
+pub worked : AreWorked
+unfolding AreBad AreBounds TwoProcessors TwoOrders WideScript bad_texts bounds lines_of digits judged_lines number_after
+    parse_two_digits after_mark parse_moment_part parse_year parse_date parse_time whole_moment parse_moment parse_base
+    parse_rom_bits with_base with_rom with_field with_fields parse_card parse_smm memory_event read_event write_event
+    in_event out_event look_event parse_read parse_write parse_in parse_out parse_look parse_ack parse_number
+    parse_two_numbers parse_only_moment parse_time_item parse_stimulus_item parse_given parse_by_verb
+    parse_statement_words is_name parse_name parse_phase parse_statement parse_by_key parse_item least_reason weekday_of
+    days_since_1980 days_of_years days_of_months
+worked = record {
+  bad = each_bad bad_texts refl;
+  bounds = each_bound bounds refl refl;
+  processors = says _ _ refl refl (record {
+    cpus = refl;
+    memory = refl;
+    rom = refl;
+    disk = refl;
+    cards = IsPermutation-refl _;
+    rises = (
+      All-cons (λ other. 2 < other.dev) _ [] (omega arith) (All-nil (λ other. 2 < other.dev)),
+      (All-nil (λ other. 3 < other.dev), tt),
+    );
+    phases = refl;
+  });
+  orders = says _ _ refl refl (record {
+    cpus = refl;
+    memory = refl;
+    rom = refl;
+    disk = refl;
+    cards = IsPermutation-refl _;
+    rises = tt {0};
+    phases = refl;
+  });
+  wide = says _ _ refl refl (record {
+    cpus = refl;
+    memory = refl;
+    rom = refl;
+    disk = refl;
+    cards = IsPermutation-refl _;
+    rises = (All-nil (λ other. 2 < other.dev), tt);
+    phases = refl;
+  });
+}
+
+pub are_bad : AreBad
+are_bad = worked.bad
+
+pub are_bounds : AreBounds
+are_bounds = worked.bounds
+
 pub two_processors : TwoProcessors
-unfolding TwoProcessors lines_of digits judged_lines number_after parse_two_digits after_mark parse_moment_part
-    parse_year parse_date parse_time whole_moment parse_moment parse_base parse_rom_bits with_base with_rom with_field
-    with_fields parse_card parse_smm memory_event read_event write_event in_event out_event look_event parse_read
-    parse_write parse_in parse_out parse_look parse_ack parse_number parse_two_numbers parse_only_moment
-    parse_time_item parse_stimulus_item parse_given parse_by_verb parse_statement_words is_name
-    parse_name parse_phase parse_statement parse_by_key parse_item least_reason
-two_processors =
-    says _ _ refl refl (record {
-      cpus = refl;
-      memory = refl;
-      rom = refl;
-      disk = refl;
-      cards = IsPermutation-refl _;
-      rises = (
-        All-cons (λ other. 2 < other.dev) _ [] (omega arith) (All-nil (λ other. 2 < other.dev)),
-        (All-nil (λ other. 3 < other.dev), tt),
-      );
-      phases = refl;
-    })
+two_processors = worked.processors
 
 pub two_orders : TwoOrders
-unfolding TwoOrders lines_of digits judged_lines number_after parse_two_digits after_mark parse_moment_part parse_year
-    parse_date parse_time whole_moment parse_moment parse_base parse_rom_bits with_base with_rom with_field with_fields
-    parse_card parse_smm memory_event read_event write_event in_event out_event look_event parse_read parse_write
-    parse_in parse_out parse_look parse_ack parse_number parse_two_numbers parse_only_moment parse_time_item
-    parse_stimulus_item parse_given parse_by_verb parse_statement_words is_name parse_name parse_phase
-    parse_statement parse_by_key parse_item least_reason
-two_orders =
-    says _ _ refl refl (record {
-      cpus = refl;
-      memory = refl;
-      rom = refl;
-      disk = refl;
-      cards = IsPermutation-refl _;
-      rises = tt {0};
-      phases = refl;
-    })
+two_orders = worked.orders
 
 pub wide_script : WideScript
-unfolding WideScript lines_of digits judged_lines number_after parse_two_digits after_mark parse_moment_part parse_year
-    parse_date parse_time whole_moment parse_moment parse_base parse_rom_bits with_base with_rom with_field with_fields
-    parse_card parse_smm memory_event read_event write_event in_event out_event look_event parse_read parse_write
-    parse_in parse_out parse_look parse_ack parse_number parse_two_numbers parse_only_moment parse_time_item
-    parse_stimulus_item parse_given parse_by_verb parse_statement_words is_name parse_name parse_phase
-    parse_statement parse_by_key parse_item least_reason
-wide_script =
-    says _ _ refl refl (record {
-      cpus = refl;
-      memory = refl;
-      rom = refl;
-      disk = refl;
-      cards = IsPermutation-refl _;
-      rises = (All-nil (λ other. 2 < other.dev), tt);
-      phases = refl;
-    })
+wide_script = worked.wide

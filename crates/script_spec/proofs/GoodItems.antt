@@ -1,6 +1,7 @@
 -- What holds of items that were read.
-use Rattle.std.proofs.Common.{ℕ, ◌≡◌, Bool, true, false, ◌&&◌, Some, None, List, [], ◌∷◌, sym, ap, inl, inr, unwrap_or}
-use Rattle.board_prelude.proofs.Common.{option_map, find, not-false, cases_Bool, none-some}
+use Rattle.board_prelude.proofs.Common.{nat_tests, option_map, find, not-false, cases_Bool, none-some}
+use Rattle.std.proofs.Common.{arith, ℕ, ◌≡◌, Bool, true, false, ◌&&◌, Some, None, List, [], ◌∷◌, ap, inl, inr}
+use Rattle.std.proofs.Common.{unwrap_or}
 use Rattle.script_spec.specs.Common.{Item, IsForm, Reason, reasons, is_phase, is_misplaced, is_repeated, lacks_setup}
 use Rattle.script_spec.specs.Common.{is_in_range, is_placed, is_there, passes_limits, least_reason, AreRead}
 
@@ -20,11 +21,7 @@ NoneHold (r ∷ later) = (r.holds ≡ false) × NoneHold later
 
 none_holds : (reasons : List Reason) → option_map (λ r. r.why) (find (λ r. r.holds) reasons) ≡ None → NoneHold reasons
 none_holds [] none = tt
-none_holds (r ∷ later) none =
-    elim (cases_Bool r.holds) [
-      | inl holds ↦ let found = rw holds at none in absurd (none-some r.why (sym found))
-      | inr fails ↦ let rest = rw fails at none in (fails, none_holds later rest)
-    ]
+none_holds (r ∷ later) none = grind (arith, nat_tests, none_holds later)
 
 pub no_reason : (before : List Item) (item : Item) → least_reason before item ≡ None → NoReason before item
 unfolding least_reason

@@ -1,9 +1,8 @@
 -- A field that spells a number is read as that number.
-use Rattle.board_prelude.proofs.Common.{nat_tests, list_all, AllDigits, lt-ltb, le-leb, eq-eqb, and_parts, true≢false}
-use Rattle.board_prelude.proofs.Common.{not-true, byte, is_within, hex_digit, hex_number}
-use Rattle.std.proofs.Common.{◌≡◌, ℕ, zero, suc, ◌+◌, ◌-◌, ◌*◌, ◌/◌, ◌%◌, ◌^◌, ◌<◌, ◌≤◌, inl, inr, Bool, true, false}
-use Rattle.std.proofs.Common.{not, Some, List, [], ◌∷◌, length, get_or, refl, sym, ap, subst, ◌∙◌, arith, pow-suc, lit<}
-use Rattle.std.proofs.Common.{decimal}
+use Rattle.board_prelude.proofs.Common.{nat_tests, list_all, AllDigits, lt-ltb, le-leb, eq-eqb, and_parts, byte}
+use Rattle.board_prelude.proofs.Common.{is_within, hex_digit, hex_number}
+use Rattle.std.proofs.Common.{◌≡◌, ℕ, zero, suc, ◌+◌, ◌-◌, ◌*◌, ◌/◌, ◌%◌, ◌^◌, ◌<◌, ◌≤◌, Bool, true, false, not, Some}
+use Rattle.std.proofs.Common.{List, [], ◌∷◌, length, refl, sym, ap, subst, ◌∙◌, arith, pow-suc, lit<, decimal}
 use Rattle.std.specs.Char.{digit_value as value_of_digit}
 use Rattle.std.specs.Str.Parse.{digits_value_after}
 use Rattle.std.proofs.lemmas.Fmt.{digits_value-decimal, length-decimal-le, first_decimal, decimal_nonempty}
@@ -23,14 +22,11 @@ is_plain text = list_all (λ byte. not (is_within 0x41 0x46 byte)) text
 
 pub plain_is : (field text : List ℕ) → is_plain text ≡ true → Spells field text → field ≡ text
 plain_is [] [] plain spells = refl
-plain_is [] (t ∷ ts) plain spells = absurd spells
-plain_is (c ∷ cs) [] plain spells = absurd spells
 plain_is (c ∷ cs) (t ∷ ts) plain spells =
     let parts = and_parts (not (is_within 0x41 0x46 t)) (is_plain ts) plain in
-    let low : is_within 0x41 0x46 t ≡ false = not-true (is_within 0x41 0x46 t) parts.0 in
-    let first : c ≡ t = elim spells.0 [ inl is ↦ is | inr small ↦ absurd (true≢false (sym small.0 ∙ low)) ] in
-    let later = plain_is cs ts parts.1 spells.1 in
-    λ i. first i ∷ later i
+    let first : c ≡ t = grind (arith, nat_tests, parts.0, spells.0) in
+    λ i. first i ∷ plain_is cs ts parts.1 spells.1 i
+plain_is field text plain spells = absurd spells
 
 pub plain-digits : (ds : List ℕ) → AllDigits 10 ds → is_plain ds ≡ true
 plain-digits [] digits = refl
@@ -47,11 +43,8 @@ unfolding number_after
 digits_read high [] digits = refl
 digits_read high (c ∷ cs) digits = grind (arith, nat_tests, digits_read (high * 10 + value_of_digit c) cs digits.1)
 
-no_leading : (field : List ℕ) → (2 ≤ length field → 48 < get_or field 0 0) → has_leading_zero field ≡ false
-no_leading field first = grind (arith, nat_tests)
-
-first_digit : (n : ℕ) → IsDecimal n → 2 ≤ length (decimal n) → 48 < get_or (decimal n) 0 0
-first_digit n small long = grind (arith, nat_tests, decimal_digit, first_decimal)
+no_leading : (n : ℕ) → IsDecimal n → has_leading_zero (decimal n) ≡ false
+no_leading n small = grind (arith, nat_tests, decimal_digit, first_decimal)
 
 pub decimal_back : (n : ℕ) → IsDecimal n → parse_decimal (decimal n) ≡ Some n
 decimal_back n small =
@@ -60,11 +53,7 @@ decimal_back n small =
     ∙ ap (λ (x : ℕ). Some x) (digits_value-decimal own n (omega (arith, small))) in
     let some = decimal_nonempty n (omega (arith, small)) in
     let few = length-decimal-le 9 n (lit< tt) small (omega (arith, small)) in
-    rw (
-      le-leb 1 (length (decimal n)) (omega (arith, some)),
-      le-leb (length (decimal n)) 9 few,
-      no_leading (decimal n) (first_digit n small),
-    ) read
+    rw (le-leb 1 (length (decimal n)) (omega arith), le-leb (length (decimal n)) 9 few, no_leading n small) read
 
 -- ---- hexadecimal numbers
 

@@ -1,9 +1,9 @@
 -- The numbers that were read are those whose text a field is.
-use Rattle.board_prelude.proofs.Common.{nat_tests, AllZip, AllDigits, digits_value, cases_Bool, leb-true, eqb-true}
-use Rattle.board_prelude.proofs.Common.{pow-le-pow_right, byte, hex_digit, hex_number, and_parts}
-use Rattle.std.proofs.Common.{◌≡◌, ℕ, zero, suc, ◌+◌, ◌*◌, ◌/◌, ◌%◌, ◌^◌, ◌<◌, ◌≤◌, inl, inr, false, not, eqb, leb}
+use Rattle.std.proofs.Common.{Bool, true, ◌≡◌, ℕ, zero, suc, ◌+◌, ◌*◌, ◌/◌, ◌%◌, ◌^◌, ◌<◌, ◌≤◌, false, not, eqb, leb}
 use Rattle.std.proofs.Common.{◌&&◌, Some, List, [], ◌∷◌, length, get_or, refl, sym, ap, subst, ◌∙◌, arith, pow-suc}
 use Rattle.std.proofs.Common.{lit<, decimal}
+use Rattle.board_prelude.proofs.Common.{nat_tests, AllZip, AllDigits, digits_value, leb-true, eqb-true}
+use Rattle.board_prelude.proofs.Common.{pow-le-pow_right, byte, hex_digit, hex_number}
 use Rattle.std.specs.Char.{digit_value as value_of_digit}
 use Rattle.std.specs.Str.Parse.{digits_value_after}
 use native.Mathlib.Nat.{div-div-eq-div-mul}
@@ -36,26 +36,21 @@ no_zero : (field : List ℕ) → has_leading_zero field ≡ false → 1 ≤ leng
     → length field ≡ 1
 no_zero field e some first = grind (arith, nat_tests)
 
+parts : (a b c : Bool) → (a && b && not c) ≡ true → (a ≡ true) × (b ≡ true) × (c ≡ false)
+parts a b c test = grind (arith, nat_tests)
+
 pub decimal_read : (field : List ℕ) (n : ℕ) → parse_decimal field ≡ Some n → (field ≡ decimal n) × IsDecimal n
 decimal_read field n e =
     let g = guarded (leb 1 (length field) && leb (length field) 9 && not (has_leading_zero field))
     (parse_digits 10 field) n e in
-    let h = and_parts (leb 1 (length field) && leb (length field) 9) (not (has_leading_zero field)) g.0 in
-    let k = and_parts (leb 1 (length field)) (leb (length field) 9) h.0 in
-    let some = leb-true 1 (length field) k.0 in
-    let few = leb-true (length field) 9 k.1 in
+    let test = parts (leb 1 (length field)) (leb (length field) 9) (has_leading_zero field) g.0 in
+    let some = leb-true 1 (length field) test.0 in
     let read = digits 0 n field g.1 in
     let small : digits_value 10 field < 1_000_000_000 =
-    omega (arith, digits_value-lt 10 field read.0, pow-le-pow_right {n = 10} (lit< tt) few) in
-    let zero_free : has_leading_zero field ≡ false =
-    elim (cases_Bool (has_leading_zero field)) [
-      | inl yes_zero ↦ (let f = rw yes_zero at h in absurd cc)
-      | inr
-          none ↦ none
-    ] in
-    let text : decimal (digits_value 10 field) ≡ field =
-    decimal-digits_value own field read.0 (omega (arith, some)) (no_zero field zero_free some) (omega (arith, small)) in
-    (sym text ∙ ap decimal read.1, subst (λ (x : ℕ). x < 1_000_000_000) read.1 small)
+    omega (arith, digits_value-lt 10 field read.0, pow-le-pow_right {n = 10} (lit< tt) (leb-true (length field) 9 test.1)) in
+    let text = decimal-digits_value own field read.0 (omega (arith, some)) (no_zero field test.2 some)
+    (omega (arith, small)) in
+    (sym text ∙ ap decimal read.1, rw read.1 at small)
 
 -- ---- hexadecimal numbers
 

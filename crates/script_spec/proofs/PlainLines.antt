@@ -1,15 +1,15 @@
 -- Statements and replies are words and spaces.
+use Rattle.script_spec.proofs.PlainText.{plain-parts, is_word, is_plain, plain-append, plain-word, hex_number_word}
+use Rattle.script_spec.proofs.PlainText.{decimal_word, area_word, target_word, denial_word}
 use Rattle.board_prelude.proofs.Common.{nat_tests, Kind, Moment, bytes_of, Event, Memory, Wide, Port, Ack, Time}
-use Rattle.board_prelude.proofs.Common.{Applied, applied_by, applied_text, option_map_or, Part, Reply, Bus, Saw}
-use Rattle.board_prelude.proofs.Common.{is_write, space, hex_number, hex_word, hex_long, area_text, size_text}
-use Rattle.board_prelude.proofs.Common.{kind_text, written_text, smm_text, memory_text, level_text, two_digits}
-use Rattle.board_prelude.proofs.Common.{moment_text, event_text, value_text, answered_text, reply_text}
+use Rattle.board_prelude.proofs.Common.{Applied, applied_by, applied_text, option_map_or, Part, Reply, Bus, Saw, space}
+use Rattle.board_prelude.proofs.Common.{hex_number, hex_word, area_text, size_text, kind_text, written_text, smm_text}
+use Rattle.board_prelude.proofs.Common.{memory_text, level_text, two_digits, moment_text, event_text, value_text}
+use Rattle.board_prelude.proofs.Common.{answered_text, reply_text}
 use Rattle.std.proofs.Common.{ℕ, ◌≡◌, Bool, true, Option, List, [], ◌∷◌, ◌++◌, flat_map, refl, arith, decimal}
 use Rattle.std.proofs.Common.{if◌then◌else◌}
 use Rattle.board_spec.specs.declared.event.Event.TheVariants.{Look as LookAt}
 use Rattle.board_spec.specs.declared.event.Reply.TheVariants.{Parts as InParts}
-use Rattle.script_spec.proofs.PlainText.{is_word, is_plain, plain-append, plain-word, hex_number_word, decimal_word}
-use Rattle.script_spec.proofs.PlainText.{area_word, target_word, denial_word}
 
 hex_plain : (bytes n : ℕ) → is_plain (hex_number bytes n) ≡ true
 hex_plain bytes n = plain-word (hex_number bytes n) (hex_number_word bytes n)
@@ -32,23 +32,12 @@ smm_plain smm = grind (arith, nat_tests)
 memory_plain : (kind : Kind) (bytes addr value : ℕ) (smm : Bool) →
     is_plain (memory_text kind bytes addr value smm) ≡ true
 memory_plain kind bytes addr value smm =
-    let head : List ℕ = kind_text kind ++ space ∷ size_text bytes in
-    let place : List ℕ = head ++ space ∷ hex_long addr in
-    plain-append (place ++ written_text (is_write kind) bytes value) (smm_text smm)
-    (plain-append place (written_text (is_write kind) bytes value)
-    (plain-append head (space ∷ hex_long addr)
-    (plain-append (kind_text kind) (space ∷ size_text bytes) (kind_plain kind) (size_plain bytes)) (hex_plain 4 addr))
-    (written_plain (is_write kind) bytes value))
-    (smm_plain smm)
+    simp (plain-append, plain-parts, kind_plain, size_plain, hex_plain 4 addr, written_plain, smm_plain)
 
 port_plain : (write : Bool) (bytes port value : ℕ) (verb : List ℕ) → is_plain verb ≡ true →
     is_plain (verb ++ space ∷ size_text bytes ++ space ∷ hex_word port ++ written_text write bytes value) ≡ true
 port_plain write bytes port value verb plain =
-    let head : List ℕ = verb ++ space ∷ size_text bytes in
-    plain-append (head ++ space ∷ hex_word port) (written_text write bytes value)
-    (plain-append head (space ∷ hex_word port) (plain-append verb (space ∷ size_text bytes) plain
-    (size_plain bytes)) (hex_plain 2 port))
-    (written_plain write bytes value)
+    simp (plain-append, plain-parts, plain, size_plain, hex_plain 2 port, written_plain)
 
 two_plain : (n : ℕ) → is_plain (two_digits n) ≡ true
 two_plain n = grind (arith, nat_tests)
@@ -89,9 +78,5 @@ reply_plain bytes (Bus value target denial) =
     grind (arith, nat_tests, plain-append, plain-word, value_word, target_word, denial_word)
 reply_plain bytes (InParts parts value) = simp (plain-append, plain-word, value_word, parts_plain)
 reply_plain bytes (Saw look) =
-    let first : List ℕ = decimal look.version ++ space ∷ hex_long look.lo in
-    plain-append (first ++ space ∷ hex_long look.hi) (space ∷ area_text look.area)
-    (plain-append first (space ∷ hex_long look.hi)
-    (plain-append (decimal look.version) (space ∷ hex_long look.lo) (decimal_plain look.version)
-    (hex_plain 4 look.lo)) (hex_plain 4 look.hi))
-    (plain-word (area_text look.area) (area_word look.area))
+    let area = plain-word (area_text look.area) (area_word look.area) in
+    simp (plain-append, plain-parts, decimal_plain, hex_plain 4 look.lo, hex_plain 4 look.hi) area

@@ -1,10 +1,10 @@
 -- The bytes of the log's words: spaces, letters, digits and a few marks, but no line feed and no `=`.
-use Rattle.board_prelude.proofs.Common.{nat_tests, digits, list_all, lt-ltb, ne_eqb, cases_Bool, and_from, and_parts}
-use Rattle.board_prelude.proofs.Common.{or_right, true≢false, Reg, Dev, Area, Target, Denial, byte, is_within, space}
-use Rattle.board_prelude.proofs.Common.{hex_number, hex_offset, register_text, base_text, area_text, device_text}
-use Rattle.board_prelude.proofs.Common.{target_text, denial_text}
-use Rattle.std.proofs.Common.{ℕ, zero, suc, ◌≡◌, ◌+◌, ◌/◌, ◌%◌, ◌<◌, Bool, true, false, ◌||◌, eqb, Option, List, []}
-use Rattle.std.proofs.Common.{◌∷◌, ◌++◌, refl, sym, ap, ◌∙◌, inl, inr, arith, decimal}
+use Rattle.std.proofs.Common.{◌&&◌, ℕ, zero, suc, ◌≡◌, ◌/◌, ◌%◌, Bool, true, false, ◌||◌, eqb, Option, List, [], ◌∷◌}
+use Rattle.std.proofs.Common.{◌++◌, refl, sym, ap, ◌∙◌, inl, inr, arith, decimal}
+use Rattle.board_prelude.proofs.Common.{nat_tests, digits, list_all, ne_eqb, cases_Bool, and_from, and_parts}
+use Rattle.board_prelude.proofs.Common.{true≢false, Reg, Dev, Area, Target, Denial, byte, is_within, space, hex_number}
+use Rattle.board_prelude.proofs.Common.{hex_offset, register_text, base_text, area_text, device_text, target_text}
+use Rattle.board_prelude.proofs.Common.{denial_text}
 use Rattle.std.specs.Fmt.{digits_onto, digit_glyph}
 use Rattle.std.proofs.lemmas.List.Folds.{list_all-append}
 use Rattle.board_base.specs.declared.target.Target.TheVariants as targets
@@ -26,7 +26,7 @@ word-more byte xs one two = and_from (is_word_byte byte) (is_word xs) one two
 pub lacks-word : (mark : ℕ) (xs : List ℕ) → is_word_byte mark ≡ false → is_word xs ≡ true → lacks mark xs ≡ true
 lacks-word mark [] outside word = refl
 lacks-word mark (c ∷ cs) outside word =
-    let parts : (is_word_byte c ≡ true) × (is_word cs ≡ true) = and_parts (is_word_byte c) (is_word cs) word in
+    let parts = and_parts (is_word_byte c) (is_word cs) word in
     rw (
       ne_eqb c mark (λ same. true≢false (sym parts.0 ∙ ap is_word_byte same ∙ outside)),
       lacks-word mark cs outside parts.1,
@@ -34,23 +34,15 @@ lacks-word mark (c ∷ cs) outside word =
 
 -- ---- digits
 
-pub digit_byte : (d : ℕ) → d < 10 → is_word_byte (0x30 + d) ≡ true
-digit_byte d small = grind (arith, nat_tests)
-
 pub hex_number_word : (bytes n : ℕ) → is_word (hex_number bytes n) ≡ true
 hex_number_word zero n = refl
 hex_number_word (suc bytes) n = grind (arith, nat_tests, hex_number_word bytes n)
-
-glyph_word : (d : ℕ) → d < 10 → is_word_byte (digit_glyph false d) ≡ true
-glyph_word d small = rw (lt-ltb d 10 small) (digit_byte d small)
 
 digits_word : (count n : ℕ) (after : List ℕ) → is_word after ≡ true →
     is_word (digits_onto count 10 false n after) ≡ true
 digits_word zero n after word = word
 digits_word (suc count) n after word =
-    let more : is_word (digit_glyph false (n % 10) ∷ after) ≡ true =
-    word-more (digit_glyph false (n % 10)) after (glyph_word (n % 10) (omega arith)) word
-    in
+    let more = word-more (digit_glyph false (n % 10)) after (grind (arith, nat_tests)) word in
     elim (cases_Bool (eqb (n / 10) 0)) [
       | inl last ↦ rw last more
       | inr further ↦ rw further (digits_word count (n / 10) (digit_glyph false (n % 10) ∷ after) more)
@@ -78,14 +70,9 @@ pub area_word : (area : Area) → is_word (area_text area) ≡ true
 area_word area = grind (arith, nat_tests, decimal_word, base_word_text)
 
 pub target_word : (target : Target) → is_word (target_text target) ≡ true
-target_word (targets.Dram row) = decimal_word row
-target_word (targets.Shadow row) = decimal_word row
-target_word targets.Smram = refl
-target_word (targets.Rom off) = offset_word off
 target_word (targets.Card dev base off) = simp (word-append, base_word_text, hex_number_word)
 target_word (targets.Device dev) = device_word dev
-target_word (targets.Config reg) = register_word reg
-target_word targets.Abort = refl
+target_word target = grind (arith, nat_tests, decimal_word, offset_word, register_word)
 
 pub denial_word : (denial : Option Denial) → is_word (denial_text denial) ≡ true
 denial_word denial = grind (arith, nat_tests, register_word)
@@ -95,23 +82,23 @@ denial_word denial = grind (arith, nat_tests, register_word)
 abbrev pub is_plain : List ℕ → Bool
 is_plain bytes = list_all (λ b. eqb b space || is_word_byte b) bytes
 
+pub plain-parts : (xs ys : List ℕ) → is_plain (xs ++ ys) ≡ (is_plain xs && is_plain ys)
+plain-parts xs ys = list_all-append (λ b. eqb b space || is_word_byte b) xs ys
+
 pub plain-append : (xs ys : List ℕ) → is_plain xs ≡ true → is_plain ys ≡ true → is_plain (xs ++ ys) ≡ true
 plain-append xs ys one two = simp (list_all-append, and_from)
 
 pub plain-word : (xs : List ℕ) → is_word xs ≡ true → is_plain xs ≡ true
 plain-word [] word = refl
 plain-word (c ∷ cs) word =
-    let parts : (is_word_byte c ≡ true) × (is_word cs ≡ true) = and_parts (is_word_byte c) (is_word cs) word in
-    and_from (eqb c space || is_word_byte c) (is_plain cs) (or_right (eqb c space) (is_word_byte c) parts.0)
-    (plain-word cs parts.1)
+    let parts = and_parts (is_word_byte c) (is_word cs) word in
+    rw (plain-word cs parts.1, parts.0) (grind (arith, nat_tests))
 
 pub lacks-plain : (mark : ℕ) (xs : List ℕ) → (eqb mark space || is_word_byte mark) ≡ false → is_plain xs ≡ true →
     lacks mark xs ≡ true
 lacks-plain mark [] outside plain = refl
 lacks-plain mark (c ∷ cs) outside plain =
-    let parts : ((eqb c space || is_word_byte c) ≡ true) × (is_plain cs ≡ true) =
-    and_parts (eqb c space || is_word_byte c) (is_plain cs) plain
-    in
+    let parts = and_parts (eqb c space || is_word_byte c) (is_plain cs) plain in
     rw (
       ne_eqb c mark (λ same. true≢false (sym parts.0 ∙ ap (λ (b : ℕ). eqb b space || is_word_byte b) same ∙ outside)),
       lacks-plain mark cs outside parts.1,

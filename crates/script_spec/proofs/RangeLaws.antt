@@ -1,13 +1,13 @@
 -- What a text says is in range.
 use Rattle.board_prelude.proofs.Common.{nat_tests, common_steps, option_map, find, list_any, IsPermutation, true≢false}
-use Rattle.board_prelude.proofs.Common.{false≢true, or_parts, or_cases, or_right, and_parts, cases_Bool, ltb-true}
-use Rattle.board_prelude.proofs.Common.{All-nil, All-cons, All-head, All-tail, All-append, sum_by-cons, sum_by-append}
-use Rattle.board_prelude.proofs.Common.{All-permutation, IsPermutation-sym, Statement, most_statements, most_phases}
-use Rattle.board_prelude.proofs.Common.{most_pulses, most_card_memory, Setup, FittedCard, IsExpansionRom, IsCard, Rises}
-use Rattle.board_prelude.proofs.Common.{memory_size, memory_of_cards, IsScripted, is_rom_in_range}
-use Rattle.std.proofs.Common.{ℕ, ◌≡◌, ◌+◌, ◌-◌, ◌*◌, ◌<◌, ◌≤◌, Bool, true, false, not, ◌&&◌, cond, ltb, Option, Some}
-use Rattle.std.proofs.Common.{None, List, [], ◌∷◌, ◌++◌, length, map, reverse, All, filter, flat_map, refl, sym, ap}
-use Rattle.std.proofs.Common.{◌∙◌, inl, inr, get_or, add-one, arith, is_some, ◌==◌}
+use Rattle.board_prelude.proofs.Common.{false≢true, or_parts, or_right, and_parts, cases_Bool, All-nil, All-cons}
+use Rattle.board_prelude.proofs.Common.{All-head, All-tail, All-append, sum_by-cons, sum_by-append, All-permutation}
+use Rattle.board_prelude.proofs.Common.{IsPermutation-sym, Statement, most_statements, most_phases, most_pulses}
+use Rattle.board_prelude.proofs.Common.{most_card_memory, Setup, FittedCard, IsExpansionRom, IsCard, Rises, memory_size}
+use Rattle.board_prelude.proofs.Common.{memory_of_cards, IsScripted, is_rom_in_range}
+use Rattle.std.proofs.Common.{ℕ, ◌≡◌, ◌+◌, ◌-◌, ◌*◌, ◌<◌, ◌≤◌, Bool, true, false, not, ◌&&◌, cond, Option, Some, None}
+use Rattle.std.proofs.Common.{List, [], ◌∷◌, ◌++◌, length, map, reverse, All, filter, flat_map, refl, sym, ap, ◌∙◌, inl}
+use Rattle.std.proofs.Common.{inr, get_or, arith, is_some, ◌==◌}
 use Rattle.std.specs.List.{sum_by}
 use Rattle.std.proofs.lemmas.List.Elements.{All-filter}
 use Rattle.std.proofs.lemmas.List.Folds.{list_any_none}
@@ -36,11 +36,7 @@ cpus_above :
     list_any (is_cpus_above actor) items ≡ true → actor < cpus
 cpus_above version actor cpus [] good found any = absurd (false≢true any)
 cpus_above version actor cpus (SetCpus count ∷ before) good found any =
-    let same : count ≡ cpus = ap count_of found in
-    elim (or_cases (ltb actor count) (list_any (is_cpus_above actor) before) any) [
-      | inl less ↦ let e : actor < count = ltb-true actor count less in omega (arith, e, same)
-      | inr again ↦ absurd (true≢false (sym (any_cpus actor before again) ∙ good.1.first))
-    ]
+    grind (arith, nat_tests, any_cpus actor before, good.1.first, ap count_of found)
 cpus_above version actor cpus (item ∷ before) good found any = cpus_above version actor cpus before good.2 found any
 
 -- ---- statements
@@ -58,17 +54,14 @@ scripted :
     ((actor : ℕ) → list_any (is_cpus_above actor) before ≡ true → actor < cpus) → HasCards before setup →
     IsForm version item → NoReason before item → OnAsk (IsScripted setup version cpus) item
 scripted version cpus setup before (Ask statement) above cards form none =
-    let there : (list_any (is_cpus_above statement.actor) before ≡ true) ×
-    (is_card_there before statement.event ≡ true) =
-    and_parts (list_any (is_cpus_above statement.actor) before) (is_card_there before statement.event) none.there
-    in
+    let there = and_parts (list_any (is_cpus_above statement.actor) before) (is_card_there before statement.event)
+    none.there in
     record {
       actor = above statement.actor there.0;
       event = event_in_range version setup before statement.event form.1 none.range none.aligned there.1 cards;
       sector = sector_in_range statement.event none.range;
       said = event_in_version version statement.event form.1;
     }
-scripted version cpus setup before (SetCpus count) above cards form none = tt
 scripted version cpus setup before _ above cards form none = tt
 
 all_scripted :
@@ -77,9 +70,8 @@ all_scripted :
     AreGood version items → All (OnAsk (IsScripted setup version cpus)) items
 all_scripted version cpus setup [] above cards good = All-nil (OnAsk (IsScripted setup version cpus))
 all_scripted version cpus setup (item ∷ before) above cards good =
-    let above_before : (actor : ℕ) → list_any (is_cpus_above actor) before ≡ true → actor < cpus =
-    λ actor any. above actor (or_right (is_cpus_above actor item) (list_any (is_cpus_above actor) before) any)
-    in
+    let above_before = λ (actor : ℕ) (any : list_any (is_cpus_above actor) before ≡ true).
+    above actor (or_right (is_cpus_above actor item) (list_any (is_cpus_above actor) before) any) in
     let cards_before : HasCards before setup = λ dev has. cards dev (has_card_more item before dev has) in
     All-cons (OnAsk (IsScripted setup version cpus)) item before
     (scripted version cpus setup before item above_before cards_before good.0 good.1)
@@ -91,24 +83,16 @@ phase_asks :
     All P phase × All (OnAsk P) later
 phase_asks P [] later all = (All-nil P, all)
 phase_asks P (statement ∷ phase) later all =
-    grind (
-      arith,
-      nat_tests,
-      All-tail,
-      All-cons,
-      All-head,
-      phase_asks P phase later (All-tail (OnAsk P) (Ask statement)
-          (map Ask phase ++ later) all),
-    )
+    let rest = phase_asks P phase later (All-tail (OnAsk P) (Ask statement) (map Ask phase ++ later) all) in
+    (All-cons P statement phase (All-head (OnAsk P) (Ask statement) (map Ask phase ++ later) all) rest.0, rest.1)
 
 all_asks :
     (P : Statement → Type 0) (phases : List (List Statement)) → All (OnAsk P) (phase_items phases) →
     All P (flat_map (λ phase. phase) phases)
 all_asks P [] all = All-nil P
 all_asks P (phase ∷ later) all =
-    let both : All P phase × All (OnAsk P) (phase_items later) =
-    phase_asks P phase (phase_items later) (All-tail (OnAsk P) BeginPhase (map Ask phase ++ phase_items later) all)
-    in
+    let both = phase_asks P phase (phase_items later)
+    (All-tail (OnAsk P) BeginPhase (map Ask phase ++ phase_items later) all) in
     All-append P phase (flat_map (λ phase. phase) later) both.0 (all_asks P later both.1)
 
 -- ---- cards
@@ -118,24 +102,15 @@ none_any p xs none = grind (arith, nat_tests, common_steps, All-nil, or_parts, A
 
 any_permutation : {X : Type 0} (p : X → Bool) (xs ys : List X) → IsPermutation xs ys → list_any p xs ≡ true →
     list_any p ys ≡ true
-any_permutation p xs ys same any =
-    elim (cases_Bool (list_any p ys)) [
-      | inl some ↦ some
-      | inr none ↦
-          let all : All (λ x. p x ≡ false) xs =
-          All-permutation (λ x. p x ≡ false) ys xs (IsPermutation-sym xs ys same) (none_any p ys none)
-          in
-          absurd (true≢false (sym any ∙ list_any_none p xs all))
-    ]
+any_permutation p xs ys same any = elim (cases_Bool (list_any p ys)) [
+  | inl some ↦ some
+  | inr none ↦ absurd (true≢false (sym any ∙ list_any_none p xs
+      (All-permutation (λ x. p x ≡ false) ys xs (IsPermutation-sym xs ys same) (none_any p ys none))))
+]
 
 found_some : {X : Type 0} (p : X → Bool) (xs : List X) → list_any p xs ≡ true → is_some (find p xs) ≡ true
 found_some p [] any = absurd (false≢true any)
-found_some p (x ∷ xs) any =
-    elim (cases_Bool (p x)) [
-      | inl passes ↦ rw passes refl
-      | inr fails ↦
-          let later = rw fails at any in rw fails (found_some p xs later)
-    ]
+found_some p (x ∷ xs) any = grind (arith, nat_tests, found_some p xs)
 
 has_cards :
     (items : List Item) (cards : List FittedCard) (setup : Setup) → IsPermutation (cards_of items) cards →
@@ -176,13 +151,10 @@ few_cards low [] below rises from each = omega arith
 few_cards low (card ∷ later) below rises from each =
     let first : low ≤ card.dev = All-head (λ card. low ≤ card.dev) card later from in
     let last : card.dev ≤ 9 = (All-head IsCard card later each).last in
-    let rest : length later ≤ 10 - (card.dev + 1) =
-    few_cards (card.dev + 1) later (omega (arith, last)) rises.1 (λ k d at_k. let up : card.dev <
-    (get_or later k d).dev = rises.0 k d at_k in omega (arith, up))
-    (All-tail IsCard card later each)
-    in
-    let count : length (card ∷ later) ≡ length later + 1 = sym (add-one (length later)) in
-    omega (arith, first, last, rest, count)
+    let rest = few_cards (card.dev + 1) later (omega arith) rises.1
+    (λ k d at_k. let up : card.dev < (get_or later k d).dev = rises.0 k d at_k in omega arith)
+    (All-tail IsCard card later each) in
+    omega (arith, rest)
 
 sum_of_cards : (cards : List FittedCard) → memory_of_cards cards ≡ sum_by (λ card. sum_by memory_size card.bases) cards
 sum_of_cards [] = refl
@@ -241,20 +213,11 @@ sum_items f g items phases none same is =
 
 sum_of_ones : {X : Type 0} (xs : List X) → sum_by (λ x. 1) xs ≡ length xs
 sum_of_ones [] = refl
-sum_of_ones (x ∷ xs) = sum_by-cons (λ y. 1) x xs ∙ ap (λ (n : ℕ). 1 + n) (sum_of_ones xs) ∙ omega arith
+sum_of_ones (x ∷ xs) = omega (arith, sum_by-cons (λ y. 1) x xs, sum_of_ones xs)
 
 sum_of_zeros : {X : Type 0} (xs : List X) → sum_by (λ x. 0) xs ≡ 0
 sum_of_zeros [] = refl
-sum_of_zeros (x ∷ xs) = sum_by-cons (λ y. 0) x xs ∙ omega (arith, sum_of_zeros xs)
-
-no_statement : (item : Item) → is_setup item ≡ true → ◌≡◌ {A = ℕ} (cond {A = ℕ} (is_statement item) 1 0) 0
-no_statement item setup = grind (arith, nat_tests)
-
-no_phase : (item : Item) → is_setup item ≡ true → ◌≡◌ {A = ℕ} (cond {A = ℕ} (is_phase item) 1 0) 0
-no_phase item setup = grind (arith, nat_tests)
-
-no_pulses : (item : Item) → is_setup item ≡ true → pulses_of item ≡ 0
-no_pulses item setup = grind (arith, nat_tests)
+sum_of_zeros (x ∷ xs) = omega (arith, sum_by-cons (λ y. 0) x xs, sum_of_zeros xs)
 
 -- ---- the whole
 
@@ -268,40 +231,29 @@ in_range : (items : List Item) (script : Script) → AreGood script.version item
     IsSaidBy script items →
     IsInRangeScript script
 in_range items script good version said =
-    let cpus = found_good script.version items is_cpus (SetCpus script.cpus) good said.cpus in
+    let found = found_good script.version items in
+    let cpus = found is_cpus (SetCpus script.cpus) good said.cpus in
     let count = is_within_parts _ _ script.cpus cpus.1 in
-    let memory = found_good script.version items is_memory (SetMemory script.mib) good said.memory in
+    let memory = found is_memory (SetMemory script.mib) good said.memory in
     let mib = is_within_parts _ _ script.mib memory.1 in
-    let limits : IsWithinLimits items = within_limits script.version items good in
-    let cards : All IsCard script.cards =
-    All-permutation IsCard (cards_of items) script.cards said.cards (all_cards script.version items good)
-    in
+    let limits = within_limits script.version items good in
+    let cards = All-permutation IsCard (cards_of items) script.cards said.cards (all_cards script.version items good) in
     let kept : List Item = filter (λ item. not (is_setup item)) items in
     let phases : List (List Statement) = script.phases in
-    let statements : length (filter is_statement items) ≡ length (statements_in script) =
-    length-filter is_statement items
-    ∙ sum_items (λ item. cond {A = ℕ} (is_statement item) 1 0) (λ statement. 1) items phases no_statement
-    (λ statement. refl) said.phases
-    ∙ omega (arith, sum_of_ones (statements_in script))
-    in
-    let phase_count : length (filter is_phase items) ≡ length phases =
-    length-filter is_phase items
-    ∙ sum_items (λ item. cond {A = ℕ} (is_phase item) 1 0) (λ statement. 0) items phases no_phase
-    (λ statement. refl) said.phases
-    ∙ omega (arith, sum_of_zeros (statements_in script))
-    in
-    let pulses : sum_by pulses_of items ≡ sum_by (λ statement. pulses_of_event statement.event) (statements_in script) =
-    sum_items pulses_of (λ statement. pulses_of_event statement.event) items phases no_pulses
-    (λ statement. refl) said.phases
-    ∙ omega arith
-    in
+    let sum = λ (f : Item → ℕ) (g : Statement → ℕ). sum_items f g items phases in
+    let statements = sum (λ item. cond {A = ℕ} (is_statement item) 1 0) (λ statement. 1)
+    (λ item setup. grind (arith, nat_tests)) (λ statement. refl) said.phases in
+    let phase_count = sum (λ item. cond {A = ℕ} (is_phase item) 1 0) (λ statement. 0)
+    (λ item setup. grind (arith, nat_tests)) (λ statement. refl) said.phases in
+    let pulses = sum pulses_of (λ statement. pulses_of_event statement.event) (λ item setup. grind (arith, nat_tests))
+    (λ statement. refl) said.phases in
     record {
       version = version;
       some_cpus = count.0;
       most_cpus = count.1;
       some_memory = mib.0;
       most_memory = omega (arith, mib.1);
-      rom = (found_good script.version items is_rom (SetRom script.rom) good said.rom).0;
+      rom = (found is_rom (SetRom script.rom) good said.rom).0;
       disk = disk_name script.version items script.disk good said.disk;
       cards = record {
         count = few_cards 2 script.cards (omega arith) said.rises (λ k d below. (cards k d below).first) cards;
@@ -311,19 +263,17 @@ in_range items script good version said =
       windows = omega (arith, same_memory (cards_of items) script.cards said.cards, limits.memory);
       each = λ setup is.
           let P : Statement → Type 0 = IsScripted setup script.version script.cpus in
-          let all : All (OnAsk P) items =
-          all_scripted script.version script.cpus setup items
+          let all = all_scripted script.version script.cpus setup items
           (λ actor any. cpus_above script.version actor script.cpus items good said.cpus any)
-          (has_cards items script.cards setup said.cards is) good
-          in
+          (has_cards items script.cards setup said.cards is) good in
           let turned : All (OnAsk P) (reverse kept) =
           All-permutation (OnAsk P) kept (reverse kept) (IsPermutation-reverse kept)
-          (All-filter (λ item. not (is_setup item)) (OnAsk P) items all)
-          in
-          let asked = rw said.phases at turned in
-          all_asks P phases asked;
-      statements = omega (arith, statements, limits.statements);
-      phases = omega (arith, phase_count, limits.phases);
+          (All-filter (λ item. not (is_setup item)) (OnAsk P) items all) in
+          all_asks P phases (rw said.phases at turned);
+      statements =
+          omega (arith, length-filter is_statement items, statements, sum_of_ones (statements_in script), limits.statements);
+      phases =
+          omega (arith, length-filter is_phase items, phase_count, sum_of_zeros (statements_in script), limits.phases);
       pulses = omega (arith, pulses, limits.pulses);
     }
 
