@@ -226,7 +226,7 @@ module _ (P : Bytes → Type 0) (setup : Setup) (bytes : Bytes) (at : Reg) (valu
 -- all of them
 module _ (setup : Setup) (bytes : Bytes) (at : Reg) (width : Width) (value count : ℕ) (all : count ≡ bytes_of width)
   where
-    whole : (reg : Reg) →
+    pub whole : (reg : Reg) →
         changed_byte setup (Store at width value) reg (bytes reg) ≡ stored_so_far setup bytes at value count reg
     whole reg = rw all (byte_by_byte setup at width value reg (bytes reg))
 

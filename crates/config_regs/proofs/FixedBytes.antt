@@ -60,11 +60,10 @@ other_offset off at (inr (inr apart)) same = apart same
 
 pub fixed_beside : (off : ℕ) → off < 256 → IsBeside off → IsFixedOffset off
 fixed_beside off small beside =
-    let not_hole : off ≢ 0x68 = other_offset off 0x68 (beside.singles 0 (lit< tt)) in
-    let not_smram : off ≢ 0x72 = other_offset off 0x72 (beside.singles 1 (lit< tt)) in
+    let not_hole = other_offset off 0x68 (beside.singles 0 (lit< tt)) in
+    let not_smram = other_offset off 0x72 (beside.singles 1 (lit< tt)) in
     let around_smram : (off < 0x72) ⊎ (0x72 < off) =
-    elim (cases_lt off 0x72) [ inl low ↦ inl low | inr high ↦ inr (omega arith) ] in
-    elim beside.rows [
-      | inl below ↦ ((small, beside.windows, around_smram), inl below)
-      | inr above ↦ ((small, beside.windows, around_smram), inr (omega arith))
-    ]
+    elim (cases_lt off 0x72) [ inl low ↦ inl low | inr high ↦ inr (omega arith) ] in (
+      (small, beside.windows, around_smram),
+      elim beside.rows [ inl below ↦ inl below | inr above ↦ inr (omega arith) ],
+    )

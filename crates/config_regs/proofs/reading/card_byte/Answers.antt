@@ -1,5 +1,5 @@
-use Rattle.std.proofs.Common.{ℕ, ◌∙◌, sym, ap, subst}
-use Rattle.board_prelude.proofs.Common.{IsCard, card_register}
+use Rattle.std.proofs.Common.{◌∙◌, ap}
+use Rattle.board_prelude.proofs.Common.{IsCard}
 use Rattle.pci_bars.specs.Cards.{CardBytes, IsCardOf}
 use Rattle.config_regs.proofs.Functions.{at_place}
 use Rattle.config_regs.proofs.reading.card_byte.Goals as goal
@@ -7,17 +7,14 @@ use Rattle.config_regs.proofs.reading.card_byte.Goals as goal
 pub read-requires : goal.read-requires
 read-requires c = record {
   card =
-      subst (λ (it : CardBytes). IsCard it.card) (sym c.index-cards-place.is)
-      (at_place (λ card. IsCard card.card) c.args.cards.now c.args.dev c.args.place c.index-cards-place.result
-      c.requires.cards c.requires.place).1;
+      rw c.index-cards-place.is
+      (at_place (λ card. IsCard card.card) _ _ _ _ c.requires.cards c.requires.place).1;
 }
 
 pub returns : goal.returns
 returns c = record {
   byte = λ setup bytes are.
-      let is = c.index-cards-place.is in
-      let it = at_place (IsCardOf setup bytes) c.args.cards.now c.args.dev c.args.place c.index-cards-place.result are.1
-      c.requires.place in
-      c.read.ensures.byte setup bytes (subst (IsCardOf setup bytes) (sym is) it.1)
-      ∙ ap (λ (dev : ℕ). bytes (card_register dev c.args.off)) (ap (λ (card : CardBytes). card.card.dev) is ∙ it.2);
+      let it = at_place (IsCardOf setup bytes) _ _ _ c.index-cards-place.result are.1 c.requires.place in
+      rw (← ap (λ (card : CardBytes). card.card.dev) c.index-cards-place.is ∙ it.2)
+      (c.read.ensures.byte setup bytes (rw c.index-cards-place.is it.1));
 }

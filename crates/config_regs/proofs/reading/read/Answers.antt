@@ -1,13 +1,9 @@
-use Rattle.std.proofs.Common.{◌≡◌, List, sym, ◌∙◌, subst}
+use Rattle.std.proofs.Common.{◌∙◌}
 use Rattle.board_prelude.proofs.Common.{false≢true}
-use Rattle.pci_bars.specs.Cards.{CardBytes, cards_of}
-use Rattle.addr_decode.specs.Found.{HasRegister}
 use Rattle.config_regs.proofs.reading.read.Goals as goal
 
 pub read_from-requires-clause-function : goal.read_from-requires-clause-function
-read_from-requires-clause-function c =
-    subst (λ (cards : List CardBytes). HasRegister cards c.in-Some.function c.args.reg) c.deref.ensures.0
-    c.in-Some.ensures.has
+read_from-requires-clause-function c = rw c.deref.ensures.0 at c.in-Some.ensures.has
 
 pub returns-in-Some : goal.returns-in-Some
 returns-in-Some c = record { value = λ setup bytes is has exists'. c.read_from.ensures.value setup bytes is has }
@@ -15,6 +11,5 @@ returns-in-Some c = record { value = λ setup bytes is has exists'. c.read_from.
 pub returns-in-None : goal.returns-in-None
 returns-in-None c = record {
   value = λ setup bytes is has exists'.
-      let same = subst (λ (cards : List CardBytes). setup.cards ≡ cards_of cards) (sym c.deref.ensures.0) is.cards.0 in
-      absurd (false≢true (c.in-None.ensures.exists setup same ∙ exists'));
+      absurd (false≢true (c.in-None.ensures.exists setup (rw c.deref.ensures.0 is.cards.0) ∙ exists'));
 }

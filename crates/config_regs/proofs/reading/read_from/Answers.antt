@@ -1,6 +1,5 @@
-use Rattle.std.proofs.Common.{◌≡◌, ℕ, ◌≤◌, ◌∙◌, length, slice_index, set, inl, inr, length-set, get_or-set_same}
-use Rattle.std.proofs.Common.{get_or-set_other, sym, refl, subst, arith}
-use Rattle.board_prelude.proofs.Common.{cases_eq, bytes_of, reg_after, bytes_few}
+use Rattle.std.proofs.Common.{◌∙◌, slice_index, inl, inr, length-set, get_or-set_same, get_or-set_other, refl, arith}
+use Rattle.board_prelude.proofs.Common.{cases_eq, bytes_few}
 use Rattle.config_regs.proofs.Functions.{wide_shifted}
 use Rattle.config_regs.proofs.reading.read_from.Goals as goal
 
@@ -10,19 +9,16 @@ loop-index-init c = record { four = refl; read = λ setup bytes is has k below. 
 pub loop-index-preserved : goal.loop-index-preserved
 loop-index-preserved c =
     let read = c.loop-index.bytes in
-    let index = c.loop-index.index in
-    let few : bytes_of c.args.width ≤ 4 = bytes_few c.args.width in
-    let four : length read ≡ 4 = c.loop-index.invariant.four in
+    let few = bytes_few c.args.width in
+    let four = c.loop-index.invariant.four in
     record {
       four = length-set read c.from.result c.read_byte.result ∙ four;
-      read = λ setup bytes is has k below. rw c.from.ensures elim (cases_eq k index) [
+      read = λ setup bytes is has k below. rw c.from.ensures elim (cases_eq k c.loop-index.index) [
         | inl here ↦
-            subst (λ (j : ℕ). slice_index (set read index c.read_byte.result) j
-            ≡ bytes (reg_after c.args.register.now.reg j)) (sym here)
-            (get_or-set_same read index c.read_byte.result 0 (omega arith)
-            ∙ c.read_byte.ensures.byte setup bytes is has)
+            rw (here, get_or-set_same read c.loop-index.index c.read_byte.result 0 (omega arith))
+            (c.read_byte.ensures.byte setup bytes is has)
         | inr apart ↦
-            get_or-set_other read index k c.read_byte.result 0 apart
+            get_or-set_other read c.loop-index.index k c.read_byte.result 0 apart
             ∙ c.loop-index.invariant.read setup bytes is has k (omega arith)
       ];
     }

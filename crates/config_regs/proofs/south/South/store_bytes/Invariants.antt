@@ -2,11 +2,11 @@
 use Rattle.board_prelude.proofs.Common.{Setup, Bytes}
 use Rattle.xbus_select.specs.Piix.{piix_register}
 use Rattle.config_regs.specs.Config.{IsSouthOf}
-use Rattle.config_regs.proofs.SouthStores.{so_far}
+use Rattle.addr_decode.proofs.StandsLemmas.{stored_so_far}
 use Rattle.config_regs.proofs.south.South.store_bytes.Given as goal
 
 abbrev pub invariant-loop-index : goal.invariant-loop-index
 invariant-loop-index l = record {
   stored : (setup : Setup) (bytes : Bytes) → IsSouthOf bytes l.fn.self →
-      IsSouthOf (so_far setup bytes (piix_register l.fun l.off) l.value l.index) l.self;
+      IsSouthOf (stored_so_far setup bytes (piix_register l.fun l.off) l.value l.index) l.self;
 }
