@@ -1,8 +1,8 @@
 -- The values of cycles, one after the other, make the value of the whole.
 use Rattle.std.proofs.Common.{◌≡◌, ℕ, suc, ◌+◌, ◌*◌, ◌%◌, ◌^◌, ◌<◌, ◌≤◌, List, [], ◌∷◌, length, get_or, drop, bit_or}
-use Rattle.std.proofs.Common.{refl, sym, ◌∙◌, ap, arith, map}
+use Rattle.std.proofs.Common.{refl, arith, map}
 use Rattle.board_prelude.proofs.Common.{drop-cons, mod-eq_of_lt, pow-le-pow_right, pow-add, bytes_of, some_bytes, Entry}
-use Rattle.board_prelude.proofs.Common.{Part, Setup, joined, Covers, value_at, memory_target, part_answer}
+use Rattle.board_prelude.proofs.Common.{Setup, joined, Covers, value_at, memory_target, part_answer}
 use Rattle.std.proofs.Math.Nat.{mul_comm, mul_assoc, add_assoc, mul-one, mul-add, mul-le-mul_left}
 use Rattle.std.specs.Int.Bits.{or_shifted_r}
 use Rattle.board_stores.specs.declared.cut.Cycle.{Cycle}
@@ -23,13 +23,12 @@ covered from end (cycle ∷ later) is =
 pub bytes_left : (cycles : List Cycle) (i : ℕ) (d : Cycle) → i < length cycles →
     bytes_in (drop i cycles) ≡ bytes_of (get_or cycles i d).access.width + bytes_in (drop (i + 1) cycles)
 bytes_left cycles i d within =
-    let one : i + 1 ≡ suc i = omega arith in
-    rw one (ap bytes_in (drop-cons cycles i d within))
+    let one : i + 1 ≡ suc i = omega arith in rw (one, drop-cons cycles i d within) refl
 
 -- of eight bytes
-pub few_bytes :
-    (from end : ℕ) (cycles : List Cycle) → Covers from end (accesses cycles) → end ≤ from + 8 → bytes_in cycles ≤ 8
-few_bytes from end cycles covers short = let e = covered from end cycles covers in omega arith
+pub few_bytes : (cycles : List Cycle) → (from end : ℕ) × Covers from end (accesses cycles) × (end ≤ from + 8) →
+    bytes_in cycles ≤ 8
+few_bytes cycles covers = let e = covered covers.0 covers.1 cycles covers.2 in omega (arith, covers.3)
 
 -- a shift that is passed before a cycle
 pub shift_below :
@@ -69,9 +68,7 @@ joined_parts setup history [] is = refl
 joined_parts setup history (cycle ∷ later) is =
     let here : cycle.answer ≡ part_answer setup history cycle.access = cc in
     let rest : answers later ≡ map (part_answer setup history) (accesses later) = cc in
-    let target : cycle.answer.target ≡ memory_target setup history cycle.access =
-    ap (λ (part : Part). part.target) here in
-    rw (target, joined_parts setup history later rest) refl
+    rw (here, joined_parts setup history later rest) refl
 
 -- ---- one cycle more
 
@@ -82,17 +79,12 @@ pub record IsSoFar (value : Cycle → ℕ) (cycles : List Cycle) (i so_far shift
 
 -- a product of powers
 longer : (shift bytes : ℕ) → 2 ^ (shift + 8 * bytes) ≡ 2 ^ shift * 256 ^ bytes
-longer shift bytes = pow-add 2 shift (8 * bytes) ∙ ap (λ (p : ℕ). 2 ^ shift * p) (byte_power bytes)
-
-sum_turned : (a b c : ℕ) → c ≡ b → c + a ≡ a + b
-sum_turned a b c is = omega arith
+longer shift bytes = rw (pow-add 2 shift (8 * bytes), byte_power bytes) refl
 
 -- the bytes of a value above those before it
 value_above : (P B so_far read : ℕ) → so_far < P → read < B → so_far + P * read < P * B
 value_above P B so_far read below fits =
-    let whole : P * (read + 1) ≤ P * B = mul-le-mul_left P (omega arith) in
-    let spread : P * (read + 1) ≡ P * read + P = mul-add P read 1 ∙ ap (λ (n : ℕ). P * read + n) (mul-one P) in
-    omega (arith, whole, spread)
+    omega (arith, mul-le-mul_left P (let more : read + 1 ≤ B = omega arith in more), mul-add P read 1, mul-one P)
 
 value_or :
     (so_far shift read bytes : ℕ) → so_far < 2 ^ shift → read < 256 ^ bytes → shift + 8 * bytes ≤ 64 →
@@ -103,12 +95,8 @@ value_or so_far shift read bytes below fits short =
     rw (longer shift bytes) (value_above (2 ^ shift) (256 ^ bytes) so_far read below fits) in
     let most : 2 ^ (shift + 8 * bytes) ≤ 2 ^ 64 = pow-le-pow_right (omega arith) short in
     let turned : read * 2 ^ shift ≡ 2 ^ shift * read = mul_comm read (2 ^ shift) in
-    let room : read * 2 ^ shift < 2 ^ 64 = omega (arith, whole, most, turned) in (
-      ap (λ (n : ℕ). bit_or so_far n) (mod-eq_of_lt room)
-          ∙ or_shifted_r read shift so_far below
-          ∙ sum_turned so_far (2 ^ shift * read) (read * 2 ^ shift) turned,
-      whole,
-    )
+    let room : read * 2 ^ shift < 2 ^ 64 = omega arith in
+    (rw (mod-eq_of_lt room, or_shifted_r read shift so_far below) (omega arith), whole)
 
 pub next_value :
     (value : Cycle → ℕ) (cycles : List Cycle) (i so_far shift read : ℕ) (d : Cycle) → i < length cycles →
@@ -119,29 +107,19 @@ pub next_value :
 next_value value cycles i so_far shift read d within is fits short before =
     let bytes = bytes_of (get_or cycles i d).access.width in
     let J = joined_cycles value (drop (i + 1) cycles) in
+    let one_more : i + 1 ≡ suc i = omega arith in
     let joined_at : joined_cycles value (drop i cycles) ≡ read + 256 ^ bytes * J =
-    ap (joined_cycles value) (drop-cons cycles i d within)
-    ∙ ap (λ (n : ℕ). value (get_or cycles i d) + 256 ^ bytes * joined_cycles value (drop n cycles)) (one_more i)
-    ∙ ap (λ (n : ℕ). n + 256 ^ bytes * J) (sym is) in
+    rw (one_more, drop-cons cycles i d within, is) refl in
     let next = value_or so_far shift read bytes before.below fits short in
     record {
       below = rw next.0 next.1;
       sum =
-          ap (λ (n : ℕ). n + 2 ^ (shift + 8 * bytes) * J) next.0
-          ∙ ap (λ (n : ℕ). so_far + 2 ^ shift * read + n * J) (longer shift bytes)
-          ∙ gathered so_far (2 ^ shift) read (256 ^ bytes) J
-          ∙ ap (λ (n : ℕ). so_far + 2 ^ shift * n) (sym joined_at)
-          ∙ before.sum;
+          rw (next.0, longer shift bytes, gathered so_far (2 ^ shift) read (256 ^ bytes) J) (rw joined_at at before.sum);
     }
   where
-    one_more : (i : ℕ) → suc i ≡ i + 1
-    one_more i = omega arith
-
     gathered : (so_far P read B J : ℕ) → so_far + P * read + P * B * J ≡ so_far + P * (read + B * J)
     gathered so_far P read B J =
-        ap (λ (n : ℕ). so_far + P * read + n) (mul_assoc P B J)
-        ∙ add_assoc so_far (P * read) (P * (B * J))
-        ∙ ap (λ (n : ℕ). so_far + n) (sym (mul-add P read (B * J)))
+        rw (mul_assoc P B J, add_assoc so_far (P * read) (P * (B * J)), mul-add P read (B * J)) refl
 
 -- where no cycle is left
 pub whole_value :
@@ -149,6 +127,4 @@ pub whole_value :
     IsSoFar value cycles i so_far shift →
     so_far ≡ joined_cycles value cycles
 whole_value value cycles i so_far shift end is =
-    let none : joined_cycles value (drop i cycles) ≡ 0 = ap (joined_cycles value) end in
-    let sum : so_far + 2 ^ shift * 0 ≡ joined_cycles value cycles = rw none at is.sum in
-    omega (arith, sum)
+    let sum = rw end at is.sum in omega (arith, sum)

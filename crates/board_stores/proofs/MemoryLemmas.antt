@@ -1,7 +1,6 @@
 -- What an access to memory reaches.
 use Rattle.std.proofs.Common.{◌≡◌, ℕ, List, ◌∙◌, refl, map}
-use Rattle.board_prelude.proofs.Common.{Width, Target, Rom, Entry}
-use Rattle.board_prelude.proofs.Common.{Part, Setup, byte_of, part_answer}
+use Rattle.board_prelude.proofs.Common.{Width, Target, Rom, Entry, Part, Setup, byte_of, part_answer}
 use Rattle.board_base.specs.declared.access.Access.{Access}
 use Rattle.board_stores.specs.Common.{part_in, value_in, value_with}
 use Rattle.board_stores.specs.declared.stores.Stores.{Stores}

@@ -1,10 +1,10 @@
 -- The cycles of an access to ports cover it, and each is aligned and has its own bytes.
-use Rattle.std.proofs.Common.{◌≡◌, ℕ, zero, suc, ◌+◌, ◌-◌, ◌/◌, ◌%◌, ◌^◌, ◌≤◌, Bool, true, false, ◌&&◌, List, [], ◌∷◌}
-use Rattle.std.proofs.Common.{map, inl, inr, refl, sym, ◌∙◌, ap, subst, arith, ◌==◌, nat_le, All}
+use Rattle.std.proofs.Common.{◌≡◌, ℕ, zero, suc, ◌+◌, ◌-◌, ◌/◌, ◌%◌, ◌^◌, ◌≤◌, Bool, true, false, List, [], ◌∷◌, map}
+use Rattle.std.proofs.Common.{inl, inr, refl, arith, ◌==◌, All}
 use Rattle.std.proofs.Math.Nat.{zero-div, zero-mod}
 use Rattle.board_prelude.proofs.Common.{cases_Bool, cases_eq, ne_eqb, nat_tests, All-nil, All-cons, All-head, All-tail}
 use Rattle.board_prelude.proofs.Common.{Width, One, PortAccess, WideAccess, bytes_of, some_bytes, FitsAccess, bytes_few}
-use Rattle.board_prelude.proofs.Common.{IsBusAccess, longest_at, part_at, parts_from, parts_of}
+use Rattle.board_prelude.proofs.Common.{IsBusAccess, longest_at, part_at, parts_from}
 use Rattle.board_base.specs.declared.access.Width.TheVariants.{Two, Four}
 use Rattle.board_base.specs.declared.access.Access.{Access}
 use Rattle.board_stores.specs.PortCycles.{as_wide, cycle_of, port_cycles, Follow, IsCycleOf, AreCyclesOf, AreBusCycles}
@@ -12,20 +12,7 @@ use Rattle.board_stores.proofs.CutLemmas.{GoesOn, part_within, all_parts}
 
 -- a part is aligned
 longest_aligned : (addr left : ℕ) → addr % bytes_of (longest_at addr left) ≡ 0
-longest_aligned addr left =
-    elim (cases_Bool (addr % 4 == 0 && nat_le 4 left)) [
-      | inl four ↦ rw four (four_aligned four)
-      | inr not_four ↦ elim (cases_Bool (addr % 2 == 0 && nat_le 2 left)) [
-        | inl two ↦ rw (not_four, two) (two_aligned two)
-        | inr not_two ↦ rw (not_four, not_two) (omega arith)
-      ]
-    ]
-  where
-    four_aligned : (addr % 4 == 0 && nat_le 4 left) ≡ true → addr % 4 ≡ 0
-    four_aligned is = grind (arith, nat_tests)
-
-    two_aligned : (addr % 2 == 0 && nat_le 2 left) ≡ true → addr % 2 ≡ 0
-    two_aligned is = grind (arith, nat_tests)
+longest_aligned addr left = grind (arith, nat_tests)
 
 -- no more parts than bytes are left, so they end where the bytes do
 follow_from :
@@ -38,18 +25,12 @@ follow_from access (suc most) addr left few =
       | inl none ↦ rw none (omega arith)
       | inr some ↦
           let width = longest_at addr left in
-          let here : (left == 0) ≡ false = ne_eqb left 0 some in
-          let fits : bytes_of width ≤ left = part_within addr left (omega (arith, some)) in
-          let more : addr + bytes_of width + (left - bytes_of width) ≡ addr + left = omega (arith, fits) in
-          rw here (
+          let fits = part_within addr left (omega (arith, some)) in
+          let more : addr + left ≡ addr + bytes_of width + (left - bytes_of width) = omega arith in
+          rw (ne_eqb left 0 some, more) (
             refl,
-            subst
-                (λ (end : ℕ). Follow (addr + bytes_of width) end
-                (map (cycle_of access.write) (parts_from (as_wide access) most (addr + bytes_of width)
-                (left - bytes_of width))))
-                more
-                (follow_from access most (addr + bytes_of width) (left - bytes_of width)
-                (omega (arith, few, fits, some_bytes width))),
+            follow_from access most (addr + bytes_of width) (left - bytes_of width)
+                (omega (arith, few, fits, some_bytes width)),
           )
     ]
 
@@ -79,7 +60,7 @@ are_cycles access = record {
 
 pub are_cycles_as : (access : PortAccess) (cycles : List PortAccess) → cycles ≡ port_cycles access →
     AreCyclesOf access cycles
-are_cycles_as access cycles is = subst (AreCyclesOf access) (sym is) (are_cycles access)
+are_cycles_as access cycles is = rw is (are_cycles access)
 
 -- where all parts were made they are those of the access
 pub whole :
@@ -87,7 +68,7 @@ pub whole :
     wide ≡ as_wide access → cycles ≡ map (cycle_of access.write) parts → count ≡ 4 → GoesOn wide parts count done →
     cycles ≡ port_cycles access
 whole access wide parts count done cycles is are four on =
-    are ∙ ap (map (cycle_of access.write)) (all_parts wide parts count done four on ∙ ap parts_of is)
+    rw (are, all_parts wide parts count done four on, is) refl
 
 -- ---- on the bus
 
@@ -98,9 +79,7 @@ cycle_fits true whole One value places fits = omega arith
 cycle_fits true whole Two value places fits = omega arith
 cycle_fits true whole Four value places fits = omega arith
 cycle_fits false whole width value places fits =
-    ap (λ (n : ℕ). n / places % 256 ^ bytes_of width) fits
-    ∙ ap (λ (n : ℕ). n % 256 ^ bytes_of width) (zero-div places)
-    ∙ zero-mod (256 ^ bytes_of width)
+    rw (fits, zero-div places) (zero-mod (256 ^ bytes_of width))
 
 pub bus_cycles :
     (access : PortAccess) (cycles : List PortAccess) → FitsAccess access.write access.width access.value →

@@ -1,8 +1,8 @@
 -- Bytes that are put into the stores one after the other.
-use Rattle.std.proofs.Common.{◌≡◌, ℕ, suc, ◌+◌, ◌<◌, List, [], ◌∷◌, length, get_or, drop, Option, None, inl, inr}
-use Rattle.std.proofs.Common.{refl, ◌∙◌, ap, arith, unwrap_or}
-use Rattle.board_prelude.proofs.Common.{drop-cons, nil_from_length, option_or, Width, Target, Rom}
-use Rattle.board_prelude.proofs.Common.{Card, Device, Config, Cell, DramCell, CardCell, memory_put, parts_put}
+use Rattle.std.proofs.Common.{◌≡◌, ℕ, suc, ◌+◌, ◌<◌, List, [], ◌∷◌, length, get_or, drop, Option, None, inl, inr, refl}
+use Rattle.std.proofs.Common.{◌∙◌, ap, arith}
+use Rattle.board_prelude.proofs.Common.{drop-cons, nil_from_length, option_or, Width, Target, Rom, Card, Device, Config}
+use Rattle.board_prelude.proofs.Common.{Cell, DramCell, CardCell, memory_put, parts_put}
 use Rattle.pci_bars.specs.Contents.{held, held_byte}
 use Rattle.dram_store.proofs.DramLemmas.{HasPut, put_then as dram_then, later_first}
 use Rattle.board_stores.specs.declared.stores.Stores.{Stores}
@@ -34,11 +34,12 @@ put_then first later old mid new before after =
       dram = dram.each;
       sizes = λ dev base. after.sizes dev base ∙ before.sizes dev base;
       contents = λ dev base off number within.
-          after.contents dev base off number (omega (arith, within, before.sizes dev base))
-          ∙ ap (λ (byte : ℕ). unwrap_or (later (CardCell dev base off)) byte)
-          (before.contents dev base off number within)
-          ∙ later_first (later (CardCell dev base off)) (first (CardCell dev base off))
-          (held_byte old.contents dev base off);
+          rw (
+            after.contents dev base off number (omega (arith, within, before.sizes dev base)),
+            before.contents dev base off number within,
+          )
+          (later_first (later (CardCell dev base off)) (first (CardCell dev base off))
+          (held_byte old.contents dev base off));
     }
 
 -- what cycles leave

@@ -1,12 +1,11 @@
 -- What is read of memory fits the width of the access: each byte that is stored is below 256.
 use Rattle.std.proofs.Common.{◌≡◌, ℕ, ◌+◌, ◌^◌, ◌<◌, Bool, true, false, List, [], ◌∷◌, Option, Some, None, inl, inr}
 use Rattle.std.proofs.Common.{arith, ◌==◌, nat_lt, if◌then◌else◌, unwrap_or, option_and_then, slice_index}
-use Rattle.board_prelude.proofs.Common.{option_or, cases_Bool, Width, One, Target, Dram, Shadow, Smram, Rom, Card}
-use Rattle.board_prelude.proofs.Common.{Device, Config, Abort, bytes_of, Event, Memory, Wide, Port}
-use Rattle.board_prelude.proofs.Common.{Reply, Bus, Saw, Part, Entry, Setup, card_at, installed}
-use Rattle.board_prelude.proofs.Common.{kept_size, byte, wide, parts_of, parts_list, Cell, DramCell, CardCell}
-use Rattle.board_prelude.proofs.Common.{first_cell, distance, is_write, byte_put, memory_put, parts_put, entry_put}
-use Rattle.board_prelude.proofs.Common.{stored_of, dram_byte, card_byte, value_at}
+use Rattle.board_prelude.proofs.Common.{option_or, cases_Bool, Width, One, Target, Rom, Card, Device, Config, Abort}
+use Rattle.board_prelude.proofs.Common.{bytes_of, Event, Memory, Wide, Port, Reply, Bus, Part, Entry, Setup, card_at}
+use Rattle.board_prelude.proofs.Common.{installed, kept_size, byte, wide, parts_of, parts_list, Cell, DramCell}
+use Rattle.board_prelude.proofs.Common.{CardCell, first_cell, distance, is_write, byte_put, memory_put, parts_put}
+use Rattle.board_prelude.proofs.Common.{entry_put, stored_of, dram_byte, card_byte, value_at}
 use Rattle.board_base.specs.declared.access.Width.TheVariants.{Two, Four}
 use Rattle.board_base.specs.declared.access.Access.{Access}
 use Rattle.board_spec.specs.declared.event.Reply.TheVariants.{Parts}
@@ -52,16 +51,10 @@ parts_are_bytes (part ∷ parts) (reply ∷ replies) cell =
 
 entry_is_byte : (event : Event) (reply : Reply) (cell : Cell) → IsByte (entry_put event reply cell)
 entry_is_byte (Memory access) (Bus value target denial) cell = memory_is_byte access target cell
-entry_is_byte (Memory access) (Parts parts value) cell = tt
-entry_is_byte (Memory access) (Saw look) cell = tt
 entry_is_byte (Port access) (Bus value target denial) cell =
     only_if access.write _ (put_is_byte target access.port access.width access.value cell)
-entry_is_byte (Port access) (Parts parts value) cell = tt
-entry_is_byte (Port access) (Saw look) cell = tt
-entry_is_byte (Wide access) (Bus value target denial) cell = tt
 entry_is_byte (Wide access) (Parts parts value) cell = parts_are_bytes (parts_of access) (parts_list parts) cell
-entry_is_byte (Wide access) (Saw look) cell = tt
-entry_is_byte _ reply cell = tt
+entry_is_byte _ _ cell = tt
 
 -- ---- what is stored
 
@@ -109,12 +102,6 @@ pub value_below :
     (width : Width) →
     setup.rom ≡ rom → ((at : ℕ) → slice_index rom at < 256) → IsHeld rom contents target width →
     value_at setup history target place width < 256 ^ bytes_of width
-value_below setup history rom contents (Dram row) place width image bytes is =
-    wide_below (dram_byte setup history) place width (dram_below setup history)
-value_below setup history rom contents (Shadow row) place width image bytes is =
-    wide_below (dram_byte setup history) place width (dram_below setup history)
-value_below setup history rom contents Smram place width image bytes is =
-    wide_below (dram_byte setup history) place width (dram_below setup history)
 value_below setup history rom contents (Rom off) place width image bytes is =
     wide_below (slice_index setup.rom) off width (λ at. rw image (bytes at))
 value_below setup history rom contents (Card dev base off) place width image bytes is =
@@ -124,3 +111,5 @@ value_below setup history rom contents Abort place Two image bytes is = omega ar
 value_below setup history rom contents Abort place Four image bytes is = omega arith
 value_below setup history rom contents (Device dev) place width image bytes is = absurd is
 value_below setup history rom contents (Config reg) place width image bytes is = absurd is
+value_below setup history rom contents _ place width image bytes is =
+    wide_below (dram_byte setup history) place width (dram_below setup history)

@@ -1,4 +1,4 @@
-use Rattle.std.proofs.Common.{◌≡◌, [], drop, arith}
+use Rattle.std.proofs.Common.{arith}
 use Rattle.std.proofs.lemmas.List.{drop_all}
 use Rattle.board_stores.proofs.PutLemmas.{none_put, put_at, ready_after}
 use Rattle.board_stores.proofs.join.write_cycles.Goals as goal
@@ -21,8 +21,5 @@ loop-cycle-preserved c =
 
 pub returns : goal.returns
 returns c =
-    let cycles = c.args.cycles.now in
-    let end : drop c.loop-cycle.cycle-index cycles ≡ [] = drop_all c.loop-cycle.cycle-index cycles (omega arith) in
-    record {
-      put = c.loop-cycle.invariant.put c.loop-cycle.stores (rw end (none_put c.loop-cycle.stores));
-    }
+    let end = drop_all c.loop-cycle.cycle-index c.args.cycles.now (omega arith) in
+    record { put = c.loop-cycle.invariant.put c.loop-cycle.stores (rw end (none_put c.loop-cycle.stores)) }

@@ -1,7 +1,5 @@
-use Rattle.std.proofs.Common.{◌≡◌, ◌+◌, ◌-◌, ◌<◌, ◌≤◌, ◌++◌, ℕ, List, [], ◌∷◌, map, arith, ap, sym, ◌∙◌}
-use Rattle.board_prelude.proofs.Common.{map-append, length-append, Width, PortAccess, bytes_of, longest_at}
-use Rattle.arrayvec.specs.ArrayVec.{ArrayVec}
-use Rattle.board_base.specs.declared.access.Access.{Access}
+use Rattle.std.proofs.Common.{◌≡◌, ◌+◌, ◌-◌, ◌++◌, [], ◌∷◌, arith, refl}
+use Rattle.board_prelude.proofs.Common.{map-append, length-append}
 use Rattle.board_stores.specs.declared.ports.PortCycle.{PortCycle}
 use Rattle.board_stores.specs.PortCycles.{cycle_of, port_accesses}
 use Rattle.board_stores.proofs.CutLemmas.{part_within, next_part, no_part}
@@ -17,40 +15,36 @@ loop-preserved c =
           let cycles = c.loop.cycles.items in
           let part = w.part_at-part.result in
           let cycle : PortCycle = w.cycle_of.result in
-          let left : ℕ = access.bytes - c.loop.done in
-          let width : Width = longest_at (access.addr + c.loop.done) left in
-          let width_is : part.width ≡ width = ap (λ (p : Access). p.width) w.part_at-part.ensures.part in
-          let some : c.loop.done < access.bytes = w.if-done-wide.true in
-          let fits : bytes_of width ≤ left = part_within (access.addr + c.loop.done) left (omega (arith, some)) in
-          let done_is : c.if-done-wide.done ≡ c.loop.done + bytes_of part.width =
-          w.done-is ∙ ap (λ (n : ℕ). c.loop.done + n) w.bytes.ensures.bytes in
-          let items : c.if-done-wide.cycles.items ≡ cycles ++ cycle ∷ [] =
-          ap (λ (v : ArrayVec PortCycle). v.items) w.cycles-is ∙ w.push.ensures.items in
+          let fits = part_within (access.addr + c.loop.done) (access.bytes - c.loop.done)
+          (omega (arith, w.if-done-wide.true)) in
+          let done_is = rw w.bytes.ensures.bytes at w.done-is in
+          let items : c.if-done-wide.cycles.items ≡ cycles ++ cycle ∷ [] = rw w.cycles-is w.push.ensures.items in
           record {
-            inside = rw (done_is, width_is) (omega (arith, some, fits));
+            inside = rw (done_is, w.part_at-part.ensures.part) (omega (arith, w.if-done-wide.true));
             few = rw items (omega (arith, length-append cycles (cycle ∷ []), c.loop.invariant.few));
             parts = c.loop.invariant.parts ++ part ∷ [];
             are =
-                rw items
-                (map-append (λ (it : PortCycle). it.access) cycles (cycle ∷ [])
-                ∙ ap (λ (front : List PortAccess). front ++ cycle.access ∷ []) c.loop.invariant.are
-                ∙ ap (λ (last : PortAccess). map (cycle_of c.args.access.now.write) c.loop.invariant.parts ++ last ∷ [])
-                w.cycle_of.ensures.cycle
-                ∙ sym (map-append (cycle_of c.args.access.now.write) c.loop.invariant.parts (part ∷ [])));
+                rw (
+                  items,
+                  map-append (λ (it : PortCycle). it.access) cycles (cycle ∷ []),
+                  map-append (cycle_of c.args.access.now.write) c.loop.invariant.parts (part ∷ []),
+                  c.loop.invariant.are,
+                  w.cycle_of.ensures.cycle,
+                ) refl;
             on =
                 rw done_is
-                (next_part access c.loop.invariant.parts c.loop.counter c.loop.done part c.loop-test.true some
+                (next_part access c.loop.invariant.parts c.loop.counter c.loop.done part c.loop-test.true w.if-done-wide.true
                 w.part_at-part.ensures.part c.loop.invariant.on);
           }
       | else-done-wide w ↦
-          let access = c.as_wide-wide.result in
-          let all : access.bytes ≤ c.loop.done = w.if-done-wide.false in
           record {
             inside = rw w.done-is c.loop.invariant.inside;
             few = rw w.cycles-is (omega (arith, c.loop.invariant.few));
             parts = c.loop.invariant.parts;
             are = rw w.cycles-is c.loop.invariant.are;
-            on = rw w.done-is (no_part access c.loop.invariant.parts c.loop.counter c.loop.done all
+            on =
+                rw w.done-is
+                (no_part c.as_wide-wide.result c.loop.invariant.parts c.loop.counter c.loop.done w.if-done-wide.false
                 c.loop.invariant.on);
           }
     ]
@@ -63,15 +57,8 @@ returns-clause-cycles c =
 
 pub returns-clause-covers : goal.returns-clause-covers
 returns-clause-covers c =
-    are_cycles_as c.args.access.now (port_accesses c.loop.cycles.items)
-    (whole c.args.access.now c.as_wide-wide.result c.loop.invariant.parts c.loop.counter c.loop.done
-    (port_accesses c.loop.cycles.items) c.as_wide-wide.ensures.wide c.loop.invariant.are
-    (omega arith) c.loop.invariant.on)
+    are_cycles_as c.args.access.now (port_accesses c.loop.cycles.items) (returns-clause-cycles c)
 
 pub returns-clause-bus : goal.returns-clause-bus
 returns-clause-bus c = λ fits.
-    bus_cycles c.args.access.now (port_accesses c.loop.cycles.items) fits
-    (are_cycles_as c.args.access.now (port_accesses c.loop.cycles.items)
-    (whole c.args.access.now c.as_wide-wide.result c.loop.invariant.parts c.loop.counter c.loop.done
-    (port_accesses c.loop.cycles.items) c.as_wide-wide.ensures.wide c.loop.invariant.are
-    (omega arith) c.loop.invariant.on)).each
+    bus_cycles c.args.access.now (port_accesses c.loop.cycles.items) fits (returns-clause-covers c).each
