@@ -1,10 +1,8 @@
 -- The worked texts of logs.
-use Rattle.std.proofs.Common.{ℕ, ◌≡◌, ◌+◌, ◌≤◌, ◌==◌, true, List, [], ◌∷◌, ◌++◌, length, codes}
-use Rattle.std.proofs.Common.{refl, if◌then◌else◌, get_or, take, drop, arith, inl, inr, sym, ap}
-use Rattle.std.proofs.Common.{◌∙◌}
-use Rattle.board_prelude.proofs.Common.{digits, common_steps, All-nil, Entry}
-use Rattle.board_prelude.proofs.Common.{line_feed, event_text, reply_text, line_text, lines_text, log_text, Statement}
-use Rattle.board_prelude.proofs.Common.{statements_of}
+use Rattle.std.proofs.Common.{ℕ, ◌≡◌, ◌+◌, ◌≤◌, ◌==◌, true, List, [], ◌∷◌, ◌++◌, length, codes, refl, if◌then◌else◌}
+use Rattle.std.proofs.Common.{get_or, take, drop, arith, inl, inr, sym, ap, ◌∙◌}
+use Rattle.board_prelude.proofs.Common.{digits, common_steps, All-nil, Entry, line_feed, event_text, reply_text}
+use Rattle.board_prelude.proofs.Common.{line_text, lines_text, log_text, Statement, statements_of}
 use Rattle.board_examples.specs.Common.{small_board, phases, look_last, LookLast, NoEntries, NoSuchVersion, EmptyLog}
 use Rattle.board_examples.specs.Common.{EmptyLogDiffers, CutLogDiffers, OpenLogDiffers, LongLogDiffers, order_lines}
 use Rattle.board_examples.specs.Common.{last_line}

@@ -1,12 +1,11 @@
 -- The examples of the devices and of the interrupt lines are computed from the definitions, line by line.
-use Rattle.board_prelude.proofs.Common.{levels_where, byte_of_levels, pending, first_selectable}
-use Rattle.board_prelude.proofs.Common.{request as pic_request, first_blocking, chip_after_write, byte_read}
-use Rattle.board_prelude.proofs.Common.{chip_after_read, answer_of, pair_after_acknowledge, is_line_driven, low_byte}
-use Rattle.board_prelude.proofs.Common.{high_byte, count_of_number, mode_numbered, access_numbered, programmed}
-use Rattle.board_prelude.proofs.Common.{element_bytes, status_byte, latch_count, latch_status}
-use Rattle.board_prelude.proofs.Common.{control as counter_control, read_back, read_live, read as counter_read}
-use Rattle.board_prelude.proofs.Common.{asks_for_load, complete as count_complete, take_low, take_byte}
-use Rattle.board_prelude.proofs.Common.{write as counter_write, gate_rises, gate_falls, load as counter_load}
+use Rattle.board_prelude.proofs.Common.{levels_where, byte_of_levels, pending, first_selectable, request as pic_request}
+use Rattle.board_prelude.proofs.Common.{first_blocking, chip_after_write, byte_read, chip_after_read, answer_of}
+use Rattle.board_prelude.proofs.Common.{pair_after_acknowledge, is_line_driven, low_byte, high_byte, count_of_number}
+use Rattle.board_prelude.proofs.Common.{mode_numbered, access_numbered, programmed, element_bytes, status_byte}
+use Rattle.board_prelude.proofs.Common.{latch_count, latch_status, control as counter_control, read_back, read_live}
+use Rattle.board_prelude.proofs.Common.{read as counter_read, asks_for_load, complete as count_complete, take_low}
+use Rattle.board_prelude.proofs.Common.{take_byte, write as counter_write, gate_rises, gate_falls, load as counter_load}
 use Rattle.board_prelude.proofs.Common.{count_down, count_to_end, count_to_reload, count_half, count_to_strobe}
 use Rattle.board_prelude.proofs.Common.{pulse_by_mode, pulse as counter_pulse, reset as timer_reset, port_read}
 use Rattle.board_prelude.proofs.Common.{read_back_chosen, write_control, port_write, set_gate2, out_of, pulse_all}

@@ -2,8 +2,8 @@
 -- length.
 use Rattle.std.proofs.Common.{ℕ, zero, suc, ◌≡◌, ◌+◌, ◌*◌, Bool, true, false, ◌||◌, nat_lt, List, ◌∷◌, length, filter}
 use Rattle.std.proofs.Common.{sum_by, refl, ap, ◌∙◌, arith, rules}
-use Rattle.board_prelude.proofs.Common.{list_any, sum_by-cons, Ack, Pulses, memory_of_cards}
-use Rattle.board_prelude.proofs.Common.{most_statements, most_phases, most_pulses, most_card_memory}
+use Rattle.board_prelude.proofs.Common.{list_any, sum_by-cons, Ack, Pulses, memory_of_cards, most_statements}
+use Rattle.board_prelude.proofs.Common.{most_phases, most_pulses, most_card_memory}
 use Rattle.script_spec.specs.Common.{Item, BeginPhase, is_phase, is_statement, is_cpus_above, cards_of, is_in_range}
 use Rattle.script_spec.specs.Common.{pulses_of, least_reason}
 use Rattle.script_spec.proofs.LeastReasons.{first_of}

@@ -1,16 +1,13 @@
 -- The histories with looks, and the spans that these see.
-use Rattle.std.proofs.Common.{ℕ, refl, arith, inr}
-use Rattle.std.proofs.Common.{rules}
-use Rattle.board_prelude.proofs.Common.{Window, reset_byte, writable_bits, host_bridge, isa_bridge}
-use Rattle.board_prelude.proofs.Common.{card_function, byte_of, config_address, reset_control, row_of, area_of}
-use Rattle.board_prelude.proofs.Common.{denial_of, memory_claim, memory_shut, rom_unselected, port_target_of}
-use Rattle.board_prelude.proofs.Common.{stored_of, port_answer, memory_answer, map_change_of, map_writes_of}
-use Rattle.board_prelude.proofs.Common.{ide_function, io_claim, io_shut}
-use Rattle.board_prelude.proofs.Common.{nat_tests}
-use Rattle.board_examples.specs.Common.{from_reset, rom_card_board, expansion_rom}
-use Rattle.board_examples.specs.Common.{ExpansionRom, small_board}
-use Rattle.board_examples.specs.Common.{look_in_smm, LookInSmm, two_cards}
-use Rattle.board_examples.specs.Common.{two_cards_at_one_address, moved_card, card_moved_under_the_rom}
+use Rattle.std.proofs.Common.{ℕ, refl, arith, inr, rules}
+use Rattle.board_prelude.proofs.Common.{Window, reset_byte, writable_bits, host_bridge, isa_bridge, card_function}
+use Rattle.board_prelude.proofs.Common.{byte_of, config_address, reset_control, row_of, area_of, denial_of}
+use Rattle.board_prelude.proofs.Common.{memory_claim, memory_shut, rom_unselected, port_target_of, stored_of}
+use Rattle.board_prelude.proofs.Common.{port_answer, memory_answer, map_change_of, map_writes_of, ide_function}
+use Rattle.board_prelude.proofs.Common.{io_claim, io_shut, nat_tests}
+use Rattle.board_examples.specs.Common.{from_reset, rom_card_board, expansion_rom, ExpansionRom, small_board}
+use Rattle.board_examples.specs.Common.{look_in_smm, LookInSmm, two_cards, two_cards_at_one_address, moved_card}
+use Rattle.board_examples.specs.Common.{card_moved_under_the_rom}
 use Rattle.board_examples.specs.OutsideBases.{frame_board, outside_base, OutsideBaseRead}
 use Rattle.board_examples.proofs.Lines.{legal}
 use Rattle.board_examples.proofs.Spans.{far_span, first_span, covers-yes, covers-no}

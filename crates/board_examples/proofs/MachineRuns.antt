@@ -15,11 +15,11 @@ use Rattle.board_prelude.proofs.Common.{pair_after_acknowledge, begin_read, sect
 use Rattle.board_prelude.proofs.Common.{verified, obeyed, commanded, after_word, word_written, register_written}
 use Rattle.board_prelude.proofs.Common.{identify_word}
 use Rattle.device_spec.specs.Pit.{mode_numbered, access_numbered, programmed, count_of_number, low_byte, high_byte}
-use Rattle.device_spec.specs.Pit.{element_bytes, status_byte, latch_count, latch_status, control, read_back}
-use Rattle.device_spec.specs.Pit.{read_live, read, asks_for_load, complete, take_low, take_byte, write, gate_rises}
-use Rattle.device_spec.specs.Pit.{gate_falls, load, count_down, count_to_end, count_to_reload, count_half}
-use Rattle.device_spec.specs.Pit.{count_to_strobe, pulse_by_mode, pulse, reset, port_read, read_back_chosen}
-use Rattle.device_spec.specs.Pit.{write_control, port_write, set_gate2, out_of, pulse_all, pulses, rises}
+use Rattle.device_spec.specs.Pit.{element_bytes, status_byte, latch_count, latch_status, control, read_back, read_live}
+use Rattle.device_spec.specs.Pit.{read, asks_for_load, complete, take_low, take_byte, write, gate_rises, gate_falls}
+use Rattle.device_spec.specs.Pit.{load, count_down, count_to_end, count_to_reload, count_half, count_to_strobe}
+use Rattle.device_spec.specs.Pit.{pulse_by_mode, pulse, reset, port_read, read_back_chosen, write_control, port_write}
+use Rattle.device_spec.specs.Pit.{set_gate2, out_of, pulse_all, pulses, rises}
 use Rattle.device_spec.specs.Clock.{power_on}
 use Rattle.device_spec.specs.Routing.{is_line_driven}
 use Rattle.board_examples.specs.Machines.Routing.{RouteBytes, LinesDriven, TriggerBytes}

@@ -5,9 +5,8 @@ use Rattle.std.proofs.lemmas.List.Elements.{All-from_recursion}
 use Rattle.board_prelude.proofs.Common.{nat_tests, Bytes, Area, Kind, Fetch, Read, Write, is_within, bridge, pam}
 use Rattle.board_prelude.proofs.Common.{nibble, is_open, is_shadowed, is_smram_range, is_smram_open, is_rom_selected}
 use Rattle.board_prelude.proofs.Common.{fdhc, drb, xbcs, area_of, row_of, memory_claim, MapRange, IsRight}
-use Rattle.board_prelude.proofs.Common.{NeighboursDiffer, byte_of}
-use Rattle.board_prelude.proofs.Common.{reset_byte, writable_bits, host_bridge, isa_bridge, config_address}
-use Rattle.board_prelude.proofs.Common.{reset_control}
+use Rattle.board_prelude.proofs.Common.{NeighboursDiffer, byte_of, reset_byte, writable_bits, host_bridge, isa_bridge}
+use Rattle.board_prelude.proofs.Common.{config_address, reset_control}
 use Rattle.board_base.specs.declared.target.Area.TheVariants.{Abort, Dram, Rom, Smram}
 use Rattle.board_examples.specs.Common.{small_board, range, smram_range, smram_written, map_round, MapAfterReset}
 use Rattle.board_examples.specs.Common.{MapOpenAndClosed, MapClosedToData, MapOfSmm}

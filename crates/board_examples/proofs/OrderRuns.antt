@@ -2,10 +2,9 @@
 use Rattle.std.proofs.Common.{ℕ, ◌≡◌, false, [], ◌∷◌, refl, arith, inl, inr, rules, ◌∙◌}
 use Rattle.board_prelude.proofs.Common.{Read, Statement, reset_byte, writable_bits, host_bridge, isa_bridge}
 use Rattle.board_prelude.proofs.Common.{ide_function, card_function, byte_of, config_address, reset_control}
-use Rattle.board_prelude.proofs.Common.{map_change_of, map_writes_of, row_of, area_of, memory_claim, io_claim}
-use Rattle.board_prelude.proofs.Common.{io_shut, port_target_of, IsSpan, memory_answer, port_answer, events_by}
-use Rattle.board_prelude.proofs.Common.{statement_of, BeginsWith, nat_tests, denial_of, memory_shut, rom_unselected}
-use Rattle.board_prelude.proofs.Common.{stored_of}
+use Rattle.board_prelude.proofs.Common.{map_change_of, map_writes_of, row_of, area_of, memory_claim, io_claim, io_shut}
+use Rattle.board_prelude.proofs.Common.{port_target_of, IsSpan, memory_answer, port_answer, events_by, statement_of}
+use Rattle.board_prelude.proofs.Common.{BeginsWith, nat_tests, denial_of, memory_shut, rom_unselected, stored_of}
 use Rattle.board_base.specs.declared.target.Area.TheVariants.{Rom as RomArea}
 use Rattle.board_examples.specs.Common.{small_board, addressed, opened, sees_rom, look_last, LookLast, LookFirst}
 use Rattle.board_examples.specs.Common.{LookAlone, LookTooEarly}

@@ -1,11 +1,8 @@
 -- The borders of a setup, from the definitions.
-use Rattle.std.proofs.Common.{refl, arith}
-use Rattle.std.proofs.Common.{rules}
-use Rattle.board_prelude.proofs.Common.{All-nil, All-cons, All-head, leb-true}
-use Rattle.board_prelude.proofs.Common.{IsCard, IsCardList}
-use Rattle.board_examples.specs.Setups.{eight_cards, MemoryBorders, DiskBorders}
-use Rattle.board_examples.specs.Setups.{CardBorders, CardListBorders, WindowBorders}
-use Rattle.board_examples.specs.Setups.{SetupBorders}
+use Rattle.std.proofs.Common.{refl, arith, rules}
+use Rattle.board_prelude.proofs.Common.{All-nil, All-cons, All-head, leb-true, IsCard, IsCardList}
+use Rattle.board_examples.specs.Setups.{eight_cards, MemoryBorders, DiskBorders, CardBorders, CardListBorders}
+use Rattle.board_examples.specs.Setups.{WindowBorders, SetupBorders}
 use Rattle.std.proofs.lemmas.List.Elements.{All-from_recursion}
 use Rattle.board_examples.proofs.Histories.{rom_size}
 

@@ -1,12 +1,11 @@
 -- The spans that the worked examples look at.
 use Rattle.std.proofs.Common.{ℕ, ◌≡◌, ◌+◌, ◌-◌, ◌*◌, ◌/◌, ◌^◌, ◌<◌, ◌≤◌, ◌≢◌, Bool, true, false, ◌∷◌, [], nat_lt, refl}
-use Rattle.std.proofs.Common.{List, flat_map}
-use Rattle.std.proofs.Common.{arith, eq-eqb, ne_eqb, inr, sym, ◌∙◌}
+use Rattle.std.proofs.Common.{List, flat_map, arith, eq-eqb, ne_eqb, inr, sym, ◌∙◌}
 use Rattle.std.proofs.Math.Nat.{div-eq_of_lt-le}
 use Rattle.board_prelude.proofs.Common.{nat_tests, div-lt_iff_lt-mul, Kind, is_within, Setup, Bytes, Area, Window}
-use Rattle.board_prelude.proofs.Common.{is_covered, is_rom_selected, is_smram_range, row_of, area_of}
-use Rattle.board_prelude.proofs.Common.{memory_claim, IsSpan, top_of, xbcs, first_of, card_area, option_map}
-use Rattle.board_prelude.proofs.Common.{memory_windows, is_enabled_for}
+use Rattle.board_prelude.proofs.Common.{is_covered, is_rom_selected, is_smram_range, row_of, area_of, memory_claim}
+use Rattle.board_prelude.proofs.Common.{IsSpan, top_of, xbcs, first_of, card_area, option_map, memory_windows}
+use Rattle.board_prelude.proofs.Common.{is_enabled_for}
 use Rattle.board_base.specs.declared.target.Area.TheVariants.{Abort}
 
 pub covers-yes : (x k : ℕ) (window : Window) → window.inside / 2 ^ window.bits ≡ k → k * 2 ^ window.bits ≤ x →

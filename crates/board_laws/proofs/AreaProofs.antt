@@ -1,9 +1,7 @@
 -- Who answers at an address of memory.
-use Rattle.std.proofs.Common.{◌≡◌, ℕ, zero, suc, ◌+◌, ◌≤◌, ◌<◌, true, Some}
-use Rattle.std.proofs.Common.{None, is_some, refl, ◌∙◌, inl, inr, arith, nat_lt}
-use Rattle.board_prelude.proofs.Common.{cases_lt, cond-true, lt-ltb, le-ltb}
-use Rattle.board_prelude.proofs.Common.{nat_tests}
-use Rattle.board_prelude.proofs.Common.{Bytes, boundary, top_of, row_of}
+use Rattle.std.proofs.Common.{◌≡◌, ℕ, zero, suc, ◌+◌, ◌≤◌, ◌<◌, true, Some, None, is_some, refl, ◌∙◌, inl, inr, arith}
+use Rattle.std.proofs.Common.{nat_lt}
+use Rattle.board_prelude.proofs.Common.{cases_lt, cond-true, lt-ltb, le-ltb, nat_tests, Bytes, boundary, top_of, row_of}
 use borrow.Author.Count.{below_more}
 use Rattle.board_laws.proofs.Numbers.{numbers_from, find-number}
 use Rattle.board_laws.specs.AreaLaws.{IsRow, HasRow, RowBelowTop}

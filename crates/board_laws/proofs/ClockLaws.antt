@@ -1,12 +1,12 @@
 -- The laws of the clock's machine.
-use Rattle.std.proofs.Common.{◌≡◌, ℕ, ◌%◌, ◌<◌, ◌≤◌, inl, inr, Bool, true, false, ◌&&◌, ◌||◌, List}
-use Rattle.std.proofs.Common.{nat_le, ◌==◌, if◌then◌else◌, suc, length, get_or, set, refl, ap, ◌∙◌, arith}
-use Rattle.std.proofs.Common.{get_or-set_other, get_or-set_same}
-use Rattle.board_prelude.proofs.Common.{cases_Bool, cases_eq, ne_eqb, nat_tests, get_or-set_at, length-set}
-use Rattle.board_prelude.proofs.Common.{CivilTime, Clock, number_byte, hour_byte, control_of, holds_time}
-use Rattle.board_prelude.proofs.Common.{time_bytes, put, tell, byte_at, alarm_fits, alarm_rings}
-use Rattle.board_prelude.proofs.Common.{control_reset, written, data_byte, update_interrupts, after_write, after_reset}
-use Rattle.board_prelude.proofs.Common.{after_moment, register_c, after_read, clock_index_port, clock_data_port}
+use Rattle.std.proofs.Common.{◌≡◌, ℕ, ◌%◌, ◌<◌, ◌≤◌, inl, inr, Bool, true, false, ◌&&◌, ◌||◌, List, nat_le, ◌==◌}
+use Rattle.std.proofs.Common.{if◌then◌else◌, suc, length, get_or, set, refl, ap, ◌∙◌, arith, get_or-set_other}
+use Rattle.std.proofs.Common.{get_or-set_same}
+use Rattle.board_prelude.proofs.Common.{cases_Bool, cases_eq, ne_eqb, nat_tests, get_or-set_at, length-set, CivilTime}
+use Rattle.board_prelude.proofs.Common.{Clock, number_byte, hour_byte, control_of, holds_time, time_bytes, put, tell}
+use Rattle.board_prelude.proofs.Common.{byte_at, alarm_fits, alarm_rings, control_reset, written, data_byte}
+use Rattle.board_prelude.proofs.Common.{update_interrupts, after_write, after_reset, after_moment, register_c}
+use Rattle.board_prelude.proofs.Common.{after_read, clock_index_port, clock_data_port}
 use Rattle.board_base.specs.Bits.{is_bit}
 use Rattle.device_spec.specs.Clock.{control_written, power_on}
 use Rattle.board_laws.specs.ClockLaws.{number_read, hour_read, Shows, IsShowable, ShowsTheMoment, HasAlarm}

@@ -1,8 +1,8 @@
 -- A denial is given exactly where nobody answers, and where the ROM is written.
-use Rattle.std.proofs.Common.{◌≡◌, ℕ, zero, suc, ◌+◌, ◌-◌, Bool, true, false, List, Option, Some, None}
-use Rattle.std.proofs.Common.{is_some, refl, sym, subst, inl, inr, ◌==◌, if◌then◌else◌, map, option_map, unwrap_or, All}
-use Rattle.board_prelude.proofs.Common.{cases_Bool, false≢true, All-nil, All-cons, Width, Kind, Fetch, Read}
-use Rattle.board_prelude.proofs.Common.{Write, WideAccess, Reg, Area, Dev, Target, Device, Denial, NoRegister, bytes_of}
+use Rattle.std.proofs.Common.{◌≡◌, ℕ, zero, suc, ◌+◌, ◌-◌, Bool, true, false, List, Option, Some, None, is_some, refl}
+use Rattle.std.proofs.Common.{sym, subst, inl, inr, ◌==◌, if◌then◌else◌, map, option_map, unwrap_or, All}
+use Rattle.board_prelude.proofs.Common.{cases_Bool, false≢true, All-nil, All-cons, Width, Kind, Fetch, Read, Write}
+use Rattle.board_prelude.proofs.Common.{WideAccess, Reg, Area, Dev, Target, Device, Denial, NoRegister, bytes_of}
 use Rattle.board_prelude.proofs.Common.{Select, Always, IdeChannel, device_at, select_of, Memory, Wide, Port, Part}
 use Rattle.board_prelude.proofs.Common.{Reply, Bus, Entry, Setup, is_config_port, config_address, config_register}
 use Rattle.board_prelude.proofs.Common.{byte_of, Bytes, Window, denial_in, denial_of, io_claim, io_shut, command_of}

@@ -1,10 +1,9 @@
 -- An entry leaves the devices that its reply does not name, and with their drivers the lines.
 use Rattle.std.proofs.Common.{◌≡◌, false, List, ◌∷◌, refl, ◌∙◌, ap, inl, inr}
 use Rattle.board_prelude.proofs.Common.{cond-false, out_of, Entry, is_hard_reset, wire_of, irq_of, triggers_of}
-use Rattle.board_prelude.proofs.Common.{PlainPorts, plain_at_reset}
-use Rattle.board_prelude.proofs.Common.{plain_of, timer_of, timer_after, clock_of, disk_with, triggers-alone}
-use Rattle.board_prelude.proofs.Common.{system-alone, timer-alone, clock-alone, disk-alone, wire-alone, line-alone}
-use Rattle.board_prelude.proofs.Common.{out-alone, levels-same}
+use Rattle.board_prelude.proofs.Common.{PlainPorts, plain_at_reset, plain_of, timer_of, timer_after, clock_of}
+use Rattle.board_prelude.proofs.Common.{disk_with, triggers-alone, system-alone, timer-alone, clock-alone, disk-alone}
+use Rattle.board_prelude.proofs.Common.{wire-alone, line-alone, out-alone, levels-same}
 use Rattle.board_laws.specs.DeviceLaws.{OthersStay, LinesStay}
 
 pub others_stay : OthersStay

@@ -2,8 +2,7 @@
 use Rattle.std.proofs.Common.{◌≡◌, ℕ, Bool, true, false, cond, Option, Some, None, List, [], ◌∷◌, ◌++◌, refl, sym, ap}
 use Rattle.std.proofs.Common.{◌∙◌, inl, inr, is_some}
 use Rattle.board_prelude.proofs.Common.{cases_Bool, Chip, pending, first_selectable, request, interrupt}
-use Rattle.board_prelude.proofs.Common.{acknowledged_if, chip_after_read, Pair, settled, latched}
-use Rattle.board_prelude.proofs.Common.{settled-asks}
+use Rattle.board_prelude.proofs.Common.{acknowledged_if, chip_after_read, Pair, settled, latched, settled-asks}
 use Rattle.board_laws.specs.PicLaws.{ReadsLeaveTheOther}
 use Rattle.board_laws.proofs.PicLaws.{settled-slave}
 
@@ -40,8 +39,8 @@ other-slave pair slave (Some level) e is quiet =
     let held : (latched pair).master ≡ pair.master = ap (λ p. p.master) (sym (settled-asks pair (ap is_some e)) ∙ is) in
     elim (cases_Bool (is_some (interrupt slave))) [ inl asks ↦ rw asks held | inr none ↦ rw none refl ]
 
-pub reads-leave : ReadsLeaveTheOther
-reads-leave pair port = record {
+pub reads_leave : ReadsLeaveTheOther
+reads_leave pair port = record {
   slave = λ e. rw e (settled-slave (record pair { master = chip_after_read pair.master }));
   master = λ e is.
       rw e (other-slave pair (chip_after_read pair.slave) (interrupt pair.slave) refl is (still-quiet pair.slave));

@@ -67,15 +67,15 @@ found-first chip (x ∷ xs) level e =
 interrupt-request : (chip : Chip) (level : ℕ) → interrupt chip ≡ Some level → request chip ≡ Some level
 interrupt-request chip level e = grind (arith, nat_tests)
 
-pub interrupt-first : (chip : Chip) (level : ℕ) → interrupt chip ≡ Some level →
+pub interrupt_first : (chip : Chip) (level : ℕ) → interrupt chip ≡ Some level →
     IsFirstInOrder chip (priority_order chip.lowest) level
-interrupt-first chip level e =
+interrupt_first chip level e =
     found-first chip (priority_order chip.lowest) level (sym (request-is chip (priority_order chip.lowest) refl)
     ∙ interrupt-request chip level e)
 
-pub interrupt-unmasked : (chip : Chip) (level : ℕ) → interrupt chip ≡ Some level → has chip.masked level ≡ false
-interrupt-unmasked chip level e =
-    let first = interrupt-first chip level e in
+pub interrupt_unmasked : (chip : Chip) (level : ℕ) → interrupt chip ≡ Some level → has chip.masked level ≡ false
+interrupt_unmasked chip level e =
+    let first = interrupt_first chip level e in
     not-true (has chip.masked level) (and_parts (has (pending chip) level) (not (has chip.masked level)) first.asks).1
 
 -- a requested level is one of the eight
@@ -89,7 +89,7 @@ requested-small chip level asks =
     ]
 
 pub interrupt-small : (chip : Chip) (level : ℕ) → interrupt chip ≡ Some level → level < 8
-interrupt-small chip level e = let first = interrupt-first chip level e in requested-small chip level first.asks
+interrupt-small chip level e = let first = interrupt_first chip level e in requested-small chip level first.asks
 
 -- ---- acknowledge
 
@@ -114,16 +114,16 @@ after-at : (pair : Pair) (o : Option ℕ) → interrupt pair.master ≡ o →
 unfolding pair_after_acknowledge
 after-at pair o e = ap (pair_acknowledged_at pair) e
 
-pub acknowledged-in_service : (pair : Pair) (level : ℕ) → interrupt pair.master ≡ Some level →
+pub acknowledged_in_service : (pair : Pair) (level : ℕ) → interrupt pair.master ≡ Some level →
     pair.master.auto_eoi ≡ false → has (pair_after_acknowledge pair).master.in_service level ≡ true
-acknowledged-in_service pair level e manual =
+acknowledged_in_service pair level e manual =
     ap (λ (p : Pair). has p.master.in_service level) (after-at pair (Some level) e)
     ∙ ap (λ set. has set level) (settled-in_service (pair_acknowledged pair level))
     ∙ in_service-acknowledged pair.master level (interrupt-small pair.master level e) manual
 
-pub slave-in_service : (pair : Pair) (level : ℕ) → interrupt pair.master ≡ Some 2 → interrupt pair.slave ≡ Some level →
+pub slave_in_service : (pair : Pair) (level : ℕ) → interrupt pair.master ≡ Some 2 → interrupt pair.slave ≡ Some level →
     pair.slave.auto_eoi ≡ false → has (pair_after_acknowledge pair).slave.in_service level ≡ true
-slave-in_service pair level e s manual =
+slave_in_service pair level e s manual =
     ap (λ (p : Pair). has p.slave.in_service level) (after-at pair (Some 2) e)
     ∙ ap (λ (c : Chip). has c.in_service level) (settled-slave (pair_acknowledged pair 2))
     ∙ ap (λ o. has (acknowledged_if pair.slave o).in_service level) s
@@ -146,8 +146,8 @@ spurious-by pair (Some level) slave e s spurious =
     let after = after-at pair (Some level) e in
     grind (arith, nat_tests, settled-slave)
 
-pub spurious-leaves : (pair : Pair) → (answer_of pair).is_spurious ≡ true → IsSpuriousAt pair
-spurious-leaves pair spurious = spurious-by pair _ _ refl refl spurious
+pub spurious_leaves : (pair : Pair) → (answer_of pair).is_spurious ≡ true → IsSpuriousAt pair
+spurious_leaves pair spurious = spurious-by pair _ _ refl refl spurious
 
 -- ---- a specific end of interrupt
 
@@ -161,9 +161,9 @@ pub without-one : (chip : Chip) (level : ℕ) → level < 8 →
     EndsOne chip (record chip { in_service = without_level chip.in_service level }) level
 without-one chip level small = grind (arith, nat_tests, has-levels_where)
 
-pub specific-end-one : (chip : Chip) (byte : ℕ) → is_bit byte 4 ≡ false → is_bit byte 3 ≡ false → byte / 32 ≡ 3 →
+pub specific_end_one : (chip : Chip) (byte : ℕ) → is_bit byte 4 ≡ false → is_bit byte 3 ≡ false → byte / 32 ≡ 3 →
     EndsOne chip (chip_after_write chip false byte) (byte % 8)
-specific-end-one chip byte b4 b3 command = rw (specific-end chip byte b4 b3 command)
+specific_end_one chip byte b4 b3 command = rw (specific-end chip byte b4 b3 command)
     (without-one chip (byte % 8) (omega arith))
 
 -- ---- the slave's request
@@ -182,8 +182,8 @@ acknowledged-latched pair None e before = rw (after-at pair None e) before
 acknowledged-latched pair (Some level) e before =
     rw (after-at pair (Some level) e) (slave-latched (pair_acknowledged pair level))
 
-pub stays-latched : StaysLatched
-stays-latched = record {
+pub stays_latched : StaysLatched
+stays_latched = record {
   at_reset = λ levels asks. absurd (false≢true asks);
   at_lines = λ pair levels elcr. slave-latched _;
   at_write = λ pair port byte. slave-latched (pair_written pair port byte);

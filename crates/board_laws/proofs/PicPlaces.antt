@@ -12,7 +12,7 @@ use Rattle.board_base.specs.Bits.{is_bit}
 use Rattle.device_spec.specs.Pic.{ended}
 use Rattle.board_laws.specs.PicLaws.{place_of, CanBeSelected, InterruptIsSelected, SelectedInterrupts, IsServedFirst}
 use Rattle.board_laws.specs.PicLaws.{NonSpecificEndEndsFirst, NonSpecificEndOfNone, IsFirstInOrder}
-use Rattle.board_laws.proofs.PicLaws.{priorities, interrupt-first, interrupt-unmasked, interrupt-small, without-one}
+use Rattle.board_laws.proofs.PicLaws.{priorities, interrupt_first, interrupt_unmasked, interrupt-small, without-one}
 
 -- ---- the order by places
 
@@ -68,8 +68,8 @@ found (suc d) i chip level h can at_place =
       ]
     ]
 
-pub selected-interrupts : SelectedInterrupts
-selected-interrupts chip level h ready can =
+pub selected_interrupts : SelectedInterrupts
+selected_interrupts chip level h ready can =
     ap (λ b. is_some (cond b (request chip) None)) ready
     ∙ (ap is_some (request-is chip (priority_order chip.lowest) refl)
     ∙ found (place_of chip.lowest level) 0 chip level h can (omega arith))
@@ -109,9 +109,9 @@ first-place chip level first h =
     ∙ get_or-append_seam first.higher level first.lower 0 in
     ap (place_of chip.lowest) (sym is) ∙ place_at chip.lowest (length first.higher) h before
 
-pub interrupt-selected : InterruptIsSelected
-interrupt-selected chip level h e =
-    let first = interrupt-first chip level e in
+pub interrupt_selected : InterruptIsSelected
+interrupt_selected chip level h e =
+    let first = interrupt_first chip level e in
     let place = first-place chip level first h in
     let small = interrupt-small chip level e in
     let quiet : (other : ℕ) → other < 8 → place_of chip.lowest other < place_of chip.lowest level → IsQuiet chip other =
@@ -121,7 +121,7 @@ interrupt-selected chip level h e =
       can = record {
         inside = small;
         asks = grind (arith, nat_tests, first.asks);
-        unmasked = interrupt-unmasked chip level e;
+        unmasked = interrupt_unmasked chip level e;
         free = first.free;
         first = λ other inside apart blocks. elim (cases_lt (place_of chip.lowest level) (place_of chip.lowest other)) [
           | inl after ↦ after
@@ -169,8 +169,8 @@ non-specific : (chip : Chip) (byte : ℕ) → is_bit byte 4 ≡ false → is_bit
 unfolding chip_after_write
 non-specific chip byte b4 b3 command = rw (b4, b3, command) refl
 
-pub non-specific-first : NonSpecificEndEndsFirst
-non-specific-first chip byte level h b4 b3 command first =
+pub non_specific_first : NonSpecificEndEndsFirst
+non_specific_first chip byte level h b4 b3 command first =
     let is : first_blocking chip ≡ Some level = first_blocking-is chip (priority_order chip.lowest) refl
     ∙ served (place_of chip.lowest level) 0 chip level h first (omega arith) in
     let after : chip_after_write chip false byte ≡ record chip { in_service = without_level chip.in_service level } =
@@ -189,8 +189,8 @@ none-served (suc d) i chip h none at_place =
     (none _ (priority_order-small chip.lowest i h (omega arith)))
     ∙ none-served d (i + 1) chip h none (omega arith)
 
-pub non-specific-none : NonSpecificEndOfNone
-non-specific-none chip byte h b4 b3 command none =
+pub non_specific_none : NonSpecificEndOfNone
+non_specific_none chip byte h b4 b3 command none =
     non-specific chip byte b4 b3 command
     ∙ ap (ended false chip) (first_blocking-is chip (priority_order chip.lowest) refl
     ∙ none-served 8 0 chip h none refl)

@@ -1,12 +1,12 @@
 -- A wide access to DRAM reads and writes the bytes from its address on.
 use Rattle.std.proofs.Common.{◌≡◌, ℕ, suc, ◌+◌, ◌-◌, ◌*◌, ◌/◌, ◌%◌, ◌^◌, ◌≤◌, ◌<◌, ◌⊎◌, inl, inr, true, List, [], ◌∷◌}
 use Rattle.std.proofs.Common.{Option, Some, None, refl, sym, ◌∙◌, ap, subst, arith, All, map}
-use Rattle.board_prelude.proofs.Common.{stored_of, cases_lt, cond-false, nat_tests, All-head}
-use Rattle.board_prelude.proofs.Common.{All-tail, Width, One, WideAccess, Target, Dram, Shadow, Smram, Card, bytes_of}
-use Rattle.board_prelude.proofs.Common.{Event, Wide, Part, Reply, Bus, Saw, Entry, Setup, byte, wide, part_at, parts_of}
-use Rattle.board_prelude.proofs.Common.{joined, Cell, DramCell, CardCell, first_cell, memory_put, parts_put}
-use Rattle.board_prelude.proofs.Common.{entry_put, is_write, dram_byte, memory_target, part_answer, value_at}
-use Rattle.board_prelude.proofs.Common.{wide_value, IsAnswer, made, total, is_cut, further}
+use Rattle.board_prelude.proofs.Common.{stored_of, cases_lt, cond-false, nat_tests, All-head, All-tail, Width, One}
+use Rattle.board_prelude.proofs.Common.{WideAccess, Target, Dram, Shadow, Smram, Card, bytes_of, Event, Wide, Part}
+use Rattle.board_prelude.proofs.Common.{Reply, Bus, Saw, Entry, Setup, byte, wide, part_at, parts_of, joined, Cell}
+use Rattle.board_prelude.proofs.Common.{DramCell, CardCell, first_cell, memory_put, parts_put, entry_put, is_write}
+use Rattle.board_prelude.proofs.Common.{dram_byte, memory_target, part_answer, value_at, wide_value, IsAnswer, made}
+use Rattle.board_prelude.proofs.Common.{total, is_cut, further}
 use native.Mathlib.Numerals.{unary_clauses}
 use Rattle.board_base.specs.declared.access.Width.TheVariants.{Two, Four}
 use Rattle.board_base.specs.declared.access.Access.{Access}

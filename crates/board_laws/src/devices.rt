@@ -9,6 +9,7 @@ ghost use Rattle.board_laws.specs.SystemPortLaw.{SystemPortByBits};
 use device_spec::laws::{pulses_add_up, reserved_lines_rest};
 
 /// Without a hard reset an entry changes only the device that its reply names.
+#[tactic(auto, using(crate::proofs::DeviceProofs::others_stay))]
 pub fn law_others_stay()
     ensures stay { OthersStay }
 {}
@@ -23,12 +24,14 @@ pub fn law_lines()
 }
 
 /// A line is at 1 where a card's INTA# is that is routed to it, and else only by the device of the line.
+#[tactic(auto, using(crate::proofs::WireProofs::wire_reaches_line, crate::proofs::WireProofs::line_has_driver))]
 pub fn law_wires()
     ensures reaches { WireReachesLine }
     ensures driver { LineHasDriver }
 {}
 
 /// What a read of port 61h gives, bit by bit.
+#[tactic(auto, using(crate::proofs::SystemPortProofs::system_port_by_bits))]
 pub fn law_system_port()
     ensures bits { SystemPortByBits }
 {}

@@ -21,11 +21,13 @@ pub fn routes_one_line()
 // The 8259A pair
 
 /// The order of priorities begins after the lowest level and goes round to it.
+#[tactic(auto, using(crate::proofs::PicLaws::priorities))]
 pub fn priorities_go_round()
     ensures { PrioritiesGoRound }
 {}
 
 /// A level is never acknowledged while one of higher priority can be selected, or is being served.
+#[tactic(auto, using(crate::proofs::PicLaws::interrupt_first))]
 pub fn interrupt_is_first()
     ensures { InterruptIsFirst }
 {}
@@ -37,11 +39,13 @@ pub fn interrupt_is_selected()
 {}
 
 /// A masked level is never acknowledged.
+#[tactic(auto, using(crate::proofs::PicLaws::interrupt_unmasked))]
 pub fn masked_levels_wait()
     ensures { MaskedLevelsWait }
 {}
 
 /// A level that is acknowledged without automatic end of interrupt is in service.
+#[tactic(auto, using(crate::proofs::PicLaws::acknowledged_in_service, crate::proofs::PicLaws::slave_in_service))]
 pub fn acknowledged_is_in_service()
     ensures master { AcknowledgedIsInService }
     ensures slave { AcknowledgedSlaveIsInService }
@@ -59,16 +63,19 @@ pub fn non_specific_end_ends_first()
 {}
 
 /// A spurious answer leaves the chip that gives it alone.
+#[tactic(auto, using(crate::proofs::PicLaws::spurious_leaves))]
 pub fn spurious_leaves_alone()
     ensures { SpuriousLeavesAlone }
 {}
 
 /// From the reset on, whenever the slave requests service its request is latched at input 2 of the master.
+#[tactic(auto, using(crate::proofs::PicLaws::stays_latched))]
 pub fn slave_is_latched()
     ensures { StaysLatched }
 {}
 
 /// A read of one chip, which may poll it, leaves the other chip alone.
+#[tactic(auto, using(crate::proofs::PairReads::reads_leave))]
 pub fn reads_leave_the_other()
     ensures { ReadsLeaveTheOther }
 {}
@@ -76,12 +83,14 @@ pub fn reads_leave_the_other()
 // The 8254
 
 /// A latched count is what was in CE when it was latched, whatever happens after it, and the reads give it.
+#[tactic(auto, using(crate::proofs::PitLatches::latched_count_stays, crate::proofs::PitLatches::latched_count_is_read))]
 pub fn latched_count_stays()
     ensures held { LatchedCountStays }
     ensures read { LatchedCountIsRead }
 {}
 
 /// A read-back of several counters, or of count and status, equals the single latches.
+#[tactic(auto, using(crate::proofs::PitReadBacks::one_by_one, crate::proofs::PitReadBacks::is_latch, crate::proofs::PitReadBacks::of_both))]
 pub fn read_back_is_single_latches()
     ensures counters { ReadBackIsOneByOne }
     ensures latch { ReadBackIsLatch }
@@ -89,6 +98,7 @@ pub fn read_back_is_single_latches()
 {}
 
 /// Pulses of the chip are pulses of each counter by itself.
+#[tactic(auto, using(device_spec::proofs::PitPulses::counters_apart))]
 pub fn counters_are_apart()
     ensures apart { CountersAreApart }
 {}
@@ -105,16 +115,19 @@ pub fn pulse_loads()
 {}
 
 /// In modes 0 and 1 OUT rises once, at the end of the count, and stays.
+#[tactic(auto, using(crate::proofs::PitCounts::counts_end_once))]
 pub fn counts_end_once()
     ensures { CountsEndOnce }
 {}
 
 /// In modes 4 and 5 OUT is 0 for one pulse, at the end of the count, and never again without a load.
+#[tactic(auto, using(crate::proofs::PitCounts::counts_strobe_once))]
 pub fn counts_strobe_once()
     ensures { CountsStrobeOnce }
 {}
 
 /// In modes 2 and 3 a count that is written waits for the next load, and is in use from then on.
+#[tactic(auto, using(crate::proofs::PitWaiting::count_waits, crate::proofs::PitWaiting::count_is_taken))]
 pub fn count_waits()
     ensures waits { CountWaits }
     ensures taken { CountIsTaken }
@@ -135,27 +148,32 @@ pub fn shows_the_moment()
 {}
 
 /// An alarm that is set to a time of day rings at this time and at no other.
+#[tactic(auto, using(crate::proofs::ClockLaws::rings_at_its_time))]
 pub fn rings_at_its_time()
     ensures law { RingsAtItsTime }
 {}
 
 /// A read of register C leaves no flag and no interrupt.
+#[tactic(auto, using(crate::proofs::ClockLaws::reading_quiets))]
 pub fn reading_quiets()
     ensures law { ReadingQuiets }
 {}
 
 /// A hard reset keeps the time and the memory, and switches each interrupt off.
+#[tactic(auto, using(crate::proofs::ClockLaws::reset_keeps_the_time))]
 pub fn reset_keeps_the_time()
     ensures law { ResetKeepsTheTime }
 {}
 
 /// A byte written past the registers is read there, and no other byte changes.
+#[tactic(auto, using(crate::proofs::ClockLaws::memory_keeps))]
 pub fn memory_keeps()
     ensures law { MemoryKeeps }
 {}
 
 /// What holds at power-on and after each step: there are 128 bytes with the index among them. Register A shows no
 /// update in progress, and no update can interrupt while the time stands still.
+#[tactic(auto, using(crate::proofs::ClockLaws::stays_sound))]
 pub fn stays_sound()
     ensures law { StaysSound }
 {}

@@ -1,16 +1,12 @@
 -- What an event leaves of each device, and the levels of lines whose drivers stayed.
-use Rattle.std.proofs.Common.{arith}
-use Rattle.std.proofs.Common.{◌≡◌, ◌≢◌, ℕ, Bool, ◌&&◌, List, [], ◌∷◌, Option, Some, None, refl, ap}
-use Rattle.std.proofs.Common.{◌==◌, map, option_map}
-use Rattle.board_spec.specs.Common.{list_any, PortAccess, Dev, Pit, System, Elcr, Ata, Wires}
-use Rattle.board_spec.specs.Common.{Triggers, PitState, out_of, set_gate2, Clock, Disk, Pair}
-use Rattle.board_spec.specs.Common.{Setup, wire_set, line_set, wire_of}
-use Rattle.board_spec.specs.Common.{irq_of, triggers_after}
-use Rattle.board_spec.specs.Common.{PlainPorts, plain_after, timer_accessed, timer_after, clock_after}
-use Rattle.board_spec.specs.Common.{clock_of}
-use Rattle.board_spec.specs.Common.{disk_after, disk_with, pirq_of_card, card_devices}
-use Rattle.board_spec.specs.Common.{pirq_level, pirqs, routes_of, pirq_levels, level_with, all_lines, levels_with}
-use Rattle.board_spec.specs.Common.{pair_after, IsAnswer, NamesDevice, ActsOnPair}
+use Rattle.std.proofs.Common.{arith, ◌≡◌, ◌≢◌, ℕ, Bool, ◌&&◌, List, [], ◌∷◌, Option, Some, None, refl, ap, ◌==◌, map}
+use Rattle.std.proofs.Common.{option_map}
+use Rattle.board_spec.specs.Common.{list_any, PortAccess, Dev, Pit, System, Elcr, Ata, Wires, Triggers, PitState}
+use Rattle.board_spec.specs.Common.{out_of, set_gate2, Clock, Disk, Pair, Setup, wire_set, line_set, wire_of, irq_of}
+use Rattle.board_spec.specs.Common.{triggers_after, PlainPorts, plain_after, timer_accessed, timer_after, clock_after}
+use Rattle.board_spec.specs.Common.{clock_of, disk_after, disk_with, pirq_of_card, card_devices, pirq_level, pirqs}
+use Rattle.board_spec.specs.Common.{routes_of, pirq_levels, level_with, all_lines, levels_with, pair_after, IsAnswer}
+use Rattle.board_spec.specs.Common.{NamesDevice, ActsOnPair}
 use Rattle.board_base.specs.declared.target.Dev.TheVariants.{Clock as ClockChip}
 use Rattle.board_spec.specs.declared.event.Event.{Event}
 use Rattle.board_spec.specs.declared.event.Reply.{Reply}

@@ -1,7 +1,7 @@
 -- Two flat maps of the same registers are one list, and every address has one span.
 use Rattle.std.proofs.Common.{◌≡◌, ℕ, ◌+◌, ◌<◌, ◌≤◌, inl, inr, List, [], ◌∷◌, refl, sym, ◌∙◌, subst, arith}
-use Rattle.board_spec.specs.Common.{AllByRecursion, Setup, Bytes, address_count, six_areas, MapRange, Tiles}
-use Rattle.board_spec.specs.Common.{Differs, NeighboursDiffer, IsRight, OneFlatMap}
+use Rattle.board_spec.specs.Common.{AllByRecursion, Setup, Bytes, address_count, six_areas, MapRange, Tiles, Differs}
+use Rattle.board_spec.specs.Common.{NeighboursDiffer, IsRight, OneFlatMap}
 use Rattle.device_spec.proofs.Common.{recursion_from_All, cases_lt}
 
 pub tiles_below : (from : ℕ) (ranges : List MapRange) → Tiles from ranges → from ≤ address_count

@@ -1,11 +1,10 @@
 -- A begun history that is not complete goes on by a statement of the phase where it stands.
 use Rattle.std.proofs.Common.{◌≡◌, ◌≢◌, ℕ, suc, ◌+◌, ◌≤◌, ◌<◌, inl, inr, List, [], ◌∷◌, ◌++◌, length, take, drop, min}
 use Rattle.std.proofs.Common.{refl, sym, ap, subst, arith}
-use Rattle.device_spec.proofs.Common.{nat_tests}
+use Rattle.device_spec.proofs.Common.{nat_tests, drop_of_length-le, take-append-le, drop-append-le, length-append}
+use Rattle.device_spec.proofs.Common.{length-take, take_all, recursion_from_All, cases_eq, cases_lt}
 use Rattle.board_spec.specs.Common.{AllByRecursion, entries_by, statements_of, events_by, BeginsWith, IsWholePhase}
 use Rattle.board_spec.specs.Common.{IsFrontOfPhase, HasPhases, HasPhasesSoFar, IsAddressed, in_file_order, BegunGoesOn}
-use Rattle.device_spec.proofs.Common.{drop_of_length-le, take-append-le, drop-append-le, length-append, length-take}
-use Rattle.device_spec.proofs.Common.{take_all, recursion_from_All, cases_eq, cases_lt}
 use Rattle.board_spec.specs.declared.event.Event.{Event}
 use Rattle.board_spec.specs.declared.event.Entry.{Entry}
 use Rattle.board_spec.specs.declared.event.Statement.{Statement}

@@ -1,15 +1,12 @@
 -- The lock law holds of every legal history.
-use Rattle.std.proofs.Common.{◌≡◌, ◌≢◌, ℕ, ◌+◌, ◌-◌, inl, inr, max, Bool, false}
-use Rattle.std.proofs.Common.{List, [], ◌∷◌, ◌++◌, Option, Some, ◌∙◌, arith, zero, suc, ◌==◌, map}
+use Rattle.std.proofs.Common.{◌≡◌, ◌≢◌, ℕ, ◌+◌, ◌-◌, inl, inr, max, Bool, false, List, [], ◌∷◌, ◌++◌, Option, Some, ◌∙◌}
+use Rattle.std.proofs.Common.{arith, zero, suc, ◌==◌, map}
 use Rattle.device_spec.proofs.Common.{nat_tests}
-use Rattle.board_spec.specs.Common.{AllByRecursion, Kind, WideAccess, bytes_of, Denial, Area, Target, Smram, Setup}
-use Rattle.board_spec.specs.Common.{bit, reset_byte, host_bridge, is_hard_reset}
-use Rattle.board_spec.specs.Common.{register_change, smram_after, byte_with}
-use Rattle.board_spec.specs.Common.{byte_of, Bytes, Window}
-use Rattle.board_spec.specs.Common.{area_under, area_of, smram}
-use Rattle.board_spec.specs.Common.{target_at, memory_answer, part_answer, IsAnswer, IsNext, IsLegal}
-use Rattle.board_spec.specs.Common.{SetsLock, NoHardReset, IsOutsideSmm, HasSmram, NamesSmram, longest_at, parts_from}
-use Rattle.board_spec.specs.Common.{parts_of, parts_list, LegalKeepsLock}
+use Rattle.board_spec.specs.Common.{AllByRecursion, Kind, WideAccess, bytes_of, Denial, Area, Target, Smram, Setup, bit}
+use Rattle.board_spec.specs.Common.{reset_byte, host_bridge, is_hard_reset, register_change, smram_after, byte_with}
+use Rattle.board_spec.specs.Common.{byte_of, Bytes, Window, area_under, area_of, smram, target_at, memory_answer}
+use Rattle.board_spec.specs.Common.{part_answer, IsAnswer, IsNext, IsLegal, SetsLock, NoHardReset, IsOutsideSmm}
+use Rattle.board_spec.specs.Common.{HasSmram, NamesSmram, longest_at, parts_from, parts_of, parts_list, LegalKeepsLock}
 use Rattle.std.proofs.lemmas.Bool.{cases_Bool}
 use Rattle.board_base.specs.declared.access.Access.{Access}
 use Rattle.board_base.specs.declared.target.Area.TheVariants.{Smram as SmramArea}
@@ -126,7 +123,8 @@ parts_smm : (access : WideAccess) (smm : Bool) → access.smm ≡ smm → (most 
 unfolding parts_from
 parts_smm access smm is zero addr left = tt
 parts_smm access smm is (suc most) addr left =
-    let later = parts_smm access smm is most (addr + bytes_of (longest_at addr left)) (left - bytes_of (longest_at addr left)) in
+    let size : ℕ = bytes_of (longest_at addr left) in
+    let later = parts_smm access smm is most (addr + size) (left - size) in
     elim (cases_Bool (left == 0)) [ inl none ↦ rw none tt | inr some ↦ rw some (is, later) ]
 
 -- the answer to an access or a look outside SMM, with DOPEN at 0, does not name SMRAM

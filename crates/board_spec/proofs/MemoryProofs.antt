@@ -1,11 +1,8 @@
 -- Memory accesses and looks leave the devices, the lines and the pair.
-use Rattle.std.proofs.Common.{arith}
-use Rattle.std.proofs.Common.{◌≡◌, List, ◌∷◌, refl}
-use Rattle.board_spec.specs.Common.{SameLevelsAgain, Reg, Setup}
-use Rattle.board_spec.specs.Common.{byte_of, pirq, wire_of}
-use Rattle.board_spec.specs.Common.{irq_of, triggers_of, plain_of, timer_of}
-use Rattle.board_spec.specs.Common.{clock_of, disk_with, pirqs, levels_of, ActsOnPair}
-use Rattle.board_spec.specs.Common.{IsOfMemory, MemoryLeavesDevices}
+use Rattle.std.proofs.Common.{arith, ◌≡◌, List, ◌∷◌, refl}
+use Rattle.board_spec.specs.Common.{SameLevelsAgain, Reg, Setup, byte_of, pirq, wire_of, irq_of, triggers_of, plain_of}
+use Rattle.board_spec.specs.Common.{timer_of, clock_of, disk_with, pirqs, levels_of, ActsOnPair, IsOfMemory}
+use Rattle.board_spec.specs.Common.{MemoryLeavesDevices}
 use Rattle.board_spec.specs.declared.event.Event.{Event}
 use Rattle.board_spec.specs.declared.event.Reply.{Reply}
 use Rattle.board_spec.specs.declared.event.Entry.{Entry}

@@ -1,6 +1,5 @@
 -- How long a history is that a script's phases may make.
-use Rattle.std.proofs.Common.{◌≡◌, ◌+◌, ◌≤◌, List, [], ◌∷◌, length, take, drop, sym, ◌∙◌, ap}
-use Rattle.std.proofs.Common.{inl, inr, arith}
+use Rattle.std.proofs.Common.{◌≡◌, ◌+◌, ◌≤◌, List, [], ◌∷◌, length, take, drop, sym, ◌∙◌, ap, inl, inr, arith}
 use Rattle.std.proofs.lemmas.List.{length-append, length-take, length-drop, length-map, length-reverse}
 use Rattle.board_spec.specs.declared.event.Entry.{Entry}
 use Rattle.board_spec.specs.declared.event.Statement.{Statement}
@@ -32,19 +31,21 @@ complete_when_full (phase ∷ later) statements (inl front) full =
     let sizes = simp length-append at full in
     let long : length phase ≤ length statements = omega (arith, front.size) in (
       whole_front phase statements front long,
-      rw (nothing_left phase statements front long) (complete_when_full later [] (none_so_far later) (omega (arith, front.size))),
+      rw (nothing_left phase statements front long)
+          (complete_when_full later [] (none_so_far later) (omega (arith, front.size))),
     )
 complete_when_full (phase ∷ later) statements (inr whole) full =
     let sizes = simp length-append at full in
-    (whole.0, complete_when_full later (drop (length phase) statements) whole.1 (omega (arith, cut_length phase statements whole.0)))
+    let rest = complete_when_full later (drop (length phase) statements) whole.1 in
+    (whole.0, rest (omega (arith, cut_length phase statements whole.0)))
 
 full_when_complete :
     (phases : List (List Statement)) (statements : List Statement) → HasPhases phases statements →
     length statements ≡ length (in_file_order phases)
 full_when_complete [] statements nothing = ap length nothing
 full_when_complete (phase ∷ later) statements whole =
-    simp length-append
-    (omega (arith, cut_length phase statements whole.0, full_when_complete later (drop (length phase) statements) whole.1))
+    let rest = full_when_complete later (drop (length phase) statements) whole.1 in
+    simp length-append (omega (arith, cut_length phase statements whole.0, rest))
 
 -- a history states as much as it has entries
 stated : (history : List Entry) → length (statements_of history) ≡ length history

@@ -1,14 +1,10 @@
 -- The pair has seen the lines as they stand.
-use Rattle.std.proofs.Common.{arith}
-use Rattle.std.proofs.Common.{◌≡◌, ℕ, zero, suc, Bool, false, List, [], ◌∷◌, refl, ◌∙◌, ap}
-use Rattle.board_spec.specs.Common.{PitState, pulses, Pair, pair_at_reset}
-use Rattle.board_spec.specs.Common.{pair_after_lines, levels_at_power_on, levels_where, SameLevelsAgain, Setup}
-use Rattle.board_spec.specs.Common.{is_hard_reset, byte_of, wire_of}
-use Rattle.board_spec.specs.Common.{irq_of, triggers_of, timer_of, clock_of}
-use Rattle.board_spec.specs.Common.{disk_with}
-use Rattle.board_spec.specs.Common.{routes_of, levels_with, levels_of, elcr_of}
-use Rattle.board_spec.specs.Common.{pair_pulsed, pair_stepped, pair_reset_or_after, pair_of, ActsOnPair, PairHasSeen}
-use Rattle.board_spec.specs.Common.{PairStays}
+use Rattle.std.proofs.Common.{arith, ◌≡◌, ℕ, zero, suc, Bool, false, List, [], ◌∷◌, refl, ◌∙◌, ap}
+use Rattle.board_spec.specs.Common.{PitState, pulses, Pair, pair_at_reset, pair_after_lines, levels_at_power_on}
+use Rattle.board_spec.specs.Common.{levels_where, SameLevelsAgain, Setup, is_hard_reset, byte_of, wire_of, irq_of}
+use Rattle.board_spec.specs.Common.{triggers_of, timer_of, clock_of, disk_with, routes_of, levels_with, levels_of}
+use Rattle.board_spec.specs.Common.{elcr_of, pair_pulsed, pair_stepped, pair_reset_or_after, pair_of, ActsOnPair}
+use Rattle.board_spec.specs.Common.{PairHasSeen, PairStays}
 use Rattle.board_spec.specs.declared.event.Event.{Event}
 use Rattle.board_spec.specs.declared.event.Event.TheVariants.{Pulses}
 use Rattle.board_spec.specs.declared.event.Entry.{Entry}

@@ -1,11 +1,11 @@
 -- The parts of a wide access cover it, and their values joined are its value.
-use Rattle.std.proofs.Common.{◌≡◌, ℕ, zero, suc, ◌+◌, ◌-◌, ◌*◌, ◌/◌, ◌%◌, ◌^◌, ◌≤◌, ◌<◌, Bool, List, []}
-use Rattle.std.proofs.Common.{◌∷◌, refl, sym, ◌∙◌, ap, subst, arith, All}
+use Rattle.std.proofs.Common.{◌≡◌, ℕ, zero, suc, ◌+◌, ◌-◌, ◌*◌, ◌/◌, ◌%◌, ◌^◌, ◌≤◌, ◌<◌, Bool, List, [], ◌∷◌, refl, sym}
+use Rattle.std.proofs.Common.{◌∙◌, ap, subst, arith, All}
 use Rattle.std.proofs.Math.Nat.{div-div-eq-div-mul, mul_comm, div-one}
 use Rattle.device_spec.proofs.Common.{mod-eq_of_lt, pow-add, All-nil, All-cons}
 use Rattle.std.proofs.Math.Arith.{mod-mul}
-use Rattle.board_spec.specs.Common.{Width, WideAccess, bytes_of, FitsAccess, FitsBytes, part_at, joined}
-use Rattle.board_spec.specs.Common.{is_write, Covers, IsPart, AreParts, CutIntoParts}
+use Rattle.board_spec.specs.Common.{Width, WideAccess, bytes_of, FitsAccess, FitsBytes, part_at, joined, is_write}
+use Rattle.board_spec.specs.Common.{Covers, IsPart, AreParts, CutIntoParts}
 use Rattle.board_spec.proofs.PartLemmas.{made, length-made, total, Aligned, is_cut}
 
 -- ---- places
@@ -15,7 +15,8 @@ covers-made :
     Covers from end (made access from widths)
 unfolding made
 covers-made access from end [] sum = omega arith
-covers-made access from end (width ∷ later) sum = (refl, covers-made access (from + bytes_of width) end later (omega arith))
+covers-made access from end (width ∷ later) sum =
+    (refl, covers-made access (from + bytes_of width) end later (omega arith))
 
 -- ---- values
 

@@ -1,6 +1,6 @@
 -- A wide access is cut by widths, and its parts are those of the widths, one after the other.
-use Rattle.std.proofs.Common.{◌≡◌, ℕ, zero, suc, ◌+◌, ◌-◌, ◌%◌, ◌≤◌, ◌<◌, inl, inr, List, []}
-use Rattle.std.proofs.Common.{◌∷◌, length, refl, sym, ap, arith}
+use Rattle.std.proofs.Common.{◌≡◌, ℕ, zero, suc, ◌+◌, ◌-◌, ◌%◌, ◌≤◌, ◌<◌, inl, inr, List, [], ◌∷◌, length, refl, sym}
+use Rattle.std.proofs.Common.{ap, arith}
 use Rattle.std.proofs.lemmas.Bool.{cases_eq}
 use Rattle.device_spec.proofs.Common.{nat_tests}
 use Rattle.board_spec.specs.Common.{Width, One, Two, Four, WideAccess, bytes_of, IsWideAccess, longest_at, part_at}

@@ -1,12 +1,11 @@
 -- Every event has one answer, and every list of statements one replay.
-use Rattle.std.proofs.Common.{◌≡◌, ℕ, ◌+◌, Bool, List, [], ◌∷◌, ◌++◌, refl, sym, ◌∙◌, ap, length, append_assoc}
-use Rattle.std.proofs.Common.{◌≤◌, Option, map, reverse, arith}
-use Rattle.device_spec.proofs.Common.{length-map, append-nil, reverse-reverse, reverse-append}
-use Rattle.device_spec.proofs.Common.{recursion_from_All}
-use Rattle.board_spec.specs.Common.{AllByRecursion, Kind, WideAccess, Setup, byte_of, version_of}
-use Rattle.board_spec.specs.Common.{parts_of, parts_list, IsWideAccess, part_answer, wide_value}
-use Rattle.board_spec.specs.Common.{IsLookAnswer, entries_by, IsNext, IsLegal, statement_of, statements_of}
-use Rattle.board_spec.specs.Common.{IsAddressed, SomeAnswer, OneAnswer, SomeReplay, OneReplay}
+use Rattle.std.proofs.Common.{◌≡◌, ℕ, ◌+◌, Bool, List, [], ◌∷◌, ◌++◌, refl, sym, ◌∙◌, ap, length, append_assoc, ◌≤◌}
+use Rattle.std.proofs.Common.{Option, map, reverse, arith}
+use Rattle.device_spec.proofs.Common.{length-map, append-nil, reverse-reverse, reverse-append, recursion_from_All}
+use Rattle.board_spec.specs.Common.{AllByRecursion, Kind, WideAccess, Setup, byte_of, version_of, parts_of, parts_list}
+use Rattle.board_spec.specs.Common.{IsWideAccess, part_answer, wide_value, IsLookAnswer, entries_by, IsNext, IsLegal}
+use Rattle.board_spec.specs.Common.{statement_of, statements_of, IsAddressed, SomeAnswer, OneAnswer, SomeReplay}
+use Rattle.board_spec.specs.Common.{OneReplay}
 use Rattle.board_spec.specs.declared.event.Event.{Event}
 use Rattle.board_spec.specs.declared.event.Event.TheVariants.{Wide, Look as LookAt}
 use Rattle.board_spec.specs.declared.event.Look.{Look}
@@ -47,8 +46,9 @@ parts_counted :
     × (length (map (part_answer setup before) (parts_of access)) ≤ 4)
 parts_counted setup before access wide =
     let cut = is_cut access wide in
-    let count : length (parts_of access) ≡ length cut.widths = rw cut.parts (length-made access access.addr cut.widths) in
-    (omega (arith, cut.least, length-map (parts_of access) (part_answer setup before)), omega (arith, cut.most, length-map (parts_of access) (part_answer setup before)))
+    let answered = length-map (parts_of access) (part_answer setup before) in
+    let made = length-made access access.addr cut.widths in
+    rw (answered, cut.parts, made) (cut.least, cut.most)
 
 -- ---- answers
 

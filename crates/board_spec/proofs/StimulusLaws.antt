@@ -1,7 +1,5 @@
 -- What one may expect of the table of stimuli: what was written by it is read by it, and only that.
-use Rattle.std.proofs.Common.{arith}
-use Rattle.std.proofs.Common.{◌≡◌, ℕ, Bool, true, ◌&&◌, List, [], ◌∷◌, Some}
-use Rattle.std.proofs.Common.{◌==◌, eqb-true, bytes_eq, find}
+use Rattle.std.proofs.Common.{arith, ◌≡◌, ℕ, Bool, true, ◌&&◌, List, [], ◌∷◌, Some, ◌==◌, eqb-true, bytes_eq, find}
 use Rattle.std.proofs.lemmas.Slice.Eq.{bytes_eq-Decides}
 use Rattle.board_spec.specs.declared.stimulus.Stimulus.{Stimulus}
 use Rattle.board_spec.specs.Stimuli.{stimulus_form, stimuli, stimulus_of_word, stimulus_of_code, applied, event_applied}

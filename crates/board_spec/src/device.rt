@@ -53,6 +53,7 @@ pub fn with_word(field: &[u8]) -> Option<Dev>
 }
 
 /// The text of a device with one name is read as this device.
+#[tactic(auto, using(crate::proofs::WordProofs::words_apart))]
 pub fn law_words()
     ensures apart { WordsApart }
 {}

@@ -11,11 +11,13 @@ pub fn law_one_flat_map()
 {}
 
 /// Once DLCK is set, nothing outside SMM reaches SMRAM until a hard reset, in every legal history.
+#[tactic(auto, using(crate::proofs::LockLaws::legal_keeps_lock))]
 pub fn law_lock()
     ensures kept { LegalKeepsLock }
 {}
 
 /// Every list of statements has a replay, and only one.
+#[tactic(auto, using(crate::proofs::ReplayLaws::some_replay, crate::proofs::ReplayLaws::one_replay))]
 pub fn law_one_replay()
     ensures some { SomeReplay }
     ensures one { OneReplay }

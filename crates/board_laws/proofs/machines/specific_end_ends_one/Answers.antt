@@ -1,5 +1,5 @@
-use Rattle.board_laws.proofs.PicLaws.{specific-end-one}
+use Rattle.board_laws.proofs.PicLaws.{specific_end_one}
 use Rattle.board_laws.proofs.machines.specific_end_ends_one.Goals as goal
 
 pub returns : goal.returns
-returns c = specific-end-one
+returns c = specific_end_one
