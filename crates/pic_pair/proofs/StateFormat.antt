@@ -1,19 +1,17 @@
 -- The state of the pair is spelled and read back.
-use Rattle.std.proofs.Common.{◌≡◌, ℕ, zero, suc, ◌+◌, ◌*◌, ◌/◌, ◌%◌, ◌^◌, ◌<◌, ◌≤◌, Bool, true, false, eqb, List, []}
-use Rattle.std.proofs.Common.{◌∷◌, length, take, drop, refl, sym, ap, subst, ◌∙◌, arith, if◌then◌else◌}
+use Rattle.std.proofs.Common.{◌≡◌, ℕ, zero, suc, ◌+◌, ◌*◌, ◌^◌, ◌<◌, ◌≤◌, Bool, true, false, eqb, List, [], ◌∷◌, length}
+use Rattle.std.proofs.Common.{take, drop, refl, sym, ap, subst, ◌∙◌, arith, if◌then◌else◌}
 use Rattle.std.proofs.Math.Nat.{pow-succ'}
 use Rattle.device_spec.proofs.Common.{take_at, drop_at, take-append-drop, length-take, length-drop, length-append}
-use Rattle.device_spec.proofs.Common.{agree_below_at, eqb-true, get_or_past, is_bit, has, levels_where}
-use Rattle.device_spec.proofs.Common.{levels_where-same, levels_where-has, levels_of_byte, byte_of_levels, Levels}
-use Rattle.device_spec.proofs.Common.{nat_tests}
+use Rattle.device_spec.proofs.Common.{get_or_past, is_bit, has, levels_where, levels_where-same, levels_where-has}
+use Rattle.device_spec.proofs.Common.{levels_of_byte, byte_of_levels, Levels, nat_tests}
 use Rattle.device_spec.specs.Pic.{Word}
 use Rattle.byte_fields.proofs.Formats.{IsFormat, fields_format, ◌then◌, ◌&◌, last_field}
 use Rattle.byte_fields.proofs.Numbers.{Any, byte_to, flag_format}
 use Rattle.pic_pair.specs.State.{awaited_byte, words_of, AreAwaited, sets_of, modes_of, AreSets, sets_bytes}
 use Rattle.pic_pair.specs.State.{modes_bytes, sets_fields, modes_fields, IsChip, chip_bytes, chip_fields, IsPair}
 use Rattle.pic_pair.specs.State.{pair_bytes, pair_fields, AreLines, lines_bytes, lines_fields}
-use Rattle.std.specs.Int.{bit_at}
-use Rattle.std.proofs.lemmas.Nat.Bits.{bit_at_lowest, bit_at-suc, bit_at-zero}
+use Rattle.std.proofs.lemmas.Nat.Bits.{bit_at-suc, bit_at-zero}
 use Rattle.pic_levels.proofs.LevelLemmas.{byte-levels}
 
 -- ---- sets and their bytes
