@@ -1,10 +1,8 @@
 -- The route control registers in the table of registers: after a reset, and after a store of one byte.
-use Rattle.std.proofs.Common.{◌≡◌, ◌≢◌, ℕ, ◌+◌, ◌-◌, ◌<◌, [], ◌∷◌, false, ◌∙◌, refl, sym, ap, subst, arith, inl, inr}
-use Rattle.std.proofs.Common.{replicate, map}
+use Rattle.std.proofs.Common.{◌≡◌, ◌≢◌, ℕ, ◌+◌, ◌-◌, ◌<◌, false, ◌∙◌, refl, ap, subst, arith, inl, inr, replicate, map}
 use Rattle.board_prelude.proofs.Common.{cases_Bool, nat_tests, Routes, is_route_offset, routes_after_write, route_reset}
 use Rattle.board_prelude.proofs.Common.{One, Store, Setup, isa, pirq, isa_bridge, reset_byte, writable_bits}
-use Rattle.board_prelude.proofs.Common.{changed_byte, Bytes, pirqs, changed_byte-one_same, changed_byte-one_other}
-use Rattle.board_prelude.proofs.Common.{each_below}
+use Rattle.board_prelude.proofs.Common.{changed_byte, Bytes, pirqs}
 use Rattle.pirq_router.specs.Routes.{AreRoutesIn}
 
 pub routes_at_reset : (setup : Setup) → AreRoutesIn (reset_byte setup) (replicate 4 route_reset)

@@ -1,8 +1,7 @@
 -- One pin more, and one line set.
 use Rattle.board_base.proofs.Common.{nat_tests}
 use Rattle.std.proofs.Common.{arith, zero, suc, ◌≡◌, ℕ, ◌+◌, ◌<◌, Bool, true, false, eqb, ◌||◌, ◌&&◌, List, length}
-use Rattle.std.proofs.Common.{get_or, set, Option, Some, None, refl, sym, ap, ◌∙◌, add-one, get_or-set_same}
-use Rattle.std.proofs.Common.{get_or-set_other, inl, inr}
+use Rattle.std.proofs.Common.{get_or, set, Option, refl, sym, ap, ◌∙◌, add-one, get_or-set_same, get_or-set_other}
 use Rattle.board_prelude.proofs.Common.{or-false, cases_eq, eq-eqb, ne_eqb, Routes, drives, line_of_route}
 use Rattle.board_prelude.proofs.Common.{is_line_driven}
 

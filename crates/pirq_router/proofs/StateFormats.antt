@@ -1,9 +1,7 @@
 -- The states of the registers are spelled and read back.
 use Rattle.board_base.proofs.Common.{nat_tests}
-use Rattle.std.proofs.Common.{refl, ap, arith}
-use Rattle.device_spec.specs.Elcr.{Triggers}
-use Rattle.byte_fields.proofs.Formats.{IsFormat, format_as, then_format, last_format, plain_format}
-use Rattle.byte_fields.proofs.Numbers.{byte_within}
+use Rattle.std.proofs.Common.{arith}
+use Rattle.byte_fields.proofs.Formats.{IsFormat, plain_format}
 use Rattle.pirq_router.specs.State.{IsRoutes, routes_bytes, routes_fields, AreTriggers, triggers_bytes, triggers_fields}
 
 pub routes_format : IsFormat 4 routes_fields routes_bytes IsRoutes
