@@ -1,53 +1,34 @@
 -- One chip: its inputs, and that it has no request where no level is requested.
-use Rattle.std.proofs.Common.{◌≡◌, ℕ, suc, ◌+◌, ◌≤◌, ◌<◌, Bool, true, false, not, cond, ◌||◌, ◌&&◌, List, [], ◌∷◌}
-use Rattle.std.proofs.Common.{◌++◌, length, get_or, drop, Some, None, refl, arith, sym, ap, ◌∙◌, inl, inr}
+use Rattle.std.proofs.Common.{◌≡◌, ℕ, suc, ◌+◌, ◌≤◌, ◌<◌, Bool, true, false, not, cond, ◌||◌, ◌&&◌, List, [], ◌∷◌, ◌++◌}
+use Rattle.std.proofs.Common.{length, get_or, drop, Some, None, refl, arith, sym, ap, ◌∙◌, inl, inr}
 use Rattle.std.proofs.lemmas.Bool.{cases_lt}
 use Rattle.std.proofs.lemmas.List.{get_or_past}
 use Rattle.device_spec.specs.Common.{find, Levels, has, levels_where, no_levels, Chip, pending, latches_after}
 use Rattle.device_spec.specs.Common.{is_requested, first_selectable, first_blocking, blocks_itself, is_blocking}
 use Rattle.device_spec.specs.Common.{request, priority_order}
 use Rattle.device_spec.proofs.Priorities.{scan, scan-found, scan-blocked, scan-past, scan-end}
-use Rattle.device_spec.proofs.Common.{levels_where-same, has-levels_where, priority_order-small}
+use Rattle.device_spec.proofs.Common.{levels_where-same, has-levels_where, priority_order-small, nat_tests}
 use Rattle.pic_levels.proofs.Orders.{order-length}
 
 -- ---- the pending levels
 
 either-of : (triggered high latched : Bool) → ((high && triggered) || (latched && not triggered))
     ≡ cond triggered high latched
-either-of true true true = refl
-either-of true true false = refl
-either-of true false true = refl
-either-of true false false = refl
-either-of false true true = refl
-either-of false true false = refl
-either-of false false true = refl
-either-of false false false = refl
+either-of triggered high latched = grind (arith, nat_tests)
 
 -- the high ones of the level triggered inputs, and the latched ones of the others
 pub pending-is : (chip : Chip) →
     levels_where (λ l. has (levels_where (λ l. has chip.inputs l && has chip.triggers l)) l || has
     (levels_where (λ l. has chip.latches l && not (has chip.triggers l))) l) ≡ pending chip
 unfolding pending
-pending-is chip =
-    levels_where-same _ (λ l. cond (has chip.triggers l) (has chip.inputs l) (has chip.latches l))
-    (λ l h. rw (
-      has-levels_where (λ l. has chip.inputs l && has chip.triggers l) l h,
-      has-levels_where (λ l. has chip.latches l && not (has chip.triggers l)) l h,
-    ) (either-of
-    (has chip.triggers l) (has chip.inputs l) (has chip.latches l)))
+pending-is chip = grind (arith, nat_tests, levels_where-same, has-levels_where, either-of)
 
 -- the latches with the rises, without the falls
 pub latches-are : (latches before now : Levels) →
     levels_where
     (λ l. has (levels_where (λ l. has latches l || has (levels_where (λ l. has now l && not (has before l))) l)) l
     && not (has (levels_where (λ l. has before l && not (has now l))) l)) ≡ latches_after latches before now
-latches-are latches before now =
-    levels_where-same _ (λ l. (has latches l || (has now l && not (has before l))) && not
-    (has before l && not (has now l))) (λ l h. rw (
-      has-levels_where (λ l. has before l && not (has now l)) l h,
-      has-levels_where (λ l. has latches l || has (levels_where (λ l. has now l && not (has before l))) l) l h,
-      has-levels_where (λ l. has now l && not (has before l)) l h,
-    ) refl)
+latches-are latches before now = grind (arith, nat_tests, levels_where-same, has-levels_where)
 
 -- ---- no request
 
@@ -109,13 +90,7 @@ find-same p q (x ∷ xs) same =
 pub first-is : (chip : Chip) (set : Levels) → chip.lowest < 8 → set ≡ levels_where (is_blocking chip) →
     find (has set) (priority_order chip.lowest) ≡ first_blocking chip
 unfolding first_blocking
-first-is chip set small is =
-    ap (λ (s : Levels). find (has s) (priority_order chip.lowest)) is
-    ∙ find-same (has (levels_where (is_blocking chip))) (is_blocking chip) (priority_order chip.lowest)
-    (λ i h.
-    let below : i < 8 = omega (arith, h, order-length chip.lowest) in
-    has-levels_where (is_blocking chip) (get_or (priority_order chip.lowest) i 0)
-    (priority_order-small chip.lowest i small below))
+first-is chip set small is = grind (arith, nat_tests, find-same, order-length, has-levels_where, priority_order-small)
 
 -- ---- the search for a level, which a chip finds at a place of its order
 

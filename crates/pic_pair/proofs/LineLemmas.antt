@@ -1,10 +1,10 @@
 -- The levels of the sixteen lines, and the bits of their mask.
-use Rattle.std.proofs.Common.{◌≡◌, ℕ, ◌+◌, ◌-◌, ◌*◌, ◌/◌, ◌%◌, ◌^◌, ◌<◌, Bool, true, false, cond, not, eqb, ◌||◌}
+use Rattle.std.proofs.Common.{rules, ◌≡◌, ℕ, ◌+◌, ◌-◌, ◌*◌, ◌/◌, ◌%◌, ◌^◌, ◌<◌, Bool, true, false, cond, not, eqb, ◌||◌}
 use Rattle.std.proofs.Common.{◌&&◌, List, ◌++◌, length, take, drop, replicate, get_or, set, refl, sym, ap, subst, ◌∙◌}
 use Rattle.std.proofs.Common.{inl, inr, arith, length-set, get_or-set_same, get_or-set_other, bit_or, bit_and}
 use mir.Syntax.{w16}
-use Rattle.device_spec.proofs.Common.{take-append-drop, cases_eq, eq-eqb, ne_eqb, eqb-true, agree_below_at}
-use Rattle.device_spec.proofs.Common.{get_or-map, ext_get_or, is_bit, levels_where, levels_of_byte}
+use Rattle.device_spec.proofs.Common.{take-append-drop, cases_eq, eq-eqb, ne_eqb, get_or-map, ext_get_or, is_bit}
+use Rattle.device_spec.proofs.Common.{levels_where, levels_of_byte, nat_tests}
 use Rattle.pic_pair.specs.Lines.{sixteen, lines_where, lines_of}
 use Rattle.pic_levels.proofs.LevelLemmas.{is_bit-or, is_bit-set, is_bit-clear}
 
@@ -12,8 +12,7 @@ use Rattle.pic_levels.proofs.LevelLemmas.{is_bit-or, is_bit-set, is_bit-clear}
 
 -- line l stands at place l
 line_numbered : (l : ℕ) → l < 16 → get_or sixteen l 0 ≡ l
-line_numbered l small =
-    eqb-true (get_or sixteen l 0) l (agree_below_at (λ n. eqb (get_or sixteen n 0) n) (λ _. true) 16 l refl small)
+line_numbered l small = grind (arith, nat_tests)
 
 -- the lines that pass the test are at 1
 pub has-lines_where : (p : ℕ → Bool) (l : ℕ) → l < 16 → get_or (lines_where p) l false ≡ p l
@@ -35,8 +34,7 @@ lines_where-is p levels size each =
 
 -- tests that agree on the lines give one list
 pub lines_where-same : (p q : ℕ → Bool) → ((l : ℕ) → l < 16 → p l ≡ q l) → lines_where p ≡ lines_where q
-lines_where-same p q same =
-    lines_where-is q (lines_where p) (lines_where-length p) (λ l small. has-lines_where p l small ∙ same l small)
+lines_where-same p q same = search (rules, lines_where-is, lines_where-length, has-lines_where)
 
 -- one line set among those of a test
 set-lines_where : (p : ℕ → Bool) (k : ℕ) (on : Bool) → k < 16 →
@@ -56,12 +54,10 @@ set-lines_where p k on within =
 -- ---- what the operations on masks do to the lines
 
 or-cond : (a b : Bool) → (a || b) ≡ cond a true b
-or-cond true b = refl
-or-cond false b = refl
+or-cond a b = grind (arith, nat_tests)
 
 and-cond : (a b : Bool) → (not a && b) ≡ cond a false b
-and-cond true b = refl
-and-cond false b = refl
+and-cond a b = grind (arith, nat_tests)
 
 pub lines-raised : (n k : ℕ) → k < 16 → lines_of (bit_or n (1 * 2 ^ k % 65536)) ≡ set (lines_of n) k true
 lines-raised n k small =
@@ -77,12 +73,7 @@ lines-lowered n k small =
 
 pub lines-either : (a b l : ℕ) → l < 16 → get_or (lines_of (bit_or a b)) l false
     ≡ (get_or (lines_of a) l false || get_or (lines_of b) l false)
-lines-either a b l small =
-    rw (
-      has-lines_where (is_bit (bit_or a b)) l small,
-      has-lines_where (is_bit a) l small,
-      has-lines_where (is_bit b) l small,
-    ) (is_bit-or a b l)
+lines-either a b l small = grind (arith, nat_tests, has-lines_where, bit_or, is_bit-or)
 
 pub lines-low : lines_of 0 ≡ replicate 16 false
 unfolding lines_where

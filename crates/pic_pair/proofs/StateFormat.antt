@@ -1,18 +1,17 @@
 -- The state of the pair is spelled and read back.
-use Rattle.std.proofs.Common.{◌≡◌, ℕ, zero, suc, ◌+◌, ◌*◌, ◌/◌, ◌%◌, ◌^◌, ◌<◌, ◌≤◌, Bool, true, false, eqb, List, []}
-use Rattle.std.proofs.Common.{◌∷◌, length, take, drop, refl, sym, ap, subst, ◌∙◌, arith, if◌then◌else◌}
+use Rattle.std.proofs.Common.{◌≡◌, ℕ, zero, suc, ◌+◌, ◌*◌, ◌^◌, ◌<◌, ◌≤◌, Bool, true, false, eqb, List, [], ◌∷◌, length}
+use Rattle.std.proofs.Common.{take, drop, refl, sym, ap, subst, ◌∙◌, arith, if◌then◌else◌}
 use Rattle.std.proofs.Math.Nat.{pow-succ'}
 use Rattle.device_spec.proofs.Common.{take_at, drop_at, take-append-drop, length-take, length-drop, length-append}
-use Rattle.device_spec.proofs.Common.{agree_below_at, eqb-true, get_or_past, is_bit, has, levels_where}
-use Rattle.device_spec.proofs.Common.{levels_where-same, levels_where-has, levels_of_byte, byte_of_levels, Levels}
+use Rattle.device_spec.proofs.Common.{get_or_past, is_bit, has, levels_where, levels_where-same, levels_where-has}
+use Rattle.device_spec.proofs.Common.{levels_of_byte, byte_of_levels, Levels, nat_tests}
 use Rattle.device_spec.specs.Pic.{Word}
 use Rattle.byte_fields.proofs.Formats.{IsFormat, fields_format, ◌then◌, ◌&◌, last_field}
 use Rattle.byte_fields.proofs.Numbers.{Any, byte_to, flag_format}
 use Rattle.pic_pair.specs.State.{awaited_byte, words_of, AreAwaited, sets_of, modes_of, AreSets, sets_bytes}
 use Rattle.pic_pair.specs.State.{modes_bytes, sets_fields, modes_fields, IsChip, chip_bytes, chip_fields, IsPair}
 use Rattle.pic_pair.specs.State.{pair_bytes, pair_fields, AreLines, lines_bytes, lines_fields}
-use Rattle.std.specs.Int.{bit_at}
-use Rattle.std.proofs.lemmas.Nat.Bits.{bit_at_lowest, bit_at-suc, bit_at-zero}
+use Rattle.std.proofs.lemmas.Nat.Bits.{bit_at-suc, bit_at-zero}
 use Rattle.pic_levels.proofs.LevelLemmas.{byte-levels}
 
 -- ---- sets and their bytes
@@ -25,22 +24,14 @@ bit_worth b = if b then 1 else 0
 
 worth_small : (b : Bool) → bit_worth b < 2
 unfolding bit_worth
-worth_small true = omega arith
-worth_small false = omega arith
+worth_small b = grind (arith, nat_tests)
 
 first_bit : (b : Bool) (m : ℕ) → is_bit (bit_worth b + 2 * m) 0 ≡ b
 unfolding bit_worth
-first_bit true m =
-    let odd : (1 + 2 * m) % 2 ≡ 1 = omega arith in
-    ap (λ n. eqb n 1) (bit_at_lowest (1 + 2 * m) ∙ odd)
-first_bit false m =
-    let even : (0 + 2 * m) % 2 ≡ 0 = omega arith in
-    ap (λ n. eqb n 1) (bit_at_lowest (0 + 2 * m) ∙ even)
+first_bit b m = grind (arith, nat_tests)
 
 later_bit : (b : Bool) (m k : ℕ) → is_bit (bit_worth b + 2 * m) (suc k) ≡ is_bit m k
-later_bit b m k =
-    let half : (bit_worth b + 2 * m) / 2 ≡ m = omega (arith, worth_small b) in
-    ap (λ x. eqb x 1) (bit_at-suc (bit_worth b + 2 * m) k ∙ ap (λ n. bit_at n k) half)
+later_bit b m k = grind (arith, nat_tests, bit_worth, worth_small, eqb, bit_at-suc)
 
 bits_of : (set : Levels) (k : ℕ) → is_bit (byte_of_levels set) k ≡ has set k
 unfolding byte_of_levels bit_worth
@@ -134,16 +125,14 @@ is_own_words n = eqb n (awaited_byte (words_of n))
 
 words_again : (n : ℕ) → n ≤ 7 → awaited_byte (words_of n) ≡ n
 unfolding is_own_words awaited_byte
-words_again n few =
-    sym (eqb-true n (awaited_byte (words_of n)) (agree_below_at is_own_words (λ _. true) 8 n refl (omega (arith, few))))
+words_again n few = grind (arith, nat_tests)
 
 -- the byte of words that are awaited
 awaited_few : (words : List Word) → AreAwaited words → awaited_byte words ≤ 7
 awaited_few words are = omega (arith, ap awaited_byte are.2 ∙ words_again are.0 (omega (arith, are.1)), are.1)
 
 awaited_again : (words : List Word) → AreAwaited words → words ≡ words_of (awaited_byte words)
-awaited_again words are =
-    are.2 ∙ ap words_of (sym (ap awaited_byte are.2 ∙ words_again are.0 (omega (arith, are.1))))
+awaited_again words are = grind (arith, nat_tests, words_again)
 
 pub chip_format : (has_slave : Bool) → IsFormat 15 (chip_fields has_slave) chip_bytes (IsChip has_slave)
 unfolding chip_fields

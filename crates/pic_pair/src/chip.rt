@@ -314,6 +314,7 @@ impl Pic {
     }
 
     /// The first level that can be selected. Where none is requested, none is searched for.
+    #[tactic(auto, using(crate::proofs::ChipLemmas::none_requested))]
     fn request(&self) -> Option<u8>
         ensures request { result ≡ request self.now }
         ensures level { IfSome result (λ level. level < 8) }

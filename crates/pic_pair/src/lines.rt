@@ -68,6 +68,7 @@ impl Lines {
     }
 
     /// The levels that are the bits of two bytes: those of lines 0 to 7, and those of lines 8 to 15.
+    #[tactic(auto, using(crate::proofs::LineLemmas::lines_of_bytes))]
     pub(crate) fn of_bytes(low: u8, high: u8) -> Lines
         ensures levels { result ≡ levels_of_byte low ++ levels_of_byte high }
     {

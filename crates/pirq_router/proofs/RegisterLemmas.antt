@@ -1,10 +1,8 @@
 -- The route control registers in the table of registers: after a reset, and after a store of one byte.
-use Rattle.std.proofs.Common.{◌≡◌, ◌≢◌, ℕ, ◌+◌, ◌-◌, ◌<◌, [], ◌∷◌, false, ◌∙◌, refl, sym, ap, subst, arith, inl, inr}
-use Rattle.std.proofs.Common.{replicate, map}
+use Rattle.std.proofs.Common.{◌≡◌, ◌≢◌, ℕ, ◌+◌, ◌-◌, ◌<◌, false, ◌∙◌, refl, ap, subst, arith, inl, inr, replicate, map}
 use Rattle.board_prelude.proofs.Common.{cases_Bool, nat_tests, Routes, is_route_offset, routes_after_write, route_reset}
 use Rattle.board_prelude.proofs.Common.{One, Store, Setup, isa, pirq, isa_bridge, reset_byte, writable_bits}
-use Rattle.board_prelude.proofs.Common.{changed_byte, Bytes, pirqs, changed_byte-one_same, changed_byte-one_other}
-use Rattle.board_prelude.proofs.Common.{each_below}
+use Rattle.board_prelude.proofs.Common.{changed_byte, Bytes, pirqs}
 use Rattle.pirq_router.specs.Routes.{AreRoutesIn}
 
 pub routes_at_reset : (setup : Setup) → AreRoutesIn (reset_byte setup) (replicate 4 route_reset)
@@ -25,32 +23,11 @@ IsHere setup bytes byte k = IsStoredAt setup bytes byte (0x60 + k)
 
 here : (setup : Setup) (bytes : Bytes) (byte k : ℕ) → byte < 256 → k < 4 → IsStoredAt setup bytes byte (0x60 + k)
 unfolding writable_bits isa_bridge
-here setup bytes byte k small within =
-    let a : ℕ = bytes (pirq 0) in
-    let b : ℕ = bytes (pirq 1) in
-    let c : ℕ = bytes (pirq 2) in
-    let d : ℕ = bytes (pirq 3) in
-    each_below (IsHere setup bytes byte) 4 k (
-      sym (ap (λ n. n ∷ b ∷ c ∷ d ∷ []) (changed_byte-one_same setup (pirq 0) a byte small refl)),
-      (
-        sym (ap (λ n. a ∷ n ∷ c ∷ d ∷ []) (changed_byte-one_same setup (pirq 1) b byte small refl)),
-        (
-          sym (ap (λ n. a ∷ b ∷ n ∷ d ∷ []) (changed_byte-one_same setup (pirq 2) c byte small refl)),
-          (sym (ap (λ n. a ∷ b ∷ c ∷ n ∷ []) (changed_byte-one_same setup (pirq 3) d byte small refl)), tt),
-        ),
-      ),
-    ) within
+here setup bytes byte k small within = grind (arith, nat_tests)
 
 elsewhere : (setup : Setup) (bytes : Bytes) (byte off : ℕ) → 0x60 ≢ off → 0x61 ≢ off → 0x62 ≢ off → 0x63 ≢ off →
     is_route_offset off ≡ false → IsStoredAt setup bytes byte off
-elsewhere setup bytes byte off a b c d none =
-    rw (
-      none,
-      changed_byte-one_other setup (pirq 0) off (bytes (pirq 0)) byte a,
-      changed_byte-one_other setup (pirq 1) off (bytes (pirq 1)) byte b,
-      changed_byte-one_other setup (pirq 2) off (bytes (pirq 2)) byte c,
-      changed_byte-one_other setup (pirq 3) off (bytes (pirq 3)) byte d,
-    ) refl
+elsewhere setup bytes byte off a b c d none = grind (arith, nat_tests)
 
 pub stored_byte : (setup : Setup) (bytes : Bytes) (routes : Routes) (off byte : ℕ) → byte < 256 →
     AreRoutesIn bytes routes →

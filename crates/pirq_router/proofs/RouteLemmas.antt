@@ -1,7 +1,7 @@
 -- One pin more, and one line set.
-use Rattle.std.proofs.Common.{zero, suc, ◌≡◌, ℕ, ◌+◌, ◌<◌, Bool, true, false, eqb, ◌||◌, ◌&&◌, List, length, get_or}
-use Rattle.std.proofs.Common.{set, Option, Some, None, refl, sym, ap, ◌∙◌, add-one, get_or-set_same, get_or-set_other}
-use Rattle.std.proofs.Common.{inl, inr}
+use Rattle.board_base.proofs.Common.{nat_tests}
+use Rattle.std.proofs.Common.{arith, zero, suc, ◌≡◌, ℕ, ◌+◌, ◌<◌, Bool, true, false, eqb, ◌||◌, ◌&&◌, List, length}
+use Rattle.std.proofs.Common.{get_or, set, Option, refl, sym, ap, ◌∙◌, add-one, get_or-set_same, get_or-set_other}
 use Rattle.board_prelude.proofs.Common.{or-false, cases_eq, eq-eqb, ne_eqb, Routes, drives, line_of_route}
 use Rattle.board_prelude.proofs.Common.{is_line_driven}
 
@@ -12,19 +12,13 @@ drives_among (suc k) routes pins line =
     drives_among k routes pins line || drives (line_of_route (get_or routes k 0)) (get_or pins k false) line
 
 or_of_four : (a b c d : Bool) → (((a || b) || c) || d) ≡ (a || (b || (c || (d || false))))
-or_of_four true b c d = refl
-or_of_four false true c d = refl
-or_of_four false false true d = refl
-or_of_four false false false true = refl
-or_of_four false false false false = refl
+or_of_four a b c d = grind (arith, nat_tests)
 
 -- one of all four
 pub drives_among-all : (routes : Routes) (pins : List Bool) (line : ℕ) →
     drives_among 4 routes pins line ≡ is_line_driven routes pins line
 unfolding drives_among is_line_driven
-drives_among-all routes pins line =
-    let pin : ℕ → Bool = λ k. drives (line_of_route (get_or routes k 0)) (get_or pins k false) line in
-    or_of_four (pin 0) (pin 1) (pin 2) (pin 3)
+drives_among-all routes pins line = grind (arith, nat_tests, or_of_four)
 
 -- no pin holds a line
 pub drives_among-none : (routes : Routes) (pins : List Bool) (line : ℕ) → drives_among 0 routes pins line ≡ false
@@ -40,23 +34,16 @@ drives_among-more k routes pins line = rw (add-one k) refl
 
 -- a pin at 0 drives no line
 drives-none : (routed : Option ℕ) (line : ℕ) → drives routed false line ≡ false
-drives-none None line = refl
-drives-none (Some at) line = refl
+drives-none routed line = grind (arith, nat_tests)
 
 pub drives-low : (on : Bool) (routed : Option ℕ) (line : ℕ) → on ≡ (on || drives routed false line)
 drives-low on routed line = sym (ap (λ (b : Bool). on || b) (drives-none routed line) ∙ or-false on)
 
 or-true : (b : Bool) → true ≡ (b || true)
-or-true true = refl
-or-true false = refl
+or-true b = grind (arith, nat_tests)
 
 -- and one at 1 the line that it is routed to
 pub line-raised : (lines : List Bool) (routed line : ℕ) → routed < length lines →
     get_or (set lines routed true) line false ≡ (get_or lines line false || (true && eqb routed line))
 line-raised lines routed line h =
-    elim (cases_eq line routed) [
-      | inl same ↦ rw (same, get_or-set_same lines routed true false h, eq-eqb routed routed refl)
-          (or-true (get_or lines routed false))
-      | inr other ↦ rw (get_or-set_other lines routed line true false other, ne_eqb routed line (λ e. other (sym e)))
-          (sym (or-false (get_or lines line false)))
-    ]
+    grind (arith, nat_tests, cases_eq, get_or-set_same, eq-eqb, or-true, get_or-set_other, ne_eqb, or-false)

@@ -46,6 +46,7 @@ impl Model for Pirq {
 
 impl Pirq {
     /// The registers after a reset, with every routing disabled.
+    #[tactic(auto, using(crate::proofs::RegisterLemmas::routes_at_reset))]
     pub fn new() -> Pirq
         ensures disabled { result ≡ replicate 4 route_reset }
         ensures reset { (setup : Setup) → AreRoutesIn (reset_byte setup) result }
@@ -79,6 +80,7 @@ impl Pirq {
     }
 
     /// Disables every routing.
+    #[tactic(auto, using(crate::proofs::RegisterLemmas::routes_at_reset))]
     pub fn reset(&mut self)
         ensures disabled { self.new ≡ replicate 4 route_reset }
         ensures reset { (setup : Setup) → AreRoutesIn (reset_byte setup) self.new }
@@ -99,6 +101,7 @@ impl Pirq {
 }
 
 /// The lines, joined by that which a pin of this level drives, where a register's byte routes the pin.
+#[tactic(auto, using(board_prelude::proofs::Common::line_of_route))]
 fn joined(lines: Lines, byte: u8, level: bool) -> Lines
     ensures lines { (line : ℕ) → line < 16 → slice_index_or result line false
         ≡ (slice_index_or lines line false || drives (line_of_route byte) level line) }

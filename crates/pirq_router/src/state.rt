@@ -21,6 +21,7 @@ impl Pirq {
     }
 
     /// The registers whose state is at the front of the bytes. Refused where there are not 4 bytes, which stay.
+    #[tactic(auto, using(byte_fields::proofs::Loaded::loads, crate::proofs::StateFormats::routes_format))]
     pub fn load_state(fields: &mut Fields) -> Result<Pirq, Bad>
         ensures loaded { Loads routes_fields routes_bytes IsRoutes fields.old fields.new result }
     {
@@ -50,6 +51,7 @@ impl Elcr {
 
     /// The registers whose state is at the front of the bytes. Refused where a field is not whole: the bytes left then
     /// begin with it.
+    #[tactic(auto, using(byte_fields::proofs::Loaded::loads, crate::proofs::StateFormats::triggers_format))]
     pub fn load_state(fields: &mut Fields) -> Result<Elcr, Bad>
         ensures loaded { Loads triggers_fields triggers_bytes AreTriggers fields.old fields.new result }
     {
@@ -69,6 +71,7 @@ impl Elcr {
 }
 
 /// One state has one spelling, and one spelling is of one state.
+#[tactic(auto, using(byte_fields::proofs::Loaded::one_spelling, crate::proofs::StateFormats::routes_format, crate::proofs::StateFormats::triggers_format))]
 pub fn law_one_routing()
     ensures routes { OneSpelling routes_bytes IsRoutes }
     ensures triggers { OneSpelling triggers_bytes AreTriggers }
