@@ -4,8 +4,8 @@ use Rattle.std.proofs.lemmas.Option.{slice_get-map, slice_get_read}
 use Rattle.std.proofs.Common.{◌≡◌, ℕ, ◌+◌, ◌-◌, ◌<◌, ◌≤◌, List, [], ◌∷◌, ◌++◌, length, reverse, slice_index_or, refl}
 use Rattle.std.proofs.Common.{◌∙◌, ap, arith}
 use Rattle.bus_turn.proofs.Rows.{All-more}
-use Rattle.board_prelude.proofs.Common.{reverse-append, length-append, map-append, get_or_append_left}
-use Rattle.board_prelude.proofs.Common.{All-push, All-head, All-tail, Entry, Part}
+use Rattle.board_prelude.proofs.Common.{reverse-append, length-append, map-append, get_or_append_left, All-push}
+use Rattle.board_prelude.proofs.Common.{All-head, All-tail, Entry, Part}
 use Rattle.access_history.specs.declared.packed.Count.{Count}
 use Rattle.access_history.specs.declared.packed.Count.TheVariants.{Two, Three, Four}
 use Rattle.access_history.specs.declared.packed.PackedReply.{PackedReply}

@@ -5,9 +5,8 @@ use Rattle.std.proofs.Common.{find, is_some, option_map, option_and_then, if◌t
 use Rattle.board_prelude.proofs.Common.{position, AllByRecursion, list_any, and-true, and-false, cases_Bool, cases_eq}
 use Rattle.board_prelude.proofs.Common.{ne_eqb, eqb-true, nat_tests, get_or-map, Width, One, Reg, bytes_of, MapChange}
 use Rattle.board_prelude.proofs.Common.{Store, Reset, FittedCard, Setup, card_at, is_within, bridge, isa, card_register}
-use Rattle.board_prelude.proofs.Common.{is_host_byte}
-use Rattle.board_prelude.proofs.Common.{has_rom, is_map_byte, reg_after, touches_map, bytes_few, each_below, third}
-use Rattle.board_prelude.proofs.Common.{fourth, or-false, get_or-take, length-take}
+use Rattle.board_prelude.proofs.Common.{is_host_byte, has_rom, is_map_byte, reg_after, touches_map, bytes_few}
+use Rattle.board_prelude.proofs.Common.{each_below, third, fourth, or-false, get_or-take, length-take}
 use Rattle.std.proofs.lemmas.List.{map_more}
 use Rattle.std.proofs.lemmas.List.Quantifiers.{position-Some}
 use Rattle.std.proofs.lemmas.Option.{slice_get-get_or}

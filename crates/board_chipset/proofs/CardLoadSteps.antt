@@ -1,7 +1,7 @@
 -- The state after bytes were written to a card from outside.
 use Rattle.std.proofs.Common.{◌≡◌, ◌≢◌, ℕ, zero, suc, ◌+◌, ◌-◌, ◌<◌, ◌≤◌, true, false, ◌&&◌, List, [], ◌∷◌, ◌++◌}
-use Rattle.std.proofs.Common.{length, take, drop, Option, Some, None, refl, sym, ◌∙◌, ap, arith, inl, inr, ◌==◌}
-use Rattle.std.proofs.Common.{nat_le, nat_lt, if◌then◌else◌, slice_index, unwrap_or, option_and_then, IfSome}
+use Rattle.std.proofs.Common.{length, take, drop, Option, Some, None, refl, sym, ◌∙◌, ap, arith, inl, inr, ◌==◌, nat_le}
+use Rattle.std.proofs.Common.{nat_lt, if◌then◌else◌, slice_index, unwrap_or, option_and_then, IfSome}
 use Rattle.std.proofs.lemmas.Grind.{elements}
 use Rattle.std.proofs.lemmas.Option.{slice_get_past}
 use Rattle.board_prelude.proofs.Common.{cases_Bool, cases_eq, cases_lt, ne_eqb, eq-eqb, and_from, and_left, eqb-true}

@@ -1,6 +1,6 @@
 -- What an access at a port writes, by what it reaches.
-use Rattle.std.proofs.Common.{◌≡◌, ℕ, ◌+◌, ◌%◌, ◌≤◌, true, false, ◌&&◌, List, Option, Some, None, refl, arith, inl}
-use Rattle.std.proofs.Common.{inr, ◌==◌, is_some}
+use Rattle.std.proofs.Common.{◌≡◌, ℕ, ◌+◌, ◌%◌, ◌≤◌, true, false, ◌&&◌, List, Option, Some, None, refl, arith, inl, inr}
+use Rattle.std.proofs.Common.{◌==◌, is_some}
 use Rattle.std.proofs.lemmas.Option.{cond_some}
 use Rattle.board_prelude.proofs.Common.{cases_Bool, and_parts, cond_both, nat_tests, Width, One, PortAccess, Reg}
 use Rattle.board_prelude.proofs.Common.{Target, Card, Device, Config, Abort, bytes_of, largest_of, Port, Entry}

@@ -1,6 +1,6 @@
 -- What a bus master reaches is neither SMRAM nor DRAM in its range.
-use Rattle.std.proofs.Common.{◌≡◌, ◌≢◌, ℕ, Bool, true, false, not, ◌&&◌, [], ◌∷◌, Option, Some, None, is_some, refl}
-use Rattle.std.proofs.Common.{ap, sym, ◌∙◌, inl, inr, arith, ◌==◌, unwrap_or, option_map}
+use Rattle.std.proofs.Common.{◌≡◌, ◌≢◌, ℕ, Bool, true, false, not, ◌&&◌, [], ◌∷◌, Option, Some, None, is_some, refl, ap}
+use Rattle.std.proofs.Common.{sym, ◌∙◌, inl, inr, arith, ◌==◌, unwrap_or, option_map}
 use Rattle.board_prelude.proofs.Common.{cases_Bool, false≢true, and_left, and_right, nat_tests, Kind, Area, Target}
 use Rattle.board_prelude.proofs.Common.{Smram, Card, Setup, rom_base, lies_in, smram_range, shadow_range, upper_memory}
 use Rattle.board_prelude.proofs.Common.{Bytes, Window, first_of, line_where, card_area, row_of, is_shadowed}

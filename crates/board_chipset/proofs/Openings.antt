@@ -1,6 +1,6 @@
 -- A disk that was opened has whole sectors, and a card is found by its device number.
-use Rattle.std.proofs.Common.{◌≡◌, ℕ, ◌/◌, Option, Some, None, List, [], ◌∷◌, length, refl, inl, inr, subst, arith}
-use Rattle.std.proofs.Common.{◌↔◌, Result, Ok, Err, ◌==◌, is_some, find}
+use Rattle.std.proofs.Common.{◌≡◌, ℕ, ◌/◌, Option, Some, None, List, [], ◌∷◌, length, refl, inl, inr, subst, arith, ◌↔◌}
+use Rattle.std.proofs.Common.{Result, Ok, Err, ◌==◌, is_some, find}
 use Rattle.board_prelude.proofs.Common.{list_any, cases_Bool, nat_tests, FittedCard, IsDisk, is_disk_length}
 use Rattle.ata_pio.specs.declared.ata.AtaOpen.{AtaOpen}
 use Rattle.board_devices.proofs.DeviceLemmas.{refused_length}

@@ -2,8 +2,8 @@
 use Rattle.std.proofs.Common.{◌≡◌, ◌≢◌, ℕ, true, false, List, ◌∷◌, Option, None, refl, ◌∙◌, ap}
 use Rattle.board_prelude.proofs.Common.{cond_both, Width, PortAccess, Reg, Dev, Target, Device, Config, Card, Abort}
 use Rattle.board_prelude.proofs.Common.{bytes_of, Entry, Reply, Setup, config_address, is_hard_reset, Cell, byte_of}
-use Rattle.board_prelude.proofs.Common.{entry_put, byte_put, port_put, device_in, device_reached, device_value}
-use Rattle.board_prelude.proofs.Common.{Decoded, port_value, bus_reply, port_answer, Bytes, Denial, Port, Bus}
+use Rattle.board_prelude.proofs.Common.{entry_put, byte_put, port_put, device_in, device_reached, device_value, Decoded}
+use Rattle.board_prelude.proofs.Common.{port_value, bus_reply, port_answer, Bytes, Denial, Port, Bus}
 use Rattle.board_base.specs.declared.target.Dev.TheVariants.{Confadd as AddressPort, Reset}
 use Rattle.addr_decode.specs.declared.found.ConfigRegister.{ConfigRegister}
 use Rattle.addr_decode.specs.declared.found.Found.{Found}

@@ -3,8 +3,7 @@ use Rattle.std.proofs.Common.{◌≡◌, ℕ, ◌*◌, option_map, false, List, 
 use Rattle.board_prelude.proofs.Common.{Event, Entry, MapChange, Setup, config_address, byte_of, is_hard_reset, Cell}
 use Rattle.board_prelude.proofs.Common.{entry_put, device_reached}
 use Rattle.config_regs.specs.declared.south.South.{South}
-use Rattle.board_devices.specs.Common.{DevicesValue, AreDevicesOf, AreRoutesOf, PassesBy, LeavesDevices}
-use Rattle.board_devices.specs.Common.{sectors_fitted}
+use Rattle.board_devices.specs.Common.{DevicesValue, AreDevicesOf, AreRoutesOf, PassesBy, LeavesDevices, sectors_fitted}
 use Rattle.board_devices.proofs.DiskSizes.{opened_has}
 use Rattle.board_stores.specs.declared.stores.Stores.{Stores}
 use Rattle.board_stores.specs.Puts.{HasStores, ArePut}

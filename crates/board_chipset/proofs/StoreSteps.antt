@@ -1,6 +1,6 @@
 -- The bytes behind the addresses after one more entry.
-use Rattle.std.proofs.Common.{◌≡◌, ◌≢◌, slice_index, unwrap_or, ℕ, ◌<◌, List, ◌∷◌, length, Option, None, refl, sym}
-use Rattle.std.proofs.Common.{◌∙◌, arith}
+use Rattle.std.proofs.Common.{◌≡◌, ◌≢◌, slice_index, unwrap_or, ℕ, ◌<◌, List, ◌∷◌, length, Option, None, refl, sym, ◌∙◌}
+use Rattle.std.proofs.Common.{arith}
 use Rattle.board_prelude.proofs.Common.{Entry, Setup, Cell, DramCell, CardCell, entry_put, stored_of}
 use Rattle.pci_bars.specs.Contents.{IsBaseNumber, held}
 use Rattle.pci_bars.proofs.ContentsLemmas.{contents_of, held_within, stored_byte}

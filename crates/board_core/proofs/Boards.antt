@@ -1,7 +1,7 @@
 -- A board that is fresh, and after a step.
-use Rattle.std.proofs.Common.{◌≡◌, Bool, not, ℕ, ◌+◌, ◌^◌, ◌<◌, List, ◌∷◌, length, inl, inr, refl, sym, ◌∙◌}
-use Rattle.std.proofs.Common.{ap, subst, arith, get_or-set_same, get_or-set_other, ◌↔◌, Result, Ok, Err, ◌==◌}
-use Rattle.std.proofs.Common.{slice_index, slice_set}
+use Rattle.std.proofs.Common.{◌≡◌, Bool, not, ℕ, ◌+◌, ◌^◌, ◌<◌, List, ◌∷◌, length, inl, inr, refl, sym, ◌∙◌, ap, subst}
+use Rattle.std.proofs.Common.{arith, get_or-set_same, get_or-set_other, ◌↔◌, Result, Ok, Err, ◌==◌, slice_index}
+use Rattle.std.proofs.Common.{slice_set}
 use Rattle.board_prelude.proofs.Common.{cases_eq, eq-eqb, ne_eqb, Entry, Setup, IsSetup, entries_by, IsLegal}
 use Rattle.board_prelude.proofs.Common.{version_of, IsAnswer, entry_limit}
 use Rattle.std.proofs.lemmas.List.Filters.{length-filter_both}

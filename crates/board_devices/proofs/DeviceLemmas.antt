@@ -6,8 +6,8 @@ use Rattle.std.proofs.Common.{eq-eqb, ne_eqb, get_or-set_same, get_or-set_other,
 use Rattle.std.proofs.Common.{◌==◌, unwrap_or, map, option_map, slice_index_or, slice_set, if◌then◌else◌}
 use Rattle.board_prelude.proofs.Common.{or-false, and-false, nat_tests, cases_eq, cases_Bool, lt-ltb, le-leb}
 use Rattle.board_prelude.proofs.Common.{get_or-replicate, ext_get_or, length-map, get_or-map, each_below, same-levels}
-use Rattle.board_prelude.proofs.Common.{pair_has_seen, PortAccess, Dev, Pic0, Pic1, Pit, Elcr, Ata, PlainPorts}
-use Rattle.board_prelude.proofs.Common.{Wires, Vector, Spurious, PitState, out_of, reset as timer_at_reset}
+use Rattle.board_prelude.proofs.Common.{pair_has_seen, PortAccess, Dev, Pic0, Pic1, Pit, Elcr, Ata, PlainPorts, Wires}
+use Rattle.board_prelude.proofs.Common.{Vector, Spurious, PitState, out_of, reset as timer_at_reset}
 use Rattle.board_prelude.proofs.Common.{after_reset as clock_after_reset, triggers_at_reset, reserved-rest, Pair}
 use Rattle.board_prelude.proofs.Common.{levels_at_power_on, port_byte, pair_after_lines, pair_at_reset, port_read}
 use Rattle.board_prelude.proofs.Common.{read_value, trigger_byte, Disk, option_map_or, is_disk_length}
@@ -16,11 +16,10 @@ use Rattle.board_prelude.proofs.Common.{BadSector, Reply, Entry, Setup, IsDisk, 
 use Rattle.board_prelude.proofs.Common.{control_written, resets_hard, is_hard_reset, plain_at_reset, device_reached}
 use Rattle.board_prelude.proofs.Common.{wire_set, wire_of, line_set, irq_of, triggers_after, triggers_of, plain_after}
 use Rattle.board_prelude.proofs.Common.{plain_of, plain_value, timer_after, timer_of, clock_after, clock_of}
-use Rattle.board_prelude.proofs.Common.{disk_accessed}
-use Rattle.board_prelude.proofs.Common.{disk_after, disk_with, disk_of, routes_of, pirq_levels, own_level, level_with}
-use Rattle.board_prelude.proofs.Common.{all_lines, levels_with, levels_of, elcr_of, device_value, pair_after}
-use Rattle.board_prelude.proofs.Common.{pair_reset_or_after, pair_stepped, pair_of, after_bad, byte_of, config_store}
-use Rattle.board_prelude.proofs.Common.{elcr-same, is_line_driven, list_any, map-same, true≢false}
+use Rattle.board_prelude.proofs.Common.{disk_accessed, disk_after, disk_with, disk_of, routes_of, pirq_levels}
+use Rattle.board_prelude.proofs.Common.{own_level, level_with, all_lines, levels_with, levels_of, elcr_of, device_value}
+use Rattle.board_prelude.proofs.Common.{pair_after, pair_reset_or_after, pair_stepped, pair_of, after_bad, byte_of}
+use Rattle.board_prelude.proofs.Common.{config_store, elcr-same, is_line_driven, list_any, map-same, true≢false}
 use Rattle.board_prelude.specs.Common.{is_interrupt}
 use Rattle.board_devices.specs.Common.{LeavesDevices, DevicesValue, AreIrqsOf, AreAfter, AreDevicesOf, ReachesDevice}
 use Rattle.board_devices.specs.Common.{Asks, is_chip, PassesBy, Leaves, value_read, after_read, after_write}

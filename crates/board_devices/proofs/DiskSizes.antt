@@ -4,9 +4,8 @@ use Rattle.std.proofs.Common.{Some, None, refl, sym, ◌∙◌, ap, arith, optio
 use Rattle.board_prelude.proofs.Common.{PortAccess, Dev, Ata, Width, One, Setup, Disk, IsDisk, IsDiskSize, disk_with}
 use Rattle.board_prelude.proofs.Common.{disk_of}
 use Rattle.board_base.specs.declared.access.Width.TheVariants.{Two, Four}
-use Rattle.device_spec.proofs.Common.{length-replicate, Activity, Writing}
-use Rattle.device_spec.proofs.Common.{sectors_of, is_drq, bytes_written, activity_written, word_written, byte_written}
-use Rattle.device_spec.proofs.Common.{disk_status_port, disk_control_port}
+use Rattle.device_spec.proofs.Common.{length-replicate, Activity, Writing, sectors_of, is_drq, bytes_written}
+use Rattle.device_spec.proofs.Common.{activity_written, word_written, byte_written, disk_status_port, disk_control_port}
 use Rattle.device_spec.specs.Ata.Steps.{after_read as disk_after_read, after_write as disk_after_write}
 use Rattle.device_spec.specs.Ata.Steps.{after_reset as disk_after_reset, after_bad}
 use Rattle.board_devices.specs.Devices.{DevicesValue, HasDisk, sectors_fitted}

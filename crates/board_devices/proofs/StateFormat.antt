@@ -10,10 +10,9 @@ use Rattle.pirq_router.proofs.StateFormats.{triggers_format}
 use Rattle.ata_pio.specs.State.{IsDisk as IsDiskOver}
 use Rattle.ata_pio.proofs.StateFormats.{most_bytes, disk_format}
 use Rattle.board_devices.specs.Devices.{DevicesValue}
-use Rattle.board_devices.specs.State.{IsSystem, system_bytes, system_fields, IsPlain, plain_bytes}
-use Rattle.board_devices.specs.State.{plain_fields, AreMachines, machines_bytes}
-use Rattle.board_devices.specs.State.{machines_fields, IsFittedDisk, fitted_bytes, fitted_fields, AreDevices}
-use Rattle.board_devices.specs.State.{devices_bytes, devices_fields}
+use Rattle.board_devices.specs.State.{IsSystem, system_bytes, system_fields, IsPlain, plain_bytes, plain_fields}
+use Rattle.board_devices.specs.State.{AreMachines, machines_bytes, machines_fields, IsFittedDisk, fitted_bytes}
+use Rattle.board_devices.specs.State.{fitted_fields, AreDevices, devices_bytes, devices_fields}
 use Rattle.board_devices.proofs.DeviceLemmas.{disk_length}
 
 -- ---- port 61h

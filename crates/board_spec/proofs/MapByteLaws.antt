@@ -3,13 +3,12 @@ use Rattle.std.proofs.Common.{◌≡◌, ℕ, zero, suc, ◌+◌, ◌<◌, ◌�
 use Rattle.std.proofs.Common.{length, get_or, Option, Some, None, refl, ◌∙◌, ap, arith, ◌==◌, is_some, find, flat_map}
 use Rattle.std.proofs.Common.{All, if◌then◌else◌}
 use Rattle.board_spec.specs.Common.{AllByRecursion, enumerate_from, Kind, Reg, Base, IoBase, FittedCard, Setup, IsCard}
-use Rattle.board_spec.specs.Common.{IsCardList, Rises, card_at, has_rom, is_host_byte, is_within, Bytes, boundary, row_of}
-use Rattle.board_spec.specs.Common.{is_shadow_range, is_shadowed, Window, is_covered, base_value, memory_window}
+use Rattle.board_spec.specs.Common.{IsCardList, Rises, card_at, has_rom, is_host_byte, is_within, Bytes, boundary}
+use Rattle.board_spec.specs.Common.{row_of, is_shadow_range, is_shadowed, Window, is_covered, base_value, memory_window}
 use Rattle.board_spec.specs.Common.{vga_window, memory_windows, rom_window, rom_window_of, is_rom_on}
 use Rattle.board_spec.specs.Common.{unselected_windows, rom_unselected, pam_register, is_enabled_for, first_window}
-use Rattle.board_spec.specs.Common.{memory_claim, memory_shut, area_of, denial_of, bridge, pam, fdhc, smram}
-use Rattle.board_spec.specs.Common.{card_register, card_command, base_register, expansion_rom, SameMapBytes}
-use Rattle.board_spec.specs.Common.{MapBytesDecide}
+use Rattle.board_spec.specs.Common.{memory_claim, memory_shut, area_of, denial_of, bridge, card_register, card_command}
+use Rattle.board_spec.specs.Common.{base_register, expansion_rom, SameMapBytes, MapBytesDecide}
 use Rattle.device_spec.proofs.Common.{nat_tests, All-nil, All-cons, All-append, recursion_from_All}
 
 -- ---- searches in lists

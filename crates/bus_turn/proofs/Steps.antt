@@ -1,7 +1,7 @@
 -- Each step keeps the rule of the table.
-use Rattle.std.proofs.Common.{map, append-nil, mod-eq_of_lt, ◌≡◌, ◌≢◌, ⊎_elim, ℕ, ◌+◌, ◌%◌, ◌^◌, ◌≤◌, ◌<◌}
-use Rattle.std.proofs.Common.{List, [], ◌∷◌, ◌++◌, length, set, get_or, drop, All, eq-or-lt_of_le, Option, Some, None}
-use Rattle.std.proofs.Common.{length-set, length-append, append_assoc, sym, refl, ap, ◌∙◌, subst, arith}
+use Rattle.std.proofs.Common.{map, append-nil, mod-eq_of_lt, ◌≡◌, ◌≢◌, ⊎_elim, ℕ, ◌+◌, ◌%◌, ◌^◌, ◌≤◌, ◌<◌, List, []}
+use Rattle.std.proofs.Common.{◌∷◌, ◌++◌, length, set, get_or, drop, All, eq-or-lt_of_le, Option, Some, None, length-set}
+use Rattle.std.proofs.Common.{length-append, append_assoc, sym, refl, ap, ◌∙◌, subst, arith}
 use Rattle.std.proofs.Math.Nat.{mod-add-mod}
 use mathlib.Core.Option.{some, none, some-injective, some-ne-none}
 use mathlib.Core.Option as maybe

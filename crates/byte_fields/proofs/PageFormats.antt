@@ -10,8 +10,8 @@ use Rattle.std.proofs.lemmas.List.{take_min, take-replicate, drop-replicate, len
 use Rattle.std.proofs.lemmas.List.{replicate-append-replicate}
 use Rattle.std.proofs.Math.Nat.{suc-mul, zero-mul}
 use Rattle.byte_fields.specs.Fields.{Reading, then_read, gives, ◌>>=◌, flag_byte, other_than}
-use Rattle.byte_fields.specs.Pages.{page_bytes, page_where, page_field, each_page_bytes, each_page_field, cut}
-use Rattle.byte_fields.specs.Pages.{pages_of, pages_bytes, pages_fields, memory_page, memory_bytes, memory_fields}
+use Rattle.byte_fields.specs.Pages.{page_bytes, page_where, page_field, each_page_bytes, each_page_field, cut, pages_of}
+use Rattle.byte_fields.specs.Pages.{pages_bytes, pages_fields, memory_page, memory_bytes, memory_fields}
 use Rattle.byte_fields.proofs.Formats.{IsFormat, format_as, fields_format, ◌then◌, ◌&◌, last_field, whole_field}
 use Rattle.byte_fields.proofs.Formats.{done_format, read_as, cut_format}
 use Rattle.byte_fields.proofs.Loops.{with_front}

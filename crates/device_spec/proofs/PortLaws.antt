@@ -1,7 +1,6 @@
 -- Each port is one device's: no two lines of the table meet, and none has a port of configuration data.
 use Rattle.std.proofs.Common.{◌≡◌, ℕ, Bool, true, false, ◌&&◌, ◌||◌, nat_le, List, [], ◌∷◌, Option, Some, None, refl}
-use Rattle.std.proofs.Common.{◌∙◌}
-use Rattle.std.proofs.Common.{find, arith, inl, inr, ap, sym}
+use Rattle.std.proofs.Common.{◌∙◌, find, arith, inl, inr, ap, sym}
 use Rattle.std.specs.List.{list_any}
 use Rattle.board_base.proofs.Common.{cond-true, cond-false, false≢true, nat_tests, cases_Bool, and_parts}
 use Rattle.board_base.specs.Bits.{is_within}

@@ -2,8 +2,7 @@
 use Rattle.std.proofs.Common.{◌≡◌, ℕ, ◌+◌, ◌-◌, ◌&&◌, List, ◌++◌, length, replicate, inl, inr, ◌∙◌, refl, sym, ap}
 use Rattle.std.proofs.Common.{slice_index, nat_le, nat_lt, if◌then◌else◌}
 use Rattle.board_base.proofs.ZeroLemmas.{zero_at}
-use Rattle.board_prelude.proofs.Common.{get_or_append_left, get_or-append_right, get_or_past}
-use Rattle.board_prelude.proofs.Common.{cases_lt}
+use Rattle.board_prelude.proofs.Common.{get_or_append_left, get_or-append_right, get_or_past, cases_lt}
 use Rattle.dram_store.specs.Bank.{bank_size, bank_of, IsPut}
 
 -- a list that is read past its end gives 0, as the bytes do that are not kept

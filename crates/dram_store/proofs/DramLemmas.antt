@@ -1,10 +1,9 @@
 -- The DRAM after a history, and after one entry more.
-use Rattle.std.proofs.Common.{◌≡◌, ℕ, ◌+◌, ◌-◌, ◌<◌, ◌≤◌, ◌&&◌, List, [], ◌∷◌, length, Option, Some, None}
-use Rattle.std.proofs.Common.{◌∙◌, refl, ap, arith, slice_index, nat_le, nat_lt, if◌then◌else◌}
-use Rattle.std.proofs.Common.{replicate, unwrap_or}
-use Rattle.board_prelude.proofs.Common.{option_or, length-replicate, get_or-replicate}
-use Rattle.board_prelude.proofs.Common.{nat_tests, Width, Dram, One, bytes_of, largest_of, Entry, Setup, installed}
-use Rattle.board_prelude.proofs.Common.{byte, wide, DramCell, stored_of, byte_put, entry_put, dram_byte}
+use Rattle.std.proofs.Common.{◌≡◌, ℕ, ◌+◌, ◌-◌, ◌<◌, ◌≤◌, ◌&&◌, List, [], ◌∷◌, length, Option, Some, None, ◌∙◌, refl}
+use Rattle.std.proofs.Common.{ap, arith, slice_index, nat_le, nat_lt, if◌then◌else◌, replicate, unwrap_or}
+use Rattle.board_prelude.proofs.Common.{option_or, length-replicate, get_or-replicate, nat_tests, Width, Dram, One}
+use Rattle.board_prelude.proofs.Common.{bytes_of, largest_of, Entry, Setup, installed, byte, wide, DramCell, stored_of}
+use Rattle.board_prelude.proofs.Common.{byte_put, entry_put, dram_byte}
 use Rattle.board_base.specs.declared.access.Width.TheVariants.{Two, Four}
 use Rattle.dram_store.specs.Dram.{dram_at, IsDramOf, IsWritten}
 

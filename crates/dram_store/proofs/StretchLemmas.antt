@@ -1,10 +1,9 @@
 -- Stretches of bytes that are copied out of the DRAM and into it.
-use Rattle.std.proofs.Common.{◌≡◌, ℕ, ◌+◌, ◌-◌, ◌*◌, ◌/◌, ◌%◌, ◌^◌, ◌<◌, ◌≤◌, List, ◌++◌}
-use Rattle.std.proofs.Common.{length, take, drop, replicate, ◌∙◌, refl, ap, arith, length-append}
-use Rattle.std.proofs.Common.{length-take-le, length-drop, slice_index, min, All}
+use Rattle.std.proofs.Common.{◌≡◌, ℕ, ◌+◌, ◌-◌, ◌*◌, ◌/◌, ◌%◌, ◌^◌, ◌<◌, ◌≤◌, List, ◌++◌, length, take, drop, replicate}
+use Rattle.std.proofs.Common.{◌∙◌, refl, ap, arith, length-append, length-take-le, length-drop, slice_index, min, All}
 use Rattle.board_base.proofs.ZeroLemmas.{zero_at}
-use Rattle.board_prelude.proofs.Common.{concat, length-replicate, get_or_append_left, get_or_past}
-use Rattle.board_prelude.proofs.Common.{get_or-take, get_or-drop, get_or-replicate, nat_tests}
+use Rattle.board_prelude.proofs.Common.{concat, length-replicate, get_or_append_left, get_or_past, get_or-take}
+use Rattle.board_prelude.proofs.Common.{get_or-drop, get_or-replicate, nat_tests}
 use Rattle.std.proofs.Math.Seq.{of_parts}
 use Rattle.dram_store.specs.Common.{bank_size, bank_of, page_end, IsBank, IsPut, dram_at, IsWritten}
 use Rattle.dram_store.proofs.BankLemmas.{same_byte}

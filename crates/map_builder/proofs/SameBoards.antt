@@ -4,16 +4,14 @@ use Rattle.std.proofs.Common.{Option, Some, None, refl, sym, ◌∙◌, arith, �
 use Rattle.board_prelude.proofs.Common.{AllByRecursion, cases_Bool, false≢true, nat_tests, recursion_from_All, Kind}
 use Rattle.board_prelude.proofs.Common.{Fetch, Read, Write, Reg, FittedCard, Setup, IsCardList, card_at, is_within}
 use Rattle.board_prelude.proofs.Common.{Bytes, memory_claim, area_of, bridge, isa, card_register, six_areas, has_rom}
-use Rattle.board_prelude.proofs.Common.{touches_map, MapChange, untouched, SameMapBytes, map_bytes_decide}
+use Rattle.board_prelude.proofs.Common.{touches_map, MapChange, untouched, SameMapBytes, map_bytes_decide, is_host_byte}
 use Rattle.map_builder.specs.Changed.{after}
 use Rattle.pci_bars.specs.Cards.{CardBytes, HoldsRom, DecodesAs, cards_of}
-use Rattle.board_prelude.proofs.Common.{is_host_byte}
 use Rattle.addr_decode.specs.declared.register.MapRegister.{MapRegister}
 use Rattle.addr_decode.specs.declared.register.MapRegister.TheVariants.{Pam, RowBoundary, Single, Card}
 use Rattle.addr_decode.specs.MapRegister.{place_of, IsNumbered, in_bridge, in_isa_bridge}
 use Rattle.addr_decode.specs.MapRegs.{MapBytes, StandsFor}
-use Rattle.addr_decode.proofs.NameLemmas.{IsNameAt, is_isa_byte, bridge_named, isa_named, bridge_place}
-use Rattle.addr_decode.proofs.NameLemmas.{single_place}
+use Rattle.addr_decode.proofs.NameLemmas.{IsNameAt, is_isa_byte, bridge_named, isa_named, bridge_place, single_place}
 use Rattle.addr_decode.proofs.StoreLemmas.{same_register}
 
 module _ (regs : MapBytes) (setup setup' : Setup) (bytes bytes' : Bytes) (stands : StandsFor setup bytes regs)

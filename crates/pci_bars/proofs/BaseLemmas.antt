@@ -2,8 +2,8 @@
 use Rattle.std.proofs.Common.{◌≡◌, ◌≢◌, ℕ, zero, suc, ◌^◌, ◌<◌, ◌≤◌, List, length, get_or, set, map, Some, inl, inr}
 use Rattle.std.proofs.Common.{◌∙◌, sym, ap, Option, option_map, arith, lit<, length-set, get_or-set_same}
 use Rattle.std.proofs.Common.{get_or-set_other, All, slice_get}
-use Rattle.board_prelude.proofs.Common.{w32, from_le_bytes, to_le_bytes, cases_eq, cases_lt, get_or_past}
-use Rattle.board_prelude.proofs.Common.{All-get_or, get_or-map, length-map, Base, IsBase, byte}
+use Rattle.board_prelude.proofs.Common.{w32, from_le_bytes, to_le_bytes, cases_eq, cases_lt, get_or_past, All-get_or}
+use Rattle.board_prelude.proofs.Common.{get_or-map, length-map, Base, IsBase, byte}
 use Rattle.std.proofs.lemmas.Nat.{le_bytes_4}
 use Rattle.std.proofs.Math.Pow.{pow_mono}
 use Rattle.std.proofs.lemmas.Option.{slice_get_within, get_or_from_slice_get}

@@ -1,13 +1,12 @@
 -- The registers of a card after a reset, as they are read, and after a store of one byte.
-use Rattle.std.proofs.Common.{◌≡◌, ◌≢◌, ◌⊎◌, ℕ, ◌+◌, ◌-◌, ◌*◌, ◌^◌, ◌<◌, ◌≤◌, false, Option, None, List}
-use Rattle.std.proofs.Common.{length, get_or, set, Some, inl, inr, ◌∙◌, refl, sym, ap, arith, lit<, lit≤}
-use Rattle.std.proofs.Common.{add-zero, get_or-set_same, get_or-set_other, slice_index, slice_get}
-use Rattle.board_prelude.proofs.Common.{and_left, ne_eqb, cases_eq, nat_tests, Reg, Base}
-use Rattle.board_prelude.proofs.Common.{IoBase, FittedCard, Setup, IsCard, card_at, byte}
-use Rattle.board_prelude.proofs.Common.{merged, wide, card_function, listed, base_reset, base_writable, rom_writable}
-use Rattle.board_prelude.proofs.Common.{reset_byte, reg_after, Bytes, card_register, base_register, option_map_or}
-use Rattle.board_prelude.proofs.Common.{smram, is_same, merged-all, merged-none, changed_byte-one_same}
-use Rattle.board_prelude.proofs.Common.{changed_byte-one_other}
+use Rattle.std.proofs.Common.{◌≡◌, ◌≢◌, ◌⊎◌, ℕ, ◌+◌, ◌-◌, ◌*◌, ◌^◌, ◌<◌, ◌≤◌, false, Option, None, List, length, get_or}
+use Rattle.std.proofs.Common.{set, Some, inl, inr, ◌∙◌, refl, sym, ap, arith, lit<, lit≤, add-zero, get_or-set_same}
+use Rattle.std.proofs.Common.{get_or-set_other, slice_index, slice_get}
+use Rattle.board_prelude.proofs.Common.{and_left, ne_eqb, cases_eq, nat_tests, Reg, Base, IoBase, FittedCard, Setup}
+use Rattle.board_prelude.proofs.Common.{IsCard, card_at, byte, merged, wide, card_function, listed, base_reset}
+use Rattle.board_prelude.proofs.Common.{base_writable, rom_writable, reset_byte, reg_after, Bytes, card_register}
+use Rattle.board_prelude.proofs.Common.{base_register, option_map_or, smram, is_same, merged-all, merged-none}
+use Rattle.board_prelude.proofs.Common.{changed_byte-one_same, changed_byte-one_other}
 use Rattle.board_base.specs.declared.access.Width.TheVariants.{Four}
 use Rattle.pci_bars.specs.Common.{of_base, CardBytes, HoldsLong, HoldsRom, DecodesAs, IsCardOf, is_kept_offset}
 use Rattle.pci_bars.specs.Common.{header_of, stored}

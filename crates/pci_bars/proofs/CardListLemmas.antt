@@ -1,11 +1,10 @@
 -- The cards in a list by their device numbers.
-use Rattle.std.proofs.Common.{◌≡◌, ℕ, Bor, get_or, List, [], ◌∷◌, length, ◌++◌, ◌+◌, Option, Some, None}
-use Rattle.std.proofs.Common.{inl, inr, ◌∙◌, refl, sym, ap, arith, ◌==◌, All, find, option_map, nat_lt, is_some}
-use Rattle.std.proofs.Common.{slice_get}
+use Rattle.std.proofs.Common.{◌≡◌, ℕ, Bor, get_or, List, [], ◌∷◌, length, ◌++◌, ◌+◌, Option, Some, None, inl, inr, ◌∙◌}
+use Rattle.std.proofs.Common.{refl, sym, ap, arith, ◌==◌, All, find, option_map, nat_lt, is_some, slice_get}
 use Rattle.std.specs.Option.{IfSome}
-use Rattle.board_prelude.proofs.Common.{position, position_or_len, cases_Bool, cases_lt, nat_tests}
-use Rattle.board_prelude.proofs.Common.{eqb-true, lt-ltb, le-ltb, All-nil, All-cons, All-append, All-head, All-tail}
-use Rattle.board_prelude.proofs.Common.{length-append, map-append, FittedCard, Setup, card_at}
+use Rattle.board_prelude.proofs.Common.{position, position_or_len, cases_Bool, cases_lt, nat_tests, eqb-true, lt-ltb}
+use Rattle.board_prelude.proofs.Common.{le-ltb, All-nil, All-cons, All-append, All-head, All-tail, length-append}
+use Rattle.board_prelude.proofs.Common.{map-append, FittedCard, Setup, card_at}
 use Rattle.std.proofs.lemmas.List.Folds.{find_at}
 use Rattle.std.proofs.lemmas.Option.{slice_get_past, slice_get-get_or}
 use Rattle.pci_bars.specs.declared.regs.CardRegs.{CardRegs}

@@ -1,12 +1,11 @@
 -- Claims of the cards' registers are those of the windows that a board's registers make.
-use Rattle.std.proofs.Common.{◌≡◌, ℕ, ◌+◌, ◌<◌, ◌≤◌, Bool, true, List, [], ◌∷◌, ◌++◌, length, Option, Some, None}
-use Rattle.std.proofs.Common.{◌∙◌, refl, sym, ap, arith, lit<, ◌==◌, ◌&&◌, All, flat_map, option_map}
-use Rattle.std.proofs.Common.{if◌then◌else◌, slice_index}
-use Rattle.board_prelude.proofs.Common.{enumerate_from, option_or, append-nil, All-head, All-tail}
-use Rattle.board_prelude.proofs.Common.{find-append, Base, IoBase, FittedCard, Setup, IsCard}
-use Rattle.board_prelude.proofs.Common.{is_bit, Bytes, Window, is_covered, base_value, memory_window, rom_window_of}
-use Rattle.board_prelude.proofs.Common.{io_window, is_rom_on, vga_window, unselected_windows}
-use Rattle.board_prelude.proofs.Common.{io_windows, is_enabled_for, first_window}
+use Rattle.std.proofs.Common.{◌≡◌, ℕ, ◌+◌, ◌<◌, ◌≤◌, Bool, true, List, [], ◌∷◌, ◌++◌, length, Option, Some, None, ◌∙◌}
+use Rattle.std.proofs.Common.{refl, sym, ap, arith, lit<, ◌==◌, ◌&&◌, All, flat_map, option_map, if◌then◌else◌}
+use Rattle.std.proofs.Common.{slice_index}
+use Rattle.board_prelude.proofs.Common.{enumerate_from, option_or, append-nil, All-head, All-tail, find-append, Base}
+use Rattle.board_prelude.proofs.Common.{IoBase, FittedCard, Setup, IsCard, is_bit, Bytes, Window, is_covered}
+use Rattle.board_prelude.proofs.Common.{base_value, memory_window, rom_window_of, io_window, is_rom_on, vga_window}
+use Rattle.board_prelude.proofs.Common.{unselected_windows, io_windows, is_enabled_for, first_window}
 use Rattle.pci_bars.specs.declared.claims.Gate.{Gate}
 use Rattle.pci_bars.specs.declared.claims.Windows.{Windows}
 use Rattle.pci_bars.specs.declared.claims.Windows.TheVariants.{Memory, UnselectedRom, Ports}

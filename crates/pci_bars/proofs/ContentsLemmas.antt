@@ -1,15 +1,12 @@
 -- The bytes behind the bases: as they begin, and after a write.
-use Rattle.std.proofs.Common.{◌≡◌, ◌≢◌, ℕ, ◌+◌, ◌-◌, ◌/◌, ◌%◌, ◌<◌, ◌≤◌, ◌&&◌, List, [], ◌∷◌, map, Vec}
-use Rattle.std.proofs.Common.{Global, length, get_or, set, take, drop, ◌++◌, replicate, inl, inr, ◌∙◌, refl, sym, ap}
-use Rattle.std.proofs.Common.{arith, get_or-set_same, get_or-set_other, length-append, length-drop}
-use Rattle.std.proofs.Common.{length-take-le, ◌==◌, nat_le, nat_lt, find, if◌then◌else◌, slice_index, unwrap_or}
-use Rattle.std.proofs.Common.{vec_len}
-use Rattle.board_prelude.proofs.Common.{with_items}
-use Rattle.board_prelude.proofs.Common.{cases_lt, cases_eq, nat_tests, get_or_past}
-use Rattle.board_prelude.proofs.Common.{length-replicate, length-map, map-set, get_or-map, with_items_is}
-use Rattle.board_prelude.proofs.Common.{Width, Card, bytes_of, Entry, FittedCard, Setup, card_at}
-use Rattle.board_prelude.proofs.Common.{kept_size, byte, CardCell, byte_put, card_byte, entry_put, stored_of}
-use Rattle.board_prelude.proofs.Common.{expansion_byte}
+use Rattle.std.proofs.Common.{◌≡◌, ◌≢◌, ℕ, ◌+◌, ◌-◌, ◌/◌, ◌%◌, ◌<◌, ◌≤◌, ◌&&◌, List, [], ◌∷◌, map, Vec, Global, length}
+use Rattle.std.proofs.Common.{get_or, set, take, drop, ◌++◌, replicate, inl, inr, ◌∙◌, refl, sym, ap, arith}
+use Rattle.std.proofs.Common.{get_or-set_same, get_or-set_other, length-append, length-drop, length-take-le, ◌==◌}
+use Rattle.std.proofs.Common.{nat_le, nat_lt, find, if◌then◌else◌, slice_index, unwrap_or, vec_len}
+use Rattle.board_prelude.proofs.Common.{with_items, cases_lt, cases_eq, nat_tests, get_or_past, length-replicate}
+use Rattle.board_prelude.proofs.Common.{length-map, map-set, get_or-map, with_items_is, Width, Card, bytes_of, Entry}
+use Rattle.board_prelude.proofs.Common.{FittedCard, Setup, card_at, kept_size, byte, CardCell, byte_put, card_byte}
+use Rattle.board_prelude.proofs.Common.{entry_put, stored_of, expansion_byte}
 use Rattle.std.proofs.lemmas.List.{set_past}
 use Rattle.std.proofs.lemmas.Grind.{get_or-set_at}
 use Rattle.board_base.proofs.ZeroLemmas.{zero_at}

@@ -1,6 +1,5 @@
 -- The registers on which the address map depends.
-use Rattle.std.proofs.Common.{◌≡◌, ◌≢◌, ◌⊎◌, ℕ, ◌<◌, ◌≤◌, Bool, true, ◌&&◌, ◌||◌, None}
-use Rattle.std.proofs.Common.{arith, ◌==◌, is_some}
+use Rattle.std.proofs.Common.{◌≡◌, ◌≢◌, ◌⊎◌, ℕ, ◌<◌, ◌≤◌, Bool, true, ◌&&◌, ◌||◌, None, arith, ◌==◌, is_some}
 use Rattle.board_prelude.proofs.Common.{and-true, ne_eqb, nat_tests, Setup, IsCard, is_within, is_map_byte, Bytes}
 use Rattle.board_prelude.proofs.Common.{card_register}
 use Rattle.pci_bars.specs.Cards.{CardBytes, DecodesAs}

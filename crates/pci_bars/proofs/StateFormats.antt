@@ -1,10 +1,10 @@
 -- The bytes behind the bases are spelled base by base, and read back.
-use Rattle.std.proofs.Common.{◌≡◌, ℕ, zero, suc, ◌+◌, ◌-◌, ◌/◌, ◌%◌, ◌^◌, ◌≤◌, ◌<◌, inl, inr, List}
-use Rattle.std.proofs.Common.{[], ◌∷◌, ◌++◌, Vec, Global, length, drop, get_or, Option, Some, None, Result, refl, sym}
-use Rattle.std.proofs.Common.{◌∙◌, append_assoc, arith, All, find, ◌==◌, slice_get}
+use Rattle.std.proofs.Common.{◌≡◌, ℕ, zero, suc, ◌+◌, ◌-◌, ◌/◌, ◌%◌, ◌^◌, ◌≤◌, ◌<◌, inl, inr, List, [], ◌∷◌, ◌++◌, Vec}
+use Rattle.std.proofs.Common.{Global, length, drop, get_or, Option, Some, None, Result, refl, sym, ◌∙◌, append_assoc}
+use Rattle.std.proofs.Common.{arith, All, find, ◌==◌, slice_get}
 use Rattle.board_prelude.proofs.Common.{append-nil, flat_map-cons, drop_more, drop_all, cases_Bool, All-head, All-tail}
-use Rattle.board_prelude.proofs.Common.{option_map_or, Base, OutsideBase, IsBase, FittedCard}
-use Rattle.board_prelude.proofs.Common.{IsCard, kept_of_base, kept_size}
+use Rattle.board_prelude.proofs.Common.{option_map_or, Base, OutsideBase, IsBase, FittedCard, IsCard, kept_of_base}
+use Rattle.board_prelude.proofs.Common.{kept_size}
 use Rattle.std.proofs.Math.Pow.{pow_mono}
 use Rattle.byte_fields.specs.declared.fault.Fault.{Fault}
 use Rattle.byte_fields.specs.declared.fault.Fault.TheVariants as faults

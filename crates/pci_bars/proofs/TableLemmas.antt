@@ -5,11 +5,10 @@ use Rattle.std.proofs.Common.{lit≤, ◌==◌, ◌&&◌, ◌||◌, flat_map, if
 use Rattle.std.proofs.Common.{rules}
 use Rattle.std.proofs.lemmas.Option.{slice_get_past}
 use Rattle.board_prelude.proofs.Common.{ne_eqb, cases_lt, cases_eq, nat_tests, get_or_append_left, get_or-append_right}
-use Rattle.board_prelude.proofs.Common.{get_or-replicate}
-use Rattle.board_prelude.proofs.Common.{Base, FittedCard, Setup, IsCard, card_at, byte, is_within, long_bytes, line}
-use Rattle.board_prelude.proofs.Common.{card_function, function_lines, listed, base_reset, base_writable}
-use Rattle.board_prelude.proofs.Common.{rom_writable, reset_byte, writable_bits, card_register, listed-past}
-use Rattle.board_prelude.proofs.Common.{listed-here, each_below}
+use Rattle.board_prelude.proofs.Common.{get_or-replicate, Base, FittedCard, Setup, IsCard, card_at, byte, is_within}
+use Rattle.board_prelude.proofs.Common.{long_bytes, line, card_function, function_lines, listed, base_reset}
+use Rattle.board_prelude.proofs.Common.{base_writable, rom_writable, reset_byte, writable_bits, card_register}
+use Rattle.board_prelude.proofs.Common.{listed-past, listed-here, each_below}
 use Rattle.board_spec.specs.RegisterTable.{Line}
 use Rattle.pci_bars.specs.Common.{of_base, CardBytes, is_kept_offset, header_of}
 

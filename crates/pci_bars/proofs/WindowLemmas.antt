@@ -1,13 +1,12 @@
 -- The window that claims a place has the size of its base, and an access that it claims lies in its contents.
-use Rattle.std.proofs.Common.{◌≡◌, ◌≢◌, ◌⊎◌, ℕ, suc, ◌+◌, ◌-◌, ◌*◌, ◌%◌, ◌^◌, ◌<◌, ◌≤◌, Bool, true, false, List}
-use Rattle.std.proofs.Common.{[], ◌∷◌, ◌++◌, if◌then◌else◌, length, Option, None, Some, inl, inr, ◌∙◌, refl, ap}
-use Rattle.std.proofs.Common.{subst, arith, lit<, lit≤, ◌==◌, All, find, flat_map, slice_get}
+use Rattle.std.proofs.Common.{◌≡◌, ◌≢◌, ◌⊎◌, ℕ, suc, ◌+◌, ◌-◌, ◌*◌, ◌%◌, ◌^◌, ◌<◌, ◌≤◌, Bool, true, false, List, []}
+use Rattle.std.proofs.Common.{◌∷◌, ◌++◌, if◌then◌else◌, length, Option, None, Some, inl, inr, ◌∙◌, refl, ap, subst}
+use Rattle.std.proofs.Common.{arith, lit<, lit≤, ◌==◌, All, find, flat_map, slice_get}
 use Rattle.board_prelude.proofs.Common.{cases_Bool, ne_eqb, nil_from_length, pow-add, pow_pos, All-nil, All-cons}
 use Rattle.board_prelude.proofs.Common.{All-head, All-tail, All-append, Base, MemoryBase, IoBase, OutsideBase}
 use Rattle.board_prelude.proofs.Common.{FittedCard, Setup, IsBase, IsExpansionRom, IsCard, card_at, kept_of_base}
 use Rattle.board_prelude.proofs.Common.{kept_size, Width, One, bytes_of, window_bits, bits_of_base, Bytes, Window}
-use Rattle.board_prelude.proofs.Common.{rom_window_of, is_rom_on, io_windows, memory_claim}
-use Rattle.board_prelude.proofs.Common.{io_claim}
+use Rattle.board_prelude.proofs.Common.{rom_window_of, is_rom_on, io_windows, memory_claim, io_claim}
 use Rattle.std.proofs.lemmas.Nat.{mod-pow-add}
 use Rattle.std.proofs.Math.Nat.{mod-lt}
 use Rattle.pci_bars.specs.declared.claims.Gate.TheVariants.{Open}

@@ -2,7 +2,8 @@
 use Rattle.std.proofs.Common.{◌≡◌, ℕ, ◌+◌, ◌<◌, ◌≤◌, List, [], ◌∷◌, length, ◌∙◌, refl, arith, inl, inr, lit<, map}
 use Rattle.std.proofs.Common.{slice_index, Bool, true, nat_lt, nat_le, ◌&&◌, ◌||◌}
 use Rattle.board_prelude.proofs.Common.{cases_lt, Setup, host_bridge, listed, reset_byte, writable_bits, Bytes, bridge}
-use Rattle.board_prelude.proofs.Common.{drb, listed-past, listed-before, Each, each_below, and_parts, or_cases, nat_tests}
+use Rattle.board_prelude.proofs.Common.{drb, listed-past, listed-before, Each, each_below, and_parts, or_cases}
+use Rattle.board_prelude.proofs.Common.{nat_tests}
 use Rattle.board_spec.specs.RegisterTable.{Line}
 use Rattle.pmc_regs.specs.Pmc.{IsFixedOffset, IsRowsOf}
 

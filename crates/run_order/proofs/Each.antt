@@ -1,13 +1,12 @@
 -- What holds of each processor's statements, where a call of the bus passes.
-use Rattle.std.proofs.Common.{◌≡◌, ℕ, ◌+◌, ◌<◌, ◌≤◌, ◌==◌, true, false, List, [], ◌∷◌, length, All, refl}
-use Rattle.std.proofs.Common.{arith, inl, inr, MatchBool}
+use Rattle.std.proofs.Common.{◌≡◌, ℕ, ◌+◌, ◌<◌, ◌≤◌, ◌==◌, true, false, List, [], ◌∷◌, length, All, refl, arith, inl}
+use Rattle.std.proofs.Common.{inr, MatchBool, get_or}
 use Rattle.board_prelude.proofs.Common.{length-map, All-head, All-tail, cases_Bool, nat_tests, Entry, Setup, version_of}
+use Rattle.board_prelude.proofs.Common.{length-set}
 use Rattle.run_order.specs.declared.done.Done.{Done}
 use Rattle.run_order.specs.Common.{left_after, all_left, without_first, passed, done_by}
 use Rattle.run_order.proofs.Fitting.{IsHeaded, Fits}
 use Rattle.run_order.proofs.Steps.{from_first}
-use Rattle.std.proofs.Common.{get_or}
-use Rattle.board_prelude.proofs.Common.{length-set}
 
 -- K holds of each processor's statements, the lists being those of the processors from `first` on
 abbrev pub Each : (ℕ → List Done → Type 0) → ℕ → List (List Done) → Type 0

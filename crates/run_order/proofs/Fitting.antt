@@ -1,6 +1,6 @@
 -- A processor's statements fit into the history of the bus: at each place its looks that are due there are right.
-use Rattle.std.proofs.Common.{◌≡◌, ℕ, ◌+◌, ◌≤◌, ◌==◌, nat_le, false, List, [], ◌∷◌, length, refl, sym, ◌∙◌, ap}
-use Rattle.std.proofs.Common.{arith, inl, inr, MatchBool, map}
+use Rattle.std.proofs.Common.{◌≡◌, ℕ, ◌+◌, ◌≤◌, ◌==◌, nat_le, false, List, [], ◌∷◌, length, refl, sym, ◌∙◌, ap, arith}
+use Rattle.std.proofs.Common.{inl, inr, MatchBool, map}
 use Rattle.board_prelude.proofs.Common.{cases_Bool, nat_tests, Event, Saw, Entry, Setup, version_of, IsAnswer}
 use Rattle.board_prelude.proofs.Common.{entries_by}
 use Rattle.board_spec.specs.declared.event.Event.TheVariants.{Look as LookAt}

@@ -1,6 +1,6 @@
 -- Beginnings of a history, and a processor's entries in it.
-use Rattle.std.proofs.Common.{◌≡◌, ℕ, ◌+◌, ◌<◌, ◌≤◌, ◌==◌, true, List, [], ◌∷◌, ◌++◌, length, refl, sym, ◌∙◌, ap}
-use Rattle.std.proofs.Common.{arith, append_assoc, Option, Some, None, inl, inr, reverse}
+use Rattle.std.proofs.Common.{◌≡◌, ℕ, ◌+◌, ◌<◌, ◌≤◌, ◌==◌, true, List, [], ◌∷◌, ◌++◌, length, refl, sym, ◌∙◌, ap, arith}
+use Rattle.std.proofs.Common.{append_assoc, Option, Some, None, inl, inr, reverse}
 use Rattle.board_prelude.proofs.Common.{option_to_list, reverse-append, cases_Bool, nat_tests, Entry, MapChange, Setup}
 use Rattle.board_prelude.proofs.Common.{version_of, IsLegal, map_change_of, map_writes_of, entries_by}
 use Rattle.run_order.specs.Trace.{Begins}

@@ -1,6 +1,6 @@
 -- The looks of one processor after another.
-use Rattle.std.proofs.Common.{◌≡◌, ℕ, suc, ◌+◌, ◌<◌, ◌≤◌, List, [], ◌∷◌, length, map, take, drop, get_or, set, sym}
-use Rattle.std.proofs.Common.{◌∙◌, ap, arith}
+use Rattle.std.proofs.Common.{◌≡◌, ℕ, suc, ◌+◌, ◌<◌, ◌≤◌, List, [], ◌∷◌, length, map, take, drop, get_or, set, sym, ◌∙◌}
+use Rattle.std.proofs.Common.{ap, arith}
 use Rattle.board_prelude.proofs.Common.{take_more, drop_more, map-append, length-set, length-map, take_all, drop_all}
 use Rattle.board_prelude.proofs.Common.{get_or-map, map-set, Entry}
 use Rattle.std.proofs.lemmas.List.{drop-set-lt}

@@ -1,7 +1,8 @@
 -- The placed history is legal, is the bus's without its looks, has each look in its place and each processor's events.
-use Rattle.std.proofs.Common.{◌≡◌, ℕ, ◌+◌, ◌<◌, ◌≤◌, nat_le, List, [], ◌∷◌, ◌++◌, map, length, All, refl, sym, ◌∙◌, ap, subst}
-use Rattle.std.proofs.Common.{arith, inl, inr}
-use Rattle.board_prelude.proofs.Common.{cases_Bool, nat_tests, Saw, Entry, Setup, version_of, IsNext, IsLegal, next_entry}
+use Rattle.std.proofs.Common.{◌≡◌, ℕ, ◌+◌, ◌<◌, ◌≤◌, nat_le, List, [], ◌∷◌, ◌++◌, map, length, All, refl, sym, ◌∙◌, ap}
+use Rattle.std.proofs.Common.{subst, arith, inl, inr}
+use Rattle.board_prelude.proofs.Common.{cases_Bool, nat_tests, Saw, Entry, Setup, version_of, IsNext, IsLegal}
+use Rattle.board_prelude.proofs.Common.{next_entry}
 use Rattle.board_spec.specs.declared.event.Event.TheVariants.{Look as LookAt}
 use Rattle.run_order.specs.declared.done.Done.{Done}
 use Rattle.run_order.specs.declared.done.Done.TheVariants.{Went, Looked}

@@ -6,8 +6,7 @@ use Rattle.board_prelude.proofs.Common.{drop_more, drop_all, All-get_or, Entry, 
 use Rattle.run_order.specs.declared.done.Done.{Done}
 use Rattle.run_order.specs.declared.done.Done.TheVariants.{Went, Looked}
 use Rattle.run_order.specs.Common.{with_looks, left_after, with_all_looks, all_left, without_first, noted, placed}
-use Rattle.run_order.specs.Common.{done_by, passed}
-use Rattle.run_order.specs.Common.{looks_in, all_looks_in, IsNotDue, IsSettled, IsSettledBut}
+use Rattle.run_order.specs.Common.{done_by, passed, looks_in, all_looks_in, IsNotDue, IsSettled, IsSettledBut}
 use Rattle.run_order.proofs.Counts.{count_set}
 use Rattle.run_order.proofs.Steps.{from_first, no_more_looks}
 

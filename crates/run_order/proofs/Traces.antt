@@ -1,6 +1,6 @@
 -- What the clauses of a worker's calls say is what the law of the places asks.
-use Rattle.std.proofs.Common.{◌≡◌, ℕ, ◌+◌, ◌-◌, ◌≤◌, Bool, List, [], ◌∷◌, ◌++◌, length, refl, sym, ◌∙◌, ap}
-use Rattle.std.proofs.Common.{arith, inl, inr, append_assoc, length-append, ⊎_elim}
+use Rattle.std.proofs.Common.{◌≡◌, ℕ, ◌+◌, ◌-◌, ◌≤◌, Bool, List, [], ◌∷◌, ◌++◌, length, refl, sym, ◌∙◌, ap, arith, inl}
+use Rattle.std.proofs.Common.{inr, append_assoc, length-append, ⊎_elim}
 use Rattle.board_prelude.proofs.Common.{option_to_list, Kind, Area, Look, Entry, MapChange, Setup, IsCardList, byte_of}
 use Rattle.board_prelude.proofs.Common.{map_change_of, map_writes_of, version_of, registers_after, Bytes, area_of}
 use Rattle.board_prelude.proofs.Common.{IsSpan, SameMapBytes, map_writes_decide, map_bytes_decide}

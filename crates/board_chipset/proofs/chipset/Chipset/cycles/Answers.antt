@@ -3,8 +3,8 @@ use Rattle.board_prelude.proofs.Common.{take_all, length-map, One, Setup}
 use Rattle.board_stores.specs.declared.ports.PortCycle.{PortCycle}
 use Rattle.board_stores.specs.PortCycles.{port_accesses}
 use Rattle.board_chipset.specs.PortAccesses.{IsCycleStep}
-use Rattle.board_chipset.proofs.PortAccessSteps.{none_done, cycle_done, shifted, shift_most, all_fit, at_next}
-use Rattle.board_chipset.proofs.PortAccessSteps.{at_first, inside, item, at_item, on_bus, from_first}
+use Rattle.board_chipset.proofs.PortAccessSteps.{none_done, cycle_done, shifted, shift_most, all_fit, at_next, at_first}
+use Rattle.board_chipset.proofs.PortAccessSteps.{inside, item, at_item, on_bus, from_first}
 use Rattle.board_chipset.proofs.chipset.Chipset.cycles.Goals as goal
 
 none : PortCycle

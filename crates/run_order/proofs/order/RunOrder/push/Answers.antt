@@ -1,5 +1,4 @@
-use Rattle.std.proofs.Common.{rules, ◌+◌, ◌≤◌, ap, arith}
-use Rattle.std.proofs.Common.{vec_capacity}
+use Rattle.std.proofs.Common.{rules, ◌+◌, ◌≤◌, ap, arith, vec_capacity}
 use Rattle.run_order.specs.Room.{Order}
 use Rattle.run_order.proofs.Counts.{number_fits, order_more}
 use Rattle.run_order.proofs.order.RunOrder.push.Goals as goal
