@@ -51,8 +51,10 @@ entries_front : (list more : List Part) (entries : List PackedEntry) → AreWith
     → entries_in (list ++ more) entries ≡ entries_in list entries
 entries_front list more [] within = refl
 entries_front list more (entry ∷ entries) within =
-    let here = reply_front list more entry.reply (All-head (λ e. IsWithin (length list) e.reply) entry entries within) in
-    rw (here, entries_front list more entries (All-tail (λ e. IsWithin (length list) e.reply) entry entries within)) refl
+    let here = reply_front list more entry.reply
+    (All-head (λ e. IsWithin (length list) e.reply) entry entries within) in
+    rw (here, entries_front list more entries (All-tail (λ e. IsWithin (length list) e.reply) entry entries within))
+    refl
 
 pub pushed_entries : (entries new_entries : List PackedEntry) (parts new_parts : List Part) (packed : PackedEntry)
     (entry : Entry) →

@@ -120,7 +120,8 @@ word_written-same t word disk h n = grind (arith, nat_tests, cases_Bool, cond-tr
 
 step_same : (access : Access) (disk : Disk) (t : ℕ) → IsSound disk → stores access disk t ≡ false →
     SameBytes t disk (stepped access disk)
-step_same access disk t h n = grind (arith, nat_tests, either_same, eqb, word_written-same, or_parts, word_written-keeps)
+step_same access disk t h n =
+    grind (arith, nat_tests, either_same, eqb, word_written-same, or_parts, word_written-keeps)
 
 pub only_stores_change : OnlyStoresChange
 only_stores_change access disk t h n = step_same access disk t h n

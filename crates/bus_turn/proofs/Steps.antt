@@ -439,7 +439,8 @@ module _ {T E F : Type 0} (entries : T → List E) (actor : E → ℕ) (fixed : 
       let found = total_set joins s.views id v left at in let found' = total_snoc joins changed right in
       let joined : total is_gone s.views ≡ total joins s.views = r.1 in let out = o.out in
       let stay : Stays b b s.views views = λ p gone.
-      (refl, at_longer changed (right ∷ []) p spent (set_stays b b s.views id v left at lives (λ m _. refl) p gone).1) in
+      (refl, at_longer changed (right ∷ []) p spent (set_stays b b s.views id v left at lives (λ m _. refl) p gone).1)
+      in
       let old : (j : ℕ) (u : V) (m : ℕ) → (j ≡ 0 → m + 1 ≡ length views) → K b s.views j u
       → K b views j (record u { splits = m }) = λ j u m split k.
       knows_on b b s.views views j u u.stage m u.seen u.told u.mine stay k split k.begins k.told k.mine k.stage in

@@ -175,7 +175,8 @@ module _ (leaves : MemoryLeavesDevices) (setup : Setup) where
   pulsed_bare before (suc k) pair =
       let timer : pulses (suc k) (timer_of before) ≡ pulses (suc k) (timer_of (bare before)) =
       ap (pulses (suc k)) (timer_bare before) in
-      let levels = levels_bare before (pulses (suc k) (timer_of before)) (pulses (suc k) (timer_of (bare before))) timer in
+      let levels = levels_bare before (pulses (suc k) (timer_of before)) (pulses (suc k) (timer_of (bare before))) timer
+      in
       cc (pulsed_bare before k pair, levels, edges_bare before)
 
   -- an entry that is no look, after a history and after that history without its looks
@@ -306,7 +307,8 @@ module _ (leaves : MemoryLeavesDevices) (setup : Setup) (final before : List Ent
     blind_at (LookAt kind addr smm) (Saw look) answer = look_same kind addr smm look answer
     blind_at (LookAt kind addr smm) _ answer = absurd answer
     blind_at Ack reply answer = answer
-        ∙ sym (ap (λ (p : Pair). Bus (Some ((answer_of p).vector)) (Device (who_answered (answer_of p))) None) pair_same)
+        ∙ sym (ap (λ (p : Pair). Bus (Some ((answer_of p).vector)) (Device (who_answered (answer_of p))) None)
+        pair_same)
     blind_at _ reply answer = answer
 
 pub answers_are_blind : MemoryLeavesDevices → AnswersAreBlind

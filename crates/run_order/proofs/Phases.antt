@@ -77,7 +77,11 @@ one_fewer a (y ∷ ys) some =
     elim (cases_Bool (y.actor == a)) [
       | inl is ↦
           let same : y.actor ≡ a = grind (arith, nat_tests) in
-          rw is (refl, λ c. subst (λ (k : ℕ). count c (y ∷ ys) ≡ count c ys + cond (k == c) 1 0) same (count_cons c y ys))
+          rw is (
+            refl,
+            λ c. subst (λ (k : ℕ). count c (y ∷ ys) ≡ count c ys + cond (k == c) 1 0) same
+                (count_cons c y ys),
+          )
       | inr not ↦
           let none : ◌≡◌ {A = ℕ} (cond (y.actor == a) 1 0) 0 = rw not refl in
           let more = one_fewer a ys (omega (arith, some, count_cons a y ys, none)) in

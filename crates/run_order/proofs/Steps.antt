@@ -29,7 +29,8 @@ passed_at (done ∷ rests) first (suc k) =
 -- the same, counted from the first processor
 pub from_first : (rests : List (List Done)) (k : ℕ) → (done_by 0 k rests ≡ get_or rests k [])
     × (passed 0 k rests ≡ set rests k (without_first (get_or rests k [])))
-from_first rests k = let plus : 0 + k ≡ k = omega arith in (rw plus at (done_at rests 0 k), rw plus at (passed_at rests 0 k))
+from_first rests k =
+    let plus : 0 + k ≡ k = omega arith in (rw plus at (done_at rests 0 k), rw plus at (passed_at rests 0 k))
 
 pub first_is_one : (done : List Done) → looks_in (without_first done) ≤ looks_in done
 first_is_one [] = omega arith

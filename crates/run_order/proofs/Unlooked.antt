@@ -49,7 +49,8 @@ onto_placed setup version (entry ∷ later) rests history none legal =
     let so : IsSettled version rests = none_settled version rests none in
     let next = next_onto setup later history entry legal in
     rw (settled_placed version 0 rests history so, settled_left version rests so, next)
-    (onto_placed setup (noted version (done_by 0 entry.actor rests)) later (passed 0 entry.actor rests) (entry ∷ history)
+    (onto_placed setup (noted version (done_by 0 entry.actor rests)) later (passed 0 entry.actor rests)
+    (entry ∷ history)
     (omega (arith, passed_fewer 0 entry.actor rests, none)) legal)
 
 pub unlooked : (setup : Setup) (version : ℕ) (later : List Entry) (rests : List (List Done)) (history : List Entry)

@@ -24,7 +24,8 @@ with_looks_own v actor (Went after event ∷ items) final = refl
 with_looks_own v actor (Looked kind addr smm look ∷ items) final =
     let is : (actor == actor) ≡ true = grind (arith, nat_tests) in
     elim (cases_Bool (nat_le look.version v)) [
-      | inl low ↦ rw low (with_looks_own v actor items (next_entry final actor (LookAt kind addr smm) (Saw look) ∷ final)
+      | inl low ↦ rw low
+          (with_looks_own v actor items (next_entry final actor (LookAt kind addr smm) (Saw look) ∷ final)
           ∙ rw is refl)
       | inr not ↦ rw not refl
     ]
@@ -71,14 +72,17 @@ passed_own : (actor : ℕ) (rests : List (List Done)) → actor < length rests
     → done_by 0 actor (passed 0 actor rests) ≡ without_first (done_by 0 actor rests)
 passed_own actor rests few =
     let next : List Done = without_first (get_or rests actor []) in
-    let at = from_first rests actor in let after = from_first (set rests actor next) actor in
+    let at = from_first rests actor in
+    let after = from_first (set rests actor next) actor in
     rw (at.1, at.0, after.0) (get_or-set_at rests actor actor next [] refl few)
 
 passed_other : (actor c : ℕ) (rests : List (List Done)) → c ≢ actor
     → done_by 0 c (passed 0 actor rests) ≡ done_by 0 c rests
 passed_other actor c rests other =
     let next : List Done = without_first (get_or rests actor []) in
-    let at = from_first rests actor in let after = from_first (set rests actor next) c in let before = from_first rests c in
+    let at = from_first rests actor in
+    let after = from_first (set rests actor next) c in
+    let before = from_first rests c in
     rw (at.1, after.0, before.0) (get_or-set_other rests actor c next [] other)
 
 -- a call takes a processor's first statement

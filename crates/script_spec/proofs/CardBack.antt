@@ -40,7 +40,8 @@ tail_back version before (base ∷ more) rom few each form =
       All-tail,
       append_assoc,
       tail_back version (before ++
-          base ∷ []) more rom (omega (arith, few, length-append before (base ∷ []))) (All-tail IsBaseForm base more each)
+          base ∷ []) more rom (omega (arith, few, length-append before (base ∷ [])))
+          (All-tail IsBaseForm base more each)
           form,
     )
 

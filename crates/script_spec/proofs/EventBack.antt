@@ -89,7 +89,8 @@ access_spelled version actor Write bytes addr value smm fields size small fits =
     fields
 access_spelled version actor kind bytes addr value smm fields size small none =
     with_verb version actor (kind_text kind) _ _ refl
-    (λ rest reads. rw none (ap (option_map (ask actor)) (read_spelled version kind bytes addr smm rest size small reads)))
+    (λ rest reads. rw none
+    (ap (option_map (ask actor)) (read_spelled version kind bytes addr smm rest size small reads)))
     fields
 
 narrow_event : (version : ℕ) (kind : Kind) (width : Width) (addr value : ℕ) (smm : Bool)

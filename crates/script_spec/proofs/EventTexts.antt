@@ -47,8 +47,11 @@ access_read : (version : ℕ) (kind : Kind) (bytes addr value : ℕ) (smm : Bool
     → IsSize version bytes → addr < 2 ^ 32 → FitsBytes (is_write kind) bytes value
     → Reads fields (access_words kind bytes addr value smm)
     → IsRead version fields (memory_event version kind bytes addr value smm)
-access_read version kind bytes addr value smm fields size small fits reads =
-    (rw (access_is version kind bytes addr value smm size) reads, access_form version kind bytes addr value smm size small fits)
+access_read version kind bytes addr value smm fields size small fits reads = (
+  rw (access_is version kind bytes addr value smm size) reads,
+  access_form version kind bytes addr value smm size
+      small fits,
+)
 
 pub read_read : (version : ℕ) (kind : Kind) (words : List (List ℕ)) (event : Event) → is_write kind ≡ false
     → parse_read version kind words ≡ Some event → IsRead version (kind_text kind ∷ words) event
@@ -57,7 +60,9 @@ read_read version kind (size ∷ addr ∷ flags) event reads e =
     let s = then_read (parse_smm flags) _ event (smm_read flags) e in
     let b = then_read (parse_size version size) _ event (size_read version size) s.2 in
     let a = then_read (parse_hex 8 addr) _ event (hex_read 4 addr) b.2 in
-    rw (← some_is _ event a.2) (access_read version kind b.0 a.0 0 s.0 (kind_text kind ∷ size ∷ addr ∷ flags) b.1.1 (omega (arith, a.1.1)) (rw reads refl)
+    rw (← some_is _ event a.2)
+    (access_read version kind b.0 a.0 0 s.0 (kind_text kind ∷ size ∷ addr ∷ flags) b.1.1 (omega (arith, a.1.1))
+    (rw reads refl)
     (rw reads (same _, (same_as _ _ b.1.0, (a.1.0, s.1)))))
 read_read version kind _ event reads e = absurd cc
 
@@ -69,7 +74,9 @@ write_read version (size ∷ addr ∷ value ∷ flags) event e =
     let b = then_read (parse_size version size) _ event (size_read version size) s.2 in
     let a = then_read (parse_hex 8 addr) _ event (hex_read 4 addr) b.2 in
     let v = then_read (parse_hex (2 * b.0) value) _ event (hex_read b.0 value) a.2 in
-    rw (← some_is _ event v.2) (access_read version Write b.0 a.0 v.0 s.0 (codes "w" ∷ size ∷ addr ∷ value ∷ flags) b.1.1 (omega (arith, a.1.1)) v.1.1
+    rw (← some_is _ event v.2)
+    (access_read version Write b.0 a.0 v.0 s.0 (codes "w" ∷ size ∷ addr ∷ value ∷ flags) b.1.1 (omega (arith, a.1.1))
+    v.1.1
     (same (codes "w"), (same_as _ _ b.1.0, (a.1.0, (v.1.0, s.1)))))
 write_read version _ event e = absurd cc
 

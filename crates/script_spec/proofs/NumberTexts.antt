@@ -47,7 +47,12 @@ decimal_read field n e =
     let some = leb-true 1 (length field) test.0 in
     let read = digits 0 n field g.1 in
     let small : digits_value 10 field < 1_000_000_000 =
-    omega (arith, digits_value-lt 10 field read.0, pow-le-pow_right {n = 10} (lit< tt) (leb-true (length field) 9 test.1)) in
+    omega (
+      arith,
+      digits_value-lt 10 field read.0,
+      pow-le-pow_right {n = 10} (lit< tt)
+          (leb-true (length field) 9 test.1),
+    ) in
     let text = decimal-digits_value own field read.0 (omega (arith, some)) (no_zero field test.2 some)
     (omega (arith, small)) in
     (sym text ∙ ap decimal read.1, rw read.1 at small)

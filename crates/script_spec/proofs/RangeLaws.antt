@@ -271,7 +271,13 @@ in_range items script good version said =
           (All-filter (λ item. not (is_setup item)) (OnAsk P) items all) in
           all_asks P phases (rw said.phases at turned);
       statements =
-          omega (arith, length-filter is_statement items, statements, sum_of_ones (statements_in script), limits.statements);
+          omega (
+            arith,
+            length-filter is_statement items,
+            statements,
+            sum_of_ones (statements_in script),
+            limits.statements,
+          );
       phases =
           omega (arith, length-filter is_phase items, phase_count, sum_of_zeros (statements_in script), limits.phases);
       pulses = omega (arith, pulses, limits.pulses);

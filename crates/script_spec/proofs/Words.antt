@@ -114,10 +114,14 @@ event_lacks (Memory access) = (
   lacks_kind access.kind,
   (lacks_size (bytes_of access.width), (lacks_hex 4 access.addr, lacks_written _ _ _ _ (lacks_flags access.smm))),
 )
-event_lacks (Wide access) =
-    (lacks_kind access.kind, (lacks_size access.bytes, (lacks_hex 4 access.addr, lacks_written _ _ _ _ (lacks_flags access.smm))))
-event_lacks (Port access) =
-    (lacks_verb access.write, (lacks_size (bytes_of access.width), (lacks_hex 2 access.port, lacks_written access.write _ _ [] tt)))
+event_lacks (Wide access) = (
+  lacks_kind access.kind,
+  (lacks_size access.bytes, (lacks_hex 4 access.addr, lacks_written _ _ _ _ (lacks_flags access.smm))),
+)
+event_lacks (Port access) = (
+  lacks_verb access.write,
+  (lacks_size (bytes_of access.width), (lacks_hex 2 access.port, lacks_written access.write _ _ [] tt)),
+)
 event_lacks (LookAt kind addr smm) = (refl, (lacks_kind kind, (lacks_hex 4 addr, lacks_flags smm)))
 event_lacks Ack = (refl, tt)
 event_lacks (Time moment) = (refl, (lacks_moment moment, tt))

@@ -8,7 +8,8 @@ pub looks-requires-clause-room : goal.looks-requires-clause-room
 looks-requires-clause-room c =
     let l = c.loop-actor in
     looked_fits (λ done. done.now) c.args.version l.actor (map (λ done. done.now) c.args.rests.now) l.rests
-    (over [] c.args.self.now.entries) (over [] l.self.entries) c.args.self.now.spare l.self.spare (l.invariant.looked [])
+    (over [] c.args.self.now.entries) (over [] l.self.entries) c.args.self.now.spare l.self.spare
+    (l.invariant.looked [])
     (record { ref_ptr = (0, 0); now = [] }) (omega (arith, c.loop-actor-test.true, l.auto.rests)) c.requires.room
 
 pub loop-actor-preserved : goal.loop-actor-preserved
