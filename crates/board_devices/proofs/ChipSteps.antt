@@ -1,8 +1,8 @@
 -- What a chip of the pair does by itself leaves its inputs, and latches nothing.
-use Rattle.std.proofs.Common.{◌≡◌, ℕ, ◌/◌, ◌%◌, ◌<◌, ◌==◌, ◌&&◌, ◌||◌, not, Bool, true, false, cond, List, [], ◌∷◌}
+use Rattle.std.proofs.Common.{arith, ◌≡◌, ℕ, ◌/◌, ◌%◌, ◌<◌, ◌==◌, ◌&&◌, not, Bool, true, false, cond, List, [], ◌∷◌}
 use Rattle.std.proofs.Common.{Option, Some, None, length, refl, ap, ◌∙◌}
-use Rattle.board_prelude.proofs.Common.{Levels, has, levels_where, Chip, Word, Icw2, Icw3, Icw4, interrupt}
-use Rattle.board_prelude.proofs.Common.{acknowledged, acknowledged_if, first_blocking, chip_after_word}
+use Rattle.board_prelude.proofs.Common.{common_steps, nat_tests, Levels, has, levels_where, Chip, Word, Icw2, Icw3}
+use Rattle.board_prelude.proofs.Common.{Icw4, interrupt, acknowledged, acknowledged_if, first_blocking, chip_after_word}
 use Rattle.board_prelude.proofs.Common.{chip_after_odd_write, is_complete, chip_after_ocw2, chip_after_even_write}
 use Rattle.board_prelude.proofs.Common.{chip_after_write, chip_after_read, has-levels_where}
 use Rattle.board_base.specs.Bits.{is_bit}
@@ -59,27 +59,13 @@ ended_keeps rotates chip None = unmoved chip
 ended_keeps rotates chip (Some level) = all_kept chip (ended rotates chip (Some level)) refl refl refl
 
 word_keeps : (old chip : Chip) (word : Word) (byte : ℕ) → Keeps old chip → Keeps old (chip_after_word chip word byte)
-word_keeps old chip Icw2 byte is = record {
-  inputs = is.inputs;
-  triggers = is.triggers;
-  kept = is.kept;
-  latches = is.latches;
-  whole = is.whole;
-}
+word_keeps old chip Icw2 byte is = grind (arith, nat_tests)
 word_keeps old chip Icw3 byte is = is
-word_keeps old chip Icw4 byte is = record {
-  inputs = is.inputs;
-  triggers = is.triggers;
-  kept = is.kept;
-  latches = is.latches;
-  whole = is.whole;
-}
+word_keeps old chip Icw4 byte is = grind (arith, nat_tests)
 
 odd_keeps : (chip : Chip) (words : List Word) (byte : ℕ) → Keeps chip (chip_after_odd_write chip words byte)
 odd_keeps chip [] byte = all_kept chip (chip_after_odd_write chip [] byte) refl refl refl
-odd_keeps chip (word ∷ later) byte =
-    let next : Chip = record chip { awaited = later; is_ready = chip.is_ready || is_complete later } in
-    word_keeps chip next word byte (all_kept chip next refl refl refl)
+odd_keeps chip (word ∷ later) byte = grind (arith, nat_tests, common_steps, is_complete, word_keeps, all_kept)
 
 ocw2_keeps : (chip : Chip) (command level : ℕ) → Keeps chip (chip_after_ocw2 chip command level)
 ocw2_keeps chip command level =
@@ -111,13 +97,7 @@ acknowledged_if_keeps chip None = unmoved chip
 acknowledged_if_keeps chip (Some level) = acknowledged_keeps chip level
 
 unpolled : (old chip : Chip) → Keeps old chip → Keeps old (record chip { polls = false })
-unpolled old chip is = record {
-  inputs = is.inputs;
-  triggers = is.triggers;
-  kept = is.kept;
-  latches = is.latches;
-  whole = is.whole;
-}
+unpolled old chip is = grind (arith, nat_tests)
 
 pub read_keeps : (chip : Chip) → Keeps chip (chip_after_read chip)
 unfolding chip_after_read

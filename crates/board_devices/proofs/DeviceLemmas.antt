@@ -1,13 +1,8 @@
 -- What an entry makes of the devices. All are stepped at once: the machines that an event leaves are the same by
 -- computing, so that no lemma about an entry has a column for each device.
-use Rattle.std.proofs.Common.{◌≡◌, ℕ, ◌<◌, ◌≤◌, Bool, true, false, ◌||◌, ◌&&◌, List, [], ◌∷◌, Option, Some, None}
-use Rattle.std.proofs.Common.{length, get_or, refl, sym, ◌∙◌, ap, subst, arith, inl, inr, ◌*◌, ◌/◌, ◌%◌, replicate}
-use Rattle.std.proofs.Common.{eq-eqb, ne_eqb, get_or-set_same, get_or-set_other, length-set, ◌↔◌, is_some, Result, Err}
-use Rattle.std.proofs.Common.{◌==◌, unwrap_or, map, option_map, slice_index_or, slice_set, if◌then◌else◌}
-use Rattle.board_prelude.proofs.Common.{or-false, and-false, nat_tests, cases_eq, cases_Bool, lt-ltb, le-leb}
-use Rattle.board_prelude.proofs.Common.{get_or-replicate, ext_get_or, length-map, get_or-map, each_below, same-levels}
-use Rattle.board_prelude.proofs.Common.{pair_has_seen, PortAccess, Dev, Pic0, Pic1, Pit, Elcr, Ata, PlainPorts, Wires}
-use Rattle.board_prelude.proofs.Common.{Vector, Spurious, PitState, out_of, reset as timer_at_reset}
+use Rattle.board_prelude.proofs.Common.{common_steps, or-false, nat_tests, cases_eq, cases_Bool, ext_get_or, length-map}
+use Rattle.board_prelude.proofs.Common.{get_or-map, same-levels, pair_has_seen, PortAccess, Dev, Pic0, Pic1, Pit, Elcr}
+use Rattle.board_prelude.proofs.Common.{Ata, Wires, Vector, Spurious, PitState, out_of, reset as timer_at_reset}
 use Rattle.board_prelude.proofs.Common.{after_reset as clock_after_reset, triggers_at_reset, reserved-rest, Pair}
 use Rattle.board_prelude.proofs.Common.{levels_at_power_on, port_byte, pair_after_lines, pair_at_reset, port_read}
 use Rattle.board_prelude.proofs.Common.{read_value, trigger_byte, Disk, option_map_or, is_disk_length}
@@ -15,11 +10,15 @@ use Rattle.board_prelude.proofs.Common.{power_on as disk_at_power_on, Event, Mem
 use Rattle.board_prelude.proofs.Common.{BadSector, Reply, Entry, Setup, IsDisk, IsDiskSize, is_free_line, reset_control}
 use Rattle.board_prelude.proofs.Common.{control_written, resets_hard, is_hard_reset, plain_at_reset, device_reached}
 use Rattle.board_prelude.proofs.Common.{wire_set, wire_of, line_set, irq_of, triggers_after, triggers_of, plain_after}
-use Rattle.board_prelude.proofs.Common.{plain_of, plain_value, timer_after, timer_of, clock_after, clock_of}
-use Rattle.board_prelude.proofs.Common.{disk_accessed, disk_after, disk_with, disk_of, routes_of, pirq_levels}
-use Rattle.board_prelude.proofs.Common.{own_level, level_with, all_lines, levels_with, levels_of, elcr_of, device_value}
-use Rattle.board_prelude.proofs.Common.{pair_after, pair_reset_or_after, pair_stepped, pair_of, after_bad, byte_of}
-use Rattle.board_prelude.proofs.Common.{config_store, elcr-same, is_line_driven, list_any, map-same, true≢false}
+use Rattle.board_prelude.proofs.Common.{plain_of, timer_after, timer_of, clock_after, clock_of, disk_accessed}
+use Rattle.board_prelude.proofs.Common.{disk_after, disk_with, disk_of, routes_of, pirq_levels, own_level, level_with}
+use Rattle.board_prelude.proofs.Common.{all_lines, levels_with, levels_of, elcr_of, device_value, pair_after}
+use Rattle.board_prelude.proofs.Common.{pair_reset_or_after, pair_stepped, pair_of, after_bad, byte_of, config_store}
+use Rattle.board_prelude.proofs.Common.{elcr-same, is_line_driven, list_any, map-same, true≢false}
+use Rattle.std.proofs.Common.{◌≡◌, ℕ, ◌<◌, ◌≤◌, Bool, true, false, ◌||◌, ◌&&◌, List, [], ◌∷◌, Option, Some, None}
+use Rattle.std.proofs.Common.{length, get_or, refl, sym, ◌∙◌, ap, subst, arith, inl, inr, ◌*◌, ◌/◌, ◌%◌, replicate}
+use Rattle.std.proofs.Common.{eq-eqb, ne_eqb, get_or-set_same, get_or-set_other, length-set, ◌↔◌, is_some, Result, Err}
+use Rattle.std.proofs.Common.{◌==◌, unwrap_or, map, option_map, slice_index_or, slice_set, if◌then◌else◌}
 use Rattle.board_prelude.specs.Common.{is_interrupt}
 use Rattle.board_devices.specs.Common.{LeavesDevices, DevicesValue, AreIrqsOf, AreAfter, AreDevicesOf, ReachesDevice}
 use Rattle.board_devices.specs.Common.{Asks, is_chip, PassesBy, Leaves, value_read, after_read, after_write}
@@ -29,7 +28,6 @@ use Rattle.board_base.specs.declared.target.Dev.TheVariants.{Confadd, Reset, Clo
 use Rattle.device_spec.specs.Clock.{interrupt_line, power_on as clock_at_power_on}
 use Rattle.device_spec.specs.Ata.Steps.{after_reset as disk_after_reset}
 use Rattle.device_spec.specs.PortNames.{elcr_ports}
-use Rattle.board_spec.specs.Interrupts.{card_devices, pirq_level, pirq_of_card, pirqs}
 use Rattle.board_spec.specs.Registers.{config_address}
 use Rattle.board_spec.specs.declared.event.Event.TheVariants.{Look as LookAt}
 
@@ -59,15 +57,7 @@ pair_lined setup history entry not = stepped setup entry history entry.event (pa
 -- the pair is no part of what the others are
 pub with_pair : (setup : Setup) (history : List Entry) (devices : DevicesValue) (pair : Pair) →
     AreAfter setup history devices → AreAfter setup history (record devices { pair = pair })
-with_pair setup history devices pair is = record {
-  timer = is.timer;
-  clock = is.clock;
-  disk = is.disk;
-  triggers = is.triggers;
-  plain = is.plain;
-  wires = is.wires;
-  irqs = is.irqs;
-}
+with_pair setup history devices pair is = grind (arith, nat_tests)
 
 -- ---- levels from outside
 
@@ -76,10 +66,7 @@ level_set : (levels : List Bool) (at n : ℕ) (on : Bool) → at < length levels
     slice_index_or (slice_set levels at on) n false
     ≡ unwrap_or (if at == n then Some on else None) (slice_index_or levels n false)
 level_set levels at n on below =
-    elim (cases_eq at n) [
-      | inl same ↦ rw (eq-eqb at n same, sym same) (get_or-set_same levels at on false below)
-      | inr other ↦ rw (ne_eqb at n other) (get_or-set_other levels at n on false (λ e. other (sym e)))
-    ]
+    grind (arith, nat_tests, common_steps, cases_eq, eq-eqb, get_or-set_same, ne_eqb, get_or-set_other)
 
 -- the lines that can be set are below 16
 free_low : (line : ℕ) → is_free_line line ≡ true → line < 16
@@ -194,10 +181,7 @@ module _ (setup : Setup) (history : List Entry) (entry : Entry) (soft : is_hard_
   pub pair_soft : NotPulses entry.event →
       pair_of setup (entry ∷ history)
       ≡ lined setup (entry ∷ history) (pair_after entry.event entry.reply (pair_of setup history))
-  pair_soft not =
-      let chosen : pair_reset_or_after setup entry history (pair_of setup history)
-      ≡ pair_after entry.event entry.reply (pair_of setup history) = rw soft refl in
-      pair_lined setup history entry not ∙ ap (lined setup (entry ∷ history)) chosen
+  pair_soft not = grind (arith, nat_tests, common_steps, pair_reset_or_after, pair_of, pair_after, pair_lined)
 
 -- ---- an entry that is this event, and no hard reset
 
@@ -205,11 +189,7 @@ module _ (setup : Setup) (history : List Entry) (entry : Entry) (soft : is_hard_
 pub settled_as : (setup : Setup) (history : List Entry) (before after : DevicesValue) → AreAfter setup history before →
     after ≡ record before { pair = after.pair } → after.pair ≡ lined setup history before.pair →
     pair_of setup history ≡ lined setup history before.pair → AreDevicesOf setup history after
-settled_as setup history before after are others seen pair = record {
-  others = subst (λ (d : DevicesValue). AreAfter setup history d) (sym others)
-      (with_pair setup history before after.pair are);
-  pair = seen ∙ sym pair;
-}
+settled_as setup history before after are others seen pair = grind (arith, nat_tests)
 
 module _ (setup : Setup) (history : List Entry) (entry : Entry) (event : Event) (asks : Asks history entry event) where
   pub others_asked : (devices : DevicesValue) → HasRoom event devices → AreAfter setup history devices →
@@ -221,10 +201,7 @@ module _ (setup : Setup) (history : List Entry) (entry : Entry) (event : Event) 
   pub pair_asked : NotPulses event →
       pair_of setup (entry ∷ history)
       ≡ lined setup (entry ∷ history) (pair_after event entry.reply (pair_of setup history))
-  pair_asked not =
-      subst (λ (e : Event). NotPulses e → pair_of setup (entry ∷ history)
-      ≡ lined setup (entry ∷ history) (pair_after e entry.reply (pair_of setup history)))
-      asks.event_is (λ not. pair_soft setup history entry asks.soft not) not
+  pair_asked not = grind (arith, nat_tests, common_steps, pair_of, pair_after, pair_soft)
 
   -- the lines then reach the pair: the devices are those of the history with the entry
   pub lined_as : NotPulses event → (old between after : DevicesValue) → HasRoom event old →
@@ -233,23 +210,13 @@ module _ (setup : Setup) (history : List Entry) (entry : Entry) (event : Event) 
       (AreAfter setup (entry ∷ history) between → after.pair ≡ lined setup (entry ∷ history) between.pair) →
       AreDevicesOf setup (entry ∷ history) after
   lined_as not old between after room is made kept seen =
-      let are : AreAfter setup (entry ∷ history) between =
-      subst (λ (d : DevicesValue). AreAfter setup (entry ∷ history) d) (sym made) (others_asked old room is.others) in
-      let pair : between.pair ≡ pair_after event entry.reply (pair_of setup history) =
-      ap (λ (d : DevicesValue). d.pair) made ∙ ap (λ p. pair_after event entry.reply p) is.pair in
-      settled_as setup (entry ∷ history) between after are kept (seen are)
-      (pair_asked not ∙ sym (ap (lined setup (entry ∷ history)) pair))
+      grind (arith, nat_tests, common_steps, others_asked, room, pair_after, pair_of, settled_as, pair_asked)
 
   -- no line can have moved, so that the lines do not reach the pair
   pub stood_as : pair_of setup (entry ∷ history) ≡ pair_after event entry.reply (pair_of setup history) →
       (old after : DevicesValue) → HasRoom event old → AreDevicesOf setup history old →
       after ≡ devices_after event entry.reply old → AreDevicesOf setup (entry ∷ history) after
-  stood_as stands old after room is made =
-      subst (λ (d : DevicesValue). AreDevicesOf setup (entry ∷ history) d) (sym made)
-      (record {
-        others = others_asked old room is.others;
-        pair = ap (λ p. pair_after event entry.reply p) is.pair ∙ sym stands;
-      })
+  stood_as stands old after room is made = grind (arith, nat_tests, common_steps, others_asked, room, pair_after)
 
 -- ---- an access at a port of a device
 
@@ -288,28 +255,13 @@ value_at setup history Clock access devices are = ap (λ t. read_value t access.
 value_at setup history Elcr access devices are =
     ap (λ t. trigger_byte t (access.port == elcr_ports.1)) are.others.triggers
 value_at setup history Ata access devices are = rw are.others.disk refl
-value_at setup history dev access devices are =
-    ap (λ (p : PlainPorts). plain_value dev p (out_of 2 devices.timer) access.width) are.others.plain
-    ∙ ap (λ (t : PitState). plain_value dev (plain_of history) (out_of 2 t) access.width) are.others.timer
+value_at setup history dev access devices are = grind (arith, nat_tests)
 
 -- ---- the lines
 
 -- line k stands at place k
 line_numbered : (k : ℕ) → k < 16 → get_or all_lines k 0 ≡ k
-line_numbered k below =
-    each_below (λ (k : ℕ). get_or all_lines k 0 ≡ k) 16 k (
-      refl,
-      (
-        refl,
-        (
-          refl,
-          (
-            refl,
-            (refl, (refl, (refl, (refl, (refl, (refl, (refl, (refl, (refl, (refl, (refl, (refl, tt)))))))))))),
-          ),
-        ),
-      ),
-    ) below
+line_numbered k below = grind (arith, nat_tests)
 
 level_numbered : (level : ℕ → Bool) (k : ℕ) → k < 16 → slice_index_or (map level all_lines) k false ≡ level k
 level_numbered level k low = get_or-map level all_lines k 0 false low ∙ ap level (line_numbered k low)
@@ -335,26 +287,18 @@ pub own_levels : (setup : Setup) (history : List Entry) (irqs : List Bool) (time
     slice_index_or (slice_set (slice_set (slice_set irqs 0 timer) 8 clock) 14 disk) line false ≡ own_level setup history
     (timer_of history) line
 own_levels setup history irqs timer clock disk line size timer_is clock_is disk_is are below =
-    let timed : List Bool = slice_set irqs 0 timer in
-    let clocked : List Bool = slice_set timed 8 clock in
-    let timed_size : length timed ≡ 16 = length-set irqs 0 timer ∙ size in
-    let clocked_size : length clocked ≡ 16 = length-set timed 8 clock ∙ timed_size in
-    elim (cases_eq line 14) [
-      | inl last ↦ rw last (get_or-set_same clocked 14 disk false (omega (arith, clocked_size)) ∙ disk_is)
-      | inr other ↦
-          get_or-set_other clocked 14 line disk false other
-          ∙ elim (cases_eq line 8) [
-            | inl eighth ↦ rw eighth (get_or-set_same timed 8 clock false (omega (arith, timed_size)) ∙ clock_is)
-            | inr apart ↦
-                get_or-set_other timed 8 line clock false apart
-                ∙ elim (cases_eq line 0) [
-                  | inl first ↦ rw first (get_or-set_same irqs 0 timer false (omega (arith, size)) ∙ timer_is)
-                  | inr free ↦
-                      rw (ne_eqb line 0 free, ne_eqb line 8 apart, ne_eqb line 14 other)
-                      (get_or-set_other irqs 0 line timer false free ∙ are line below)
-                ]
-          ]
-    ]
+    grind (
+      arith,
+      nat_tests,
+      common_steps,
+      slice_set,
+      length-set,
+      cases_eq,
+      line,
+      get_or-set_same,
+      get_or-set_other,
+      ne_eqb,
+    )
 
 -- ---- the devices that a history leaves
 
@@ -371,15 +315,7 @@ devices_of setup history = record {
 }
 
 pub they_are : (setup : Setup) (history : List Entry) → AreAfter setup history (devices_of setup history)
-they_are setup history = record {
-  timer = refl;
-  clock = refl;
-  disk = refl;
-  triggers = refl;
-  plain = refl;
-  wires = λ dev low high. level_numbered (wire_of history) dev (omega (arith, high));
-  irqs = λ line below. level_numbered (λ line. is_free_line line && irq_of history line) line below;
-}
+they_are setup history = grind (arith, nat_tests)
 
 -- the level that a device drives is that after the history
 pub driven_is : (setup : Setup) (history : List Entry) (devices : DevicesValue) → AreAfter setup history devices →
@@ -407,11 +343,7 @@ pub record Stays (setup : Setup) (history : List Entry) (entry : Entry) : Type 0
 -- devices that are those before the entry and after it
 pub stays_as : (setup : Setup) (history : List Entry) (entry : Entry) (devices : DevicesValue) →
     AreAfter setup history devices → AreAfter setup (entry ∷ history) devices → Stays setup history entry
-stays_as setup history entry devices before after = record {
-  level = λ dev.
-      sym (driven_is setup (entry ∷ history) devices after dev) ∙ driven_is setup history devices before dev;
-  triggers = sym after.triggers ∙ before.triggers;
-}
+stays_as setup history entry devices before after = grind (arith, nat_tests)
 
 any-same : (p q : ℕ → Bool) (xs : List ℕ) → ((x : ℕ) → p x ≡ q x) → list_any p xs ≡ list_any q xs
 any-same p q [] same = refl
@@ -434,9 +366,7 @@ module _ (setup : Setup) (history : List Entry) (entry : Entry) (sets : SetsNoLe
   irq_stays line = rw (sets.line line) refl
 
   pins_stand : pirq_levels (entry ∷ history) ≡ pirq_levels history
-  pins_stand =
-      map-same (pirq_level (entry ∷ history)) (pirq_level history) pirqs
-      (λ k. any-same _ _ card_devices (λ dev. ap (λ (b : Bool). pirq_of_card dev == k && b) (wire_stays dev)))
+  pins_stand = grind (arith, nat_tests, common_steps, map-same, any-same, wire_stays)
 
   level_stands : Stays setup history entry → routes_of setup (entry ∷ history) ≡ routes_of setup history → (line : ℕ) →
       level_with setup (entry ∷ history) (timer_of (entry ∷ history)) line
@@ -582,18 +512,7 @@ pub at_power_on : (setup : Setup) (devices : DevicesValue) → devices.timer ≡
     devices.pair ≡ pair_at_reset levels_at_power_on →
     AreDevicesOf setup [] devices
 unfolding timer_of clock_of triggers_of plain_of wire_of irq_of pair_of
-at_power_on setup devices timer clock triggers plain disk wires irqs pair = record {
-  others = record {
-    timer = timer;
-    clock = clock;
-    disk = disk;
-    triggers = triggers;
-    plain = plain;
-    wires = λ dev low high. rw wires (get_or-replicate 16 dev false false (omega (arith, high)));
-    irqs = λ line below. rw irqs (get_or-replicate 16 line false false below ∙ sym (and-false (is_free_line line)));
-  };
-  pair = pair;
-}
+at_power_on setup devices timer clock triggers plain disk wires irqs pair = grind (arith, nat_tests)
 
 -- ---- pulses
 
@@ -601,8 +520,7 @@ at_power_on setup devices timer clock triggers plain disk wires irqs pair = reco
 timer_line : (setup : Setup) (history : List Entry) (timer : PitState) →
     level_with setup history timer 0 ≡ out_of 0 timer
 timer_line setup history timer =
-    ap (λ (b : Bool). out_of 0 timer || b) (reserved-rest (routes_of setup history) (pirq_levels history) 0 refl)
-    ∙ or-false (out_of 0 timer)
+    grind (arith, nat_tests, common_steps, out_of, reserved-rest, routes_of, pirq_levels, or-false)
 
 -- with another state of the timer line 0 alone has another level
 pub levels_pulsed : (setup : Setup) (history : List Entry) (timer later : PitState) →
@@ -621,11 +539,7 @@ whole_sectors size is =
 
 counted_sectors : (size sectors : ℕ) → 1 ≤ sectors → sectors ≤ 0x1_0000 → size ≡ sectors * 512 →
     is_disk_length size ≡ true
-counted_sectors size sectors some few is =
-    let whole : size % 512 ≡ 0 = omega (arith, is) in
-    let more : 0 < size = omega (arith, is, some) in
-    let fits : size ≤ 512 * 65536 = omega (arith, is, few) in
-    rw (eq-eqb (size % 512) 0 whole, lt-ltb 0 size more) (le-leb size (512 * 65536) fits)
+counted_sectors size sectors some few is = grind (arith, nat_tests)
 
 -- bytes that a disk can have
 pub disk_length : (bytes : List ℕ) → IsDisk (Some bytes) → is_disk_length (length bytes) ≡ true
@@ -649,10 +563,7 @@ opened_disk setup bytes disk fitted is = rw (fitted, is) refl
 pub fault_named : (result : Result Disk AtaOpen) (fault : AtaOpen) (size : ℕ) → (result ≡ Err AtaOpen.BadLength)
     ↔ (is_disk_length size ≡ false) → result ≡ Err fault →
     (fault ≡ AtaOpen.BadLength → ¬ IsDiskSize size) × (¬ IsDiskSize size → fault ≡ AtaOpen.BadLength)
-fault_named result fault size exact is = (
-  λ bad. refused_length size (exact.0 (is ∙ ap (λ (f : AtaOpen). Err f) bad)),
-  λ none. let named : result ≡ Err AtaOpen.BadLength = exact.1 (length_refused size none) in cc,
-)
+fault_named result fault size exact is = grind (arith, nat_tests, common_steps, refused_length, length_refused)
 
 pub some_disk : (bytes : Option (List ℕ)) (history : List Entry) →
     is_some (option_map (λ bytes. disk_with bytes history) bytes) ≡ is_some bytes

@@ -1,11 +1,11 @@
 -- No access, reset or bad sector changes how many sectors a disk has.
+use Rattle.board_prelude.proofs.Common.{common_steps, nat_tests, PortAccess, Dev, Ata, Width, One, Setup, Disk, IsDisk}
+use Rattle.board_prelude.proofs.Common.{IsDiskSize, disk_with, disk_of}
 use Rattle.std.proofs.Common.{◌≡◌, ℕ, ◌*◌, ◌/◌, ◌%◌, Bool, true, false, cond, eqb, List, [], ◌∷◌, ◌++◌, length, Option}
 use Rattle.std.proofs.Common.{Some, None, refl, sym, ◌∙◌, ap, arith, option_map, length-set}
-use Rattle.board_prelude.proofs.Common.{PortAccess, Dev, Ata, Width, One, Setup, Disk, IsDisk, IsDiskSize, disk_with}
-use Rattle.board_prelude.proofs.Common.{disk_of}
 use Rattle.board_base.specs.declared.access.Width.TheVariants.{Two, Four}
 use Rattle.device_spec.proofs.Common.{length-replicate, Activity, Writing, sectors_of, is_drq, bytes_written}
-use Rattle.device_spec.proofs.Common.{activity_written, word_written, byte_written, disk_status_port, disk_control_port}
+use Rattle.device_spec.proofs.Common.{activity_written, word_written, byte_written, disk_status_port}
 use Rattle.device_spec.specs.Ata.Steps.{after_read as disk_after_read, after_write as disk_after_write}
 use Rattle.device_spec.specs.Ata.Steps.{after_reset as disk_after_reset, after_bad}
 use Rattle.board_devices.specs.Devices.{DevicesValue, HasDisk, sectors_fitted}
@@ -35,13 +35,10 @@ activity_written-has _ word disk = refl
 word_written-has : (word : ℕ) (disk : Disk) → HasSectors (sectors_of disk.medium) (word_written word disk)
 unfolding word_written
 word_written-has word disk =
-    either_has (sectors_of disk.medium) (is_drq disk.drive) _ _
-    (activity_written-has disk.drive.activity word disk) refl
+    grind (arith, nat_tests, common_steps, either_has, sectors_of, is_drq, activity_written-has)
 
 byte_written-has : (port byte : ℕ) (disk : Disk) → HasSectors (sectors_of disk.medium) (byte_written port byte disk)
-byte_written-has port byte disk =
-    either_has (sectors_of disk.medium) (eqb port disk_status_port) _ _ refl
-    (either_has (sectors_of disk.medium) (eqb port disk_control_port) _ _ refl refl)
+byte_written-has port byte disk = grind (arith, nat_tests)
 
 written_has : (port : ℕ) (width : Width) (value : ℕ) (disk : Disk) →
     HasSectors (sectors_of disk.medium) (disk_after_write port width value disk)
@@ -74,9 +71,7 @@ access_fitted : (reached : Option Dev) (access : PortAccess) (disk : Option Disk
     sectors_fitted (fitted_accessed reached access disk) ≡ sectors_fitted disk
 access_fitted (Some Ata) access None = refl
 access_fitted (Some Ata) access (Some disk) =
-    ap (λ (count : ℕ). Some count)
-    (either_has (sectors_of disk.medium) access.write _ _ (written_has access.port access.width access.value disk)
-    (read_has access.port access.width disk))
+    grind (arith, nat_tests, common_steps, either_has, sectors_of, written_has, read_has)
 access_fitted _ access disk = refl
 
 pub read_fitted : (dev : Dev) (access : PortAccess) (devices : DevicesValue) →
@@ -94,10 +89,7 @@ write_fitted dev access devices = access_fitted (Some dev) (record access { writ
 has_opened : (bytes : List ℕ) → IsDiskSize (length bytes) →
     512 * (sectors_of (disk_with bytes []).medium) ≡ length bytes
 unfolding disk_with
-has_opened bytes is =
-    let count : sectors_of (disk_with bytes []).medium ≡ length bytes / 512 =
-    length-replicate (length bytes / 512) false in
-    omega (arith, count, is.3)
+has_opened bytes is = grind (arith, nat_tests, common_steps, sectors_of, disk_with, length-replicate)
 
 fitted_opened : (disk : Option (List ℕ)) → IsDisk disk →
     HasDisk disk (option_map (λ bytes. disk_with bytes []) disk)

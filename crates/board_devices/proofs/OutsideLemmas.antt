@@ -1,8 +1,7 @@
 -- What a monitor asks of the devices, and what it writes to them.
-use Rattle.std.proofs.Common.{◌≡◌, ◌∙◌, ℕ, ◌==◌, Bool, false, Option, Some, None, refl, sym, ap, inl, inr, ◌↔◌, is_some}
-use Rattle.board_prelude.proofs.Common.{cases_Bool, true≢false, PortAccess, Dev, Spurious, cascade, Chip, interrupt}
-use Rattle.board_prelude.proofs.Common.{Pair, chip_answer, answer_at, answer_of, after_write as clock_after_write}
-use Rattle.board_prelude.proofs.Common.{who_answered}
+use Rattle.std.proofs.Common.{arith, ◌≡◌, ℕ, ◌==◌, Bool, false, Option, Some, None, refl, ◌↔◌, is_some}
+use Rattle.board_prelude.proofs.Common.{nat_tests, PortAccess, Dev, Spurious, Chip, interrupt, Pair, chip_answer}
+use Rattle.board_prelude.proofs.Common.{answer_at, answer_of, after_write as clock_after_write, who_answered}
 use Rattle.board_base.specs.declared.target.Dev.TheVariants.{Clock}
 use Rattle.board_devices.specs.Common.{DevicesValue, after_write, devices_accessed}
 
@@ -17,18 +16,12 @@ slave_apart chip None = refl
 slave_apart chip (Some level) = refl
 
 apart : (pair : Pair) (level : ℕ) → is_master_spurious (who_answered (answer_at pair (Some level))) ≡ false
-apart pair level = elim (cases_Bool (level == cascade)) [
-  | inl two ↦ rw two (slave_apart pair.slave (interrupt pair.slave))
-  | inr other ↦ rw other refl
-]
+apart pair level = grind (arith, nat_tests)
 
 spurious_at : (pair : Pair) (level : Option ℕ) → (is_some level ≡ false)
     ↔ (who_answered (answer_at pair level) ≡ Spurious 0)
 spurious_at pair None = (λ none. refl, λ answered. refl)
-spurious_at pair (Some level) = (
-  λ none. absurd (true≢false none),
-  λ answered. absurd (true≢false (sym (ap is_master_spurious answered) ∙ apart pair level)),
-)
+spurious_at pair (Some level) = grind (arith, nat_tests)
 
 pub spurious_is : (pair : Pair) → (is_some (interrupt pair.master) ≡ false)
     ↔ (who_answered (answer_of pair) ≡ Spurious 0)

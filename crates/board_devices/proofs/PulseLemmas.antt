@@ -1,19 +1,20 @@
 -- Many pulses of the timer leave the pair as two sets of levels do.
+use Rattle.board_prelude.proofs.Common.{common_steps, cases_Bool, or_parts, true≢false, nat_tests, Levels, has}
+use Rattle.board_prelude.proofs.Common.{levels_where, no_levels, with_level, levels_of_byte, Chip, interrupt}
+use Rattle.board_prelude.proofs.Common.{latches_after, chip_after_inputs, acknowledged, chip_after_write}
+use Rattle.board_prelude.proofs.Common.{chip_after_read, Pair, settled, master_inputs, pair_at_reset}
+use Rattle.board_prelude.proofs.Common.{levels_at_power_on, pair_after_lines, pair_after_write, pair_after_read}
+use Rattle.board_prelude.proofs.Common.{pair_acknowledged, pair_acknowledged_at, pair_after_acknowledge, is_slave_port}
+use Rattle.board_prelude.proofs.Common.{is_odd_port, PitState, out_of, pulses, rises, PortAccess, Dev, Pic0, Pic1}
+use Rattle.board_prelude.proofs.Common.{Event, Port, Ack, Pulses, Reply, Entry, Setup, is_hard_reset, device_reached}
+use Rattle.board_prelude.proofs.Common.{timer_of, routes_of, levels_with, levels_of, elcr_of, elcr-same, timer-pulsed}
+use Rattle.board_prelude.proofs.Common.{triggers-pulsed, levels-pulsed, pair_pulsed, pair_accessed, pair_after}
+use Rattle.board_prelude.proofs.Common.{pair_reset_or_after, pair_stepped, pair_of, pair_has_seen, levels_where-same}
+use Rattle.board_prelude.proofs.Common.{has-levels_where, same-levels, inputs-again, settled-asks, settled-quiet}
+use Rattle.board_prelude.proofs.Common.{latched, pair-pulsed}
 use Rattle.std.proofs.Common.{◌≡◌, ℕ, zero, suc, ◌+◌, ◌/◌, ◌%◌, ◌<◌, ◌==◌, nat_lt, ◌&&◌, ◌||◌, not, Bool, true, false}
 use Rattle.std.proofs.Common.{cond, List, [], ◌∷◌, Option, Some, None, is_some, take, drop, inl, inr, refl, ap, sym}
 use Rattle.std.proofs.Common.{subst, ◌∙◌, arith, lit<, slice_set}
-use Rattle.board_prelude.proofs.Common.{cases_Bool, or_parts, true≢false, nat_tests, Levels, has, levels_where}
-use Rattle.board_prelude.proofs.Common.{no_levels, with_level, levels_of_byte, Chip, interrupt, latches_after}
-use Rattle.board_prelude.proofs.Common.{chip_after_inputs, acknowledged, chip_after_write, chip_after_read, Pair}
-use Rattle.board_prelude.proofs.Common.{settled, master_inputs, pair_at_reset, levels_at_power_on, pair_after_lines}
-use Rattle.board_prelude.proofs.Common.{pair_after_write, pair_after_read, pair_acknowledged, pair_acknowledged_at}
-use Rattle.board_prelude.proofs.Common.{pair_after_acknowledge, is_slave_port, is_odd_port, PitState, out_of, pulses}
-use Rattle.board_prelude.proofs.Common.{rises, PortAccess, Dev, Pic0, Pic1, Event, Port, Ack, Pulses, Reply, Entry}
-use Rattle.board_prelude.proofs.Common.{Setup, is_hard_reset, device_reached, timer_of, routes_of, levels_with}
-use Rattle.board_prelude.proofs.Common.{levels_of, elcr_of, elcr-same, timer-pulsed, triggers-pulsed, levels-pulsed}
-use Rattle.board_prelude.proofs.Common.{pair_pulsed, pair_accessed, pair_after, pair_reset_or_after, pair_stepped}
-use Rattle.board_prelude.proofs.Common.{pair_of, pair_has_seen, levels_where-same, has-levels_where, same-levels}
-use Rattle.board_prelude.proofs.Common.{inputs-again, settled-asks, settled-quiet, latched, pair-pulsed}
 use Rattle.board_devices.specs.Common.{DevicesValue, AreAfter, AreDevicesOf, Asks, lines_at, pair_after_run}
 use Rattle.board_devices.proofs.ChipSteps.{Keeps, write_keeps, acknowledged_keeps, read_keeps}
 use Rattle.board_devices.proofs.DeviceLemmas.{with_pair, routes_stand, others_asked, levels_pulsed}
@@ -33,12 +34,8 @@ unfolding levels_where
 same_zero latches = refl
 
 settled_stale : (pair : Pair) → is_stale (settled pair).master ≡ is_stale pair.master
-settled_stale pair = elim (cases_Bool (is_some (interrupt pair.slave))) [
-  | inl asks ↦
-      ap (λ (p : Pair). is_stale p.master) (settled-asks pair asks)
-      ∙ ap (λ (latch : Bool). latch && not (has pair.master.inputs 0)) (same_zero pair.master.latches)
-  | inr quiet ↦ ap (λ (p : Pair). is_stale p.master) (settled-quiet pair quiet)
-]
+settled_stale pair =
+    grind (arith, nat_tests, common_steps, cases_Bool, is_some, interrupt, settled-asks, has, same_zero, settled-quiet)
 
 settled_fresh : (pair : Pair) → IsFresh pair → IsFresh (settled pair)
 settled_fresh pair is = record { fresh = settled_stale pair ∙ is.fresh }
@@ -135,9 +132,7 @@ low_lines levels level = master_inputs (take 8 (slice_set levels 0 level))
 same_above : (levels : List Bool) (l : ℕ) → suc l < 8 →
     has (low_lines levels true) (suc l) ≡ has (low_lines levels false) (suc l)
 same_above [] l h = refl
-same_above (x ∷ rest) l h =
-    has-levels_where (λ level. not (level == 2) && has (take 8 (true ∷ rest)) level) (suc l) h
-    ∙ sym (has-levels_where (λ level. not (level == 2) && has (take 8 (false ∷ rest)) level) (suc l) h)
+same_above (x ∷ rest) l h = grind (arith, nat_tests, common_steps, has-levels_where, has)
 
 -- a level of the latches after its input
 abbrev after_at : Bool → Bool → Bool → Bool
@@ -414,12 +409,7 @@ module _ (setup : Setup) (history : List Entry) (entry : Entry) (old run : Devic
   whole : (devices : DevicesValue) → devices ≡ record run { pair = devices.pair } →
       devices.pair ≡ pair_pulsed setup history count saw →
       AreDevicesOf setup (entry ∷ history) devices
-  whole devices others pair = record {
-    others =
-        subst (λ (d : DevicesValue). AreAfter setup (entry ∷ history) d) (sym others)
-        (with_pair setup (entry ∷ history) run devices.pair after_run);
-    pair = pair ∙ sym (pair-pulsed setup history entry count asks.event_is);
-  }
+  whole devices others pair = grind (arith, nat_tests, common_steps, with_pair, after_run, pair-pulsed)
 
   -- the lines then reach the pair
   pub gave : (devices : DevicesValue) (rose : ℕ) (out : Bool) → rose ≡ rises count old.timer →

@@ -1,8 +1,6 @@
 -- Events that move no line: the lines reach the pair as it saw them, and leave it.
-use Rattle.std.proofs.Common.{◌≡◌, ℕ, ◌/◌, ◌%◌, ◌==◌, ◌&&◌, ◌||◌, not, Bool, true, false, cond, List, [], ◌∷◌, Option}
-use Rattle.std.proofs.Common.{Some, None, length, take, drop, refl, sym, ap, subst, ◌∙◌, inl, inr, is_some, arith}
-use Rattle.board_prelude.proofs.Common.{cases_Bool, and-true, and-false, nat_tests, true≢false, is_bit, Levels, has}
-use Rattle.board_prelude.proofs.Common.{levels_of_byte, levels_where-same, Chip, interrupt, latches_after}
+use Rattle.board_prelude.proofs.Common.{common_steps, cases_Bool, and-true, and-false, nat_tests, true≢false, is_bit}
+use Rattle.board_prelude.proofs.Common.{Levels, has, levels_of_byte, levels_where-same, Chip, interrupt, latches_after}
 use Rattle.board_prelude.proofs.Common.{chip_after_inputs, acknowledged, acknowledged_if, chip_after_write}
 use Rattle.board_prelude.proofs.Common.{chip_after_read, Pair, settled, master_inputs, pair_after_lines, pair_written}
 use Rattle.board_prelude.proofs.Common.{pair_read, pair_after_write, pair_after_read, pair_acknowledged}
@@ -12,8 +10,9 @@ use Rattle.board_prelude.proofs.Common.{Pit, System, Elcr, Ata, bytes_of, PitSta
 use Rattle.board_prelude.proofs.Common.{Port, Ack, Reply, Entry, Setup, is_hard_reset, is_config_port, device_reached}
 use Rattle.board_prelude.proofs.Common.{timer_accessed, triggers_of, config_store, levels_of, elcr_of, pair_accessed}
 use Rattle.board_prelude.proofs.Common.{pair_after, pair_of, pair_has_seen, Triggers, triggers_accessed}
+use Rattle.std.proofs.Common.{◌≡◌, ℕ, ◌/◌, ◌%◌, ◌==◌, ◌&&◌, ◌||◌, not, Bool, true, false, cond, List, [], ◌∷◌, Option}
+use Rattle.std.proofs.Common.{Some, None, length, take, drop, refl, sym, ap, subst, ◌∙◌, inl, inr, is_some, arith}
 use Rattle.device_spec.specs.Pit.{Access, LowByte, HighByte, LowThenHigh, CounterState, read, read_live}
-use Rattle.device_spec.specs.PortNames.{counter0_port, counter1_port, counter2_port}
 use Rattle.device_spec.proofs.Common.{levels_where-has}
 use Rattle.board_spec.specs.Registers.{config_address}
 use Rattle.board_base.specs.declared.target.Dev.TheVariants.{Clock}
@@ -57,11 +56,7 @@ given_holds chip inputs triggers = record { inputs_are = refl; triggers_are = re
 
 keeps_holds : (inputs triggers : Levels) (old new : Chip) → Keeps old new → Holds inputs triggers old →
     Holds inputs triggers new
-keeps_holds inputs triggers old new keeps holds = record {
-  inputs_are = keeps.inputs ∙ holds.inputs_are;
-  triggers_are = keeps.triggers ∙ holds.triggers_are;
-  whole = keeps.whole holds.whole;
-}
+keeps_holds inputs triggers old new keeps holds = grind (arith, nat_tests)
 
 -- ---- a pair whose lines stand
 
@@ -110,17 +105,11 @@ module _ (levels : List Bool) (elcr : ℕ) where
 
   master_sees : (pair : Pair) (chip : Chip) → Keeps pair.master chip → Sees levels elcr pair →
       Sees levels elcr (record pair { master = chip })
-  master_sees pair chip keeps sees = record {
-    master = keeps_holds _ _ pair.master chip keeps sees.master;
-    slave = sees.slave;
-  }
+  master_sees pair chip keeps sees = grind (arith, nat_tests)
 
   slave_sees : (pair : Pair) (chip : Chip) → Keeps pair.slave chip → Sees levels elcr pair →
       Sees levels elcr (record pair { slave = chip })
-  slave_sees pair chip keeps sees = record {
-    master = sees.master;
-    slave = keeps_holds _ _ pair.slave chip keeps sees.slave;
-  }
+  slave_sees pair chip keeps sees = grind (arith, nat_tests)
 
   written_sees : (pair : Pair) (port byte : ℕ) → Sees levels elcr pair → Sees levels elcr (pair_written pair port byte)
   written_sees pair port byte sees =
@@ -206,18 +195,7 @@ read_out c None [] LowThenHigh is counts accesses = rw (is, counts, accesses) re
 
 port_read_out : (port : ℕ) (timer : PitState) → out_of 0 (port_read port timer).1 ≡ out_of 0 timer
 unfolding port_read out_of
-port_read_out port timer = elim (cases_Bool (port == counter0_port)) [
-  | inl first ↦
-      rw first (read_out timer.counter0 timer.counter0.status_latch timer.counter0.count_latch timer.counter0.access
-      refl refl refl)
-  | inr later ↦ rw later (elim (cases_Bool (port == counter1_port)) [
-    | inl second ↦ rw second refl
-    | inr last ↦ rw last (elim (cases_Bool (port == counter2_port)) [
-      | inl third ↦ rw third refl
-      | inr none ↦ rw none refl
-    ])
-  ])
-]
+port_read_out port timer = grind (arith, nat_tests, common_steps, cases_Bool, read_out)
 
 gate_out : (on : Bool) (timer : PitState) → out_of 0 (set_gate2 on timer) ≡ out_of 0 timer
 unfolding set_gate2 out_of
@@ -240,11 +218,7 @@ pair_stands setup history entry soft sets none stays =
 -- ---- accesses
 
 system_out : (access : PortAccess) (t : PitState) → out_of 0 (timer_accessed (Some System) access t) ≡ out_of 0 t
-system_out access t =
-    elim (cases_Bool access.write) [
-      | inl writes ↦ rw writes (gate_out (is_bit access.value 0) t)
-      | inr reads ↦ rw reads refl
-    ]
+system_out access t = grind (arith, nat_tests, common_steps, cases_Bool, gate_out, is_bit)
 
 -- an access leaves the level that every other device drives
 others_drive : (other dev : Dev) (access : PortAccess) (devices : DevicesValue) →
@@ -341,8 +315,7 @@ still_leaves_lines setup history entry dev access port reaches none level =
 
 pub access_leaves_lines : AccessLeavesLines
 access_leaves_lines setup history entry dev access port reaches none =
-    still_leaves_lines setup history entry dev access port reaches (triggers_none dev access.write none)
-    (own_level_stands setup history entry dev access reaches none)
+    grind (arith, nat_tests, common_steps, still_leaves_lines, triggers_none, own_level_stands)
 
 -- the devices after an access that moved no line
 pub still_as : (setup : Setup) (history : List Entry) (entry : Entry) (dev : Dev) (access : PortAccess) →

@@ -1,8 +1,8 @@
 -- The state of the devices is spelled and read back.
-use Rattle.std.proofs.Common.{◌≡◌, ℕ, ◌+◌, List, [], Option, Some, None, refl, sym, ap, ◌∙◌, arith}
-use Rattle.board_prelude.specs.Common.{Disk, SystemPort, PlainPorts, IsDisk}
-use Rattle.byte_fields.proofs.Formats.{IsFormat, format_as, then_format, last_format, made_format, done_format}
-use Rattle.byte_fields.proofs.Numbers.{byte_within, flag_format}
+use Rattle.board_prelude.proofs.Common.{nat_tests}
+use Rattle.std.proofs.Common.{◌≡◌, ℕ, ◌+◌, List, [], Option, Some, None, refl, ap, arith}
+use Rattle.board_prelude.specs.Common.{Disk, PlainPorts, IsDisk}
+use Rattle.byte_fields.proofs.Formats.{IsFormat, format_as, then_format, last_format, made_format}
 use Rattle.pic_pair.proofs.StateFormat.{pair_format, lines_format}
 use Rattle.pit_8254.proofs.StateFormat.{pit_format}
 use Rattle.cmos_clock.proofs.StateFormat.{clock_format}
@@ -19,16 +19,7 @@ use Rattle.board_devices.proofs.DeviceLemmas.{disk_length}
 
 pub system_format : IsFormat 2 system_fields system_bytes IsSystem
 unfolding system_fields
-system_format =
-    format_as 2 system_bytes IsSystem
-    (then_format (λ (p : SystemPort). p.kept) (byte_within 0 3 (omega arith)) (λ kept good.
-    last_format (λ (p : SystemPort). p.flip) (λ flip. record { kept = kept; flip = flip }) flag_format
-    (λ flip good. refl))
-    (λ kept p any good. ap (λ (p : SystemPort). p.kept) good.1))
-    (omega arith)
-    (λ p is. ((omega arith, omega (arith, is)), (tt, refl)))
-    (λ p good. omega (arith, good.0.1))
-    (λ p good. refl)
+system_format = grind (arith, nat_tests)
 
 -- ---- the plain ports
 
@@ -141,9 +132,7 @@ some_from bytes disk over good is = rw is good
 fitted_format : (fitted : Option (List ℕ)) → IsDisk fitted →
     IsFormat (fitted_most fitted) (fitted_fields fitted) (fitted_bytes fitted) (IsFittedDisk fitted)
 unfolding fitted_fields fitted_bytes
-fitted_format None is =
-    format_as 0 (fitted_bytes None) (IsFittedDisk None) (done_format None) (omega arith)
-    (λ disk is. none_is disk is) (λ disk is. none_from disk is) (λ disk is. none_spelled disk is)
+fitted_format None is = grind (arith, nat_tests)
 fitted_format (Some bytes) is =
     format_as (most_bytes bytes) (fitted_bytes (Some bytes)) (IsFittedDisk (Some bytes))
     (made_format (λ (disk : Disk). Some disk) (fitted_bytes (Some bytes)) (disk_format bytes (disk_length bytes is))
@@ -159,9 +148,7 @@ most_of fitted = machines_most + fitted_most fitted
 with_disk : (machines devices : DevicesValue) → machines.disk ≡ None →
     devices ≡ record machines { disk = devices.disk } →
     record devices { disk = None } ≡ machines
-with_disk machines devices none is =
-    ap (λ (d : DevicesValue). record d { disk = None }) is
-    ∙ ap (λ (disk : Option Disk). record machines { disk = disk }) (sym none)
+with_disk machines devices none is = grind (arith, nat_tests)
 
 pub devices_format : (fitted : Option (List ℕ)) → IsDisk fitted →
     IsFormat (most_of fitted) (devices_fields fitted) (devices_bytes fitted) (AreDevices fitted)

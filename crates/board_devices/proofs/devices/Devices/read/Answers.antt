@@ -1,6 +1,5 @@
-use Rattle.std.proofs.Common.{◌∙◌, ◌∷◌, refl, ap}
-use Rattle.board_prelude.proofs.Common.{Port}
-use Rattle.board_devices.specs.Devices.{DevicesValue, sectors_fitted}
+use Rattle.std.proofs.Common.{arith, ◌∙◌, ◌∷◌, refl}
+use Rattle.board_prelude.proofs.Common.{common_steps, nat_tests, Port}
 use Rattle.board_devices.proofs.DeviceLemmas.{value_at, port_asked, read_as, lined_as}
 use Rattle.board_devices.proofs.StandingLines.{still_as}
 use Rattle.board_devices.proofs.DiskSizes.{read_fitted}
@@ -30,12 +29,7 @@ returns-else-moved-clause-devices c = λ setup history entry is reaches reads ro
     (c.moved.ensures.level c.if-moved.false ∙ c.driven-before.ensures.level)
 
 pub returns-then-moved-clause-fitted : goal.returns-then-moved-clause-fitted
-returns-then-moved-clause-fitted c =
-    ap (λ (d : DevicesValue). sectors_fitted d.disk) c.settle.ensures.others
-    ∙ (ap (λ (d : DevicesValue). sectors_fitted d.disk) c.read_port-value.ensures.after
-    ∙ read_fitted c.args.dev c.args.access.now c.args.self.now)
+returns-then-moved-clause-fitted c = grind (arith, nat_tests, common_steps, read_fitted)
 
 pub returns-else-moved-clause-fitted : goal.returns-else-moved-clause-fitted
-returns-else-moved-clause-fitted c =
-    ap (λ (d : DevicesValue). sectors_fitted d.disk) c.read_port-value.ensures.after
-    ∙ read_fitted c.args.dev c.args.access.now c.args.self.now
+returns-else-moved-clause-fitted c = grind (arith, nat_tests, common_steps, read_fitted)

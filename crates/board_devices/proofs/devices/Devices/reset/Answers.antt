@@ -1,8 +1,7 @@
-use Rattle.std.proofs.Common.{◌≡◌, ◌∙◌, ◌∷◌, List, ap, sym, subst, Bool}
-use Rattle.board_prelude.proofs.Common.{Pair, pair_after_lines, pair_at_reset, levels_of, elcr_of}
-use Rattle.board_devices.specs.Devices.{DevicesValue, AreAfter, sectors_fitted}
+use Rattle.std.proofs.Common.{arith, ◌≡◌, ◌∙◌, ◌∷◌, List, ap, sym, subst, Bool}
+use Rattle.board_prelude.proofs.Common.{nat_tests, Pair, pair_after_lines, pair_at_reset, levels_of, elcr_of}
+use Rattle.board_devices.specs.Devices.{DevicesValue, AreAfter}
 use Rattle.board_devices.proofs.DeviceLemmas.{reset_after, reset_pair, with_pair, settled_as}
-use Rattle.board_devices.proofs.DiskSizes.{fitted_reset}
 use Rattle.board_devices.proofs.devices.Devices.reset.Goals as goal
 
 pub returns-clause-reset : goal.returns-clause-reset
@@ -23,8 +22,4 @@ returns-clause-reset c = λ setup history entry is hard routes.
     (ap (λ (d : DevicesValue). d.pair) c.reset_pair.ensures.after ∙ ap (λ (l : List Bool). pair_at_reset l) levels)))
 
 pub returns-clause-fitted : goal.returns-clause-fitted
-returns-clause-fitted c =
-    ap (λ (d : DevicesValue). sectors_fitted d.disk) c.settle.ensures.others
-    ∙ (ap (λ (d : DevicesValue). sectors_fitted d.disk) c.reset_pair.ensures.after
-    ∙ (ap (λ (d : DevicesValue). sectors_fitted d.disk) c.reset_machines.ensures.after
-    ∙ fitted_reset c.args.self.now.disk))
+returns-clause-fitted c = grind (arith, nat_tests)

@@ -1,4 +1,6 @@
-use Rattle.pit_8254.proofs.Saved.{joined, on_ok}
+use Rattle.std.proofs.Common.{arith}
+use Rattle.board_prelude.proofs.Common.{nat_tests}
+use Rattle.pit_8254.proofs.Saved.{joined}
 use Rattle.pic_pair.specs.State.{pair_bytes, lines_bytes}
 use Rattle.pit_8254.specs.State.{pit_bytes}
 use Rattle.cmos_clock.specs.State.{clock_bytes}
@@ -29,15 +31,4 @@ returns-clause-saved c =
     c.save_state-7.ensures.saved))))))
 
 pub returns-clause-sound : goal.returns-clause-sound
-returns-clause-sound c =
-    on_ok c.save_state-7.result
-    (rw (← c.self.view_is)
-    (record {
-      pair = c.save_state.ensures.sound;
-      timer = c.save_state-2.ensures.sound;
-      clock = c.save_state-3.ensures.sound;
-      triggers = c.save_state-4.ensures.sound;
-      plain = c.save_state-5.ensures.sound;
-      wires = c.save_state-6.ensures.sound;
-      irqs = c.save_state-7.ensures.sound;
-    }))
+returns-clause-sound c = grind (arith, nat_tests)

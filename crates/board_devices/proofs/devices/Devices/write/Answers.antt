@@ -1,6 +1,5 @@
-use Rattle.std.proofs.Common.{◌∙◌, ◌∷◌, ap}
-use Rattle.board_prelude.proofs.Common.{Port}
-use Rattle.board_devices.specs.Devices.{DevicesValue, sectors_fitted}
+use Rattle.std.proofs.Common.{arith, ◌∙◌, ◌∷◌}
+use Rattle.board_prelude.proofs.Common.{common_steps, nat_tests, Port}
 use Rattle.board_devices.proofs.DeviceLemmas.{port_asked, write_as, lined_as}
 use Rattle.board_devices.proofs.StandingLines.{still_as}
 use Rattle.board_devices.proofs.DiskSizes.{write_fitted}
@@ -23,12 +22,7 @@ returns-else-moved-clause-devices c = λ setup history entry is reaches writes r
     (c.moved.ensures.level c.if-moved.false ∙ c.driven-before.ensures.level)
 
 pub returns-then-moved-clause-fitted : goal.returns-then-moved-clause-fitted
-returns-then-moved-clause-fitted c =
-    ap (λ (d : DevicesValue). sectors_fitted d.disk) c.settle.ensures.others
-    ∙ (ap (λ (d : DevicesValue). sectors_fitted d.disk) c.write_port.ensures.after
-    ∙ write_fitted c.args.dev c.args.access.now c.args.self.now)
+returns-then-moved-clause-fitted c = grind (arith, nat_tests, common_steps, write_fitted)
 
 pub returns-else-moved-clause-fitted : goal.returns-else-moved-clause-fitted
-returns-else-moved-clause-fitted c =
-    ap (λ (d : DevicesValue). sectors_fitted d.disk) c.write_port.ensures.after
-    ∙ write_fitted c.args.dev c.args.access.now c.args.self.now
+returns-else-moved-clause-fitted c = grind (arith, nat_tests, common_steps, write_fitted)

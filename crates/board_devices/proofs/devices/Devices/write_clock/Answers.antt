@@ -1,31 +1,16 @@
-use Rattle.std.proofs.Common.{rules, ◌≡◌, ◌∙◌, ◌∷◌, ℕ, refl, ap, sym}
+use Rattle.std.proofs.Common.{arith, rules, ◌≡◌, ◌∙◌, ◌∷◌, ℕ, refl, ap}
+use Rattle.board_prelude.proofs.Common.{common_steps, nat_tests, Port}
 use Rattle.board_base.specs.declared.target.Dev.TheVariants.{Clock}
-use Rattle.board_prelude.proofs.Common.{Clock as ClockState, Port}
-use Rattle.board_devices.specs.Common.{DevicesValue, after_write, byte_out}
+use Rattle.board_devices.specs.Common.{after_write, byte_out}
 use Rattle.board_devices.proofs.DeviceLemmas.{port_asked, write_as, lined_as}
 use Rattle.board_devices.proofs.OutsideLemmas.{clock_written}
 use Rattle.board_devices.proofs.devices.Devices.write_clock.Goals as goal
 
 pub returns-clause-clock : goal.returns-clause-clock
-returns-clause-clock c =
-    let access = byte_out c.args.port c.args.byte in
-    let value : c.from.result ≡ c.args.byte = search rules in
-    let after : c.write_port.new.self ≡ after_write Clock access c.args.self.now =
-    c.write_port.ensures.after ∙ ap (λ (v : ℕ). after_write Clock (byte_out c.args.port v) c.args.self.now) value in
-    ap (λ (d : DevicesValue). d.clock) c.settle.ensures.others
-    ∙ ap (λ (d : DevicesValue). d.clock) (after ∙ clock_written access c.args.self.now)
+returns-clause-clock c = grind (arith, nat_tests, common_steps, clock_written)
 
 pub returns-clause-others : goal.returns-clause-others
-returns-clause-others c =
-    let access = byte_out c.args.port c.args.byte in
-    let value : c.from.result ≡ c.args.byte = search rules in
-    let after : c.write_port.new.self ≡ after_write Clock access c.args.self.now =
-    c.write_port.ensures.after ∙ ap (λ (v : ℕ). after_write Clock (byte_out c.args.port v) c.args.self.now) value in
-    let is = after ∙ clock_written access c.args.self.now in
-    c.settle.ensures.others
-    ∙ (ap (λ (d : DevicesValue). record d { pair = c.settle.new.self.pair }) is
-    ∙ ap (λ (clock : ClockState). record c.args.self.now { clock = clock; pair = c.settle.new.self.pair })
-    (sym (returns-clause-clock c)))
+returns-clause-others c = grind (arith, nat_tests, common_steps, clock_written, returns-clause-clock)
 
 pub returns-clause-devices : goal.returns-clause-devices
 returns-clause-devices c = λ setup history entry is writes.
