@@ -3,8 +3,8 @@ use Rattle.board_prelude.proofs.Common.{nat_tests, lt-ltb, common_steps, Event, 
 use Rattle.board_prelude.proofs.Common.{value_bytes, reply_text, line_text}
 use Rattle.std.proofs.Common.{◌≡◌, ℕ, ◌<◌, true, Option, Some, None, List, [], ◌∷◌, ◌++◌, refl, ap, ◌∙◌, inl, inr}
 use Rattle.std.proofs.Common.{append_assoc, arith, codes, decimal}
-use Rattle.script_spec.specs.Common.{Item, Ask, HasForm, item_text, IsWellFormed, fields_of, ask, parse_line, cut}
-use Rattle.script_spec.specs.Common.{parse_spaced_reply, Pieces, parse_pieces, parse_actor}
+use Rattle.script_spec.specs.Common.{Item, Ask, HasForm, item_text, IsWellFormed, fields_of, ◌>>=◌, ask, parse_line}
+use Rattle.script_spec.specs.Common.{cut, parse_spaced_reply, Pieces, parse_pieces, parse_actor}
 use Rattle.script_spec.proofs.Digits.{lacks}
 use Rattle.script_spec.proofs.Fields.{lacks-append, lacks-decimal}
 use Rattle.script_spec.proofs.PlainText.{lacks-word, lacks-plain, decimal_word}
