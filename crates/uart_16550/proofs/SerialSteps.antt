@@ -1,6 +1,6 @@
 -- How the histories go on that leave a board with a serial port.
-use Rattle.std.proofs.Common.{◌≡◌, ℕ, ◌<◌, Bool, true, false, List, [], ◌∷◌, ◌++◌, refl, sym, ap, subst}
-use Rattle.std.proofs.Common.{◌∙◌, append_assoc, lt_irrefl, ◌==◌, None, unwrap_or}
+use Rattle.std.proofs.Common.{◌≡◌, ℕ, ◌<◌, Bool, true, false, List, [], ◌∷◌, ◌++◌, refl, sym, ap, subst, ◌∙◌}
+use Rattle.std.proofs.Common.{append_assoc, lt_irrefl, ◌==◌, None, unwrap_or}
 use Rattle.board_prelude.proofs.Common.{ne_eqb, PortAccess, Event, Port, Line, Reply, Entry, Statement, Setup}
 use Rattle.board_prelude.proofs.Common.{line_set, irq_of, next_entry, statements_of}
 use Rattle.board_spec.proofs.OrderLawProofs.{statements-append}

@@ -5,15 +5,13 @@ use Rattle.uart_16550.proofs.over_chipset.SerialBoard+Chipset.set_clock_byte.Goa
 pub returns-clause-goes_on : goal.returns-clause-goes_on
 returns-clause-goes_on c =
     rw (← c.self.view_is)
-    (clock_kept (record { board = c.self.inside.board; com1 = c.self.inside.com1 })
-    (record { board = c.set_clock_byte.new.self; com1 = c.self.inside.com1 }) c.args.address c.args.byte
-    c.set_clock_byte.result refl
+    (clock_kept c.args.address c.args.byte (record { board = c.self.inside.board; com1 = c.self.inside.com1 })
+    (record { board = c.set_clock_byte.new.self; com1 = c.self.inside.com1 }) refl c.set_clock_byte.result
     c.set_clock_byte.ensures.left c.set_clock_byte.ensures.unchanged)
 
 pub returns-clause-left : goal.returns-clause-left
 returns-clause-left c =
     rw (← c.self.view_is)
-    (clock_left (record { board = c.self.inside.board; com1 = c.self.inside.com1 })
-    (record { board = c.set_clock_byte.new.self; com1 = c.self.inside.com1 }) c.args.address c.args.byte
-    c.set_clock_byte.result refl
+    (clock_left c.args.address c.args.byte (record { board = c.self.inside.board; com1 = c.self.inside.com1 })
+    (record { board = c.set_clock_byte.new.self; com1 = c.self.inside.com1 }) refl c.set_clock_byte.result
     c.set_clock_byte.ensures.left)
