@@ -15,9 +15,9 @@ pub returns-then-old-new-clause-moved : goal.returns-then-old-new-clause-moved
 returns-then-old-new-clause-moved g c = λ history left_at.
     rw (differs c.args.old c.args.new c.if-old-new.true)
     (one_step g.B.SteppedBoard.is_answer g.B.SteppedBoard.setup g.B.SteppedBoard.is_left_by c.args.board.now
-    c.step.new.self c.args.old c.args.new
-    history com1_actor (Line com1_irq c.args.new) c.step.result left_at c.step.ensures.setup
-    (c.step.ensures.answer history left_at.left) (c.step.ensures.left history left_at.left) refl (λ _. refl))
+    c.step.new.self c.args.old history com1_actor (Line com1_irq c.args.new) c.step.result left_at
+    c.step.ensures.setup (c.step.ensures.answer history left_at.left) (c.step.ensures.left history left_at.left)
+    c.args.new refl (λ _. refl))
 
 agrees : (old new : Bool) → not (beq old new) ≡ false → (old ≡ new) × (differ old new ≡ false)
 agrees true true is = (refl, refl)
