@@ -55,11 +55,12 @@ pub calls_in_order : ReadInOrder
 calls_in_order uart [] kept = sym (append-nil uart.queue)
 calls_in_order uart (call ∷ later) kept =
     let next = after_call uart call in
-    append_assoc (taken uart call) (all_taken next later) (after_calls next later).queue
-    ∙ (ap (λ (bytes : List ℕ). taken uart call ++ bytes) (calls_in_order next later kept.1)
-    ∙ (sym (append_assoc (taken uart call) next.queue (all_brought later))
-    ∙ (ap (λ (bytes : List ℕ). bytes ++ all_brought later) (call_in_order uart call kept.0)
-    ∙ append_assoc uart.queue (brought call) (all_brought later))))
+    rw (
+      append_assoc (taken uart call) (all_taken next later) (after_calls next later).queue,
+      calls_in_order next later kept.1,
+      ← append_assoc (taken uart call) next.queue (all_brought later),
+      call_in_order uart call kept.0,
+    ) (append_assoc uart.queue (brought call) (all_brought later))
 
 -- ---- events of a board
 

@@ -7,9 +7,8 @@ use Rattle.uart_16550.proofs.line.move_line.Goals as goal
 
 differs : (old new : Bool) → not (beq old new) ≡ true → differ old new ≡ true
 differs true true is = is
-differs true false is = refl
-differs false true is = refl
 differs false false is = is
+differs _ _ is = refl
 
 pub returns-then-old-new-clause-moved : goal.returns-then-old-new-clause-moved
 returns-then-old-new-clause-moved g c = λ history left_at.
@@ -21,9 +20,8 @@ returns-then-old-new-clause-moved g c = λ history left_at.
 
 agrees : (old new : Bool) → not (beq old new) ≡ false → (old ≡ new) × (differ old new ≡ false)
 agrees true true is = (refl, refl)
-agrees true false is = absurd (cc is)
-agrees false true is = absurd (cc is)
 agrees false false is = (refl, refl)
+agrees _ _ is = absurd (cc is)
 
 pub returns-else-old-new-clause-moved : goal.returns-else-old-new-clause-moved
 returns-else-old-new-clause-moved g c =
