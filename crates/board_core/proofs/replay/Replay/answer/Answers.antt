@@ -1,6 +1,5 @@
-use Rattle.std.proofs.Common.{ℕ, ◌≡◌, ◌+◌, ◌<◌, ◌^◌, ◌∷◌, List, refl, arith, get_or-set_same, slice_index}
-use Rattle.std.proofs.Common.{slice_set}
-use Rattle.board_prelude.proofs.Common.{Entry, entry_limit}
+use Rattle.std.proofs.Common.{◌+◌, ◌∷◌, List, refl, arith, get_or-set_same, slice_index, slice_set}
+use Rattle.board_prelude.proofs.Common.{Entry}
 use Rattle.board_core.specs.Kept.{Playing, HasPlayed}
 use Rattle.board_core.proofs.Boards.{few_versions, count_fits, stepped}
 use Rattle.board_core.proofs.replay.Replay.answer.Goals.{After-from-2}
