@@ -5,7 +5,7 @@ use Rattle.board_chipset.specs.Common.{WriteCardInTurn, WriteCard}
 use Rattle.board_chipset.specs.CardLoads.{WritesByte}
 use Rattle.board_chipset.proofs.CardLoadSteps.{some_card_entries}
 use Rattle.uart_16550.specs.Common.{com1_irq, AreOwn}
-use Rattle.uart_16550.proofs.Loads.{by_processor, own_by}
+use Rattle.uart_16550.proofs.Loads.{IsWriting, by_processor, own_by, own_with}
 
 no_line : (byte line : ℕ) (event : Event) → WritesByte byte event → line_set line event ≡ None
 no_line byte line (Memory access) is = refl
@@ -20,10 +20,6 @@ module _ (dev base off : ℕ) (bytes : List ℕ) where
   line_in_turn (entry ∷ entries) history each =
       rw (no_line _ com1_irq entry.event each.0.event) (line_in_turn entries history each.1)
 
-  pub line_stays : (entries history : List Entry) → WriteCard dev base off bytes entries →
-      irq_of (entries ++ history) com1_irq ≡ irq_of history com1_irq
-  line_stays entries history all = line_in_turn entries history all.each
-
   in_turn_by : (entries : List Entry) → WriteCardInTurn dev base off bytes entries →
       WriteCardInTurn dev base off bytes (map by_processor entries)
   unfolding WriteCardInTurn
@@ -35,10 +31,18 @@ module _ (dev base off : ℕ) (bytes : List ℕ) where
   )
 
   -- there are entries that write these bytes, and none is the port's own
-  pub own_entries : (entries : List Entry) × WriteCard dev base off bytes entries × AreOwn entries
+  own_entries : (entries : List Entry) × WriteCard dev base off bytes entries × AreOwn entries
   own_entries =
       let some = some_card_entries dev base off bytes in (
         map by_processor some.0,
         record { all = length-map some.0 by_processor ∙ some.1.all; each = in_turn_by some.0 some.1.each },
         own_by some.0,
       )
+
+  pub writes_card :
+      IsWriting (λ entries history. entries ++ history) (λ entries history. WriteCard dev base off bytes entries)
+  writes_card = record {
+    line = λ entries history all. line_in_turn entries history all.each;
+    own = own_with;
+    some = λ history own. own_entries;
+  }

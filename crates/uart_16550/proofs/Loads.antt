@@ -8,7 +8,7 @@ use Rattle.uart_16550.specs.Common.{com1_irq, Serial, AreOwn, IsLeftBy as IsPort
 
 -- ---- entries that are not the port's own
 
-own_with : (entries history : List Entry) → AreOwn entries → AreOwn history → AreOwn (entries ++ history)
+pub own_with : (entries history : List Entry) → AreOwn entries → AreOwn history → AreOwn (entries ++ history)
 own_with [] history own before = before
 own_with (entry ∷ entries) history own before = (own.0, own_with entries history own.1 before)
 
@@ -20,53 +20,47 @@ pub own_by : (entries : List Entry) → AreOwn (map by_processor entries)
 own_by [] = tt
 own_by (entry ∷ entries) = (λ is. absurd (cc is), own_by entries)
 
--- ---- what leaves the chipset so, and leaves line 4, leaves the port so
+-- ---- what writes from outside, and does not set line 4
 
-module _ {old new : Serial Running} (same : old.com1 ≡ new.com1) where
-  port_left : {history later : List Entry} → IsPortLeftBy IsLeftBy old history → IsLeftBy new.board later →
-      irq_of later com1_irq ≡ irq_of history com1_irq → AreOwn later → IsPortLeftBy IsLeftBy new later
-  port_left was left line own =
-      rw (← same) (record { left = left; level_is = line ∙ was.level_is; own = own })
+-- what is written, and how a history goes on with it
+pub record IsWriting (later : List Entry → List Entry → List Entry) (Write : List Entry → List Entry → Type 0) :
+    Type 0 where
+  pub line : (entries history : List Entry) → Write entries history →
+      irq_of (later entries history) com1_irq ≡ irq_of history com1_irq
+  pub own : (entries history : List Entry) → AreOwn entries → AreOwn history → AreOwn (later entries history)
+  pub some : (history : List Entry) → AreOwn history →
+      (entries : List Entry) × Write entries history × AreOwn entries
 
-  -- so it goes on, where a call that was refused has changed nothing
-  goes_on : {E P : Type 0} (result : Result (Unit {0}) E) → OnOk result P → OnErr result (new.board ≡ old.board) →
-      (history : List Entry) → IsPortLeftBy IsLeftBy old history →
-      (P → (later : List Entry) × IsPortLeftBy IsLeftBy new later) →
-      (later : List Entry) × IsPortLeftBy IsLeftBy new later
-  goes_on (Ok done) holds still history was next = next holds
-  goes_on (Err bad) holds still history was next = (history, rw (still, ← same) was)
-
--- ---- entries that write, and do not set line 4
-
-module _ (Write : List Entry → Type 0)
-    (line : (entries history : List Entry) → Write entries →
-    irq_of (entries ++ history) com1_irq ≡ irq_of history com1_irq)
-    (old new : Serial Running) (same : old.com1 ≡ new.com1) where
+module _ {later : List Entry → List Entry → List Entry} {Write : List Entry → List Entry → Type 0}
+    (writing : IsWriting later Write) (old new : Serial Running) (same : old.com1 ≡ new.com1) where
   abbrev LeavesChipset : Type 0
   LeavesChipset =
-      (history entries : List Entry) → IsLeftBy old.board history → Write entries →
-      IsLeftBy new.board (entries ++ history)
+      (history entries : List Entry) → IsLeftBy old.board history → Write entries history →
+      IsLeftBy new.board (later entries history)
 
   abbrev LeavesPort : Type 0
   LeavesPort =
-      (history entries : List Entry) → IsPortLeftBy IsLeftBy old history → Write entries → AreOwn entries →
-      IsPortLeftBy IsLeftBy new (entries ++ history)
+      (history entries : List Entry) → IsPortLeftBy IsLeftBy old history → Write entries history → AreOwn entries →
+      IsPortLeftBy IsLeftBy new (later entries history)
 
   leaves : LeavesChipset → LeavesPort
-  leaves left history entries was all own =
-      port_left same was (left history entries was.left all) (line entries history all)
-      (own_with entries history own was.own)
+  leaves left history entries was all own = rw (← same) (record {
+    left = left history entries was.left all;
+    level_is = writing.line entries history all ∙ was.level_is;
+    own = writing.own entries history own was.own;
+  })
 
   pub written : {E : Type 0} (result : Result (Unit {0}) E) → OnOk result LeavesChipset → OnOk result LeavesPort
   written result = on_ok_weaker result leaves
 
+  -- so it goes on, where a call that was refused has changed nothing
   pub written_on : {E : Type 0} (result : Result (Unit {0}) E) → OnOk result LeavesChipset →
-      OnErr result (new.board ≡ old.board) → (entries : List Entry) × Write entries × AreOwn entries →
-      (history : List Entry) → IsPortLeftBy IsLeftBy old history →
-      (later : List Entry) × IsPortLeftBy IsLeftBy new later
-  written_on result left still some history was =
-      goes_on same result left still history was
-      (λ left. (some.0 ++ history, leaves left history some.0 was some.1 some.2))
+      OnErr result (new.board ≡ old.board) → (history : List Entry) → IsPortLeftBy IsLeftBy old history →
+      (after : List Entry) × IsPortLeftBy IsLeftBy new after
+  written_on (Ok done) left still history was =
+      let some = writing.some history was.own in
+      (later some.0 history, leaves left history some.0 was some.1 some.2)
+  written_on (Err bad) left still history was = (history, rw (still, ← same) was)
 
 -- ---- bytes of the DRAM
 
@@ -76,10 +70,6 @@ module _ (addr : ℕ) (bytes : List ℕ) where
   unfolding WriteInTurn irq_of
   line_in_turn [] history each = refl
   line_in_turn (entry ∷ entries) history each = rw (each.0.event) (line_in_turn entries history each.1)
-
-  pub line_stays : (entries history : List Entry) → WriteAll addr bytes entries →
-      irq_of (entries ++ history) com1_irq ≡ irq_of history com1_irq
-  line_stays entries history all = line_in_turn entries history all.each
 
   in_turn_by : (entries : List Entry) → WriteInTurn addr bytes entries →
       WriteInTurn addr bytes (map by_processor entries)
@@ -99,13 +89,20 @@ module _ (addr : ℕ) (bytes : List ℕ) where
       )
 
   -- there are entries that write these bytes, and none is the port's own
-  pub own_entries : (entries : List Entry) × WriteAll addr bytes entries × AreOwn entries
+  own_entries : (entries : List Entry) × WriteAll addr bytes entries × AreOwn entries
   own_entries =
       let some = some_entries addr bytes in (
         map by_processor some.0,
         record { all = length-map some.0 by_processor ∙ some.1.all; each = in_turn_by some.0 some.1.each },
         own_by some.0,
       )
+
+  pub writes_dram : IsWriting (λ entries history. entries ++ history) (λ entries history. WriteAll addr bytes entries)
+  writes_dram = record {
+    line = λ entries history all. line_in_turn entries history all.each;
+    own = own_with;
+    some = λ history own. own_entries;
+  }
 
 -- ---- a byte of the clock
 
@@ -132,28 +129,10 @@ own_clock_entries history address byte own =
       (λ is. absurd (cc is), (λ is. absurd (cc is), (λ is. absurd (cc is), own))),
     )
 
-module _ (address byte : ℕ) (old new : Serial Running) (same : old.com1 ≡ new.com1) where
-  abbrev SetsChipset : Type 0
-  SetsChipset =
-      (history later : List Entry) → IsLeftBy old.board history → WriteClockByte history address byte later →
-      IsLeftBy new.board later
-
-  abbrev SetsPort : Type 0
-  SetsPort =
-      (history later : List Entry) → IsPortLeftBy IsLeftBy old history → WriteClockByte history address byte later →
-      AreOwn later → IsPortLeftBy IsLeftBy new later
-
-  sets : SetsChipset → SetsPort
-  sets left history later was puts own =
-      port_left same was (left history later was.left puts) (line_stays_for puts) own
-
-  pub clock_left : {E : Type 0} (result : Result (Unit {0}) E) → OnOk result SetsChipset → OnOk result SetsPort
-  clock_left result = on_ok_weaker result sets
-
-  pub clock_kept : {E : Type 0} (result : Result (Unit {0}) E) → OnOk result SetsChipset →
-      OnErr result (new.board ≡ old.board) → (history : List Entry) → IsPortLeftBy IsLeftBy old history →
-      (later : List Entry) × IsPortLeftBy IsLeftBy new later
-  clock_kept result left still history was =
-      goes_on same result left still history was (λ left.
-      let some = own_clock_entries history address byte was.own in
-      (some.0, sets left history some.0 was some.1 some.2))
+pub writes_clock : (address byte : ℕ) →
+    IsWriting (λ later history. later) (λ later history. WriteClockByte history address byte later)
+writes_clock address byte = record {
+  line = λ later history puts. line_stays_for puts;
+  own = λ later history own before. own;
+  some = λ history own. own_clock_entries history address byte own;
+}
