@@ -1,8 +1,8 @@
 -- No byte that was received is lost, and all are read in their order.
 use Rattle.std.proofs.Common.{◌≡◌, ℕ, Bool, true, List, [], ◌∷◌, ◌++◌, length, refl, sym, ap, ◌∙◌, append_assoc}
 use Rattle.std.proofs.Common.{Option, Some, arith}
-use Rattle.board_prelude.proofs.Common.{nat_tests, ne_eqb, append-nil, Event, Memory, Port, PortAccess, Line}
-use Rattle.board_prelude.proofs.Common.{control_written, resets_hard, not-true}
+use Rattle.board_prelude.proofs.Common.{nat_tests, ne_eqb, append-nil, Event, Memory, Port, Line, control_written}
+use Rattle.board_prelude.proofs.Common.{resets_hard, not-true}
 use Rattle.uart_16550.specs.declared.interrupt.Interrupt.{Interrupt}
 use Rattle.uart_16550.specs.declared.interrupt.Interrupt.TheVariants.{LineStatus}
 use Rattle.uart_16550.specs.declared.register.ReadRegister.{ReadRegister}
@@ -64,26 +64,15 @@ calls_in_order uart (call ∷ later) kept =
 
 -- ---- events of a board
 
-port_is_calls : (resets : Bool) (access : PortAccess) (com1 : Com1) →
-    (com1_after resets (Port access) com1).uart ≡ after_calls com1.uart (calls_of resets (Port access))
-port_is_calls resets access com1 = grind (arith, nat_tests)
-
-line_is_calls : (resets : Bool) (irq : ℕ) (on : Bool) (com1 : Com1) →
-    (com1_after resets (Line irq on) com1).uart ≡ after_calls com1.uart (calls_of resets (Line irq on))
-line_is_calls resets irq on com1 = grind (arith, nat_tests)
-
 event_is_calls : (resets : Bool) (event : Event) (com1 : Com1) →
     (com1_after resets event com1).uart ≡ after_calls com1.uart (calls_of resets event)
-event_is_calls resets (Port access) com1 = port_is_calls resets access com1
-event_is_calls resets (Line irq on) com1 = line_is_calls resets irq on com1
+event_is_calls resets (Port access) com1 = grind (arith, nat_tests)
+event_is_calls resets (Line irq on) com1 = grind (arith, nat_tests)
 event_is_calls resets (Memory access) com1 = refl
 event_is_calls resets _ com1 = refl
 
-port_brings_nothing : (resets : Bool) (access : PortAccess) → all_brought (calls_of resets (Port access)) ≡ []
-port_brings_nothing resets access = grind (arith, nat_tests)
-
 event_brings_nothing : (resets : Bool) (event : Event) → all_brought (calls_of resets event) ≡ []
-event_brings_nothing resets (Port access) = port_brings_nothing resets access
+event_brings_nothing resets (Port access) = grind (arith, nat_tests)
 event_brings_nothing resets (Line irq on) = refl
 event_brings_nothing resets _ = refl
 
@@ -109,9 +98,8 @@ run_is_calls : (before : Sending) (happenings : List Happening) →
 run_is_calls before [] = refl
 run_is_calls before (happening ∷ later) =
     let next = sending_after before happening in
-    run_is_calls next later
-    ∙ (ap (λ (uart : Uart). after_calls uart (all_calls next later)) (happening_is_calls before happening)
-    ∙ sym (calls_in_turn before.com1.uart (calls_for before happening) (all_calls next later)))
+    rw (run_is_calls next later, happening_is_calls before happening)
+    (sym (calls_in_turn before.com1.uart (calls_for before happening) (all_calls next later)))
 
 run_brings : (before : Sending) (happenings : List Happening) →
     all_brought (all_calls before happenings) ≡ bytes_come happenings
@@ -121,13 +109,13 @@ run_brings before (Comes byte ∷ later) =
 run_brings before (Happens event ∷ later) =
     let next = sending_after before (Happens event) in
     let resets = resets_hard before.control (control_written event) in
-    brought_in_turn (calls_of resets event) (all_calls next later)
-    ∙ (ap (λ (bytes : List ℕ). bytes ++ all_brought (all_calls next later)) (event_brings_nothing resets event)
-    ∙ run_brings next later)
+    rw (brought_in_turn (calls_of resets event) (all_calls next later), event_brings_nothing resets event)
+    (run_brings next later)
 
 pub serial_in_order : SerialReadsInOrder
 serial_in_order before happenings kept =
-    ap (λ (uart : Uart). all_taken before.com1.uart (all_calls before happenings) ++ uart.queue)
-    (run_is_calls before happenings)
-    ∙ (calls_in_order before.com1.uart (all_calls before happenings) kept
-    ∙ ap (λ (bytes : List ℕ). before.com1.uart.queue ++ bytes) (run_brings before happenings))
+    rw (
+      run_is_calls before happenings,
+      calls_in_order before.com1.uart (all_calls before happenings) kept,
+      run_brings before happenings,
+    ) refl

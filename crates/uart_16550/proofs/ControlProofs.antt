@@ -1,6 +1,5 @@
 -- The reset control register of a board with a serial port.
-use Rattle.std.proofs.Common.{◌≡◌, ℕ, Bool, true, List, [], ◌∷◌, ◌++◌, inl, inr, refl, sym, ap, ◌∙◌, if◌then◌else◌}
-use Rattle.std.proofs.Common.{None, arith}
+use Rattle.std.proofs.Common.{◌≡◌, ℕ, Bool, true, List, [], ◌∷◌, ◌++◌, inl, inr, refl, sym, if◌then◌else◌, None, arith}
 use Rattle.board_prelude.proofs.Common.{cases_Bool, nat_tests, PortAccess, Event, Memory, Port, Entry, Statement}
 use Rattle.board_prelude.proofs.Common.{control_written, control_after, reset_control, is_hard_reset, statement_of}
 use Rattle.board_prelude.proofs.Common.{statements_of}
@@ -27,9 +26,8 @@ control_more : (more history : List Entry) →
 unfolding reset_control control_over
 control_more [] history = refl
 control_more (entry ∷ more) history =
-    ap (λ (control : ℕ). control_after control (control_written entry.event)) (control_more more history)
-    ∙ (sym (control_last (reset_control history) (statements_of more) (statement_of entry))
-    ∙ ap (control_over (reset_control history)) (sym (statements-append (entry ∷ []) more)))
+    rw (control_more more history, statements-append (entry ∷ []) more)
+    (sym (control_last (reset_control history) (statements_of more) (statement_of entry)))
 
 -- levels of line 4 leave it
 control_of_change : (control : ℕ) (old new : Bool) → control_over control (line_steps old new) ≡ control
@@ -62,7 +60,5 @@ control_stepped control actor resets _ com1 = refl
 
 pub control_follows : ControlFollows
 control_follows history after actor event com1 goes_on =
-    ap reset_control goes_on.grows
-    ∙ (control_more goes_on.more history
-    ∙ (ap (control_over (reset_control history)) goes_on.same
-    ∙ control_stepped (reset_control history) actor (is_hard_reset history event) event com1))
+    rw (goes_on.grows, control_more goes_on.more history, goes_on.same)
+    (control_stepped (reset_control history) actor (is_hard_reset history event) event com1)

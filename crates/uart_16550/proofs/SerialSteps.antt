@@ -2,12 +2,12 @@
 use Rattle.std.proofs.Common.{◌≡◌, ℕ, ◌<◌, Bool, true, false, List, [], ◌∷◌, ◌++◌, refl, sym, ap, subst, ◌∙◌}
 use Rattle.std.proofs.Common.{append_assoc, lt_irrefl, None, unwrap_or}
 use Rattle.board_prelude.proofs.Common.{PortAccess, Event, Port, Line, Reply, Entry, Statement, Setup, line_set}
-use Rattle.board_prelude.proofs.Common.{irq_of, next_entry, statements_of}
+use Rattle.board_prelude.proofs.Common.{irq_of, next_entry}
 use Rattle.board_spec.proofs.OrderLawProofs.{statements-append}
 use Rattle.uart_16550.specs.declared.com1.Com1.{Com1}
 use Rattle.uart_16550.specs.Common.{com1_irq, com1_actor, level_of, board_event, line_steps, change_steps, com1_after}
-use Rattle.uart_16550.specs.Common.{board_steps, uart_access, SetsLine, GoesOnBy, IsNextBy, AreAnswered}
-use Rattle.uart_16550.specs.Common.{AnsweredIsLegal, IsLeftAt, IsLeftAfter}
+use Rattle.uart_16550.specs.Common.{board_steps, uart_access, SetsLine, GoesOnBy, AreAnswered, AnsweredIsLegal}
+use Rattle.uart_16550.specs.Common.{IsLeftAt, IsLeftAfter}
 
 -- a processor is not the port
 pub other_actor : (actor : ℕ) (event : Event) → actor < com1_actor → actor ≡ com1_actor → SetsLine event
@@ -17,24 +17,16 @@ pub goes_on_twice : (before middle after : List Entry) (first second : List Stat
     GoesOnBy before first middle → GoesOnBy middle second after → GoesOnBy before (first ++ second) after
 goes_on_twice before middle after first second one two = record {
   more = two.more ++ one.more;
-  grows = two.grows ∙ (ap (λ (list : List Entry). two.more ++ list) one.grows
-      ∙ sym (append_assoc two.more one.more before));
-  same = statements-append two.more one.more
-      ∙ (ap (λ (list : List Statement). list ++ statements_of two.more) one.same
-      ∙ ap (λ (list : List Statement). first ++ list) two.same);
+  grows = rw (two.grows, one.grows) (sym (append_assoc two.more one.more before));
+  same = rw (statements-append two.more one.more, one.same, two.same) refl;
 }
-
-answered_as : (is_answer : Setup → List Entry → Event → Reply → Type 0) (setup other : Setup)
-    (before more : List Entry) →
-    setup ≡ other → AreAnswered (is_answer other) before more → AreAnswered (is_answer setup) before more
-answered_as is_answer setup other before more same answered = rw same answered
 
 answered_twice : (is_answer : List Entry → Event → Reply → Type 0) (before one two : List Entry) →
     AreAnswered is_answer before one → AreAnswered is_answer (one ++ before) two →
     AreAnswered is_answer before (two ++ one)
 answered_twice is_answer before one [] first second = first
 answered_twice is_answer before one (entry ∷ two) first second = (
-  subst (λ (list : List Entry). IsNextBy is_answer list entry) (sym (append_assoc two one before)) second.0,
+  rw (append_assoc two one before) second.0,
   answered_twice is_answer before one two first second.1,
 )
 
@@ -113,7 +105,7 @@ module _ {B : Type 0} (is_answer : Setup → List Entry → Event → Reply → 
         goes_on = goes_on_twice before one.after last.after first second one.goes_on last.goes_on;
         answered =
             answered_twice answers before one.goes_on.more last.goes_on.more
-            (answered_as is_answer (setup_of new) (setup_of middle) before one.goes_on.more same one.answered)
+            (rw same one.answered)
             (subst (λ (list : List Entry). AreAnswered answers list last.goes_on.more) one.goes_on.grows last.answered);
       }
 
@@ -134,9 +126,7 @@ module _ {B : Type 0} (is_answer : Setup → List Entry → Event → Reply → 
         own = (own, left_at.own);
       };
       goes_on = record { more = next_entry history actor event reply ∷ []; grows = refl; same = refl };
-      answered =
-          answered_as is_answer (setup_of new) (setup_of old) history (next_entry history actor event reply ∷ []) same
-          (record { number = refl; answer = answer }, tt);
+      answered = (record { number = refl; answer = rw same answer }, tt);
     }
 
     -- one of a processor, under another name
