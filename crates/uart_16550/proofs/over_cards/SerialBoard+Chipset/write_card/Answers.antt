@@ -16,4 +16,5 @@ returns-clause-left c =
     rw (← c.self.view_is)
     (written (writes_card c.args.dev c.args.base c.args.off c.args.bytes.now)
     (record { board = c.self.inside.board; com1 = c.self.inside.com1 })
-    (record { board = c.write_card.new.self; com1 = c.self.inside.com1 }) refl c.write_card.result c.write_card.ensures.left)
+    (record { board = c.write_card.new.self; com1 = c.self.inside.com1 }) refl
+    c.write_card.result c.write_card.ensures.left)

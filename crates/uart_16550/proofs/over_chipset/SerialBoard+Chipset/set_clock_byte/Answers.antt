@@ -15,4 +15,5 @@ returns-clause-left c =
     rw (← c.self.view_is)
     (written (writes_clock c.args.address c.args.byte)
     (record { board = c.self.inside.board; com1 = c.self.inside.com1 })
-    (record { board = c.set_clock_byte.new.self; com1 = c.self.inside.com1 }) refl c.set_clock_byte.result c.set_clock_byte.ensures.left)
+    (record { board = c.set_clock_byte.new.self; com1 = c.self.inside.com1 }) refl
+    c.set_clock_byte.result c.set_clock_byte.ensures.left)

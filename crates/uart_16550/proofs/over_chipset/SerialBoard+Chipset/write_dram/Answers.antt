@@ -15,4 +15,5 @@ returns-clause-left c =
     rw (← c.self.view_is)
     (written (writes_dram c.args.addr c.args.bytes.now)
     (record { board = c.self.inside.board; com1 = c.self.inside.com1 })
-    (record { board = c.write_dram.new.self; com1 = c.self.inside.com1 }) refl c.write_dram.result c.write_dram.ensures.left)
+    (record { board = c.write_dram.new.self; com1 = c.self.inside.com1 }) refl
+    c.write_dram.result c.write_dram.ensures.left)
