@@ -1,6 +1,6 @@
 -- Maps after changes, and the changes of lists.
 use Rattle.std.proofs.Common.{◌≡◌, ◌+◌, ◌<◌, ◌≤◌, List, [], ◌∷◌, ◌++◌, length, refl, sym, ap, ◌∙◌, arith, length-append}
-use Rattle.std.proofs.Common.{flat_map, reverse}
+use Rattle.std.proofs.Common.{flat_map}
 use Rattle.board_prelude.proofs.Common.{nat_tests, flat_map-append, reverse-append, MapChange, Setup, Bytes}
 use Rattle.board_prelude.proofs.Common.{registers_after}
 use mathlib.Core.List.{IsPrefix}
@@ -37,8 +37,7 @@ pub registers_after_more : (setup : Setup) (changes earlier : List MapChange)
     → bytes_after setup changes (registers_after setup earlier) ≡ registers_after setup (changes ++ earlier)
 unfolding bytes_after registers_after
 registers_after_more setup [] earlier = refl
-registers_after_more setup (change ∷ changes) earlier =
-    ap (after setup change) (registers_after_more setup changes earlier)
+registers_after_more setup (change ∷ changes) earlier = rw (registers_after_more setup changes earlier) refl
 
 -- ---- lists
 
@@ -47,15 +46,14 @@ pub changes_extend : (front whole : List Mark) → IsPrefix front whole
     → (more : List MapChange) × (changes_of whole ≡ more ++ changes_of front)
 changes_extend front whole (rest, is) = (
   changes_of rest,
-  ap changes_of (sym is)
-      ∙ (ap reverse (flat_map-append changes_in front rest) ∙ reverse-append (flat_map changes_in front)
+  rw (← is, flat_map-append changes_in front rest) (reverse-append (flat_map changes_in front)
       (flat_map changes_in rest)),
 )
 
 pub changes_added : (log : List Mark) (change : MapChange)
     → changes_of (log ++ Changed change ∷ []) ≡ change ∷ changes_of log
-changes_added log change = ap reverse (flat_map-append changes_in log (Changed change ∷ []))
-    ∙ reverse-append (flat_map changes_in log) (change ∷ [])
+changes_added log change =
+    rw (flat_map-append changes_in log (Changed change ∷ [])) (reverse-append (flat_map changes_in log) (change ∷ []))
 
 -- a list that goes on was opened with the same map
 pub opened_same : (front whole : List Mark) → 0 < length front → IsPrefix front whole
@@ -67,10 +65,9 @@ opened_same (first ∷ later) whole some (rest, is) = ap opened_of (sym is)
 pub version_grows : (front whole : List Mark) → 0 < length front → IsPrefix front whole
     → version_after front ≤ version_after whole
 version_grows front whole some prefix =
-    let opened = ap (λ (map : Mapped). map.version) (opened_same front whole some prefix) in
+    let opened = opened_same front whole some prefix in
     let changes = changes_extend front whole prefix in
-    let count = ap length changes.1 ∙ length-append changes.0 (changes_of front) in
-    omega (arith, opened, count)
+    rw (opened, changes.1, length-append changes.0 (changes_of front)) (omega arith)
 
 -- a change at the end leaves the map that the list was opened with
 pub opened_changed : (log : List Mark) (change : MapChange) → opened_of (log ++ Changed change ∷ []) ≡ opened_of log

