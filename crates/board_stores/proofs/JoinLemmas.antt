@@ -114,7 +114,8 @@ next_value value cycles i so_far shift read d within is fits short before =
     record {
       below = rw next.0 next.1;
       sum =
-          rw (next.0, longer shift bytes, gathered so_far (2 ^ shift) read (256 ^ bytes) J) (rw joined_at at before.sum);
+          rw (next.0, longer shift bytes, gathered so_far (2 ^ shift) read (256 ^ bytes) J)
+          (rw joined_at at before.sum);
     }
   where
     gathered : (so_far P read B J : ℕ) → so_far + P * read + P * B * J ≡ so_far + P * (read + B * J)

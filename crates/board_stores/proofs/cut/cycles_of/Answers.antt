@@ -22,8 +22,8 @@ loop-preserved c =
             few = rw items (omega (arith, length-append cycles (cycle ∷ []), c.loop.invariant.few));
             parts =
                 rw (items, done_is, map-append (λ (cycle : Cycle). cycle.access) cycles (cycle ∷ []))
-                (next_part access (accesses cycles) c.loop.counter c.loop.done part c.loop-test.true w.if-done-access.true
-                w.part_at-part.ensures.part c.loop.invariant.parts);
+                (next_part access (accesses cycles) c.loop.counter c.loop.done part c.loop-test.true
+                w.if-done-access.true w.part_at-part.ensures.part c.loop.invariant.parts);
             decoded = λ setup bytes stands image.
                 rw items
                 (all_decoded setup bytes cycles cycle (c.loop.invariant.decoded setup bytes stands image)

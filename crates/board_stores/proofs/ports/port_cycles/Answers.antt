@@ -33,8 +33,8 @@ loop-preserved c =
                 ) refl;
             on =
                 rw done_is
-                (next_part access c.loop.invariant.parts c.loop.counter c.loop.done part c.loop-test.true w.if-done-wide.true
-                w.part_at-part.ensures.part c.loop.invariant.on);
+                (next_part access c.loop.invariant.parts c.loop.counter c.loop.done part c.loop-test.true
+                w.if-done-wide.true w.part_at-part.ensures.part c.loop.invariant.on);
           }
       | else-done-wide w ↦
           record {
