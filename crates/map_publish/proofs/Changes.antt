@@ -1,5 +1,5 @@
 -- Maps after changes, and the changes of lists.
-use Rattle.std.proofs.Common.{◌≡◌, ◌+◌, ◌<◌, ◌≤◌, List, [], ◌∷◌, ◌++◌, length, refl, sym, ap, ◌∙◌, arith, length-append}
+use Rattle.std.proofs.Common.{◌≡◌, ◌+◌, ◌<◌, ◌≤◌, List, [], ◌∷◌, ◌++◌, length, refl, ◌∙◌, arith, length-append}
 use Rattle.std.proofs.Common.{flat_map}
 use Rattle.board_prelude.proofs.Common.{nat_tests, flat_map-append, reverse-append, MapChange, Setup, Bytes}
 use Rattle.board_prelude.proofs.Common.{registers_after}
@@ -59,7 +59,7 @@ changes_added log change =
 pub opened_same : (front whole : List Mark) → 0 < length front → IsPrefix front whole
     → opened_of whole ≡ opened_of front
 opened_same [] whole some prefix = absurd (omega (arith, some))
-opened_same (first ∷ later) whole some (rest, is) = ap opened_of (sym is)
+opened_same (first ∷ later) whole some (rest, is) = rw (← is) refl
 
 -- a list that goes on has no lower version
 pub version_grows : (front whole : List Mark) → 0 < length front → IsPrefix front whole

@@ -1,5 +1,5 @@
 -- The steps on the published copies keep the rule.
-use Rattle.std.proofs.Common.{◌≡◌, ◌≢◌, ℕ, ◌<◌, List, [], ◌∷◌, ◌++◌, fold, set, refl, sym, ◌∙◌, ap, subst, ⊎_elim}
+use Rattle.std.proofs.Common.{◌≡◌, ℕ, ◌<◌, List, [], ◌∷◌, ◌++◌, fold, set, refl, sym, ◌∙◌, ap, arith, inl, inr}
 use mathlib.Core.Option.{some}
 use lib.ListN.{get_elem?}
 use Rattle.left_right.specs.Register.{Admits, TurnsAt, Turns, Forks, Merges}
@@ -12,7 +12,7 @@ use Rattle.map_publish.specs.declared.mark.Mark.TheVariants.{Changed}
 use Rattle.map_publish.specs.declared.shown.Next.{Next}
 use Rattle.map_publish.specs.declared.shown.Next.TheVariants.{Same, Change}
 use Rattle.board_spec.specs.declared.map_change.MapChange.{MapChange}
-use Rattle.map_publish.specs.Common.{version_after, with_change, IsMapOfLog, applied, nobody, name, KnowsBook, AllKnow}
+use Rattle.map_publish.specs.Common.{version_after, with_change, IsMapOfLog, applied, nobody, KnowsBook, AllKnow}
 use Rattle.map_publish.specs.Common.{LearnsName, Stays}
 use Rattle.map_publish.proofs.Changes.{with_change_below}
 
@@ -21,30 +21,22 @@ nobody_knows shown named = absurd (cc named)
 
 snoc_holds : (shown : Shown) (views : List Name) (given : Name) → AllKnow shown views → KnowsBook shown given
     → AllKnow shown (views ++ given ∷ [])
-snoc_holds shown views given holds knows seat other at =
-    ⊎_elim (λ before. holds seat other before) (λ (last : given ≡ other). subst (KnowsBook shown) last knows)
-    (at_snoc views given other seat at)
+snoc_holds shown views given holds knows seat other at = grind (arith, at_snoc views given other seat at, holds seat other)
 
 set_holds :
     (shown next : Shown) (views : List Name) (seat : ℕ) (given : Name) →
     ((j : ℕ) (other : Name) → get_elem? views j ≡ some other → KnowsBook next other) → KnowsBook next given
     → AllKnow next (set views seat given)
 set_holds shown next views seat given others knows j other at =
-    ⊎_elim
-    (λ (here : (j ≡ seat) × (given ≡ other)). subst (KnowsBook next) here.1 knows)
-    (λ (there : (j ≢ seat) × (get_elem? views j ≡ some other)). others j other there.1)
-    (at_set views seat j given other at)
+    elim (at_set views seat j given other at) [ inl here ↦ rw here.1 at knows | inr there ↦ others j other there.1 ]
 
 pub admits : Admits AllKnow nobody
 admits shown views holds = snoc_holds shown views nobody holds (nobody_knows shown)
 
 -- an entry keeps the seat's name
 pub enters : (seat : ℕ) (given : Name) → Turns AllKnow seat given (λ shown. shown) Stays
-enters seat given shown views holds at = (
-  given,
-  set_holds shown shown views seat given holds (holds seat given at),
-  (refl, holds seat given at),
-)
+enters seat given shown views holds at =
+    let knows = holds seat given at in (given, set_holds shown shown views seat given holds knows, (refl, knows))
 
 pub forks : (seat : ℕ) (given : Name) → Forks AllKnow seat given given given
 forks seat given shown views holds at =
@@ -53,11 +45,10 @@ forks seat given shown views holds at =
 
 pub merges : (seat : ℕ) (given : Name) (other : ℕ) (told : Name) → Merges AllKnow seat given other told told nobody
 merges seat given other told shown views holds at apart there =
-    let knows : KnowsBook shown told =
-    ⊎_elim
-    (λ (same : (other ≡ seat) × (told ≡ told)). absurd (apart same.0))
-    (λ (beside : (other ≢ seat) × (get_elem? views other ≡ some told)). holds other told beside.1)
-    (at_set views seat other told told there) in
+    let knows : KnowsBook shown told = elim (at_set views seat other told told there) [
+      | inl same ↦ absurd (apart same.0)
+      | inr beside ↦ holds other told beside.1
+    ] in
     set_holds shown shown (set views seat told) other nobody (set_holds shown shown views seat told holds knows)
     (nobody_knows shown)
 
@@ -68,24 +59,11 @@ next_known shown next own map given knows named = record { own = own ∙ (knows 
 
 turns_to : (seat : ℕ) (given : Name) (shown next : Shown) → next.front.seen.book ≡ shown.front.seen.book
     → IsMapOfLog next.front.seen.log next.map → TurnsAt AllKnow seat given shown next Stays
-turns_to seat given shown next own map views holds at =
-    let known = next_known shown next own map in (
-      given,
-      set_holds shown next views seat given (λ j other there. known other (holds j other there))
-          (known given (holds seat given at)),
-      (refl, known given (holds seat given at)),
-    )
+turns_to seat given shown next own map views holds at = grind (arith, set_holds, next_known)
 
 names_it : (seat : ℕ) (given : Name) (shown next : Shown) → next.front.seen.book ≡ shown.front.seen.book
     → IsMapOfLog next.front.seen.log next.map → TurnsAt AllKnow seat given shown next LearnsName
-names_it seat given shown next own map views holds at =
-    let to = name shown.front.seen.book in (
-      to,
-      set_holds shown next views seat to
-          (λ j other there. next_known shown next own map other (holds j other there))
-          (λ named. record { own = own; map = map }),
-      refl,
-    )
+names_it seat given shown next own map views holds at = grind (arith, set_holds, next_known)
 
 -- what a copy shows once it has taken in what was published next
 step :
