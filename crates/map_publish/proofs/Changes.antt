@@ -1,36 +1,19 @@
 -- Maps after changes, and the changes of lists.
-use Rattle.std.proofs.Common.{◌≡◌, ◌+◌, ◌<◌, ◌≤◌, List, [], ◌∷◌, ◌++◌, length, refl, ◌∙◌, arith, length-append}
-use Rattle.std.proofs.Common.{flat_map}
-use Rattle.board_prelude.proofs.Common.{nat_tests, flat_map-append, reverse-append, MapChange, Setup, Bytes}
-use Rattle.board_prelude.proofs.Common.{registers_after}
+use Rattle.std.proofs.Common.{◌≡◌, ◌<◌, ◌≤◌, List, [], ◌∷◌, ◌++◌, length, refl, ◌∙◌, arith, length-append, flat_map}
+use Rattle.board_prelude.proofs.Common.{nat_tests, flat_map-append, reverse-append, MapChange, Setup, registers_after}
 use mathlib.Core.List.{IsPrefix}
-use Rattle.pci_bars.specs.Cards.{cards_of}
-use Rattle.addr_decode.specs.MapRegs.{StandsFor}
-use Rattle.map_builder.specs.Common.{Mapped, after}
+use Rattle.map_builder.specs.Common.{Mapped, Changed as Bounds}
 use Rattle.map_publish.specs.Common.{bytes_after, IsMapAfter, changes_in, changes_of, opened_of, version_after}
 use Rattle.map_publish.specs.Common.{with_change, IsMapOfLog}
 use Rattle.map_publish.specs.declared.mark.Mark.{Mark}
 use Rattle.map_publish.specs.declared.mark.Mark.TheVariants.{Changed}
+use Rattle.map_builder.specs.Applied.{IsApplied}
 
 -- ---- maps
 
 pub unchanged : (map : Mapped) → IsMapAfter map [] map
 unfolding bytes_after
 unchanged map = record { stands = λ setup bytes stands. stands; cards = refl; version = omega arith }
-
--- a map after one change more
-pub changed_again :
-    (opened now next : Mapped) (changes : List MapChange) (change : MapChange) → IsMapAfter opened changes now →
-    ((setup : Setup) (bytes : Bytes) → StandsFor setup bytes now.regs
-    → StandsFor setup (after setup change bytes) next.regs) →
-    cards_of next.regs.cards ≡ cards_of now.regs.cards → next.version ≡ now.version + 1
-    → IsMapAfter opened (change ∷ changes) next
-unfolding bytes_after
-changed_again opened now next changes change before stands cards version = record {
-  stands = λ setup bytes was. stands setup (bytes_after setup changes bytes) (before.stands setup bytes was);
-  cards = cards ∙ before.cards;
-  version = omega (arith, version, before.version);
-}
 
 -- the registers after changes that followed others from reset on
 pub registers_after_more : (setup : Setup) (changes earlier : List MapChange)
@@ -79,12 +62,14 @@ pub with_change_below : (log : List Mark) (change : MapChange) → version_after
 with_change_below log change below = grind (arith, nat_tests)
 
 -- the map of a list with a change made in it is the map of the list with the change at its end
-pub changed_map :
-    (log : List Mark) (change : MapChange) (now next : Mapped) → IsMapOfLog log now →
-    ((setup : Setup) (bytes : Bytes) → StandsFor setup bytes now.regs
-    → StandsFor setup (after setup change bytes) next.regs) →
-    cards_of next.regs.cards ≡ cards_of now.regs.cards → next.version ≡ now.version + 1
-    → IsMapOfLog (log ++ Changed change ∷ []) next
-changed_map log change now next before stands cards version =
-    rw (opened_changed log change, changes_added log change)
-    (changed_again (opened_of log) now next (changes_of log) change before stands cards version)
+pub changed_map : (log : List Mark) (change : MapChange) {now next : Mapped} {bounds : Bounds} →
+    IsMapOfLog log now → IsApplied now next change bounds → now.version < 4_000_000 →
+    IsMapOfLog (log ++ Changed change ∷ []) next
+unfolding bytes_after
+changed_map log change before made below =
+    rw (opened_changed log change, changes_added log change) (record {
+      stands = λ setup bytes was.
+          made.stands setup (bytes_after setup (changes_of log) bytes) (before.stands setup bytes was);
+      cards = made.same_cards ∙ before.cards;
+      version = omega (arith, made.version, before.version);
+    })

@@ -21,7 +21,8 @@ nobody_knows shown named = absurd (cc named)
 
 snoc_holds : (shown : Shown) (views : List Name) (given : Name) → AllKnow shown views → KnowsBook shown given
     → AllKnow shown (views ++ given ∷ [])
-snoc_holds shown views given holds knows seat other at = grind (arith, at_snoc views given other seat at, holds seat other)
+snoc_holds shown views given holds knows seat other at =
+    grind (arith, at_snoc views given other seat at, holds seat other)
 
 set_holds :
     (shown next : Shown) (views : List Name) (seat : ℕ) (given : Name) →
