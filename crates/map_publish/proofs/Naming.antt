@@ -1,5 +1,5 @@
 -- The steps on the published copies keep the rule.
-use Rattle.std.proofs.Common.{◌≡◌, ℕ, ◌<◌, List, [], ◌∷◌, ◌++◌, fold, set, refl, sym, ◌∙◌, ap, arith, inl, inr}
+use Rattle.std.proofs.Common.{◌≡◌, ℕ, ◌<◌, List, [], ◌∷◌, ◌++◌, fold, set, refl, ◌∙◌, ap, arith, inl, inr}
 use mathlib.Core.Option.{some}
 use lib.ListN.{get_elem?}
 use Rattle.left_right.specs.Register.{Admits, TurnsAt, Turns, Forks, Merges}
@@ -7,13 +7,11 @@ use Rattle.atomic_table.proofs.Lists.{at_set, at_snoc}
 use Rattle.map_publish.specs.declared.shown.Shown.{Shown}
 use Rattle.map_publish.specs.declared.names.Name.{Name}
 use Rattle.map_publish.specs.declared.front.Front.{Front}
-use Rattle.map_publish.specs.declared.mark.Mark.{Mark}
 use Rattle.map_publish.specs.declared.mark.Mark.TheVariants.{Changed}
 use Rattle.map_publish.specs.declared.shown.Next.{Next}
 use Rattle.map_publish.specs.declared.shown.Next.TheVariants.{Same, Change}
 use Rattle.board_spec.specs.declared.map_change.MapChange.{MapChange}
-use Rattle.map_publish.specs.Common.{version_after, with_change, IsMapOfLog, applied, nobody, KnowsBook, AllKnow}
-use Rattle.map_publish.specs.Common.{LearnsName, Stays}
+use Rattle.map_publish.specs.Common.{version_after, IsMapOfLog, applied, nobody, KnowsBook, AllKnow, LearnsName, Stays}
 use Rattle.map_publish.proofs.Changes.{with_change_below}
 
 nobody_knows : (shown : Shown) → KnowsBook shown nobody
@@ -66,13 +64,6 @@ names_it : (seat : ℕ) (given : Name) (shown next : Shown) → next.front.seen.
     → IsMapOfLog next.front.seen.log next.map → TurnsAt AllKnow seat given shown next LearnsName
 names_it seat given shown next own map views holds at = grind (arith, set_holds, next_known)
 
--- what a copy shows once it has taken in what was published next
-step :
-    (shown next : Shown) (list : List Mark) (front : Front) → next.list.log ≡ list → next.front ≡ front →
-    front.seen.book ≡ shown.front.seen.book → list ≡ front.seen.log →
-    (next.front.seen.book ≡ shown.front.seen.book) × IsMapOfLog next.front.seen.log next.map
-step shown next list front log is own listed = (rw is own, rw (is, ← listed, ← log) next.is_map)
-
 -- a change is published after the others
 pub publishes :
     (seat : ℕ) (given : Name) (shown next : Shown) (change : MapChange) (front : Front) (ops : List Next) →
@@ -83,11 +74,10 @@ pub publishes :
     → TurnsAt AllKnow seat given shown next Stays
 publishes seat given shown next change front ops listed room own added is to =
     let both = rw is at to in
-    let list : with_change shown.list.log change ≡ front.seen.log =
-    rw (listed, with_change_below shown.front.seen.log change room) (sym added) in
-    let done = step shown next (with_change shown.list.log change) front (ap (λ p. p.0) both) (ap (λ p. p.1) both) own
-    list in
-    turns_to seat given shown next done.0 done.1
+    let front_is : next.front ≡ front = ap (λ p. p.1) both in
+    turns_to seat given shown next (rw front_is own)
+    (rw (front_is, added, ← with_change_below shown.front.seen.log change room, ← listed, ← ap (λ p. p.0) both)
+    next.is_map)
 
 -- the first publish names the seat
 pub begins :
@@ -97,5 +87,5 @@ pub begins :
     → TurnsAt AllKnow seat given shown next LearnsName
 begins seat given shown next ops listed is to =
     let both = rw is at to in
-    let done = step shown next shown.list.log shown.front (ap (λ p. p.0) both) (ap (λ p. p.1) both) refl listed in
-    names_it seat given shown next done.0 done.1
+    let front_is : next.front ≡ shown.front = ap (λ p. p.1) both in
+    names_it seat given shown next (rw front_is refl) (rw (front_is, ← listed, ← ap (λ p. p.0) both) next.is_map)
