@@ -1,5 +1,5 @@
 -- The steps on the published copies keep the rule.
-use Rattle.std.proofs.Common.{◌≡◌, ℕ, ◌<◌, List, [], ◌∷◌, ◌++◌, fold, set, refl, ◌∙◌, ap, arith, inl, inr}
+use Rattle.std.proofs.Common.{◌≡◌, ℕ, ◌<◌, List, [], ◌∷◌, ◌++◌, fold, set, refl, ◌∙◌, arith, inl, inr}
 use mathlib.Core.Option.{some}
 use lib.ListN.{get_elem?}
 use Rattle.left_right.specs.Register.{Admits, TurnsAt, Turns, Forks, Merges}
@@ -73,11 +73,7 @@ pub publishes :
     (next.list.log, next.front) ≡ fold applied (shown.list.log, shown.front) ops
     → TurnsAt AllKnow seat given shown next Stays
 publishes seat given shown next change front ops listed room own added is to =
-    let both = rw is at to in
-    let front_is : next.front ≡ front = ap (λ p. p.1) both in
-    turns_to seat given shown next (rw front_is own)
-    (rw (front_is, added, ← with_change_below shown.front.seen.log change room, ← listed, ← ap (λ p. p.0) both)
-    next.is_map)
+    turns_to seat given shown next (grind arith) (grind (arith, with_change_below))
 
 -- the first publish names the seat
 pub begins :
@@ -85,7 +81,4 @@ pub begins :
     shown.list.log ≡ shown.front.seen.log → ops ≡ Same ∷ [] →
     (next.list.log, next.front) ≡ fold applied (shown.list.log, shown.front) ops
     → TurnsAt AllKnow seat given shown next LearnsName
-begins seat given shown next ops listed is to =
-    let both = rw is at to in
-    let front_is : next.front ≡ shown.front = ap (λ p. p.1) both in
-    names_it seat given shown next (rw front_is refl) (rw (front_is, ← listed, ← ap (λ p. p.0) both) next.is_map)
+begins seat given shown next ops listed is to = names_it seat given shown next (grind arith) (grind arith)
