@@ -153,8 +153,7 @@ size_from bytes is = grind (arith, nat_tests)
 
 wide_most_fits : (writes : Bool) (bytes : ℕ) → IsWideSize bytes → most_value writes bytes < 2 ^ 64
 wide_most_fits true bytes (inl is) = rw is (omega arith)
-wide_most_fits true bytes (inr (inl is)) = rw is (omega arith)
-wide_most_fits true bytes (inr (inr is)) = rw is (omega arith)
+wide_most_fits true bytes (inr some) = elim some [ inl is ↦ rw is (omega arith) | inr is ↦ rw is (omega arith) ]
 wide_most_fits false bytes size = omega arith
 
 place_to : (bytes addr : ℕ) → (bytes ≡ 8) ⊎ (addr % bytes ≢ 0) → addr + bytes ≤ 0x1_0000_0000 → IsWideSize bytes →

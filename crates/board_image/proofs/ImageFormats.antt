@@ -320,6 +320,21 @@ image_back setup steps is =
     let read = rw append-nil at (saved_format.back saved [] is) in
     rw read refl
 
+-- and as no other, and never as bad
+module _ (bytes : List ℕ) (setup : Setup) (steps : List Statement) (is : IsImage setup steps)
+    (spelled : bytes ≡ image_bytes setup steps) where
+  pub image_same : (saved : Saved) (rest : List ℕ) → image_fields bytes ≡ Ok (saved, rest) →
+      saved ≡ record { setup = setup; steps = steps }
+  image_same saved rest read =
+      ap (λ (pair : Saved × List ℕ). pair.0)
+      (ok_is (saved, rest) (record { setup = setup; steps = steps }, [])
+      (sym read ∙ rw spelled (image_back setup steps is)))
+
+  pub image_never : (left : ℕ) → image_fields bytes ≡ Err left → ⊥
+  image_never left read =
+      let saved : Saved × List ℕ = (record { setup = setup; steps = steps }, []) in
+      not_err saved left (sym (rw spelled (image_back setup steps is)) ∙ read)
+
 -- what is read is an image, and the bytes are its
 pub image_taken : (bytes rest : List ℕ) (saved : Saved) → AreBytes bytes → image_fields bytes ≡ Ok (saved, rest) →
     IsImage saved.setup saved.steps × (bytes ≡ image_bytes saved.setup saved.steps)
@@ -329,11 +344,7 @@ image_taken bytes rest saved are is =
     saved rest is in
     let end = end_ok first.0.0 saved first.0.1 rest first.2 in
     let told = saved_format.taken bytes first.0.0 first.0.1 are first.1 in
-    subst (λ (saved : Saved). IsImage saved.setup saved.steps × (bytes ≡ image_bytes saved.setup saved.steps)) end.1 (
-      told.1,
-      told.0 ∙ (ap (λ (last : List ℕ). saved_spelled first.0.0 ++ last) end.0
-          ∙ append-nil (saved_spelled first.0.0)),
-    )
+    rw (← end.1) (told.1, rw (end.0, append-nil (saved_spelled first.0.0)) at told.0)
 
 -- a bad field lies within the bytes, and not far from their start
 pub image_bad : (bytes : List ℕ) (left : ℕ) → AreBytes bytes → image_fields bytes ≡ Err left →
