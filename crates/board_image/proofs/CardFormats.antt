@@ -22,19 +22,13 @@ abbrev pub IsBaseIn : (room : ℕ) → Base → Type 0
 IsBaseIn room base = IsBase base × (memory_size base ≤ room)
 
 room_to : (room : ℕ) (base : Base) → IsBaseIn room base → has_room room base ≡ true
-room_to room (MemoryBase bits) is = grind (arith, nat_tests)
-room_to room (IoBase bits) is = grind (arith, nat_tests)
-room_to room (OutsideBase bits) is = grind (arith, nat_tests)
+room_to room base is = grind (arith, nat_tests)
 
 room_from : (room : ℕ) (base : Base) → has_room room base ≡ true → IsBaseIn room base
-room_from room (MemoryBase bits) is = grind (arith, nat_tests)
-room_from room (IoBase bits) is = grind (arith, nat_tests)
-room_from room (OutsideBase bits) is = grind (arith, nat_tests)
+room_from room base is = grind (arith, nat_tests)
 
 byte_said : (base : Base) → IsBase base → (base_byte base < 2 ^ 8) × (base_of_byte (base_byte base) ≡ base)
-byte_said (MemoryBase bits) is = grind (arith, nat_tests)
-byte_said (IoBase bits) is = grind (arith, nat_tests)
-byte_said (OutsideBase bits) is = grind (arith, nat_tests)
+byte_said base is = grind (arith, nat_tests)
 
 byte_told : (n : ℕ) → n ≡ base_byte (base_of_byte n)
 byte_told n = grind (arith, nat_tests)
@@ -89,12 +83,10 @@ bases_format room count few =
 -- ---- an expansion ROM
 
 rom_said : (rom : Option ℕ) → IsExpansionRom rom → (unwrap_or rom 0 < 2 ^ 8) × (rom_of (unwrap_or rom 0) ≡ Some rom)
-rom_said None is = (omega arith, refl)
-rom_said (Some bits) is = grind (arith, nat_tests)
+rom_said rom is = grind (arith, nat_tests)
 
 rom_told : (n : ℕ) (rom : Option ℕ) → n < 2 ^ 8 → rom_of n ≡ Some rom → (n ≡ unwrap_or rom 0) × IsExpansionRom rom
-rom_told n None below is = grind (arith, nat_tests)
-rom_told n (Some bits) below is = grind (arith, nat_tests)
+rom_told n rom below is = grind (arith, nat_tests)
 
 rom_format : IsFormat 1 (number w8 rom_of) (λ rom. unwrap_or rom 0 ∷ []) IsExpansionRom
 rom_format = byte_format (λ rom. unwrap_or rom 0) IsExpansionRom rom_said rom_told

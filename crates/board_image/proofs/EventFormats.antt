@@ -24,9 +24,7 @@ kind_tells : Tells kind_of kind_byte
 kind_tells = row kind_byte 0 Fetch refl (row kind_byte 1 Read refl (row kind_byte 2 Write refl (no_row kind_byte)))
 
 kind_said : (kind : Kind) → Any kind → (kind_byte kind < 2 ^ 8) × (kind_of (kind_byte kind) ≡ Some kind)
-kind_said Fetch any = (omega arith, refl)
-kind_said Read any = (omega arith, refl)
-kind_said Write any = (omega arith, refl)
+kind_said kind any = grind arith
 
 pub kind_format : IsFormat 1 kind_field (λ kind. kind_byte kind ∷ []) Any
 kind_format = byte_format kind_byte Any kind_said (λ n kind below is. (kind_tells n kind is, tt))
@@ -35,9 +33,7 @@ width_tells : Tells width_of bytes_of
 width_tells = row bytes_of 1 One refl (row bytes_of 2 Two refl (row bytes_of 4 Four refl (no_row bytes_of)))
 
 width_said : (width : Width) → Any width → (bytes_of width < 2 ^ 8) × (width_of (bytes_of width) ≡ Some width)
-width_said One any = (omega arith, refl)
-width_said Two any = (omega arith, refl)
-width_said Four any = (omega arith, refl)
+width_said width any = grind arith
 
 pub width_format : IsFormat 1 width_field (λ width. bytes_of width ∷ []) Any
 width_format = byte_format bytes_of Any width_said (λ n width below is. (width_tells n width is, tt))
@@ -86,21 +82,16 @@ abbrev pub CanSpellPort : PortAccess → Type 0
 CanSpellPort access = (access.port < 2 ^ 16) × IsBusAccess access.write access.port access.width access.value
 
 most_fits : (writes : Bool) (width : Width) → most_value writes (bytes_of width) < 2 ^ 32
-most_fits true One = omega arith
-most_fits true _ = omega arith
-most_fits false width = omega arith
+most_fits writes width = grind arith
 
 value_to : (writes : Bool) (place : ℕ) (width : Width) (value : ℕ) → IsBusAccess writes place width value →
     Ranges 0 (most_value writes (bytes_of width)) value
-value_to true place width value is = (omega arith, is.fits)
-value_to false place width value is = (omega arith, omega (arith, is.fits))
+value_to writes place width value is = let fits = is.fits in grind arith
 
 bus_from : (writes : Bool) (place : ℕ) (width : Width) (value : ℕ) → (place % bytes_of width == 0) ≡ true →
     Ranges 0 (most_value writes (bytes_of width)) value → IsBusAccess writes place width value
-bus_from true place width value aligned fits =
-    record { aligned = eqb-true (place % bytes_of width) 0 aligned; fits = fits.1 }
-bus_from false place width value aligned fits =
-    record { aligned = eqb-true (place % bytes_of width) 0 aligned; fits = omega (arith, fits.1) }
+bus_from writes place width value aligned fits =
+    record { aligned = eqb-true (place % bytes_of width) 0 aligned; fits = grind arith }
 
 pub memory_format : IsFormat 11 memory_fields memory_bytes CanSpellMemory
 unfolding memory_fields memory_bytes
@@ -166,15 +157,13 @@ place_from bytes addr is = grind (arith, nat_tests)
 
 wide_fits_to : (writes : Bool) (bytes value : ℕ) → FitsBytes writes bytes value →
     Ranges 0 (most_value writes bytes) value
-wide_fits_to true bytes value fits = (omega arith, omega (arith, fits))
-wide_fits_to false bytes value fits = (omega arith, omega (arith, fits))
+wide_fits_to writes bytes value fits = grind arith
 
 wide_fits_from : (writes : Bool) (bytes value : ℕ) → Ranges 0 (most_value writes bytes) value →
     FitsBytes writes bytes value
-wide_fits_from true bytes value are =
+wide_fits_from writes bytes value are =
     let some : 1 ≤ 256 ^ bytes = one-le-pow bytes 256 (omega arith) in
-    omega (arith, are.1, some)
-wide_fits_from false bytes value are = omega (arith, are.1)
+    grind arith
 
 pub wide_format : IsFormat 15 wide_fields wide_bytes IsWideAccess
 unfolding wide_fields wide_bytes

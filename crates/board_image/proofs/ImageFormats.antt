@@ -60,9 +60,8 @@ length_same size false is =
 
 disk_size_to : (has_disk : Bool) (size : ℕ) → HasDiskSize has_disk size →
     (size < 2 ^ 32) × (has_disk_size has_disk size ≡ true)
-disk_size_to false size is = (omega (arith, is), eq-eqb size 0 is)
-disk_size_to true size (sectors, some, few, is) =
-    (omega (arith, few, is), length_to size (sectors, some, few, is))
+disk_size_to false size is = (omega arith, eq-eqb size 0 is)
+disk_size_to true size is = (omega (arith, is.2, is.3), length_to size is)
 
 disk_size_from : (has_disk : Bool) (size : ℕ) → has_disk_size has_disk size ≡ true → HasDiskSize has_disk size
 disk_size_from false size is = eqb-true size 0 is
