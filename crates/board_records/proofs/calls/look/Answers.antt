@@ -23,8 +23,7 @@ returns c =
               told =
                   c.tell_look.ensures.said
                   ∙ look_told said c.after_step-after.result
-                  ∙ ap (serial_said (OfBoard (Saw said)))
-                  (c.after_step-after.ensures.after gone.after gone.left_at.left);
+                  ∙ rw (c.after_step-after.ensures.after gone.after gone.left_at.left) refl;
             };
       });
     }

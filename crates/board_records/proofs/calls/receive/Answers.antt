@@ -22,8 +22,6 @@ returns-in-true-clause-done c = λ ok. record {
         told =
             c.tell_uart.ensures.said
             ∙ uart_told None None c.after_step.result
-            ∙ ap (serial_said (OfUart None None))
-            (c.after_step.ensures.after gone.after gone.left_at.left
-            ∙ ap (λ setup. after_step setup gone.after NoReset c.receive.new.self.com1) c.receive.ensures.setup);
+            ∙ rw (c.after_step.ensures.after gone.after gone.left_at.left, c.receive.ensures.setup) refl;
       };
 }

@@ -1,4 +1,4 @@
-use Rattle.std.proofs.Common.{◌∙◌, ap, sym, List, length, map}
+use Rattle.std.proofs.Common.{◌∙◌, ap, refl, length, map}
 use Rattle.std.proofs.lemmas.List.{length-map}
 use Rattle.std.proofs.lemmas.Simd.{map-map}
 use Rattle.map_builder.specs.Map.{range_of}
@@ -15,11 +15,8 @@ returns-clause-ranges c =
     record {
       ranges = c.map-map.result.now.ranges;
       flat = c.map-map.ensures.map;
-      count_is = sym (length-map c.ranges-all.result.now range_of) ∙ ap length same;
-      told =
-          c.tell_ranges.ensures.told
-          ∙ ap (λ (records : List RangeRecord). filled records c.args.ranges.now)
-          (sym (map-map range_said range_of c.ranges-all.result.now) ∙ ap (map range_said) same);
+      count_is = rw (← same, length-map c.ranges-all.result.now range_of) refl;
+      told = rw (← same, map-map range_said range_of c.ranges-all.result.now) c.tell_ranges.ensures.told;
     }
 
 pub returns-clause-windows : goal.returns-clause-windows
@@ -27,6 +24,5 @@ returns-clause-windows c = record {
   windows = c.map-map.result.now.changed;
   changed = c.map-map.ensures.changed;
   count_is = ap length c.changed-changed.ensures.windows;
-  told = c.tell_windows.ensures.told ∙ ap (λ windows. filled (map window_said windows) c.args.windows.now)
-      c.changed-changed.ensures.windows;
+  told = rw (← c.changed-changed.ensures.windows) c.tell_windows.ensures.told;
 }

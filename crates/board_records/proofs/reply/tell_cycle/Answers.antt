@@ -11,7 +11,6 @@ returns c =
     record {
       said = λ history left.
           let after = after_step c.args.serial.now.board.setup history c.args.reset c.args.serial.now.com1 in
-          c.tell_beside.ensures.beside history left
-          ∙ ap (λ (said : ReplyRecord). beside_cycle said after) c.tell_answer.ensures.told
-          ∙ cycle_beside c.args.told.now reply.value reply.target reply.denial after;
+          rw (c.tell_beside.ensures.beside history left, c.tell_answer.ensures.told)
+          (cycle_beside c.args.told.now reply.value reply.target reply.denial after);
     }
