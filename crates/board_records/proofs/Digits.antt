@@ -1,5 +1,5 @@
 -- The digits of a moment, read back.
-use Rattle.std.proofs.Common.{◌≡◌, ℕ, ◌+◌, ◌*◌, ◌/◌, ◌%◌, ◌<◌, ◌≤◌, ◌^◌, Some, option_map, refl, ap, sym, ◌∙◌, arith}
+use Rattle.std.proofs.Common.{◌≡◌, ℕ, ◌+◌, ◌*◌, ◌/◌, ◌%◌, ◌<◌, Some, option_map, refl, ap, sym, ◌∙◌, arith}
 use Rattle.board_base.proofs.CalendarLemmas.{moments_decided, days_in_month_bound}
 use Rattle.board_prelude.proofs.Common.{Moment, IsMoment, Time}
 use Rattle.uart_16550.specs.declared.com1.Happening.TheVariants.{Happens}

@@ -1,5 +1,5 @@
 -- A board is read from its bytes: what it is fitted with, and then its state.
-use Rattle.std.proofs.Common.{◌≡◌, ◌⊎◌, ℕ, inl, inr, List, [], ◌∷◌, ◌++◌, Result, Ok, Err, IfOk, refl, sym, ap, ◌∙◌}
+use Rattle.std.proofs.Common.{◌≡◌, ◌⊎◌, ℕ, inl, inr, List, [], ◌++◌, Result, Ok, Err, IfOk, refl, sym, ap, ◌∙◌}
 use Rattle.board_prelude.proofs.Common.{append-nil}
 use Rattle.byte_fields.specs.declared.fault.Fault.{Fault}
 use Rattle.byte_fields.specs.declared.fault.Fault.TheVariants.{NoMemory}

@@ -1,5 +1,5 @@
 -- What a bus master reaches, as a record: never SMRAM, nor memory in its range.
-use Rattle.std.proofs.Common.{◌≡◌, ◌≢◌, ℕ, ◌≤◌, ◌⊎◌, inl, inr, false, Option, Some, refl, sym, ◌∙◌, arith}
+use Rattle.std.proofs.Common.{◌≡◌, ◌≢◌, ℕ, ◌≤◌, ◌⊎◌, false, Option, Some, refl, sym, ◌∙◌, arith}
 use Rattle.board_prelude.proofs.Common.{Target, Dram, Shadow, Smram, Denial, Register}
 use Rattle.board_prelude.proofs.Common.{is_smram_range}
 use Rattle.board_chipset.specs.Common.{IsOutsideSmram}

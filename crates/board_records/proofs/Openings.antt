@@ -1,6 +1,6 @@
 -- What an open looks at before it copies: the cards that records say are as many as the records.
 use Rattle.std.proofs.Common.{◌≡◌, ℕ, suc, ◌+◌, ◌<◌, ◌&&◌, true, arith, IsSomeAnd, List, [], ◌∷◌, length, get_or, drop}
-use Rattle.std.proofs.Common.{is_some, Option, Some, None, option_map, option_and_then, refl, ap, sym}
+use Rattle.std.proofs.Common.{is_some, Option, Some, None, option_map, option_and_then, refl, ap}
 use Rattle.std.proofs.lemmas.List.{drop_more}
 use Rattle.board_spec.specs.Setup.{FittedCard, IsCardList, IsSetup, Setup}
 use Rattle.board_chipset.specs.declared.check.SetupFault.TheVariants.{Cards}

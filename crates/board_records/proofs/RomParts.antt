@@ -1,6 +1,6 @@
 -- Which part moved a byte, and the cards one after another; and replies where no ROM was given bytes.
-use Rattle.std.proofs.Common.{◌≡◌, ℕ, ◌+◌, ◌-◌, ◌<◌, ◌≤◌, ◌&&◌, ◌||◌, ◌==◌, nat_lt, false}
-use Rattle.std.proofs.Common.{if◌then◌else◌, List, [], length, drop, get_or, find, Some, None, refl, sym, ap}
+use Rattle.std.proofs.Common.{◌≡◌, ℕ, ◌+◌, ◌-◌, ◌<◌, ◌≤◌, ◌==◌, nat_lt, false}
+use Rattle.std.proofs.Common.{if◌then◌else◌, List, [], length, drop, get_or, find, Some, None, refl, sym}
 use Rattle.std.proofs.Common.{◌∙◌}
 use Rattle.std.proofs.lemmas.List.{drop_more}
 use Rattle.board_prelude.proofs.Common.{and_right, drop_all, le-ltb, lt-ltb, bytes_of, longest_at}

@@ -1,6 +1,6 @@
 -- The bytes of a board in three: those before the DRAM's, these, and those after them.
 use Rattle.std.proofs.Common.{◌≡◌, ℕ, ◌+◌, ◌≤◌, Bool, List, [], ◌∷◌, ◌++◌, length, take, drop, replicate, Result, Ok}
-use Rattle.std.proofs.Common.{Err, OnOk, true, ◌*◌, refl, sym, ap, subst, ◌∙◌, append_assoc, arith}
+use Rattle.std.proofs.Common.{Err, OnOk, true, ◌*◌, refl, sym, ap, ◌∙◌, append_assoc, arith}
 use Rattle.board_prelude.proofs.Common.{length-append, length-take, length-drop, take_at, drop_at}
 use Rattle.pit_8254.proofs.Saved.{joined}
 use Rattle.byte_fields.specs.Fields.{flag_byte}

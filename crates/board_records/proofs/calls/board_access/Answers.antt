@@ -1,8 +1,7 @@
-use Rattle.std.proofs.Common.{ap, sym, subst, ◌∙◌, lit<, refl}
-use Rattle.board_chipset.specs.Chipset.{Running, IsLeftBy}
+use Rattle.std.proofs.Common.{◌∙◌, lit<, refl}
 use Rattle.board_chipset.specs.Common.{reply_of}
 use Rattle.uart_16550.specs.declared.com1.SerialReply.TheVariants.{Board as OfBoard}
-use Rattle.board_records.specs.Common.{serial_said, after_step}
+use Rattle.board_records.specs.Common.{after_step}
 use Rattle.board_records.proofs.AskedSteps.{bus_told, board_steps_are}
 use Rattle.board_records.proofs.EventReplies.{after_as}
 use Rattle.board_records.proofs.calls.board_access.Goals as goal

@@ -1,8 +1,6 @@
 -- `by_step`: the reply is that of the step, and what stands after it is what the chipset tells then.
-use Rattle.std.proofs.Common.{ap, sym, subst, ◌∙◌, refl}
-use Rattle.board_chipset.specs.Chipset.{Running, IsLeftBy}
+use Rattle.std.proofs.Common.{◌∙◌, refl}
 use Rattle.uart_16550.specs.Common.{uart_access}
-use Rattle.board_records.specs.Common.{serial_said, after_step}
 use Rattle.board_records.proofs.EventReplies.{reply_is}
 use Rattle.board_records.proofs.calls.by_step.Goals as goal
 

@@ -1,7 +1,5 @@
-use Rattle.std.proofs.Common.{ap, sym, subst, ◌∙◌, refl}
-use Rattle.board_chipset.specs.Chipset.{Running, IsLeftBy}
+use Rattle.std.proofs.Common.{◌∙◌, refl}
 use Rattle.uart_16550.specs.Common.{from_uart}
-use Rattle.board_records.specs.Common.{serial_said, after_step}
 use Rattle.board_records.proofs.AskedSteps.{uart_told, uart_steps_are, uart_com1_is}
 use Rattle.board_records.proofs.EventReplies.{after_as}
 use Rattle.board_records.proofs.calls.uart_access.Goals as goal

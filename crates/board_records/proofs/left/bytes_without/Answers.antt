@@ -1,5 +1,3 @@
-use Rattle.std.proofs.Common.{◌≡◌, ◌*◌, ◌++◌, replicate, ap, ◌∙◌}
-use Rattle.board_chipset.specs.Common.{Running}
 use Rattle.board_records.proofs.SavedParts.{blank_image}
 use Rattle.board_records.proofs.left.bytes_without.Goals as goal
 

@@ -1,6 +1,3 @@
-use Rattle.std.proofs.Common.{ap, ◌∙◌}
-use Rattle.board_records.specs.declared.reply.ReplyRecord.{ReplyRecord}
-use Rattle.board_records.specs.Replies.{beside_cycle}
 use Rattle.board_records.specs.Steps.{after_step}
 use Rattle.board_records.proofs.AskedSteps.{cycle_beside}
 use Rattle.board_records.proofs.reply.tell_cycle.Goals as goal

@@ -1,4 +1,4 @@
-use Rattle.std.proofs.Common.{◌+◌, ◌-◌, length, drop, arith}
+use Rattle.std.proofs.Common.{◌-◌, length, drop, arith}
 use Rattle.board_prelude.proofs.Common.{length-take, length-drop}
 use Rattle.std.proofs.lemmas.List.{take_rest}
 use Rattle.state_room.proofs.Puts.{put_length}
