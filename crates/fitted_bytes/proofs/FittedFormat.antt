@@ -1,10 +1,10 @@
 -- What stands in front of the state of a running board is spelled and read back.
-use Rattle.std.proofs.Common.{◌≡◌, ℕ, ◌≤◌, ◌++◌, refl, ap, arith}
+use Rattle.std.proofs.Common.{◌≡◌, ℕ, refl, arith}
 use Rattle.byte_fields.proofs.Formats.{IsFormat, fields_format, ◌then◌, ◌&◌, last_field}
 use Rattle.board_chipset.proofs.Marks.{exactly_format}
 use Rattle.byte_fields.proofs.Numbers.{Ranges, wide16, within_format}
 use Rattle.board_image.proofs.EventFormats.{wider}
-use Rattle.fitted_bytes.specs.Fitted.{Fitting, IsFitting, fitting_bytes, fitting_fields, magic, version}
+use Rattle.fitted_bytes.specs.Fitted.{IsFitting, fitting_bytes, fitting_fields, magic, version}
 use Rattle.fitted_bytes.proofs.IdentityFormats.{identities_format}
 use Rattle.fitted_bytes.proofs.SetupFormats.{setup_format}
 

@@ -1,17 +1,15 @@
 -- A setup is spelled and read back.
-use Rattle.std.proofs.Common.{◌≡◌, ℕ, ◌+◌, ◌*◌, ◌^◌, ◌<◌, ◌≤◌, inl, inr, Bool, true, false, List, ◌∷◌, ◌++◌, length}
-use Rattle.std.proofs.Common.{flat_map, Option, Some, None, refl, sym, ap, ◌∙◌, arith, ◌==◌, ◌||◌}
-use Rattle.board_prelude.proofs.Common.{cases_Bool, eqb-true, nat_tests, nil_from_length, Setup, IsSetup, IsRomSize}
-use Rattle.board_prelude.proofs.Common.{is_rom_size, IsDisk, IsDiskSize, is_disk_length, most_card_memory}
+use Rattle.std.proofs.Common.{◌≡◌, ℕ, ◌^◌, ◌<◌, ◌≤◌, inl, inr, true, List, length}
+use Rattle.std.proofs.Common.{Option, Some, None, refl, sym, ◌∙◌, arith, ◌==◌}
+use Rattle.board_prelude.proofs.Common.{cases_Bool, eqb-true, nat_tests, nil_from_length, IsSetup, IsRomSize}
+use Rattle.board_prelude.proofs.Common.{is_rom_size, IsDisk, most_card_memory}
 use Rattle.board_prelude.specs.Common.{most_mib}
-use Rattle.byte_fields.specs.Pages.{memory_bytes}
 use Rattle.byte_fields.proofs.Formats.{IsFormat, fields_format, ◌then◌, ◌&◌, last_field, whole_field}
 use Rattle.byte_fields.proofs.Numbers.{wide32, byte_within, within_format, where_format}
 use Rattle.byte_fields.proofs.PageFormats.{memory_format}
-use Rattle.image_writer.specs.ImageBytes.{card_bytes}
 use Rattle.board_image.proofs.EventFormats.{wider}
-use Rattle.board_image.proofs.CardFormats.{AreCardsOf, cards_format}
-use Rattle.board_image.proofs.ImageFormats.{rom_size_to, rom_size_from, rom_most, length_to, length_from}
+use Rattle.board_image.proofs.CardFormats.{cards_format}
+use Rattle.board_image.proofs.ImageFormats.{rom_size_to, rom_size_from, rom_most, length_from}
 use Rattle.fitted_bytes.specs.Setups.{bytes_on, counted_bytes, disk_fields, disk_where, is_fitted_size, rom_fields}
 use Rattle.fitted_bytes.specs.Setups.{setup_bytes, setup_fields}
 

@@ -4,10 +4,10 @@ use Rattle.state_room.proofs.page.page_size.Goals as goal
 
 pub returns-then-is_zero : goal.returns-then-is_zero
 returns-then-is_zero c = record {
-  size = sym (rw c.if-is_zero.true at (size_told c.args.kept.now c.is_zero.result c.requires.within c.is_zero.ensures.zero));
+  size = sym (rw c.if-is_zero.true at (size_told c.args.kept.now _ c.requires.within c.is_zero.ensures.zero));
 }
 
 pub returns : goal.returns
 returns c = record {
-  size = sym (rw c.if-is_zero.false at (size_told c.args.kept.now c.is_zero.result c.requires.within c.is_zero.ensures.zero));
+  size = sym (rw c.if-is_zero.false at (size_told c.args.kept.now _ c.requires.within c.is_zero.ensures.zero));
 }

@@ -5,37 +5,37 @@ use Rattle.state_room.proofs.page.put_page.Goals as goal
 
 pub put-requires : goal.put-requires
 put-requires c =
-    let size = rw c.if-is_zero.true at (size_told c.args.kept.now c.is_zero.result c.requires.within c.is_zero.ensures.zero) in
+    let size = rw c.if-is_zero.true at (size_told c.args.kept.now _ c.requires.within c.is_zero.ensures.zero) in
     record { room = omega arith }
 
 pub returns-then-is_zero-clause-put : goal.returns-then-is_zero-clause-put
 returns-then-is_zero-clause-put c =
-    rw (told_page c.args.kept.now c.is_zero.result c.requires.within c.is_zero.ensures.zero, c.if-is_zero.true) c.put.ensures.put
+    rw (told_page c.args.kept.now _ c.requires.within c.is_zero.ensures.zero, c.if-is_zero.true) c.put.ensures.put
 
 pub returns-then-is_zero-clause-end : goal.returns-then-is_zero-clause-end
 returns-then-is_zero-clause-end c =
-    let size = rw c.if-is_zero.true at (size_told c.args.kept.now c.is_zero.result c.requires.within c.is_zero.ensures.zero) in
+    let size = rw c.if-is_zero.true at (size_told c.args.kept.now _ c.requires.within c.is_zero.ensures.zero) in
     omega arith
 
 pub put-start-requires : goal.put-start-requires
 put-start-requires c =
-    let size = rw c.if-is_zero.false at (size_told c.args.kept.now c.is_zero.result c.requires.within c.is_zero.ensures.zero) in
+    let size = rw c.if-is_zero.false at (size_told c.args.kept.now _ c.requires.within c.is_zero.ensures.zero) in
     record { room = omega arith }
 
 pub put-end-requires : goal.put-end-requires
 put-end-requires c =
-    let size = rw c.if-is_zero.false at (size_told c.args.kept.now c.is_zero.result c.requires.within c.is_zero.ensures.zero) in
+    let size = rw c.if-is_zero.false at (size_told c.args.kept.now _ c.requires.within c.is_zero.ensures.zero) in
     record { room = omega arith }
 
 pub put-requires-2 : goal.put-requires-2
 put-requires-2 c =
-    let size = rw c.if-is_zero.false at (size_told c.args.kept.now c.is_zero.result c.requires.within c.is_zero.ensures.zero) in
+    let size = rw c.if-is_zero.false at (size_told c.args.kept.now _ c.requires.within c.is_zero.ensures.zero) in
     let rest = rest_length c.args.kept.now c.args.zeros.now c.requires.zeros in
     record { room = omega arith }
 
 pub returns-clause-put : goal.returns-clause-put
 returns-clause-put c =
-    let told = rw c.if-is_zero.false at (told_page c.args.kept.now c.is_zero.result c.requires.within c.is_zero.ensures.zero) in
+    let told = rw c.if-is_zero.false at (told_page c.args.kept.now _ c.requires.within c.is_zero.ensures.zero) in
     put_three c.args.at c.put-start.result c.put-end.result 1 c.args.kept.now _ _ c.args.into.now c.put-start.new.into
     c.put-end.new.into c.put-2.new.into c.put-start.ensures.put c.put-start.ensures.end c.put-end.ensures.put
     c.put-end.ensures.end c.put-2.ensures.put
@@ -43,6 +43,6 @@ returns-clause-put c =
 
 pub returns-clause-end : goal.returns-clause-end
 returns-clause-end c =
-    let size = rw c.if-is_zero.false at (size_told c.args.kept.now c.is_zero.result c.requires.within c.is_zero.ensures.zero) in
+    let size = rw c.if-is_zero.false at (size_told c.args.kept.now _ c.requires.within c.is_zero.ensures.zero) in
     let rest = rest_length c.args.kept.now c.args.zeros.now c.requires.zeros in
     omega arith
