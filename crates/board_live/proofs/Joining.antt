@@ -2,7 +2,7 @@
 use Rattle.std.proofs.Common.{◌≡◌, ℕ, ◌+◌, List, [], ◌∷◌, ◌++◌, Option, Some, length, take, drop, sym, ap, ◌∙◌, subst}
 use Rattle.std.proofs.Common.{append_assoc, length-append, arith, All, Any, reverse}
 use Rattle.board_prelude.proofs.Common.{reverse-reverse, take-append-drop, get_or_append_left, take-append_seam}
-use Rattle.board_prelude.proofs.Common.{get_or-append_seam, Entry, MapChange, entries_by, map_writes_of, Setup}
+use Rattle.board_prelude.proofs.Common.{get_or-append_seam, Entry, entries_by, map_writes_of, Setup}
 use mathlib.Core.List.{IsPrefix}
 use Rattle.bus_turn.specs.Common.{number_of, opened_of as opened_by, part_of, seen_of as seen_in, mine_of as mine_in}
 use Rattle.bus_turn.specs.Common.{joined_of, own_by}
@@ -54,8 +54,7 @@ joined_more before now more cpu later joined has =
       meets = extends_trans (known_of cpu) (map_writes_of (setup_of cpu) (reverse (seen_in before)))
           (map_writes_of (setup_of cpu) (reverse (seen_in now)))
           has.meets (writes_extend (setup_of cpu) (reverse (seen_in before)) (reverse (seen_in now)) grown);
-      own = subst (λ (w : List (ℕ × List Entry)). Any (HasOwn cpu) w) (sym joined)
-          (any_left (HasOwn cpu) (joined_of before) more has.own);
+      own = rw joined (any_left (HasOwn cpu) (joined_of before) more has.own);
     }
 
 own_back : (number : ℕ) (one other : List Entry) → entries_by number (reverse one) ≡ entries_by number (reverse other) →
@@ -77,15 +76,13 @@ caught_up pass cpu now same none later =
     let grown : Extends (seen_of now) (reverse (seen_in pass)) =
     extends_prefix (seen_in now.pass) (seen_in pass) later in
     let writes : Extends (known_of now) (map_writes_of (setup_of cpu) (reverse (seen_in pass))) =
-    subst (λ (w : List MapChange). Extends w (map_writes_of (setup_of cpu) (reverse (seen_in pass)))) (sym none.known)
-    (writes_extend (setup_of cpu) (seen_of now) (reverse (seen_in pass)) grown) in
+    rw none.known (writes_extend (setup_of cpu) (seen_of now) (reverse (seen_in pass)) grown) in
     let entries : entries_by cpu.number (reverse (seen_in now.pass))
     ≡ entries_by cpu.number (reverse (seen_in cpu.pass)) =
     ap (λ (n : ℕ). entries_by n (reverse (seen_in now.pass))) (sym same.number) ∙ none.mine in
     let mine : own_by by_actor cpu.number (seen_in now.pass)
     ≡ own_by by_actor cpu.number (opened_by cpu.pass) ++ mine_in now.pass =
-    subst (λ (z : ℕ × List Entry). own_by by_actor z.0 (seen_in now.pass) ≡ own_by by_actor z.0 z.1 ++ mine_in now.pass)
-    (λ k. (same.number k, same.opened k)) now.passed.mine in (
+    rw (same.number, same.opened) at now.passed.mine in (
       extends_trans (seen_of cpu) (seen_of now) (reverse (seen_in pass)) none.begins grown,
       extends_trans (known_of cpu) (known_of now)
           (map_writes_of (setup_of cpu) (reverse (seen_in pass))) none.meets writes,
@@ -102,8 +99,8 @@ joined_new before pass cpu now same none later joined =
     record {
       begins = has.0;
       meets = has.1;
-      own = subst (λ (w : List (ℕ × List Entry)). Any (HasOwn cpu) w) (sym joined)
-          (any_seam (HasOwn cpu) (joined_of before) (joined_of now.pass) (number_of now.pass, mine_in now.pass) has.2);
+      own = rw joined (any_seam (HasOwn cpu) (joined_of before) (joined_of now.pass)
+          (number_of now.pass, mine_in now.pass) has.2);
     }
 
 -- ---- the board that was closed
@@ -115,48 +112,39 @@ opened_same cpu other same =
     ap (λ (o : Option Origin). (origin_in o).entries) (sym cpu.passed.part ∙ (same ∙ other.passed.part)) in
     sym (reverse-reverse (opened_by cpu.pass)) ∙ (ap reverse turned ∙ reverse-reverse (opened_by other.pass))
 
-pub closes :
-    (pass : SharedPass) (done : Shared) (cpu : Cpu) (own : ℕ × List Entry) →
-    Extends (seen_of cpu) (reverse (seen_in pass)) →
-    Extends (known_of cpu) (map_writes_of (setup_of cpu) (reverse (seen_in pass))) → HasOwn cpu own →
-    own_by by_actor own.0 (drop (length (opened_by pass)) (reverse done.board.value.entries)) ≡ own.1 →
-    IsPrefix (seen_in pass) (reverse done.board.value.entries) →
-    IsPrefix (opened_by pass) (reverse done.board.value.entries) →
-    opened_by cpu.pass ≡ opened_by pass → part_of cpu.pass ≡ Some (opened_with done) → ClosesBoard done.board.value cpu
-closes pass done cpu own begins meets has is later opens same part =
-    let history = done.board.value.entries in
-    let setup : setup_of cpu ≡ done.board.value.setup = ap (λ (o : Option Origin). (origin_in o).setup) part in
-    let grown : Extends (reverse (seen_in pass)) history =
-    subst (λ (h : List Entry). Extends (reverse (seen_in pass)) h) (reverse-reverse history)
-    (extends_prefix (seen_in pass) (reverse history) later) in
-    let known : Extends (known_of cpu) (map_writes_of (setup_of cpu) history) =
-    extends_trans (known_of cpu) (map_writes_of (setup_of cpu) (reverse (seen_in pass)))
-    (map_writes_of (setup_of cpu) history) meets
-    (writes_extend (setup_of cpu) (reverse (seen_in pass)) history grown) in
-    let mine : own_by by_actor cpu.number (reverse history) ≡ own_by by_actor cpu.number (opened_by pass) ++ own.1 =
-    own_in cpu.number (opened_by pass) (reverse history) own.1 opens
-    (subst (λ (n : ℕ). own_by by_actor n (drop (length (opened_by pass)) (reverse history)) ≡ own.1) has.0 is) in
-    let all : own_by by_actor cpu.number (reverse history) ≡ own_by by_actor cpu.number (seen_in cpu.pass) =
-    mine ∙ (ap (λ (w : List Entry). own_by by_actor cpu.number w ++ own.1) (sym same) ∙ has.1) in
-    record {
-      setup = setup;
-      begins = extends_trans (seen_of cpu) (reverse (seen_in pass)) history begins grown;
-      mine = ap (entries_by cpu.number) (sym (reverse-reverse history))
-          ∙ own_same cpu.number (reverse history) (seen_in cpu.pass) all;
-      meets = subst (λ (s : Setup). Extends (known_of cpu) (map_writes_of s history)) setup known;
-    }
+module _ (pass : SharedPass) (done : Shared) (cpu : Cpu)
+    (later : IsPrefix (seen_in pass) (reverse done.board.value.entries))
+    (opens : IsPrefix (opened_by pass) (reverse done.board.value.entries)) (same : opened_by cpu.pass ≡ opened_by pass)
+    (part : part_of cpu.pass ≡ Some (opened_with done)) where
+  pub closes : (own : ℕ × List Entry) → Extends (seen_of cpu) (reverse (seen_in pass))
+      → Extends (known_of cpu) (map_writes_of (setup_of cpu) (reverse (seen_in pass))) → HasOwn cpu own
+      → own_by by_actor own.0 (drop (length (opened_by pass)) (reverse done.board.value.entries)) ≡ own.1
+      → ClosesBoard done.board.value cpu
+  closes own begins meets has is =
+      let history = done.board.value.entries in
+      let setup : setup_of cpu ≡ done.board.value.setup = ap (λ (o : Option Origin). (origin_in o).setup) part in
+      let grown : Extends (reverse (seen_in pass)) history =
+      rw (reverse-reverse history) at (extends_prefix (seen_in pass) (reverse history) later) in
+      let known : Extends (known_of cpu) (map_writes_of (setup_of cpu) history) =
+      extends_trans (known_of cpu) (map_writes_of (setup_of cpu) (reverse (seen_in pass)))
+      (map_writes_of (setup_of cpu) history) meets
+      (writes_extend (setup_of cpu) (reverse (seen_in pass)) history grown) in
+      let mine : own_by by_actor cpu.number (reverse history) ≡ own_by by_actor cpu.number (opened_by pass) ++ own.1 =
+      own_in cpu.number (opened_by pass) (reverse history) own.1 opens (rw has.0 at is) in
+      let all : own_by by_actor cpu.number (reverse history) ≡ own_by by_actor cpu.number (seen_in cpu.pass) =
+      mine ∙ (ap (λ (w : List Entry). own_by by_actor cpu.number w ++ own.1) (sym same) ∙ has.1) in
+      record {
+        setup = setup;
+        begins = extends_trans (seen_of cpu) (reverse (seen_in pass)) history begins grown;
+        mine = ap (entries_by cpu.number) (sym (reverse-reverse history))
+            ∙ own_same cpu.number (reverse history) (seen_in cpu.pass) all;
+        meets = subst (λ (s : Setup). Extends (known_of cpu) (map_writes_of s history)) setup known;
+      }
 
--- and of a caller whose pass was joined
-pub closes_joined :
-    (pass : SharedPass) (done : Shared) (cpu : Cpu) → IsJoined pass cpu →
-    All (λ other. own_by by_actor other.0 (drop (length (opened_by pass)) (reverse done.board.value.entries))
-    ≡ other.1) (joined_of pass) →
-    IsPrefix (seen_in pass) (reverse done.board.value.entries) →
-    IsPrefix (opened_by pass) (reverse done.board.value.entries) →
-    opened_by cpu.pass ≡ opened_by pass → part_of cpu.pass ≡ Some (opened_with done) → ClosesBoard done.board.value cpu
-closes_joined pass done cpu joined each later opens same part =
-    let (k, own, below, at', has) = joined.own in
-    let is : own_by by_actor own.0 (drop (length (opened_by pass)) (reverse done.board.value.entries)) ≡ own.1 =
-    subst (λ (o : ℕ × List Entry). own_by by_actor o.0
-    (drop (length (opened_by pass)) (reverse done.board.value.entries)) ≡ o.1) at' (each k own below) in
-    closes pass done cpu own joined.begins joined.meets has is later opens same part
+  -- and of a caller whose pass was joined
+  pub closes_joined : IsJoined pass cpu
+      → All (λ other. own_by by_actor other.0 (drop (length (opened_by pass)) (reverse done.board.value.entries))
+      ≡ other.1) (joined_of pass) → ClosesBoard done.board.value cpu
+  closes_joined joined each =
+      let (k, own, below, at', has) = joined.own in
+      closes own joined.begins joined.meets has (rw at' at (each k own below))

@@ -1,16 +1,16 @@
 -- Callers of a board that was just opened.
 use Rattle.std.proofs.Common.{◌≡◌, ℕ, zero, suc, ◌+◌, ◌<◌, Option, Some, List, [], ◌∷◌, ◌++◌, length, get_or, map, refl}
-use Rattle.std.proofs.Common.{sym, ap, ◌∙◌, subst, arith, Any, reverse}
-use Rattle.board_prelude.proofs.Common.{range_with_len, map-append, reverse-reverse, get_or_default, Entry, Setup}
+use Rattle.std.proofs.Common.{sym, ap, ◌∙◌, arith, Any, reverse}
+use Rattle.board_prelude.proofs.Common.{range_with_len, map-append, reverse-reverse, get_or_default}
 use Rattle.board_prelude.proofs.Common.{map_writes_of}
 use Rattle.bus_turn.specs.Passes.{opened_of as opened_by, part_of}
 use Rattle.map_publish.specs.declared.viewer.Viewer.{Viewer}
-use Rattle.map_publish.specs.Lists.{opened_of, changes_of}
+use Rattle.map_publish.specs.Lists.{changes_of}
 use Rattle.map_publish.specs.declared.front.Front.{Front}
 use Rattle.board_live.specs.declared.cpu.Cpu.{Cpu}
 use Rattle.board_live.specs.declared.live.Live.{Live}
 use Rattle.shared_board.specs.declared.shared.Origin.{Origin}
-use Rattle.board_live.specs.Common.{IsMapOpened, oldest, origin, origin_in, SharedPass, IsViewerFor, setup_in}
+use Rattle.board_live.specs.Common.{oldest, origin, origin_in, SharedPass, IsViewerFor, setup_in}
 use Rattle.board_live.specs.Common.{callers_in, opened_in, opened_with, IsCallerOf, IsSameCaller, AreAllOf, IsNewOf}
 use Rattle.shared_board.specs.declared.shared.Shared.{Shared}
 use Rattle.shared_board.proofs.Histories.{oldest_whole}
@@ -18,15 +18,8 @@ use Rattle.shared_board.proofs.Histories.{oldest_whole}
 -- a pass that was opened with the same has the same viewers and the same callers
 pub viewer_for : (one other : SharedPass) (viewer : Viewer) → opened_by other ≡ opened_by one →
     part_of other ≡ part_of one → IsViewerFor one viewer → IsViewerFor other viewer
-viewer_for one other viewer opened part has = record {
-  part = subst
-      (λ (t : Option Origin × List Entry). t.0
-      ≡ Some (origin (origin_in t.0).setup (origin_in t.0).callers (reverse t.1) viewer.front.seen.book))
-      (λ k. (sym part k, sym opened k)) has.part;
-  opens = subst (λ (t : Option Origin × List Entry). IsMapOpened (origin_in t.0).setup (reverse t.1)
-      (opened_of viewer.front.seen.log)) (λ k. (sym part k, sym opened k)) has.opens;
-  none = has.none;
-}
+viewer_for one other viewer opened part has =
+    record { part = rw (part, opened) has.part; opens = rw (part, opened) has.opens; none = has.none }
 
 pub new_of : (one other : SharedPass) (cpu : Cpu) → opened_by other ≡ opened_by one → part_of other ≡ part_of one →
     IsNewOf other cpu → IsNewOf one cpu
@@ -49,9 +42,8 @@ pub numbers_more : (cpus all : List Cpu) (cpu : Cpu) → all ≡ cpus ++ cpu ∷
 numbers_more cpus all cpu is number before =
     let next : cpu.number ≡ 1 + length cpus = omega (arith, number) in
     let one : suc (length cpus) ≡ length cpus + 1 = omega arith in
-    ap (map (λ (c : Cpu). c.number)) is
-    ∙ (map-append (λ (c : Cpu). c.number) cpus (cpu ∷ [])
-    ∙ ((λ k. before k ++ next k ∷ []) ∙ (sym (range_more 1 (length cpus)) ∙ ap (range_with_len 1) one)))
+    rw (is, map-append (λ (c : Cpu). c.number) cpus (cpu ∷ []), before, next, ← one)
+    (sym (range_more 1 (length cpus)))
 
 -- ---- what a board is opened with
 
@@ -70,8 +62,7 @@ opened_viewer pass shared viewer part opened count front none =
     let back : shared.publisher.value.front ≡ viewer.front = sym front in
     record {
       part = part ∙ λ k. Some (origin (setup k) (callers k) (whole k) (back k).seen.book);
-      opens = subst (λ (t : Setup × List Entry × Front). IsMapOpened t.0 t.1 (opened_of t.2.seen.log))
-          (λ k. (setup k, whole k, back k)) shared.opens;
+      opens = rw (front, ← setup, ← whole) shared.opens;
       none = ap (λ (f : Front). changes_of f.seen.log) front ∙ none;
     }
 

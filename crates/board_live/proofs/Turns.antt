@@ -1,7 +1,7 @@
 -- A caller's pass, before and after a turn.
-use Rattle.std.proofs.Common.{◌≡◌, ℕ, ◌+◌, ◌<◌, ◌==◌, Bool, cond, Option, Some, List, [], ◌∷◌, ◌++◌, length, drop, sym}
-use Rattle.std.proofs.Common.{ap, ◌∙◌, subst, append_assoc, eq-eqb, reverse}
-use Rattle.board_prelude.proofs.Common.{reverse-reverse, filter-append, Entry, MapChange, Setup, entries_by}
+use Rattle.std.proofs.Common.{◌≡◌, ℕ, ◌+◌, ◌==◌, Bool, cond, Option, Some, List, [], ◌∷◌, ◌++◌, length, drop, sym}
+use Rattle.std.proofs.Common.{ap, ◌∙◌, append_assoc, eq-eqb, reverse}
+use Rattle.board_prelude.proofs.Common.{reverse-reverse, filter-append, Entry, Setup, entries_by}
 use Rattle.board_prelude.proofs.Common.{map_writes_of}
 use mathlib.Core.List.{IsPrefix}
 use Rattle.logbook.specs.Pages.{Book}
@@ -64,7 +64,7 @@ pub passed_again :
     IsPassOf cpu.number book now
 passed_again cpu book now same joins copies mine = record {
   number = same.0 ∙ cpu.passed.number;
-  caller = subst (λ (o : Option Origin). cpu.number < (origin_in o).callers) (sym same.2) cpu.passed.caller;
+  caller = rw same.2 cpu.passed.caller;
   part =
       same.2
       ∙ (cpu.passed.part
@@ -80,8 +80,7 @@ pub opens_again :
     (cpu : Cpu) (now : SharedPass) (map : Mapped) → IsSamePass cpu.pass now →
     map ≡ opened_of cpu.viewer.front.seen.log → IsMapOpened (setup_in now) (opened_in now) map
 opens_again cpu now map same maps =
-    subst (λ (t : Option Origin × List Entry × Mapped). IsMapOpened (origin_in t.0).setup (reverse t.1) t.2)
-    (λ k. (sym same.2 k, sym same.1 k, sym maps k)) cpu.opens
+    rw (same.2, same.1, maps) cpu.opens
 
 -- ---- what a caller finds
 
@@ -124,22 +123,19 @@ finds cpu held begins opens own part meets =
     let setup : setup_in pass ≡ held.board.value.setup = ap (λ (o : Option Origin). (origin_in o).setup) part in
     let opened : opened_in pass ≡ oldest held.opened history = ap (λ (o : Option Origin). (origin_in o).entries) both in
     let listed : own_by by_actor actor (reverse history) ≡ own_by by_actor actor (opened_by pass) ++ mine_in pass =
-    own_in actor (opened_by pass) (reverse history) (mine_in pass) opens
-    (subst (λ (n : ℕ). own_by by_actor n (drop (length (opened_by pass)) (reverse history)) ≡ mine_in pass)
-    cpu.passed.number own) in
+    own_in actor (opened_by pass) (reverse history) (mine_in pass) opens (rw cpu.passed.number at own) in
     let known : Extends (known_of cpu)
     (known_after (setup_in pass) (opened_in pass) held.publisher.value.front.seen.log) =
     known_extend (setup_in pass) (opened_in pass) log held.publisher.value.front.seen.log meets in
     record {
       setup = setup;
       opened = opened;
-      begins = subst (λ (h : List Entry). Extends (seen_of cpu) h) (reverse-reverse history)
-          (extends_prefix (seen_in pass) (reverse history) begins);
+      begins = rw (reverse-reverse history) at (extends_prefix (seen_in pass) (reverse history) begins);
       own =
           ap (entries_by actor) (sym (reverse-reverse history))
           ∙ own_same actor (reverse history) (seen_in pass) (listed ∙ sym cpu.passed.mine);
       listed = listed;
-      meets = subst (λ (w : List MapChange). Extends (known_of cpu) w) (known_all pass held setup opened) known;
+      meets = rw (known_all pass held setup opened) at known;
     }
 
 -- and the same of the caller's pass after it has learnt that list
@@ -179,8 +175,8 @@ has_learnt cpu held now log found same learnt listed =
     ≡ map_writes_of (setup_of cpu) held.board.value.entries =
     known_left cpu.pass now held log same learnt found.setup found.opened in
     record {
-      begins = subst (λ (h : List Entry). Extends (seen_of cpu) h) (sym seen) found.begins;
+      begins = rw seen found.begins;
       mine = ap (entries_by cpu.number) seen ∙ found.own;
-      meets = subst (λ (w : List MapChange). Extends (known_of cpu) w) (sym known) found.meets;
+      meets = rw known found.meets;
       known = known ∙ ap (map_writes_of (setup_of cpu)) (sym seen);
     }

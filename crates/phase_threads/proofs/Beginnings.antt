@@ -1,6 +1,6 @@
 -- A phase that an order takes in, and an order that begins.
 use Rattle.std.proofs.Common.{◌≡◌, ℕ, ◌≤◌, List, ◌++◌, length, take, drop, All, Some, Result, Ok, Err, OnOk}
-use Rattle.std.proofs.Common.{sym, ◌∙◌, ap, subst, reverse}
+use Rattle.std.proofs.Common.{sym, ◌∙◌, ap, reverse}
 use Rattle.board_spec.proofs.ReplayLaws.{legal_before}
 use Rattle.board_prelude.proofs.Common.{reverse-append, reverse-reverse, take-append-drop, length-reverse}
 use Rattle.board_prelude.proofs.Common.{length-take-le, Entry, Setup, IsLegal}
@@ -16,7 +16,7 @@ cut_is n bus = ap reverse (sym (take-append-drop n bus)) ∙ reverse-append (tak
 pub legal_front : (setup : Setup) (n : ℕ) (bus : List Entry) → IsLegal setup (reverse bus)
     → IsLegal setup (reverse (take n bus))
 legal_front setup n bus legal = legal_before setup (reverse (drop n bus)) (reverse (take n bus))
-    (subst (IsLegal setup) (cut_is n bus) legal)
+    (rw (cut_is n bus) at legal)
 
 -- what an order takes in over the whole of the bus's history, it takes in over what it was before
 pub taken_in : (bus : List Entry) (opened version : ℕ) (works : List (List Done)) (old new : Order)
@@ -25,11 +25,8 @@ pub taken_in : (bus : List Entry) (opened version : ℕ) (works : List (List Don
     → entries_of (Some new) (reverse bus) ≡ placed version (drop opened bus) works
     (entries_of (Some old) (reverse (take opened bus)))
 taken_in bus opened version works old new fits size within is =
-    let front : over (reverse (reverse (take opened bus))) old.entries ≡ over bus old.entries =
-    ap (λ (b : List Entry). over b old.entries) (reverse-reverse (take opened bus))
-    ∙ over_front opened bus old.entries (subst (λ (n : ℕ). All (IsPlacedBelow n) old.entries) size within) in
-    ap (λ (b : List Entry). over b new.entries) (reverse-reverse bus)
-    ∙ (is ∙ (λ t. placed version (drop (size t) bus) works (sym front t)))
+    let front = over_front opened bus old.entries (rw size at within) in
+    rw (reverse-reverse bus, reverse-reverse (take opened bus), front) (rw size at is)
 
 pub front_length : (bus : List Entry) (opened : ℕ) → opened ≤ length bus → length (reverse (take opened bus)) ≡ opened
 front_length bus opened fits = length-reverse (take opened bus) ∙ length-take-le opened bus fits

@@ -11,7 +11,7 @@ use Rattle.run_order.proofs.Common.{all_turned}
 use Rattle.phase_work.specs.declared.worker.Work.{Work}
 use Rattle.phase_threads.specs.declared.jobs.Job.{Job}
 use Rattle.phase_threads.specs.Jobs.{AreDue}
-use Rattle.phase_threads.proofs.Numbers.{map_twice}
+use Rattle.std.proofs.lemmas.Simd.{map-map}
 
 abbrev event_in : Statement → Event
 event_in statement = statement.event
@@ -65,11 +65,8 @@ due_more works work phase actor next more size was own =
     let long : length next ≡ actor + 1 = omega (arith, count, size) in
     let old : map due_in works ≡ map (count_in phase) (range_with_len 0 actor) = was
     ∙ ap (λ (n : ℕ). map (count_in phase) (range_with_len 0 n)) size in
-    ap (map due_in) more ∙ (map-append due_in works (work ∷ [])
-    ∙ (ap (λ (dues : List ℕ). dues ++ work.due ∷ []) old
-    ∙ (ap (λ (due : ℕ). map (count_in phase) (range_with_len 0 actor) ++ due ∷ []) own
-    ∙ (sym (map-range_with_len_more (count_in phase) 0 actor actor (omega arith))
-    ∙ ap (λ (n : ℕ). map (count_in phase) (range_with_len 0 n)) (sym long)))))
+    rw (long, more, map-append due_in works (work ∷ []), old, own)
+    (sym (map-range_with_len_more (count_in phase) 0 actor actor (omega arith)))
 
 same_each : {X : Type 0} (f g : X → ℕ) (xs : List X) → map f xs ≡ map g xs → All (λ x. f x ≡ g x) xs
 same_each f g xs e = λ k d less.
@@ -84,10 +81,10 @@ due_by_number jobs works phase n are_works numbers size due =
     let work : Job → Work = λ job. job.work in
     let number : Job → ℕ = λ job. job.cpu.number in
     let dues : map (λ (job : Job). job.work.due) (reverse jobs) ≡ map due_in works =
-    sym (map_twice work due_in (reverse jobs)) ∙ ap (map due_in) are_works in
+    sym (map-map due_in work (reverse jobs)) ∙ ap (map due_in) are_works in
     let counts : map (count_in phase) (range_with_len 0 n) ≡ map (λ (job : Job). count_in phase job.cpu.number)
     (reverse jobs) =
-    ap (map (count_in phase)) (sym numbers) ∙ map_twice number (count_in phase) (reverse jobs) in
+    ap (map (count_in phase)) (sym numbers) ∙ map-map (count_in phase) number (reverse jobs) in
     all_turned (λ job. job.work.due ≡ length (events_by job.cpu.number phase)) jobs
     (same_each (λ (job : Job). job.work.due) (λ (job : Job). count_in phase job.cpu.number) (reverse jobs)
     (dues ∙ (due ∙ (ap (λ (m : ℕ). map (count_in phase) (range_with_len 0 m)) size ∙ counts))))

@@ -1,7 +1,8 @@
 -- What the halves of a phase's workers do.
-use Rattle.std.proofs.Common.{◌≡◌, ℕ, List, [], ◌∷◌, ◌++◌, length, map, All, Option, refl, sym, ◌∙◌, ap, subst, arith}
+use Rattle.std.proofs.Common.{◌≡◌, ℕ, ◌<◌, List, [], ◌∷◌, ◌++◌, length, map, All, Option, refl, sym, ◌∙◌, ap, arith}
 use Rattle.std.specs.List.{AllZip}
-use Rattle.board_prelude.proofs.Common.{All-cons, All-head, All-tail, Entry, Event, Statement, MapChange, Setup}
+use Rattle.std.proofs.lemmas.List.Elements.{AllZip-get_or, length_all_zip}
+use Rattle.board_prelude.proofs.Common.{All-head, All-tail, Entry, Event, Statement, MapChange, Setup}
 use Rattle.board_prelude.proofs.Common.{entries_by, events_by, map_writes_of}
 use Rattle.board_core.specs.Kept.{Standing}
 use Rattle.board_live.specs.declared.live.Live.{Live}
@@ -22,8 +23,7 @@ zip_append R (x ∷ xs) ys (u ∷ us) vs front back = (front.0, zip_append R xs 
 -- both halves of a list
 pub zip_both : {X : Type 0} (R : X → X → Type 0) (xs ys us vs all : List X) → all ≡ xs ++ ys → AllZip R xs us
     → AllZip R ys vs → AllZip R all (us ++ vs)
-zip_both {X} R xs ys us vs all whole front back = subst (λ (list : List X). AllZip R list (us ++ vs)) (sym whole)
-    (zip_append R xs ys us vs front back)
+zip_both R xs ys us vs all whole front back = rw whole (zip_append R xs ys us vs front back)
 
 no_events : (events : List Event) → length events ≡ 0 → events ≡ []
 no_events [] none = refl
@@ -35,8 +35,7 @@ nothing_done : (setup : Setup) (actor : ℕ) (opened : List Entry) (phase : List
     → done ≡ [] → events_by actor phase ≡ [] → seen ≡ opened → known ≡ map_writes_of setup opened
     → HasDone setup actor opened phase done seen known
 nothing_done setup actor opened phase done seen known empty none same all =
-    subst (λ (list : List Done). HasDone setup actor opened phase list seen known) (sym empty)
-    (record { trace = (same, all); said = sym none })
+    rw empty (record { trace = (same, all); said = sym none })
 
 -- a worker that has no statement ends as it began
 idle_runs : (live : Live) (phase : List Statement) (job : Job) → job.work.due ≡ 0 → Runs live phase job job
@@ -72,17 +71,11 @@ numbers_stay live phase [] [] ran = refl
 numbers_stay live phase [] (last ∷ now) ran = absurd ran
 numbers_stay live phase (job ∷ jobs) [] ran = absurd ran
 numbers_stay live phase (job ∷ jobs) (last ∷ now) ran =
-    let numbers : List Job → List ℕ = map (λ (job : Job). job.cpu.number) in
-    ap (λ (n : ℕ). n ∷ numbers now) ran.0.number
-    ∙ ap (λ (ns : List ℕ). job.cpu.number ∷ ns) (numbers_stay live phase jobs now ran.1)
+    rw (ran.0.number, numbers_stay live phase jobs now ran.1) refl
 
 pub all_run : (live : Live) (board : Standing) (part : Option Origin) (phase : List Statement) (before : ℕ)
     (jobs now : List Job) → AllZip (Runs live phase) jobs now
     → All (IsReadyToWork live board part phase before) jobs → All (IsRun live board part phase before) now
-all_run live board part phase before [] [] ran ready = λ k d less. absurd (omega (arith, less))
-all_run live board part phase before [] (last ∷ now) ran ready = absurd ran
-all_run live board part phase before (job ∷ jobs) [] ran ready = absurd ran
-all_run live board part phase before (job ∷ jobs) (last ∷ now) ran ready =
-    let R = IsReadyToWork live board part phase before in
-    All-cons (IsRun live board part phase before) last now (ran.0.run board part before (All-head R job jobs ready))
-    (all_run live board part phase before jobs now ran.1 (All-tail R job jobs ready))
+all_run live board part phase before jobs now ran ready k d less =
+    let few : k < length jobs = omega (arith, less, length_all_zip (Runs live phase) jobs now ran) in
+    (AllZip-get_or (Runs live phase) jobs now k d d ran few).run board part before (ready k d few)

@@ -1,6 +1,6 @@
 -- Lists of jobs and of callers, by the numbers of their processors.
 use Rattle.std.proofs.Common.{◌≡◌, ℕ, ◌+◌, ◌<◌, ◌≤◌, ◌==◌, List, [], ◌∷◌, ◌++◌, map, length, take, drop, All, refl, sym}
-use Rattle.std.proofs.Common.{◌∙◌, ap, subst, arith, inl, inr, reverse, slice_index_or}
+use Rattle.std.proofs.Common.{◌∙◌, ap, arith, inl, inr, reverse, slice_index_or}
 use Rattle.board_prelude.proofs.Common.{Any, range_with_len, cases_Bool, nat_tests, get_or-map, get_or_default}
 use Rattle.board_prelude.proofs.Common.{reverse-append, append-nil, take_all, drop_all, map-append, length-map}
 use Rattle.board_prelude.proofs.Common.{length-reverse, All-head, All-tail}
@@ -14,18 +14,12 @@ use Rattle.phase_threads.specs.Jobs.{done_in}
 
 pub map_reverse : {X Y : Type 0} (f : X → Y) (xs : List X) → map f (reverse xs) ≡ reverse (map f xs)
 map_reverse f [] = refl
-map_reverse {X} {Y} f (x ∷ xs) =
+map_reverse f (x ∷ xs) =
     ap (map f) (reverse-append (x ∷ []) xs)
-    ∙ (map-append f (reverse xs) (x ∷ [])
-    ∙ (ap (λ (ys : List Y). ys ++ f x ∷ []) (map_reverse f xs) ∙ sym (reverse-append (f x ∷ []) (map f xs))))
-
-pub map_twice : {X Y Z : Type 0} (f : X → Y) (g : Y → Z) (xs : List X) → map g (map f xs) ≡ map (λ x. g (f x)) xs
-map_twice f g [] = refl
-map_twice {X} {Y} {Z} f g (x ∷ xs) = ap (λ (zs : List Z). g (f x) ∷ zs) (map_twice f g xs)
+    ∙ (map-append f (reverse xs) (x ∷ []) ∙ rw (map_reverse f xs) (sym (reverse-append (f x ∷ []) (map f xs))))
 
 pub all_mapped : {X Y : Type 0} (f : X → Y) (P : Y → Type 0) (xs : List X) → All P (map f xs) → All (λ x. P (f x)) xs
-all_mapped f P xs all = λ k d less. subst P (get_or-map f xs k d (f d) less)
-    (all k (f d) (subst (λ n. k < n) (sym (length-map xs f)) less))
+all_mapped f P xs all = λ k d less. rw (get_or-map f xs k d (f d) less) at (all k (f d) (rw (length-map xs f) less))
 
 pub same_lengths : {X Y Z : Type 0} (f : X → Z) (g : Y → Z) (xs : List X) (ys : List Y) → map f xs ≡ map g ys
     → length xs ≡ length ys
@@ -38,25 +32,23 @@ numbered_length f xs n e = sym (length-map xs f) ∙ (ap length e ∙ length-ran
 pub number_at : {X : Type 0} (f : X → ℕ) (xs : List X) (n : ℕ) → map f xs ≡ range_with_len 0 n → (k : ℕ) (d : X)
     → k < length xs → f (slice_index_or xs k d) ≡ k
 number_at f xs n e k d less =
-    let few : k < n = subst (λ m. k < m) (numbered_length f xs n e) less in
-    sym (get_or-map f xs k d (f d) less)
-    ∙ (ap (λ (ns : List ℕ). slice_index_or ns k (f d)) e ∙ (get_or-range_with_len 0 n k (f d) few ∙ omega arith))
+    let few : k < n = rw (numbered_length f xs n e) at less in
+    sym (get_or-map f xs k d (f d) less) ∙ rw e (get_or-range_with_len 0 n k (f d) few ∙ omega arith)
 
 pub numbers_below : {X : Type 0} (f : X → ℕ) (xs : List X) (n a : ℕ) → map f xs ≡ range_with_len 0 n
     → Any (λ x. f x ≡ a) xs → a < n
 numbers_below f xs n a e any =
     let at = number_at f xs n e any.0 any.1 any.2 in
     let is : any.0 ≡ a = sym at ∙ (ap f any.3 ∙ any.4) in
-    subst (λ k. k < n) is (subst (λ m. any.0 < m) (numbered_length f xs n e) any.2)
+    omega (arith, is, numbered_length f xs n e, any.2)
 
 pub same_numbers : {X : Type 0} (f : X → ℕ) (xs ys : List X) (a : ℕ) → map f ys ≡ map f xs → Any (λ x. f x ≡ a) xs
     → Any (λ x. f x ≡ a) ys
 same_numbers f xs ys a e any =
-    let less : any.0 < length ys = subst (λ n. any.0 < n) (sym (same_lengths f f ys xs e)) any.2 in
+    let less : any.0 < length ys = rw (same_lengths f f ys xs e) any.2 in
     let y = slice_index_or ys any.0 any.1 in
     let number : f y ≡ a = sym (get_or-map f ys any.0 any.1 (f any.1) less)
-    ∙ (ap (λ (ns : List ℕ). slice_index_or ns any.0 (f any.1)) e
-    ∙ (get_or-map f xs any.0 any.1 (f any.1) any.2 ∙ (ap f any.3 ∙ any.4))) in
+    ∙ rw e (get_or-map f xs any.0 any.1 (f any.1) any.2 ∙ (ap f any.3 ∙ any.4)) in
     (any.0, y, less, get_or_default ys any.0 y any.1 less, number)
 
 -- what holds of each job's processor and work holds by processor
@@ -72,8 +64,8 @@ by_number W (job ∷ jobs) first all numbers actor low high =
     let own : job.cpu.number ≡ first = cc numbers in
     let others : map (λ (job : Job). job.cpu.number) jobs ≡ range_with_len (first + 1) (length jobs) = cc numbers in
     elim (cases_Bool (actor == first)) [
-      | inl is ↦ let at : job.cpu.number ≡ actor = grind (arith, nat_tests) in
-          rw is (subst (λ a. W a job.work.done.items) at (All-head P job jobs all))
+      | inl is ↦
+          let at : actor ≡ job.cpu.number = grind (arith, nat_tests) in rw (is, at) (All-head P job jobs all)
       | inr not ↦ let past : first + 1 ≤ actor = grind (arith, nat_tests) in
           rw not (by_number W jobs (first + 1) (All-tail P job jobs all) others actor past (omega (arith, high)))
     ]
@@ -87,11 +79,18 @@ pub asked_again : (most : ℕ) (works next : List Work)
     → All (λ work. work.asked ≤ most) works → All (λ work. work.asked ≤ most) next
 asked_again most works next e all =
     all_mapped (λ (work : Work). work.asked) (λ n. n ≤ most) next
-    (subst (All (λ n. n ≤ most)) (sym e) (All-map (λ n. n ≤ most) (λ (work : Work). work.asked) works all))
+    (rw e (All-map (λ n. n ≤ most) (λ (work : Work). work.asked) works all))
 
 -- what a slice of a whole list leaves of it
 pub lent_back : {X : Type 0} (n : ℕ) (old now : List X) → n ≡ length old → length now ≡ length old
     → take n (now ++ drop (length now) old) ≡ now
-lent_back {X} n old now size same =
-    ap (λ (rest : List X). take n (now ++ rest)) (drop_all (length now) old (omega (arith, same)))
-    ∙ (ap (take n) (append-nil now) ∙ take_all n now (omega (arith, size, same)))
+lent_back n old now size same =
+    rw (drop_all (length now) old (omega (arith, same)), append-nil now) (take_all n now (omega (arith, size, same)))
+
+-- as many as there were
+pub counted : (works old now : List Work) (count len : ℕ)
+    → map (λ (work : Work). work.asked) works ≡ map (λ (work : Work). work.asked) now → now ≡ old → count ≡ len
+    → len ≡ length works → count ≡ length old
+counted works old now count len asked is count_is len_is =
+    let size = same_lengths (λ (work : Work). work.asked) (λ (work : Work). work.asked) works now asked in
+    count_is ∙ (len_is ∙ (size ∙ ap length is))

@@ -1,19 +1,20 @@
 -- A phase in which one processor acts.
-use Rattle.std.proofs.Common.{set, Result, Ok, Err, OnOk, ◌≡◌, ◌≢◌, ℕ, ◌+◌, ◌<◌, ◌≤◌, ◌==◌, Bool, true, false, not}
-use Rattle.std.proofs.Common.{List, [], ◌∷◌, length, All, get_or, slice_index_or, refl, sym, ◌∙◌, ap, subst, arith, inl}
+use Rattle.std.proofs.Common.{set, Result, Ok, Err, OnOk, ◌≡◌, ◌≢◌, ℕ, ◌+◌, ◌<◌, ◌≤◌, ◌==◌, true, false, not}
+use Rattle.std.proofs.Common.{List, [], ◌∷◌, length, All, get_or, slice_index_or, refl, sym, ◌∙◌, ap, arith, inl}
 use Rattle.std.proofs.Common.{inr}
-use Rattle.board_prelude.proofs.Common.{cases_Bool, nat_tests, get_or-map, All-head, All-tail, All-cons, Entry}
-use Rattle.board_prelude.proofs.Common.{Statement, MapChange, Setup, Event, Reply, Look, Kind, IsInRange, IsSpan}
-use Rattle.board_prelude.proofs.Common.{next_entry, registers_after, entries_by, events_by, map_writes_of}
+use Rattle.board_prelude.proofs.Common.{cases_Bool, cases_eq, nat_tests, length-map, get_or-map, All-head, All-tail, All-cons, Entry}
+use Rattle.board_prelude.proofs.Common.{Statement, MapChange, Setup, IsInRange}
+use Rattle.board_prelude.proofs.Common.{entries_by, events_by, map_writes_of}
 use Rattle.board_prelude.proofs.Common.{most_statements}
 use Rattle.std.proofs.lemmas.List.{length-set, get_or-set_same, get_or-set_other}
+use Rattle.std.proofs.lemmas.List.Elements.{All-filter}
 use Rattle.std.proofs.lemmas.List.Filters.{length-filter_both}
 use Rattle.board_core.specs.Kept.{Standing}
 use Rattle.shared_board.proofs.Histories.{writes_extend}
 use Rattle.shared_board.proofs.Limits.{few_entries}
 use Rattle.run_order.specs.declared.done.Done.{Done}
 use Rattle.run_order.proofs.Steps.{done_at}
-use Rattle.run_order.specs.Common.{done_by, IsWork, Begins, IsGone, IsLooked}
+use Rattle.run_order.specs.Common.{done_by, IsWork, Begins, IsGone}
 use Rattle.phase_work.specs.declared.worker.Work.{Work}
 use Rattle.phase_work.specs.Works.{HasDone}
 use Rattle.phase_threads.specs.Others.{others}
@@ -53,14 +54,8 @@ by_other number actor unlike (entry ∷ before) = elim (cases_Bool (entry.actor 
 
 others_below : (number n : ℕ) (entries : List Entry) → All (λ entry. entry.actor < n) entries
     → All (λ entry. entry.actor < n) (others number entries)
-others_below number n [] all = all
-others_below number n (entry ∷ before) all =
-    let first = All-head (λ (e : Entry). e.actor < n) entry before all in
-    let rest = others_below number n before (All-tail (λ (e : Entry). e.actor < n) entry before all) in
-    elim (cases_Bool (entry.actor == number)) [
-      | inl own ↦ rw own rest
-      | inr other ↦ rw other (All-cons (λ (e : Entry). e.actor < n) entry (others number before) first rest)
-    ]
+others_below number n entries =
+    All-filter (λ (entry : Entry). not (entry.actor == number)) (λ (entry : Entry). entry.actor < n) entries
 
 all_below : (number n : ℕ) → number < n → (entries : List Entry)
     → All (λ entry. entry.actor < n) (others number entries)
@@ -94,7 +89,7 @@ no_events number actor unlike (statement ∷ phase) all =
 pub listed_at : (lists : List (List Done)) (actor : ℕ) → done_by 0 actor lists ≡ get_or lists actor []
 listed_at lists actor =
     let same : 0 + actor ≡ actor = omega arith in
-    ap (λ (k : ℕ). done_by 0 k lists) (sym same) ∙ done_at lists 0 actor
+    rw same at (done_at lists 0 actor)
 
 -- what a processor did, by the place of its work
 pub work_at : (works : List Work) (k : ℕ) (d : Work) → k < length works
@@ -104,56 +99,23 @@ work_at works k d less =
 
 -- ---- one statement
 
--- an event that it does comes directly after what it has seen
-pub gone_alone : (setup : Setup) (number : ℕ) (before : List Entry) (event : Event) (reply : Reply)
-    → IsGone setup number before (map_writes_of setup before) event (next_entry before number event reply ∷ before)
-    (map_writes_of setup (next_entry before number event reply ∷ before))
-gone_alone setup number before event reply = record {
+-- an entry of its own comes directly after what it has seen
+pub gone_alone : (setup : Setup) (number : ℕ) (entry : Entry) (before : List Entry) → entry.actor ≡ number
+    → IsGone setup number before (map_writes_of setup before) entry.event (entry ∷ before)
+    (map_writes_of setup (entry ∷ before))
+gone_alone setup number entry before own = record {
   list = before;
-  entry = next_entry before number event reply;
+  entry = entry;
   begins = ([], refl);
   mine = refl;
   meets = ([], refl);
-  own = refl;
+  own = own;
   said = refl;
   now_is = refl;
   known_is = refl;
 }
 
--- a look shows the map after all map writes
-pub looked_alone : (setup : Setup) (entries : List Entry) (kind : Kind) (addr : ℕ) (smm : Bool) (look : Look)
-    → look.version ≡ length (map_writes_of setup entries)
-    → IsSpan setup (registers_after setup (map_writes_of setup entries)) addr kind smm look.lo look.hi look.area
-    → IsLooked setup (map_writes_of setup entries) (map_writes_of setup entries) kind addr smm look
-looked_alone setup entries kind addr smm look version span =
-    record { later = ([], refl); saw = record { version = version; span = span } }
-
 -- ---- the phase
-
--- what a processor did that had nothing to do
-pub idle : (setup : Setup) (opened whole : List Entry) (phase : List Statement) (actor : ℕ) → Begins opened whole
-    → [] ≡ events_by actor phase → entries_by actor whole ≡ entries_by actor opened
-    → IsWork setup opened whole phase actor []
-idle setup opened whole phase actor begins none mine = record {
-  seen = opened;
-  known = map_writes_of setup opened;
-  trace = (refl, refl);
-  closed = record { begins = begins; meets = writes_extend setup opened whole begins; mine = mine };
-  said = none;
-}
-
--- and of the one that acted
-pub active : (setup : Setup) (opened whole : List Entry) (phase : List Statement) (actor : ℕ) (done : List Done)
-    (known : List MapChange)
-    → HasDone setup actor opened phase done whole known → known ≡ map_writes_of setup whole
-    → IsWork setup opened whole phase actor done
-active setup opened whole phase actor done known has is = record {
-  seen = whole;
-  known = known;
-  trace = has.trace;
-  closed = record { begins = ([], refl); meets = ([], sym is); mine = refl };
-  said = has.said;
-}
 
 -- another processor has the entries that it had
 pub theirs : (number actor : ℕ) (before now : List Entry) → actor ≢ number → others number now ≡ others number before
@@ -161,46 +123,35 @@ pub theirs : (number actor : ℕ) (before now : List Entry) → actor ≢ number
 theirs number actor before now unlike same =
     by_other number actor unlike now ∙ (ap (entries_by actor) same ∙ sym (by_other number actor unlike before))
 
-pub is_number : (actor number : ℕ) → (actor == number) ≡ true → actor ≡ number
-is_number actor number is = grind (arith, nat_tests)
-
-pub is_other : (actor number : ℕ) → (actor == number) ≡ false → actor ≢ number
-is_other actor number is e = absurd (grind (arith, nat_tests))
-
-has_run_with : (d : Work) (number : ℕ) (before now : Standing) (phase : List Statement) (old new : List Work)
-    → number < length old
-    → All (λ work. work.done.items ≡ []) old → All (λ statement. statement.actor ≡ number) phase → HasActed number
-    before now phase old new
-    → HasRun before now phase new
-has_run_with d number before now phase old new within empty only acted =
-    let has = acted.done d in
-    let begins = begins_opened before.setup number before.entries _ now.entries (map_writes_of now.setup now.entries)
-    has.trace in
-    let known : map_writes_of now.setup now.entries ≡ map_writes_of before.setup now.entries =
-    ap (λ (setup : Setup). map_writes_of setup now.entries) acted.grown.setup in
-    let its = active before.setup before.entries now.entries phase number _ _ has known in
-    record {
-      setup = acted.grown.setup;
-      begins = begins;
-      each = λ actor less. elim (cases_Bool (actor == number)) [
-        | inl own ↦
-            let e = is_number actor number own in
-            let less = subst (λ (n : ℕ). n < length new) e less in
-            subst (λ (n : ℕ). IsWork before.setup before.entries now.entries phase n (done_by 0 n (done_in new))) (sym
-            e)
-            (subst (IsWork before.setup before.entries now.entries phase number) (sym (work_at new number d less)) its)
-        | inr other ↦
-            let unlike = is_other actor number other in
-            let count = acted.grown.count in
-            let less_old : actor < length old = omega (arith, less, count) in
-            let none : done_by 0 actor (done_in new) ≡ [] =
-            work_at new actor d less ∙ (ap (λ (w : Work). w.done.items) (acted.grown.same actor d unlike) ∙ empty
-            actor d less_old) in
-            subst (IsWork before.setup before.entries now.entries phase actor) (sym none)
-            (idle before.setup before.entries now.entries phase actor begins (no_events number actor unlike phase only)
-            (theirs number actor before.entries now.entries unlike acted.grown.others))
-      ];
-    }
+-- what each processor did of a phase, where one acted and the others had nothing to do
+pub one_acted : (setup : Setup) (opened whole : List Entry) (phase : List Statement) (number : ℕ)
+    (lists : List (List Done)) (done : List Done) (known : List MapChange) → Begins opened whole
+    → All (λ statement. statement.actor ≡ number) phase → others number whole ≡ others number opened
+    → HasDone setup number opened phase done whole known → known ≡ map_writes_of setup whole
+    → done_by 0 number lists ≡ done
+    → ((actor : ℕ) → actor ≢ number → actor < length lists → done_by 0 actor lists ≡ [])
+    → (actor : ℕ) → actor < length lists → IsWork setup opened whole phase actor (done_by 0 actor lists)
+one_acted setup opened whole phase number lists done known begins only same has known_is own none actor less =
+    elim (cases_eq actor number) [
+      | inl is ↦ rw (is, own) (record {
+        seen = whole;
+        known = known;
+        trace = has.trace;
+        closed = record { begins = ([], refl); meets = ([], sym known_is); mine = refl };
+        said = has.said;
+      })
+      | inr other ↦ rw (none actor other less) (record {
+        seen = opened;
+        known = map_writes_of setup opened;
+        trace = (refl, refl);
+        closed = record {
+          begins = begins;
+          meets = writes_extend setup opened whole begins;
+          mine = theirs number actor opened whole other same;
+        };
+        said = no_events number actor other phase only;
+      })
+    ]
 
 pub alone_has_run : (number : ℕ) (before now : Standing) (phase : List Statement) (old new : List Work)
     → number < length old
@@ -209,7 +160,22 @@ pub alone_has_run : (number : ℕ) (before now : Standing) (phase : List Stateme
     → HasRun before now phase new
 alone_has_run number before now phase [] new within empty only acted = absurd (omega (arith, within))
 alone_has_run number before now phase (d ∷ old) new within empty only acted =
-    has_run_with d number before now phase (d ∷ old) new within empty only acted
+    let has = acted.done d in
+    let begins = begins_opened before.setup number before.entries _ now.entries (map_writes_of now.setup now.entries)
+    has.trace in
+    let known : map_writes_of now.setup now.entries ≡ map_writes_of before.setup now.entries =
+    ap (λ (setup : Setup). map_writes_of setup now.entries) acted.grown.setup in
+    let count : length new ≡ length (d ∷ old) = acted.grown.count in
+    let size = length-map new (λ (w : Work). w.done.items) in
+    record {
+      setup = acted.grown.setup;
+      begins = begins;
+      each = λ actor less. one_acted before.setup before.entries now.entries phase number (done_in new) _ _ begins only
+          acted.grown.others has known (work_at new number d (omega (arith, within, count)))
+          (λ other unlike few. work_at new other d (omega (arith, few, size))
+          ∙ (ap (λ (w : Work). w.done.items) (acted.grown.same other d unlike)
+          ∙ empty other d (omega (arith, few, size, count)))) actor (omega (arith, less, size));
+    }
 
 pub alone_asked : (number most : ℕ) (before now : Standing) (phase : List Statement) (works old new : List Work)
     → number < length old
@@ -218,30 +184,21 @@ pub alone_asked : (number most : ℕ) (before now : Standing) (phase : List Stat
 alone_asked number most before now phase works old new within count few asked acted =
     let size : length works ≡ length new = omega (arith, count, acted.count) in
     let less : number < length new = omega (arith, within, acted.count) in
-    let actors = subst (λ (n : ℕ). All (λ (entry : Entry). entry.actor < n) before.entries) size asked.actors in
     record {
-      actors =
-          all_below number (length new) less now.entries
-          (subst (All (λ (entry : Entry). entry.actor < length new)) (sym acted.others)
-          (others_below number (length new) before.entries actors));
-      mine = λ actor. elim (cases_Bool (actor == number)) [
-        | inl own ↦
-            subst (λ (n : ℕ). length (entries_by n now.entries) ≤ most + length phase) (sym (is_number actor number
-            own))
-            (omega (arith, acted.mine, asked.mine number))
+      actors = all_below number (length new) less now.entries
+          (rw acted.others (others_below number (length new) before.entries (rw size at asked.actors)));
+      mine = λ actor. elim (cases_eq actor number) [
+        | inl is ↦ rw is (omega (arith, acted.mine, asked.mine number))
         | inr other ↦
-            let same = ap length (theirs number actor before.entries now.entries (is_other actor number other)
-            acted.others) in
+            let same = ap length (theirs number actor before.entries now.entries other acted.others) in
             omega (arith, same, asked.mine actor)
       ];
       asked = λ k d below.
           let below_old : k < length old = omega (arith, below, acted.count) in
-          elim (cases_Bool (k == number)) [
-            | inl own ↦
-                subst (λ (n : ℕ). (slice_index_or new n d).asked ≤ most + length phase) (sym (is_number k number own))
-                (acted.asked most d few)
+          elim (cases_eq k number) [
+            | inl is ↦ rw is (acted.asked most d few)
             | inr other ↦
-                let same = ap (λ (w : Work). w.asked) (acted.same k d (is_other k number other)) in
+                let same = ap (λ (w : Work). w.asked) (acted.same k d other) in
                 let was : (slice_index_or old k d).asked ≤ most = few k d below_old in
                 omega (arith, same, was)
           ];
@@ -284,9 +241,9 @@ has_grown number before now phase old was work within is setup same mine asked =
   same = λ k d unlike. get_or-set_other old number k work d unlike;
   mine = mine;
   asked = λ most d few.
-      let before : was.asked ≤ most = subst (λ (w : Work). w.asked ≤ most) (sym is) (few number was within) in
-      subst (λ (w : Work). w.asked ≤ most + length phase) (sym (get_or-set_same old number work d within)) (omega
-      (arith, before, asked));
+      let before : (slice_index_or old number was).asked ≤ most = few number was within in
+      rw (get_or-set_same old number work d within)
+      (omega (arith, before, ap (λ (w : Work). w.asked) is, asked));
 }
 
 pub has_acted : (number : ℕ) (before now : Standing) (phase : List Statement) (old : List Work) (was work : Work)
@@ -298,10 +255,7 @@ pub has_acted : (number : ℕ) (before now : Standing) (phase : List Statement) 
     → work.asked ≤ was.asked + length phase → HasActed number before now phase old (set old number work)
 has_acted number before now phase old was work within is setup same done mine asked = record {
   grown = has_grown number before now phase old was work within is setup same mine asked;
-  done = λ d.
-      subst (λ (w : Work). HasDone before.setup number before.entries phase w.done.items now.entries (map_writes_of
-      now.setup now.entries))
-      (sym (get_or-set_same old number work d within)) done;
+  done = λ d. rw (get_or-set_same old number work d within) done;
 }
 
 pub both_ok : {T E : Type 0} {P Q R : Type 0} (result : Result T E) → (P → Q → R) → OnOk result P → OnOk result Q

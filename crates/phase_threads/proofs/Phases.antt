@@ -1,13 +1,13 @@
 -- A phase, as the history of the run takes it in.
 use Rattle.std.proofs.Common.{◌≡◌, ℕ, ◌+◌, ◌<◌, ◌≤◌, List, [], ◌∷◌, ◌++◌, map, length, take, drop, get_or, flat_map}
-use Rattle.std.proofs.Common.{All, Option, Vec, Global, sym, ◌∙◌, ap, subst, arith, reverse}
+use Rattle.std.proofs.Common.{All, Option, Vec, Global, sym, ◌∙◌, ap, arith, reverse}
 use Rattle.board_prelude.proofs.Common.{reverse-append, reverse-reverse, length-append, length-reverse, map-append}
 use Rattle.board_prelude.proofs.Common.{append-nil, take-append-drop, drop_more, flat_map-append, drop-append_seam}
 use Rattle.board_prelude.proofs.Common.{take-append_seam, All-drop, Entry, Statement, Setup, IsCardList, version_of}
 use Rattle.board_prelude.proofs.Common.{IsLegal}
 use Rattle.board_core.specs.Kept.{Standing}
 use Rattle.run_order.specs.declared.done.Done.{Done}
-use Rattle.run_order.specs.Common.{done_by, placed, Order, bare, IsWork, IsPhaseRun, IsPlaced, PhaseRuns, AreInPlace}
+use Rattle.run_order.specs.Common.{placed, Order, bare, IsPhaseRun, PhaseRuns, AreInPlace}
 use Rattle.run_order.specs.Common.{AreAllInPlace, Begins}
 use Rattle.phase_work.specs.declared.worker.Work.{Work}
 use Rattle.phase_threads.specs.Common.{IsStatement, TakesIn, entries_of}
@@ -18,31 +18,40 @@ use Rattle.run_order.proofs.Over.{all_reverse}
 abbrev pub gained : (opened entries : List Entry) → List Entry
 gained opened entries = drop (length opened) entries
 
-later_is : (before now opened entries : List Entry) (b : Begins before now) → opened ≡ reverse before
-    → entries ≡ reverse now → gained opened entries ≡ reverse b.0
-later_is before now opened entries b old is =
-    let cut : entries ≡ reverse before ++ reverse b.0 = is ∙ (ap reverse b.1 ∙ reverse-append b.0 before) in
-    let size : length opened ≡ length (reverse before) = ap length old in
-    ap (drop (length opened)) cut ∙ (ap (λ (n : ℕ). drop n (reverse before ++ reverse b.0)) size
-    ∙ drop-append_seam (reverse before) (reverse b.0))
-
-pub whole_is : (before now opened entries : List Entry) → Begins before now → opened ≡ reverse before
-    → entries ≡ reverse now
-    → reverse (gained opened entries) ++ before ≡ now
-whole_is before now opened entries b old is =
-    ap (λ (later : List Entry). reverse later ++ before) (later_is before now opened entries b old is)
-    ∙ (ap (λ (more : List Entry). more ++ before) (reverse-reverse b.0) ∙ sym b.1)
-
 pub gained_all : (P : Entry → Type 0) (now opened entries : List Entry) → entries ≡ reverse now → All P now
     → All P (gained opened entries)
-gained_all P now opened entries is all =
-    All-drop P (length opened) entries (subst (All P) (sym is) (all_reverse P now all))
+gained_all P now opened entries is all = All-drop P (length opened) entries (rw is (all_reverse P now all))
 
-pub gained_within : (before now opened entries : List Entry) → Begins before now → opened ≡ reverse before
-    → entries ≡ reverse now → length opened ≤ length entries
-gained_within before now opened entries b old is =
-    let all : length now ≡ length b.0 + length before = ap length b.1 ∙ length-append b.0 before in
-    omega (arith, all, ap length old, ap length is, length-reverse before, length-reverse now)
+pub back_is : (now entries : List Entry) → entries ≡ reverse now → reverse entries ≡ now
+back_is now entries is = ap reverse is ∙ reverse-reverse now
+
+module _ (before now opened entries : List Entry) (b : Begins before now) (old : opened ≡ reverse before)
+    (is : entries ≡ reverse now) where
+  cut : entries ≡ reverse before ++ reverse b.0
+  cut = is ∙ (ap reverse b.1 ∙ reverse-append b.0 before)
+
+  pub whole_is : reverse (gained opened entries) ++ before ≡ now
+  whole_is =
+      let later : drop (length opened) entries ≡ reverse b.0 =
+      rw (cut, old) (drop-append_seam (reverse before) (reverse b.0)) in
+      rw (later, reverse-reverse b.0) (sym b.1)
+
+  pub gained_within : length opened ≤ length entries
+  gained_within =
+      let all : length now ≡ length b.0 + length before = ap length b.1 ∙ length-append b.0 before in
+      omega (arith, all, ap length old, ap length is, length-reverse before, length-reverse now)
+
+  front : take (length opened) entries ≡ reverse before
+  front = rw (cut, old) (take-append_seam (reverse before) (reverse b.0))
+
+  pub front_is : reverse (take (length opened) entries) ≡ before
+  front_is = ap reverse front ∙ reverse-reverse before
+
+  pub front_all : (n : ℕ) → n ≤ 8 → All (λ entry. entry.actor < n) before
+      → All (λ entry. entry.actor < 8) (take (length opened) entries)
+  front_all n few all =
+      rw front (all_reverse (λ (entry : Entry). entry.actor < 8) before (λ k d less.
+      let one = all k d less in omega (arith, one, few)))
 
 pub phase_is_run : (before now : Standing) (opened entries : List Entry) (phase : List Statement) (works : List Work)
     → (run : HasRunSo before now phase works) → opened ≡ reverse before.entries → entries ≡ reverse now.entries
@@ -54,43 +63,14 @@ phase_is_run before now opened entries phase works run old is cards legal caller
     let whole = whole_is before.entries now.entries opened entries run.begins old is in
     record {
       cards = cards;
-      legal = subst (λ (setup : Setup). IsLegal setup (reverse (gained opened entries) ++ before.entries)) run.setup
-          (subst (IsLegal now.setup) (sym whole) legal);
-      callers = subst (λ (n : ℕ). All (λ (entry : Entry). entry.actor < n) (gained opened entries)) (sym run.count)
+      legal = rw (whole, ← run.setup) legal;
+      callers = rw run.count
           (gained_all (λ (entry : Entry). entry.actor < length works) now.entries opened entries is callers);
-      speakers = subst (λ (n : ℕ). All (λ (statement : Statement). statement.actor < n) phase) (sym run.count)
-          (λ k d less. (speakers k d less).actor);
-      each = λ actor less.
-          let few : actor < length works = subst (λ (n : ℕ). actor < n) run.count less in
-          subst (λ (h : List Entry). IsWork before.setup before.entries h phase actor (done_by 0 actor run.lists))
-          (sym whole) (run.each actor few);
+      speakers = rw run.count (λ k d less. (speakers k d less).actor);
+      each = λ actor less. rw whole (run.each actor (rw run.count at less));
     }
 
 -- ---- the history of the run
-
-pub front_is : (before now opened entries : List Entry) → Begins before now → opened ≡ reverse before
-    → entries ≡ reverse now
-    → reverse (take (length opened) entries) ≡ before
-front_is before now opened entries b old is =
-    let cut : entries ≡ reverse before ++ reverse b.0 = is ∙ (ap reverse b.1 ∙ reverse-append b.0 before) in
-    let size : length opened ≡ length (reverse before) = ap length old in
-    let front : take (length opened) entries ≡ reverse before =
-    ap (take (length opened)) cut ∙ (ap (λ (n : ℕ). take n (reverse before ++ reverse b.0)) size
-    ∙ take-append_seam (reverse before) (reverse b.0)) in
-    ap reverse front ∙ reverse-reverse before
-
-pub back_is : (now entries : List Entry) → entries ≡ reverse now → reverse entries ≡ now
-back_is now entries is = ap reverse is ∙ reverse-reverse now
-
-pub front_all : (n : ℕ) (before now opened entries : List Entry) → Begins before now → opened ≡ reverse before
-    → entries ≡ reverse now
-    → n ≤ 8 → All (λ entry. entry.actor < n) before → All (λ entry. entry.actor < 8) (take (length opened) entries)
-front_all n before now opened entries b old is few all =
-    let back : take (length opened) entries ≡ reverse before = sym (reverse-reverse (take (length opened) entries))
-    ∙ ap reverse (front_is before now opened entries b old is) in
-    subst (All (λ (entry : Entry). entry.actor < 8)) (sym back)
-    (all_reverse (λ (entry : Entry). entry.actor < 8) before (λ k d less. let one = all k d less in
-    omega (arith, one, few)))
 
 pub takes_in : (before now : Standing) (opened entries : List Entry) (phase : List Statement) (lists : List (List Done))
     (old new : Option Order) (version : ℕ)
@@ -106,10 +86,8 @@ takes_in before now opened entries phase lists old new version law run b is_old 
     let history : List Entry = entries_of old before.entries in
     let front = front_is before.entries now.entries opened entries b is_old is in
     let all : entries_of new now.entries ≡ placed (version_of before.setup before.entries) later lists history =
-    ap (entries_of new) (sym (back_is now.entries entries is))
-    ∙ (placed_is ∙ (λ t. placed (version_is t) later lists (entries_of old (front t)))) in
-    let there = subst (IsPlaced before.setup before.entries later phase history) (sym all)
-    (law before.setup before.entries later phase lists history run legal same) in
+    rw (back_is now.entries entries is, version_is, front) at placed_is in
+    let there = rw (← all) at (law before.setup before.entries later phase lists history run legal same) in
     record {
       legal = there.legal;
       same = there.bus ∙ ap bare (whole_is before.entries now.entries opened entries b is_old is);
@@ -143,12 +121,8 @@ pub all_in_place : (setup : Setup) (phase : List Statement) (earlier : List (Lis
     → AreAllInPlace setup earlier history
     → AreAllInPlace setup (phase ∷ earlier) all
 all_in_place setup phase earlier added history all is size places before =
-    let front : take (length phase) all ≡ added =
-    ap (take (length phase)) is
-    ∙ (ap (λ (n : ℕ). take n (added ++ history)) (sym size) ∙ take-append_seam added history) in
-    let back : drop (length phase) all ≡ history =
-    ap (drop (length phase)) is
-    ∙ (ap (λ (n : ℕ). drop n (added ++ history)) (sym size) ∙ drop-append_seam added history) in
+    let front : take (length phase) all ≡ added = rw (is, ← size) (take-append_seam added history) in
+    let back : drop (length phase) all ≡ history = rw (is, ← size) (drop-append_seam added history) in
     rw (front, back) (places, before)
 
 pub statements_more : (done : List Phase) (phase : Phase)
@@ -174,6 +148,4 @@ few_so_far phases i phase less is =
     ap (λ (rest : List Phase). take i phases ++ rest) (ap (λ (p : Phase). p ∷ drop (i + 1) phases) is
     ∙ sym (drop_more phases i phase less))
     ∙ take-append-drop i phases in
-    subst (λ (ps : List Phase). length (flat_map in_phase (take i phases)) + length phase.items ≤ length
-    (flat_map in_phase ps)) cut
-    (statements_within (take i phases) phase (drop (i + 1) phases))
+    rw cut at (statements_within (take i phases) phase (drop (i + 1) phases))

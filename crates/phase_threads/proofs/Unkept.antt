@@ -1,6 +1,6 @@
 -- A phase of which what was done is not kept, since none of it is a look.
 use Rattle.std.proofs.Common.{◌≡◌, ℕ, zero, suc, ◌+◌, ◌<◌, ◌≤◌, ◌==◌, true, false, List, [], ◌∷◌, ◌++◌, length, map}
-use Rattle.std.proofs.Common.{take, get_or, set, All, slice_index_or, inl, inr, refl, sym, ◌∙◌, ap, subst, arith}
+use Rattle.std.proofs.Common.{take, get_or, set, All, slice_index_or, inl, inr, refl, sym, ◌∙◌, ap, arith}
 use Rattle.std.proofs.Common.{reverse}
 use Rattle.board_prelude.proofs.Common.{cases_Bool, nat_tests, get_or-map, get_or-set_at, get_or-set_other, length-map}
 use Rattle.board_prelude.proofs.Common.{length-reverse, length-set, map-append, reverse-append, reverse-reverse}
@@ -10,8 +10,8 @@ use Rattle.std.proofs.lemmas.List.Elements.{All-map, All-set}
 use Rattle.board_core.specs.Kept.{Standing}
 use Rattle.run_order.specs.declared.done.Done.{Done}
 use Rattle.run_order.specs.declared.done.Done.TheVariants.{Went, Looked}
-use Rattle.run_order.specs.Common.{event_of, is_look, with_all_looks, all_left, done_by, without_first, passed, noted}
-use Rattle.run_order.specs.Common.{placed, IsNotDue, IsSettled, IsDone, IsWork, Begins}
+use Rattle.run_order.specs.Common.{event_of, is_look, done_by, without_first, passed, noted}
+use Rattle.run_order.specs.Common.{placed, IsNotDue, IsSettled, IsDone, Begins}
 use Rattle.run_order.proofs.Settled.{settled_placed, settled_left, settled_more}
 use Rattle.run_order.proofs.Common.{all_reverse}
 use Rattle.phase_work.specs.declared.worker.Work.{Work}
@@ -20,8 +20,8 @@ use Rattle.phase_threads.specs.Others.{others}
 use Rattle.phase_threads.specs.Jobs.{HasRun, done_in}
 use Rattle.phase_threads.specs.Unseen.{HasAdded, HasRunSo, HasStepped}
 use Rattle.phase_threads.proofs.Numbers.{map_reverse}
-use Rattle.phase_threads.proofs.OneActs.{listed_at, others_same, no_events, active, idle, theirs, is_number, is_other}
-use Rattle.phase_threads.proofs.OneActs.{has_grown}
+use Rattle.phase_threads.proofs.OneActs.{listed_at, others_same, one_acted}
+use Rattle.phase_threads.proofs.OneActs.{has_grown, gone_alone}
 
 -- ---- lists without looks
 
@@ -68,28 +68,22 @@ plain_same : (version other : ℕ) (later : List Entry) (rests lists : List (Lis
     → placed version later rests history ≡ placed other later lists history
 unfolding placed
 plain_same version other [] rests lists history one two =
-    settled_placed version 0 rests history (settled version rests one) ∙ sym (settled_placed other 0 lists history
-    (settled other lists two))
+    settled_placed version 0 rests history (settled version rests one)
+    ∙ sym (settled_placed other 0 lists history (settled other lists two))
 plain_same version other (entry ∷ later) rests lists history one two =
-    let next : List Entry → List Entry = λ h. next_entry h entry.actor entry.event entry.reply ∷ h in
-    let before : with_all_looks version 0 rests history ≡ history = settled_placed version 0 rests history (settled
-    version rests one) in
-    let left : all_left version rests ≡ rests = settled_left version rests (settled version rests one) in
-    let before' : with_all_looks other 0 lists history ≡ history = settled_placed other 0 lists history (settled other
-    lists two) in
-    let left' : all_left other lists ≡ lists = settled_left other lists (settled other lists two) in
-    (λ t. placed (noted version (done_by 0 entry.actor (left t))) later (passed 0 entry.actor (left t)) (next (before
-    t)))
-    ∙ (plain_same (noted version (done_by 0 entry.actor rests)) (noted other (done_by 0 entry.actor lists)) later
-    (passed 0 entry.actor rests) (passed 0 entry.actor lists) (next history) (plain_passed 0 entry.actor rests one)
-    (plain_passed 0 entry.actor lists two)
-    ∙ sym (λ t. placed (noted other (done_by 0 entry.actor (left' t))) later (passed 0 entry.actor (left' t)) (next
-    (before' t))))
+    let before = settled_placed version 0 rests history (settled version rests one) in
+    let left = settled_left version rests (settled version rests one) in
+    let before' = settled_placed other 0 lists history (settled other lists two) in
+    let left' = settled_left other lists (settled other lists two) in
+    rw (before, left, before', left')
+    (plain_same (noted version (done_by 0 entry.actor rests)) (noted other (done_by 0 entry.actor lists)) later
+    (passed 0 entry.actor rests) (passed 0 entry.actor lists)
+    (next_entry history entry.actor entry.event entry.reply ∷ history) (plain_passed 0 entry.actor rests one)
+    (plain_passed 0 entry.actor lists two))
 
 empty_is_plain : (works : List Work) → All (λ work. work.done.items ≡ []) works → ArePlain (done_in works)
 empty_is_plain works empty =
-    All-map AreWent (λ (work : Work). work.done.items) works (λ k d less. subst AreWent (sym (empty k d less))
-    (All-nil IsWent))
+    All-map AreWent (λ (work : Work). work.done.items) works (λ k d less. rw (empty k d less) (All-nil IsWent))
 
 -- ---- what was done, as the history tells it, the newest first
 
@@ -118,17 +112,7 @@ dones_trace setup number opened [] own plain = (refl, refl)
 dones_trace setup number opened (entry ∷ before) own plain = (
   before ++ opened,
   map_writes_of setup (before ++ opened),
-  record {
-    list = before ++ opened;
-    entry = entry;
-    begins = ([], refl);
-    mine = refl;
-    meets = ([], refl);
-    own = All-head (λ (e : Entry). e.actor ≡ number) entry before own;
-    said = refl;
-    now_is = refl;
-    known_is = refl;
-  },
+  gone_alone setup number entry (before ++ opened) (All-head (λ (e : Entry). e.actor ≡ number) entry before own),
   refl,
   All-head (λ (e : Entry). is_look e.event ≡ false) entry before plain,
   dones_trace setup number opened before (All-tail (λ (e : Entry). e.actor ≡ number) entry before own)
@@ -141,8 +125,7 @@ own_events number [] all = refl
 own_events number (statement ∷ phase) all =
     let own = All-head (λ (s : Statement). s.actor ≡ number) statement phase all in
     let is : (statement.actor == number) ≡ true = grind (arith, nat_tests) in
-    rw is (ap (λ (events : List Event). statement.event ∷ events) (own_events number phase (All-tail (λ (s :
-    Statement). s.actor ≡ number) statement phase all)))
+    rw (is, own_events number phase (All-tail (λ (s : Statement). s.actor ≡ number) statement phase all)) refl
 
 -- ---- entries of one processor after a history
 
@@ -166,13 +149,9 @@ added_count : (number : ℕ) (phase : List Statement) (before now : Standing) (a
     → length a.more ≡ length phase
 added_count number phase before now a =
     let all = ap length a.said in
-    omega (
-      arith,
-      all,
-      length-reverse (map (λ (entry : Entry). entry.event) a.more),
-      length-map a.more (λ (entry : Entry). entry.event),
-      length-map phase (λ (statement : Statement). statement.event),
-    )
+    let turned = length-reverse (map (λ (entry : Entry). entry.event) a.more) in
+    let more = length-map a.more (λ (entry : Entry). entry.event) in
+    omega (arith, all, turned, more, length-map phase (λ (statement : Statement). statement.event))
 
 -- ---- the phase
 
@@ -195,13 +174,8 @@ has_done : (number : ℕ) (phase : List Statement) (before now : Standing) (a : 
 has_done number phase before now a only =
     let done : List Done = dones before.setup before.entries a.more in
     record {
-      trace =
-          subst (λ (list : List Done). IsDone before.setup number before.entries list now.entries (map_writes_of
-          before.setup now.entries))
-          (sym (reverse-reverse done))
-          (subst (λ (h : List Entry). IsDone before.setup number before.entries done h (map_writes_of before.setup h))
-          (sym a.grows)
-          (dones_trace before.setup number before.entries a.more a.own a.plain));
+      trace = rw (reverse-reverse done, a.grows)
+          (dones_trace before.setup number before.entries a.more a.own a.plain);
       said = map_reverse event_of done ∙ (ap reverse (dones_events before.setup before.entries a.more) ∙ (a.said ∙ sym
           (own_events number phase only)));
     }
@@ -224,41 +198,22 @@ plain_has_run number before now phase old new within empty only stepped =
     let begins : Begins before.entries now.entries = (a.more, a.grows) in
     let size : length (done_in old) ≡ length old = length-map old (λ (work : Work). work.done.items) in
     let lists : List (List Done) = set (done_in old) number done in
+    let count : length lists ≡ length (done_in old) = length-set (done_in old) number done in
     let plain : ArePlain (done_in old) = empty_is_plain old empty in
     record {
       setup = a.setup;
       begins = begins;
       lists = lists;
-      count = length-set (done_in old) number done ∙ (size ∙ sym stepped.grown.count);
-      each = λ actor less. elim (cases_Bool (actor == number)) [
-        | inl own ↦
-            let is : done_by 0 number lists ≡ done =
-            listed_at lists number ∙ get_or-set_at (done_in old) number number done [] refl (omega (
-              arith,
-              size,
-              within,
-            )) in
-            subst (λ (k : ℕ). IsWork before.setup before.entries now.entries phase k (done_by 0 k lists)) (sym
-            (is_number actor number own))
-            (subst (IsWork before.setup before.entries now.entries phase number) (sym is)
-            (active before.setup before.entries now.entries phase number done (map_writes_of before.setup now.entries)
-            has refl))
-        | inr other ↦
-            let unlike = is_other actor number other in
-            let few : actor < length old = omega (arith, less, stepped.grown.count) in
-            let none : done_by 0 actor lists ≡ [] =
-            listed_at lists actor ∙ (get_or-set_other (done_in old) number actor done [] unlike
-            ∙ nothing_at old actor few empty) in
-            subst (IsWork before.setup before.entries now.entries phase actor) (sym none)
-            (idle before.setup before.entries now.entries phase actor begins (no_events number actor unlike phase only)
-            (theirs number actor before.entries now.entries unlike stepped.grown.others))
-      ];
-      same = λ version later history.
-          ap (λ (rests : List (List Done)). placed version later rests history) stepped.kept
-          ∙ plain_same version version later (done_in old) lists history plain
-          (All-set AreWent (done_in old) number done
-          (all_reverse IsWent (dones before.setup before.entries a.more) (dones_went before.setup before.entries
-          a.more)) plain);
+      count = count ∙ (size ∙ sym stepped.grown.count);
+      each = λ actor less. one_acted before.setup before.entries now.entries phase number lists done
+          (map_writes_of before.setup now.entries) begins only stepped.grown.others has refl
+          (listed_at lists number ∙ get_or-set_at (done_in old) number number done [] refl (omega (arith, size, within)))
+          (λ other unlike few. listed_at lists other ∙ (get_or-set_other (done_in old) number other done [] unlike
+          ∙ nothing_at old other (omega (arith, few, count, size)) empty)) actor
+          (omega (arith, less, count, size, stepped.grown.count));
+      same = λ version later history. rw stepped.kept (plain_same version version later (done_in old) lists history plain
+          (All-set AreWent (done_in old) number done (all_reverse IsWent (dones before.setup before.entries a.more)
+          (dones_went before.setup before.entries a.more)) plain));
     }
 
 -- ---- a step of the loop
@@ -269,8 +224,7 @@ kept_in : (old : List Work) (number : ℕ) (was work : Work) → was ≡ slice_i
 kept_in [] number was work is same = refl
 kept_in (one ∷ old) zero was work is same =
     ap (λ (done : List Done). done ∷ done_in old) (same ∙ ap (λ (w : Work). w.done.items) is)
-kept_in (one ∷ old) (suc number) was work is same =
-    ap (λ (rest : List (List Done)). one.done.items ∷ rest) (kept_in old number was work is same)
+kept_in (one ∷ old) (suc number) was work is same = rw (kept_in old number was work is same) refl
 
 pub has_stepped : (number : ℕ) (before now : Standing) (phase : List Statement) (old : List Work) (was work : Work)
     → number < length old

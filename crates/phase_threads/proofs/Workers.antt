@@ -1,9 +1,10 @@
 -- What the workers of a phase leave, put together.
 use Rattle.std.proofs.Common.{◌≡◌, ℕ, ◌+◌, ◌<◌, ◌≤◌, ◌==◌, false, List, [], ◌∷◌, map, length, All, Option, Some, refl}
-use Rattle.std.proofs.Common.{sym, ◌∙◌, ap, subst, arith, inl, inr, reverse}
+use Rattle.std.proofs.Common.{sym, ◌∙◌, ap, arith, inl, inr, reverse}
 use Rattle.board_prelude.proofs.Common.{Any, range_with_len, cases_lt, nat_tests, length-map, length-reverse, All-head}
 use Rattle.board_prelude.proofs.Common.{All-tail, Entry, Statement, MapChange, Setup, IsInRange, entries_by}
-use Rattle.board_prelude.proofs.Common.{map_writes_of, most_statements}
+use Rattle.board_prelude.proofs.Common.{most_statements}
+use Rattle.std.proofs.lemmas.Simd.{map-map}
 use Rattle.std.proofs.lemmas.List.Elements.{All-map}
 use Rattle.bus_turn.specs.Passes.{part_of}
 use Rattle.board_core.specs.Kept.{Standing}
@@ -13,13 +14,13 @@ use Rattle.shared_board.specs.declared.shared.Origin.{Origin}
 use Rattle.board_live.specs.Callers.{IsCallerOf, IsNew, AreAllOf, AreOpened, ClosesBoard, seen_of, known_of}
 use Rattle.run_order.specs.declared.done.Done.{Done}
 use Rattle.run_order.specs.declared.done.Done.TheVariants.{Went, Looked}
-use Rattle.run_order.specs.Common.{done_by, IsWork, Begins, HasMoreWrites, IsDone}
+use Rattle.run_order.specs.Common.{done_by, IsWork, Begins, IsDone}
 use Rattle.run_order.proofs.Common.{begins_trans, all_reverse, all_turned}
 use Rattle.phase_work.specs.declared.worker.Work.{Work}
 use Rattle.phase_threads.specs.declared.jobs.Job.{Job}
 use Rattle.phase_threads.specs.Jobs.{IsReadyToWork, IsRun, AreAsked, AreDue, HasRun, done_in}
 use Rattle.phase_threads.proofs.Due.{due_by_number}
-use Rattle.phase_threads.proofs.Numbers.{map_reverse, all_mapped, map_twice, same_lengths, numbered_length}
+use Rattle.phase_threads.proofs.Numbers.{map_reverse, all_mapped, same_lengths, numbered_length}
 use Rattle.phase_threads.proofs.Numbers.{numbers_below, same_numbers, by_number}
 
 abbrev cpu_in : Job → Cpu
@@ -34,81 +35,28 @@ number_in job = job.cpu.number
 abbrev number_by : Cpu → ℕ
 number_by cpu = cpu.number
 
-from_cpus : (P : Cpu → Type 0) (jobs : List Job) (cpus : List Cpu) → map cpu_in (reverse jobs) ≡ cpus → All P cpus
-    → All (λ job. P job.cpu) jobs
-from_cpus P jobs cpus e all = all_turned (λ job. P job.cpu) jobs
-    (all_mapped cpu_in P (reverse jobs) (subst (All P) (sym e) all))
+from_jobs : {X : Type 0} (f : Job → X) (P : X → Type 0) (jobs : List Job) (xs : List X) → map f (reverse jobs) ≡ xs
+    → All P xs → All (λ job. P (f job)) jobs
+from_jobs f P jobs xs e all = all_turned (λ job. P (f job)) jobs (all_mapped f P (reverse jobs) (rw e all))
 
-from_works : (P : Work → Type 0) (jobs : List Job) (works : List Work) → map work_in (reverse jobs) ≡ works
-    → All P works → All (λ job. P job.work) jobs
-from_works P jobs works e all = all_turned (λ job. P job.work) jobs
-    (all_mapped work_in P (reverse jobs) (subst (All P) (sym e) all))
-
-to_cpus : (P : Cpu → Type 0) (jobs : List Job) (cpus : List Cpu) → map cpu_in (reverse jobs) ≡ cpus
-    → All (λ job. P job.cpu) jobs → All P cpus
-to_cpus P jobs cpus e all = subst (All P) e (All-map P cpu_in (reverse jobs) (all_reverse (λ job. P job.cpu) jobs all))
-
-to_works : (P : Work → Type 0) (jobs : List Job) (works : List Work) → map work_in (reverse jobs) ≡ works
-    → All (λ job. P job.work) jobs → All P works
-to_works P jobs works e all =
-    subst (All P) e (All-map P work_in (reverse jobs) (all_reverse (λ job. P job.work) jobs all))
+to_jobs : {X : Type 0} (f : Job → X) (P : X → Type 0) (jobs : List Job) (xs : List X) → map f (reverse jobs) ≡ xs
+    → All (λ job. P (f job)) jobs → All P xs
+to_jobs f P jobs xs e all = rw e at (All-map P f (reverse jobs) (all_reverse (λ job. P (f job)) jobs all))
 
 job_numbers : (cpus1 : List Cpu) (jobs1 : List Job) (n : ℕ) → map cpu_in (reverse jobs1) ≡ cpus1
     → map number_by cpus1 ≡ range_with_len 0 n
     → map number_in (reverse jobs1) ≡ range_with_len 0 n
-job_numbers cpus1 jobs1 n are_cpus1 numbers = sym (map_twice cpu_in number_by (reverse jobs1))
+job_numbers cpus1 jobs1 n are_cpus1 numbers = sym (map-map number_by cpu_in (reverse jobs1))
     ∙ (ap (map number_by) are_cpus1 ∙ numbers)
-
-pub ready : (live : Live) (board : Standing) (n : ℕ) (cpus : List Cpu) (works : List Work) (jobs : List Job)
-    (phase : List Statement) (before : ℕ)
-    → (o : AreOpened board n live cpus) → map cpu_in (reverse jobs) ≡ cpus → map work_in (reverse jobs) ≡ works
-    → All (λ work. work.done.items ≡ []) works → AreDue phase works → All (λ work. work.asked ≤ before) works
-    → All (λ statement. IsInRange board.setup statement.event) phase
-    → ((actor : ℕ) → length (entries_by actor board.entries) ≤ before)
-    → before + length phase ≤ most_statements → All (IsReadyToWork live board (Some o.all.opened) phase before) jobs
-ready live board n cpus works jobs phase before o are_cpus are_works empty due asked in_range mine room =
-    let named : map number_in (reverse jobs) ≡ range_with_len 0 n = job_numbers cpus jobs n are_cpus o.numbers in
-    let size : length works ≡ n = sym (ap length are_works)
-    ∙ (length-map (reverse jobs) work_in ∙ numbered_length number_in (reverse jobs) n named) in
-    λ k d less. record {
-      own = from_cpus (IsCallerOf live) jobs cpus are_cpus o.all.own k d less;
-      same = from_cpus (λ cpu. part_of cpu.pass ≡ Some o.all.opened) jobs cpus are_cpus o.all.same k d less;
-      new = from_cpus (IsNew board) jobs cpus are_cpus o.new k d less;
-      in_range = in_range;
-      empty = from_works (λ work. work.done.items ≡ []) jobs works are_works empty k d less;
-      due = due_by_number jobs works phase n are_works named size due k d less;
-      mine = mine _;
-      asked = from_works (λ work. work.asked ≤ before) jobs works are_works asked k d less;
-      room = room;
-    }
 
 -- the numbers of the callers are those before
 numbers_again : (cpus cpus1 : List Cpu) (jobs jobs1 : List Job) → map cpu_in (reverse jobs) ≡ cpus
     → map cpu_in (reverse jobs1) ≡ cpus1
     → map number_in jobs1 ≡ map number_in jobs → map number_by cpus1 ≡ map number_by cpus
 numbers_again cpus cpus1 jobs jobs1 are_cpus are_cpus1 same =
-    ap (map number_by) (sym are_cpus1) ∙ (map_twice cpu_in number_by (reverse jobs1) ∙ (map_reverse number_in jobs1
+    ap (map number_by) (sym are_cpus1) ∙ (map-map number_by cpu_in (reverse jobs1) ∙ (map_reverse number_in jobs1
     ∙ (ap reverse same ∙ (sym (map_reverse number_in jobs)
-    ∙ (sym (map_twice cpu_in number_by (reverse jobs)) ∙ ap (map number_by) are_cpus)))))
-
-pub all_again : (live : Live) (board : Standing) (n : ℕ) (cpus cpus1 : List Cpu) (jobs jobs1 : List Job)
-    (phase : List Statement) (before : ℕ)
-    → (o : AreOpened board n live cpus) → map cpu_in (reverse jobs) ≡ cpus → map cpu_in (reverse jobs1) ≡ cpus1
-    → map number_in jobs1 ≡ map number_in jobs
-    → All (IsRun live board (Some o.all.opened) phase before) jobs1 → AreAllOf live cpus1
-all_again live board n cpus cpus1 jobs jobs1 phase before o are_cpus are_cpus1 same run =
-    let numbers = numbers_again cpus cpus1 jobs jobs1 are_cpus are_cpus1 same in
-    let size : length cpus1 ≡ length cpus = same_lengths number_by number_by cpus1 cpus numbers in
-    record {
-      opened = o.all.opened;
-      own = to_cpus (IsCallerOf live) jobs1 cpus1 are_cpus1 (λ k d less. (run k d less).own);
-      same = to_cpus (λ cpu. part_of cpu.pass ≡ Some o.all.opened) jobs1 cpus1 are_cpus1
-          (λ k d less. (run k d less).same);
-      count = size ∙ o.all.count;
-      some = omega (arith, size, o.all.some);
-      each = λ number less. same_numbers number_by cpus cpus1 number numbers
-          (o.all.each number (subst (λ (m : ℕ). number < m) size less));
-    }
+    ∙ (sym (map-map number_by cpu_in (reverse jobs)) ∙ ap (map number_by) are_cpus)))))
 
 pub begins_opened : (setup : Setup) (actor : ℕ) (opened : List Entry) (done : List Done) (seen : List Entry)
     (known : List MapChange)
@@ -132,8 +80,7 @@ work_of live board now part phase before job run closes fine =
       trace = (run.done fine).trace;
       closed = record {
         begins = closes.begins;
-        meets = subst (λ (setup : Setup). HasMoreWrites (known_of job.cpu) (map_writes_of setup now.entries)) same
-            closes.meets;
+        meets = rw same at closes.meets;
         mine = closes.mine;
       };
       said = (run.done fine).said;
@@ -163,68 +110,101 @@ none_by n actor (entry ∷ entries) past all =
     let not : (entry.actor == actor) ≡ false = grind (arith, nat_tests) in
     rw not (none_by n actor entries past (All-tail (λ (e : Entry). e.actor < n) entry entries all))
 
-pub has_run : (live : Live) (board now : Standing) (n : ℕ) (cpus cpus1 : List Cpu) (works1 : List Work)
-    (jobs jobs1 : List Job) (phase : List Statement) (before : ℕ)
-    → (o : AreOpened board n live cpus) → map cpu_in (reverse jobs) ≡ cpus → map cpu_in (reverse jobs1) ≡ cpus1
-    → map work_in (reverse jobs1) ≡ works1
-    → map number_in jobs1 ≡ map number_in jobs → All (IsRun live board (Some o.all.opened) phase before) jobs1
-    → All (λ job. job.refused ≡ false) jobs1
-    → All (ClosesBoard now) cpus1 → 1 ≤ n → HasRun board now phase works1
-has_run live board now n cpus cpus1 works1 jobs jobs1 phase before o are_cpus are_cpus1 are_works1 same run fine closes
-    some =
-    let numbers : map number_by cpus1 ≡ range_with_len 0 n = numbers_again cpus cpus1 jobs jobs1 are_cpus are_cpus1 same
-    ∙ o.numbers in
-    let named : map number_in (reverse jobs1) ≡ range_with_len 0 n = job_numbers cpus1 jobs1 n are_cpus1 numbers in
-    let size : length (reverse jobs1) ≡ n = numbered_length number_in (reverse jobs1) n named in
-    let many : 0 < length jobs1 = omega (arith, size, length-reverse jobs1, some) in
-    let closed = from_cpus (ClosesBoard now) jobs1 cpus1 are_cpus1 closes in
-    let whole = whole_begins live board now (Some o.all.opened) phase before jobs1 many run closed fine in
-    let W : ℕ → List Done → Type 0 = λ actor done. IsWork board.setup board.entries now.entries phase actor done in
-    let all : All (λ job. W job.cpu.number job.work.done.items) (reverse jobs1) =
-    all_reverse (λ job. W job.cpu.number job.work.done.items) jobs1
-    (λ k d less. work_of live board now (Some o.all.opened) phase before _ (run k d less) (closed k d less)
-    (fine k d less)) in
-    let listed : length works1 ≡ n = ap length (sym are_works1) ∙ (length-map (reverse jobs1) work_in ∙ size) in
-    record {
-      setup = whole.0;
-      begins = whole.1;
-      each = λ actor less. subst (λ (ws : List Work). W actor (done_by 0 actor (done_in ws))) are_works1
-          (by_number W (reverse jobs1) 0 all (subst (λ (m : ℕ). map number_in (reverse jobs1) ≡ range_with_len 0 m)
-          (sym size) named) actor (omega arith)
-          (omega (arith, less, listed, size)));
-    }
+-- the jobs of the callers of a board that was just opened
+module _ (live : Live) (board : Standing) (n : ℕ) (cpus : List Cpu) (jobs : List Job) (phase : List Statement)
+    (before : ℕ) (o : AreOpened board n live cpus) (are_cpus : map cpu_in (reverse jobs) ≡ cpus) where
+  pub ready : (works : List Work) → map work_in (reverse jobs) ≡ works → All (λ work. work.done.items ≡ []) works
+      → AreDue phase works → All (λ work. work.asked ≤ before) works
+      → All (λ statement. IsInRange board.setup statement.event) phase
+      → ((actor : ℕ) → length (entries_by actor board.entries) ≤ before)
+      → before + length phase ≤ most_statements → All (IsReadyToWork live board (Some o.all.opened) phase before) jobs
+  ready works are_works empty due asked in_range mine room k d less =
+      let named : map number_in (reverse jobs) ≡ range_with_len 0 n = job_numbers cpus jobs n are_cpus o.numbers in
+      let size : length works ≡ n = sym (ap length are_works)
+      ∙ (length-map (reverse jobs) work_in ∙ numbered_length number_in (reverse jobs) n named) in
+      record {
+        own = from_jobs cpu_in (IsCallerOf live) jobs cpus are_cpus o.all.own k d less;
+        same = from_jobs cpu_in (λ cpu. part_of cpu.pass ≡ Some o.all.opened) jobs cpus are_cpus o.all.same k d less;
+        new = from_jobs cpu_in (IsNew board) jobs cpus are_cpus o.new k d less;
+        in_range = in_range;
+        empty = from_jobs work_in (λ work. work.done.items ≡ []) jobs works are_works empty k d less;
+        due = due_by_number jobs works phase n are_works named size due k d less;
+        mine = mine _;
+        asked = from_jobs work_in (λ work. work.asked ≤ before) jobs works are_works asked k d less;
+        room = room;
+      }
 
-pub are_asked : (live : Live) (board now : Standing) (n : ℕ) (cpus cpus1 : List Cpu) (works1 : List Work)
-    (jobs jobs1 : List Job) (phase : List Statement) (before : ℕ)
-    → (o : AreOpened board n live cpus) → map cpu_in (reverse jobs) ≡ cpus → map cpu_in (reverse jobs1) ≡ cpus1
-    → map work_in (reverse jobs1) ≡ works1
-    → map number_in jobs1 ≡ map number_in jobs → All (IsRun live board (Some o.all.opened) phase before) jobs1
-    → All (λ job. job.refused ≡ false) jobs1
-    → All (ClosesBoard now) cpus1 → All (λ entry. Any (λ cpu. cpu.number ≡ entry.actor) cpus1) now.entries
-    → AreAsked (before + length phase) now.entries works1
-are_asked live board now n cpus cpus1 works1 jobs jobs1 phase before o are_cpus are_cpus1 are_works1 same run fine
-    closes callers =
-    let numbers : map number_by cpus1 ≡ range_with_len 0 n = numbers_again cpus cpus1 jobs jobs1 are_cpus are_cpus1 same
-    ∙ o.numbers in
-    let named : map number_in (reverse jobs1) ≡ range_with_len 0 n = job_numbers cpus1 jobs1 n are_cpus1 numbers in
-    let size : length (reverse jobs1) ≡ n = numbered_length number_in (reverse jobs1) n named in
-    let closed = from_cpus (ClosesBoard now) jobs1 cpus1 are_cpus1 closes in
-    let listed : length works1 ≡ n = ap length (sym are_works1) ∙ (length-map (reverse jobs1) work_in ∙ size) in
-    let actors : All (λ entry. entry.actor < n) now.entries = λ k d less. numbers_below number_by cpus1 n _ numbers
-    (callers k d less) in
-    let W : ℕ → List Done → Type 0 = λ actor done. length (entries_by actor now.entries) ≤ before + length phase in
-    let all : All (λ job. W job.cpu.number job.work.done.items) (reverse jobs1) =
-    all_reverse (λ job. W job.cpu.number job.work.done.items) jobs1
-    (λ k d less. subst (λ (own : List Entry). length own ≤ before + length phase) (sym (closed k d less).mine)
-    ((run k d less).mine (fine k d less))) in
-    record {
-      actors = subst (λ (m : ℕ). All (λ entry. entry.actor < m) now.entries) (sym listed) actors;
-      mine = λ actor. elim (cases_lt actor n) [
-        | inl few ↦ by_number W (reverse jobs1) 0 all
-            (subst (λ (m : ℕ). map number_in (reverse jobs1) ≡ range_with_len 0 m) (sym size) named) actor (omega arith)
-            (omega (arith, few, size))
-        | inr past ↦ omega (arith, none_by n actor now.entries (omega (arith, past)) actors)
-      ];
-      asked = to_works (λ work. work.asked ≤ before + length phase) jobs1 works1 are_works1
-          (λ k d less. (run k d less).asked);
-    }
+  -- the same jobs when the workers have ended
+  module _ (cpus1 : List Cpu) (jobs1 : List Job) (are_cpus1 : map cpu_in (reverse jobs1) ≡ cpus1)
+      (same : map number_in jobs1 ≡ map number_in jobs)
+      (run : All (IsRun live board (Some o.all.opened) phase before) jobs1) where
+    again : map number_by cpus1 ≡ map number_by cpus
+    again = numbers_again cpus cpus1 jobs jobs1 are_cpus are_cpus1 same
+
+    named_again : map number_in (reverse jobs1) ≡ range_with_len 0 n
+    named_again = job_numbers cpus1 jobs1 n are_cpus1 (again ∙ o.numbers)
+
+    size_again : length (reverse jobs1) ≡ n
+    size_again = numbered_length number_in (reverse jobs1) n named_again
+
+    pub all_again : AreAllOf live cpus1
+    all_again =
+        let size : length cpus1 ≡ length cpus = same_lengths number_by number_by cpus1 cpus again in
+        record {
+          opened = o.all.opened;
+          own = to_jobs cpu_in (IsCallerOf live) jobs1 cpus1 are_cpus1 (λ k d less. (run k d less).own);
+          same = to_jobs cpu_in (λ cpu. part_of cpu.pass ≡ Some o.all.opened) jobs1 cpus1 are_cpus1
+              (λ k d less. (run k d less).same);
+          count = size ∙ o.all.count;
+          some = omega (arith, size, o.all.some);
+          each = λ number less. same_numbers number_by cpus cpus1 number again (o.all.each number (rw size at less));
+        }
+
+    -- what holds of each job's processor holds by processor
+    by_processor : (W : ℕ → List Done → Type 0) → All (λ job. W job.cpu.number job.work.done.items) jobs1
+        → (works1 : List Work) → map work_in (reverse jobs1) ≡ works1 → (actor : ℕ) → actor < n
+        → W actor (done_by 0 actor (done_in works1))
+    by_processor W all works1 are_works1 actor less =
+        let named : map number_in (reverse jobs1) ≡ range_with_len 0 (length (reverse jobs1)) =
+        rw size_again named_again in
+        rw are_works1 at (by_number W (reverse jobs1) 0
+        (all_reverse (λ job. W job.cpu.number job.work.done.items) jobs1 all) named actor (omega arith)
+        (omega (arith, less, size_again)))
+
+    module _ (now : Standing) (works1 : List Work) (are_works1 : map work_in (reverse jobs1) ≡ works1)
+        (fine : All (λ job. job.refused ≡ false) jobs1) (closes : All (ClosesBoard now) cpus1) where
+      listed : length works1 ≡ n
+      listed = sym (ap length are_works1) ∙ (length-map (reverse jobs1) work_in ∙ size_again)
+
+      closed : All (λ job. ClosesBoard now job.cpu) jobs1
+      closed = from_jobs cpu_in (ClosesBoard now) jobs1 cpus1 are_cpus1 closes
+
+      pub has_run : 1 ≤ n → HasRun board now phase works1
+      has_run some =
+          let many : 0 < length jobs1 = omega (arith, size_again, length-reverse jobs1, some) in
+          let whole = whole_begins live board now (Some o.all.opened) phase before jobs1 many run closed fine in
+          record {
+            setup = whole.0;
+            begins = whole.1;
+            each = λ actor less. by_processor
+                (λ actor done. IsWork board.setup board.entries now.entries phase actor done)
+                (λ k d less. work_of live board now (Some o.all.opened) phase before _ (run k d less) (closed k d less)
+                (fine k d less)) works1 are_works1 actor (omega (arith, less, listed));
+          }
+
+      pub are_asked : All (λ entry. Any (λ cpu. cpu.number ≡ entry.actor) cpus1) now.entries
+          → AreAsked (before + length phase) now.entries works1
+      are_asked callers =
+          let actors : All (λ entry. entry.actor < n) now.entries =
+          λ k d less. numbers_below number_by cpus1 n _ (again ∙ o.numbers) (callers k d less) in
+          record {
+            actors = rw listed actors;
+            mine = λ actor. elim (cases_lt actor n) [
+              | inl few ↦ by_processor (λ actor done. length (entries_by actor now.entries) ≤ before + length phase)
+                  (λ k d less. rw (closed k d less).mine ((run k d less).mine (fine k d less))) works1 are_works1 actor
+                  few
+              | inr past ↦ omega (arith, none_by n actor now.entries (omega (arith, past)) actors)
+            ];
+            asked = to_jobs work_in (λ work. work.asked ≤ before + length phase) jobs1 works1 are_works1
+                (λ k d less. (run k d less).asked);
+          }

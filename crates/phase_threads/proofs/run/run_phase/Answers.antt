@@ -1,97 +1,78 @@
-use Rattle.std.proofs.Common.{◌≡◌, ℕ, ◌<◌, ◌≤◌, List, Bor, map, take, drop, length, All, sym, ◌∙◌, ap, subst, reverse}
+use Rattle.std.proofs.Common.{◌≡◌, ◌+◌, ◌<◌, List, Bor, map, take, length, sym, ◌∙◌, ap, reverse}
 use Rattle.access_history.specs.Past.{Past}
-use Rattle.board_prelude.proofs.Common.{Entry, Statement, version_of, IsLegal, length-map}
+use Rattle.board_prelude.proofs.Common.{Entry, version_of, length-map}
 use Rattle.run_order.specs.declared.done.Done.{Done}
-use Rattle.run_order.specs.Common.{placed}
 use Rattle.phase_work.specs.declared.worker.Work.{Work}
-use Rattle.phase_threads.specs.Common.{IsStatement, GrowsBy, done_in, IsUpTo, entries_of}
-use Rattle.phase_threads.specs.Unseen.{HasRunSo}
+use Rattle.phase_threads.specs.Common.{AreAsked, GrowsBy, done_in, entries_of}
 use Rattle.phase_threads.proofs.Phases.{gained, gained_all, gained_within, front_is, front_all, back_is, phase_is_run}
 use Rattle.phase_threads.proofs.Phases.{takes_in}
+use Rattle.phase_threads.proofs.run.run_phase.Given.{Over}
+use Rattle.phase_threads.proofs.run.run_phase.Goals.{After-works_of}
 use Rattle.phase_threads.proofs.run.run_phase.Goals as goal
+
+-- the board's history before the phase and after it, the oldest first
+old_is : (g : Over) (c : After-works_of g) → c.entries.result ≡ reverse c.args.run.board.entries
+old_is g c = c.entries.ensures.entries ∙ ap (λ (past : Past). reverse past.entries) c.history.ensures.history
+
+now_is : (g : Over) (c : After-works_of g) → c.entries-entries.result ≡ reverse c.in_ok-run.run'.board.entries
+now_is g c =
+    c.entries-entries.ensures.entries ∙ ap (λ (past : Past). reverse past.entries) c.history-2.ensures.history
+
+-- what was done, as it is handed on
+are_done : (g : Over) (c : After-works_of g)
+    → map (λ (done : Bor (List Done)). done.now) c.works_of.result.items ≡ done_in c.in_ok-run.run'.works.items
+are_done g c = c.works_of.ensures.done ∙ ap done_in c.deref-2.ensures.value
+
+grows : (g : Over) (c : After-works_of g) → GrowsBy c.args.phase.items c.args.run c.in_ok-run.run'
+grows g c = rw c.deref.ensures.value at c.in_ok-run.ensures.goes_on
+
+asked : (g : Over) (c : After-works_of g) → AreAsked (c.requires.can.most + length c.args.phase.items)
+    c.in_ok-run.run'.board.entries c.in_ok-run.run'.works.items
+asked g c = (grows g c).asked c.requires.can.most c.requires.can.asked c.requires.can.room
 
 pub add-requires : goal.add-requires
 add-requires g c =
-    let before = c.args.run.board in
-    let now = c.in_ok-run.run'.board in
+    let at = (goal.at.add-requires g c).After-works_of in
+    let before = c.args.run.board in let now = c.in_ok-run.run'.board in
     let works : List Work = c.in_ok-run.run'.works.items in
-    let opened : List Entry = c.entries.result in
-    let entries : List Entry = c.entries-entries.result in
-    let old : opened ≡ reverse before.entries = c.entries.ensures.entries
-    ∙ ap (λ (past : Past). reverse past.entries) c.history.ensures.history in
-    let is : entries ≡ reverse now.entries = c.entries-entries.ensures.entries
-    ∙ ap (λ (past : Past). reverse past.entries) c.history-2.ensures.history in
-    let are : map (λ (done : Bor (List Done)). done.now) c.works_of.result.items ≡ done_in works =
-    c.works_of.ensures.done ∙ ap done_in c.deref-2.ensures.value in
-    let goes_on = subst (λ (phase : List Statement). GrowsBy phase c.args.run c.in_ok-run.run') c.deref.ensures.value
-    c.in_ok-run.ensures.goes_on in
-    let asked = goes_on.asked c.requires.can.most c.requires.can.asked c.requires.can.room in
+    let opened : List Entry = c.entries.result in let entries : List Entry = c.entries-entries.result in
+    let old = old_is g at in let is = now_is g at in
     let count : length c.works_of.result.items ≡ length works =
     sym (length-map c.works_of.result.items (λ (done : Bor (List Done)). done.now))
-    ∙ (ap length are ∙ length-map works (λ (work : Work). work.done.items)) in
-    let begins = c.in_ok-run.ensures.run.begins in
-    let size : length opened ≡ c.len-opened.result = sym c.len-opened.ensures.length in
+    ∙ (ap length (are_done g at) ∙ length-map works (λ (work : Work). work.done.items)) in
+    let begins = c.in_ok-run.ensures.run.begins in let size = c.len-opened.ensures.length in
     record {
-      legal = (now.setup, subst (IsLegal now.setup) (sym (back_is now.entries entries is)) c.history-2.ensures.legal);
-      gained = subst (λ (n : ℕ). n ≤ length entries) size
-          (gained_within before.entries now.entries opened entries begins old is);
-      up_to = subst (λ (n : ℕ). IsUpTo c.args.placing.now.order (reverse (take n entries))) size
-          (subst (IsUpTo c.args.placing.now.order)
-          (sym (front_is before.entries now.entries opened entries begins old is)) c.requires.up_to);
-      earlier = subst (λ (n : ℕ). All (λ (entry : Entry). entry.actor < 8) (take n entries)) size
-          (front_all (length c.args.run.works.items) before.entries now.entries opened entries begins old is
-          c.requires.can.few c.requires.can.asked.actors);
-      callers = subst (λ (n : ℕ). All (λ (entry : Entry). entry.actor < length c.works_of.result.items)
-          (drop n entries)) size
-          (subst (λ (n : ℕ). All (λ (entry : Entry). entry.actor < n) (gained opened entries)) (sym count)
-          (gained_all (λ (entry : Entry). entry.actor < length works) now.entries opened entries is asked.actors));
+      legal = (now.setup, rw (back_is now.entries entries is) c.history-2.ensures.legal);
+      gained = rw size (gained_within before.entries now.entries opened entries begins old is);
+      up_to = rw (size, front_is before.entries now.entries opened entries begins old is) c.requires.up_to;
+      earlier = rw size (front_all before.entries now.entries opened entries begins old is
+          (length c.args.run.works.items) c.requires.can.few c.requires.can.asked.actors);
+      callers = rw (size, count) (gained_all (λ (entry : Entry). entry.actor < length works) now.entries opened entries
+          is (asked g at).actors);
     }
 
 pub returns-clause-goes_on : goal.returns-clause-goes_on
-returns-clause-goes_on g c = subst (λ (phase : List Statement). GrowsBy phase c.args.run c.in_ok-run.run')
-    c.deref.ensures.value c.in_ok-run.ensures.goes_on
+returns-clause-goes_on g c = grows g (goal.at.returns-clause-goes_on g c).After-works_of
 
 pub returns-clause-takes_in : goal.returns-clause-takes_in
 returns-clause-takes_in g c =
-    let before = c.args.run.board in
-    let now = c.in_ok-run.run'.board in
-    let works : List Work = c.in_ok-run.run'.works.items in
-    let opened : List Entry = c.entries.result in
-    let entries : List Entry = c.entries-entries.result in
-    let lists : List (List Done) = map (λ (done : Bor (List Done)). done.now) c.works_of.result.items in
-    let old : opened ≡ reverse before.entries = c.entries.ensures.entries
-    ∙ ap (λ (past : Past). reverse past.entries) c.history.ensures.history in
-    let is : entries ≡ reverse now.entries = c.entries-entries.ensures.entries
-    ∙ ap (λ (past : Past). reverse past.entries) c.history-2.ensures.history in
-    let are : lists ≡ done_in works = c.works_of.ensures.done ∙ ap done_in c.deref-2.ensures.value in
-    let goes_on = subst (λ (phase : List Statement). GrowsBy phase c.args.run c.in_ok-run.run') c.deref.ensures.value
-    c.in_ok-run.ensures.goes_on in
-    let asked = goes_on.asked c.requires.can.most c.requires.can.asked c.requires.can.room in
-    let count : length c.args.run.works.items ≡ length works = sym goes_on.count in
-    let ran = subst (λ (phase : List Statement). HasRunSo before now phase works) c.deref.ensures.value
-    c.in_ok-run.ensures.run in
-    let speakers = subst (λ (n : ℕ). All (IsStatement before.setup n) c.args.phase.items) count
-    c.requires.can.in_range in
-    let run = phase_is_run before now opened entries c.args.phase.items works ran old is c.requires.cards
-    c.history-2.ensures.legal asked.actors speakers in
+    let at = (goal.at.returns-clause-takes_in g c).After-works_of in
+    let before = c.args.run.board in let now = c.in_ok-run.run'.board in
+    let opened : List Entry = c.entries.result in let entries : List Entry = c.entries-entries.result in
+    let ran = rw c.deref.ensures.value at c.in_ok-run.ensures.run in
+    let run = phase_is_run before now opened entries c.args.phase.items c.in_ok-run.run'.works.items ran (old_is g at)
+    (now_is g at) c.requires.cards c.history-2.ensures.legal (asked g at).actors
+    (rw (grows g at).count c.requires.can.in_range) in
     let version : c.version-version.result ≡ version_of before.setup before.entries = c.version-version.ensures.version
     ∙ c.map.ensures.version in
-    let added = subst (λ (n : ℕ). entries_of c.add.new.self.order (reverse entries) ≡ placed c.version-version.result
-    (drop n entries) lists
-    (entries_of c.args.placing.now.order (reverse (take n entries)))) c.len-opened.ensures.length
-    c.in_ok-add.ensures.placed in
+    let added = rw (c.len-opened.ensures.length, are_done g at) at c.in_ok-add.ensures.placed in
     let history : List Entry = entries_of c.args.placing.now.order (reverse (take (length opened) entries)) in
-    let same = ap (λ (ls : List (List Done)). placed c.version-version.result (gained opened entries) ls history) are
-    ∙ ran.same c.version-version.result (gained opened entries) history in
     takes_in before now opened entries c.args.phase.items ran.lists c.args.placing.now.order c.add.new.self.order
-    c.version-version.result
-    c.law_phase_runs.ensures.runs run c.in_ok-run.ensures.run.begins old is version c.requires.legal c.requires.same
-    (added ∙ same)
+    c.version-version.result c.law_phase_runs.ensures.runs run c.in_ok-run.ensures.run.begins (old_is g at)
+    (now_is g at) version c.requires.legal c.requires.same
+    (added ∙ ran.same c.version-version.result (gained opened entries) history)
 
 pub returns-clause-up_to : goal.returns-clause-up_to
 returns-clause-up_to g c =
-    let now = c.in_ok-run.run'.board in
-    let entries : List Entry = c.entries-entries.result in
-    let is : entries ≡ reverse now.entries = c.entries-entries.ensures.entries
-    ∙ ap (λ (past : Past). reverse past.entries) c.history-2.ensures.history in
-    subst (IsUpTo c.add.new.self.order) (back_is now.entries entries is) c.in_ok-add.ensures.up_to
+    let is = now_is g (goal.at.returns-clause-up_to g c).After-works_of in
+    rw (back_is c.in_ok-run.run'.board.entries c.entries-entries.result is) at c.in_ok-add.ensures.up_to

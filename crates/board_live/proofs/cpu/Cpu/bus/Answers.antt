@@ -1,24 +1,26 @@
-use Rattle.std.proofs.Common.{rules, ◌≡◌, ◌<◌, ◌∷◌, [], ◌++◌, List, drop, reverse, length, sym, ap, ◌∙◌, subst, refl}
-use Rattle.board_prelude.proofs.Common.{reverse-append, reverse-reverse, Entry, Setup, IsAnswer, entries_by, next_entry}
+use Rattle.std.proofs.Common.{rules, ◌≡◌, ◌∷◌, [], ◌++◌, List, drop, reverse, length, sym, ap, ◌∙◌, refl}
+use Rattle.board_prelude.proofs.Common.{reverse-append, reverse-reverse, Entry, IsAnswer, entries_by, next_entry}
 use Rattle.board_prelude.proofs.Common.{map_writes_of}
-use mathlib.Core.List.{IsPrefix}
 use Rattle.bus_turn.specs.Common.{opened_of as opened_by, seen_of as seen_in, mine_of as mine_in}
-use Rattle.bus_turn.specs.Common.{IsSameCaller as IsSamePass, own_by}
+use Rattle.bus_turn.specs.Common.{IsSameCaller as IsSamePass}
 use Rattle.bus_turn.proofs.Rows.{prefix_trans}
-use Rattle.map_publish.specs.declared.mark.Mark.{Mark}
 use Rattle.map_publish.specs.Lists.{opened_of}
-use Rattle.board_live.specs.Common.{known_after, most_each, IsSameBoard, setup_in, opened_in}
+use Rattle.board_live.specs.Common.{known_after, IsSameBoard, setup_in, opened_in}
 use Rattle.board_live.proofs.Turns.{Finds, finds, known_left, passed_again, opens_again, own_pushed, own_first}
 use Rattle.board_live.proofs.Turns.{passed_idly, HasLearnt, has_learnt}
+use Rattle.board_live.proofs.cpu.Cpu.bus.Given.{Over}
+use Rattle.board_live.proofs.cpu.Cpu.bus.Goals.{After-enter-held}
 use Rattle.board_live.proofs.cpu.Cpu.bus.Goals as goal
+
+-- the shared board as the caller finds it
+found : (g : Over) (c : After-enter-held g) → Finds c.args.self.now c.enter-held.result.value
+found g c =
+    let e = c.enter-held.ensures in
+    finds c.args.self.now c.enter-held.result.value e.begins e.opened e.mine e.part e.meets
 
 pub step-requires-clause-few : goal.step-requires-clause-few
 step-requires-clause-few g c =
-    let cpu = c.args.self.now in
-    let held = c.enter-held.result.value in
-    let e = c.enter-held.ensures in
-    let found : Finds cpu held = finds cpu held e.begins e.opened e.mine e.part e.meets in
-    subst (λ (w : List Entry). length w < most_each) (sym found.own) c.requires.room
+    rw (found g (goal.at.step-requires-clause-few g c).After-enter-held).own c.requires.room
 
 pub commit-requires-clause-adds : goal.commit-requires-clause-adds
 commit-requires-clause-adds g c =
@@ -26,21 +28,16 @@ commit-requires-clause-adds g c =
     let held = c.enter-held.result.value in
     let entry : Entry = next_entry held.board.value.entries cpu.number c.args.event.now c.in-Ok.answered.reply in
     let entries : c.step.new.self.board.value.entries ≡ entry ∷ held.board.value.entries = search rules in
-    let list : seen_in c.enter-held.new.pass ≡ reverse held.board.value.entries = c.enter-held.ensures.list in (
-      entry,
-      ap reverse entries ∙ (reverse-append (entry ∷ []) held.board.value.entries
-          ∙ ap (λ (w : List Entry). w ++ entry ∷ []) (sym list)),
-      search rules,
-    )
+    let list : seen_in c.enter-held.new.pass ≡ reverse held.board.value.entries = c.enter-held.ensures.list in
+    (entry, rw (entries, list) (reverse-append (entry ∷ []) held.board.value.entries), search rules)
 
 pub leave-requires-clause-begins : goal.leave-requires-clause-begins
 leave-requires-clause-begins g c =
     let viewer : c.enter-held.new.viewer.front.seen.log ≡ c.args.self.now.viewer.front.seen.log = search rules in
     let now : c.commit.new.held.value.publisher.value.front.seen.log ≡ c.step.new.self.publisher.value.front.seen.log =
     search rules in
-    subst (λ (z : List Mark × List Mark). IsPrefix z.0 z.1) (λ k. (sym viewer k, sym now k))
-    (prefix_trans c.args.self.now.viewer.front.seen.log c.enter-held.result.value.publisher.value.front.seen.log
-    c.step.new.self.publisher.value.front.seen.log
+    rw (viewer, now) (prefix_trans c.args.self.now.viewer.front.seen.log
+    c.enter-held.result.value.publisher.value.front.seen.log c.step.new.self.publisher.value.front.seen.log
     c.enter-held.ensures.meets c.step.ensures.later)
 
 pub invariant_of-self : goal.invariant_of-self
@@ -49,9 +46,8 @@ invariant_of-self g c =
     let held = c.enter-held.result.value in
     let pass = cpu.pass in
     let now = c.leave.new.pass in
-    let e = c.enter-held.ensures in
+    let found = found g (goal.at.invariant_of-self g c).After-enter-held in
     let same : IsSamePass pass now = search rules in
-    let found : Finds cpu held = finds cpu held e.begins e.opened e.mine e.part e.meets in
     let entry : Entry = next_entry held.board.value.entries cpu.number c.args.event.now c.in-Ok.answered.reply in
     let entries : c.step.new.self.board.value.entries ≡ entry ∷ held.board.value.entries = search rules in
     let list = reverse held.board.value.entries in
@@ -62,10 +58,7 @@ invariant_of-self g c =
     let opened : opened_of c.leave.new.viewer.front.seen.log ≡ opened_of cpu.viewer.front.seen.log = search rules in
     record {
       passed = passed_again cpu c.leave.new.viewer.front.seen.book now same (search rules) (search rules)
-          (ap (own_by (λ (entry : Entry). entry.actor) cpu.number) seen
-          ∙ (own_pushed cpu.number (opened_by pass) list (mine_in pass) entry refl found.listed
-          ∙ ap (λ (w : List Entry). own_by (λ (entry : Entry). entry.actor) cpu.number (opened_by pass) ++ w)
-          (sym mine)));
+          (rw (seen, mine) (own_pushed cpu.number (opened_by pass) list (mine_in pass) entry refl found.listed));
       idle = c.leave.ensures.idle;
       opens = opens_again cpu now (opened_of c.leave.new.viewer.front.seen.log) same opened;
     }
@@ -73,15 +66,13 @@ invariant_of-self g c =
 pub invariant_of-self-in-Err : goal.invariant_of-self-in-Err
 invariant_of-self-in-Err g c =
     let cpu = c.args.self.now in
-    let held = c.enter-held.result.value in
-    let now = c.leave-in-Err.new.pass in
-    let e = c.enter-held.ensures in
-    let found : Finds cpu held = finds cpu held e.begins e.opened e.mine e.part e.meets in
+    let found = found g (goal.at.invariant_of-self-in-Err g c).After-enter-held in
     record {
-      passed = passed_idly cpu held c.leave-in-Err.new.viewer.front.seen.book now found (search rules) (search rules)
-          (search rules) (search rules) (search rules);
+      passed = passed_idly cpu c.enter-held.result.value c.leave-in-Err.new.viewer.front.seen.book
+          c.leave-in-Err.new.pass found (search rules) (search rules) (search rules) (search rules) (search rules);
       idle = c.leave-in-Err.ensures.idle;
-      opens = opens_again cpu now (opened_of c.leave-in-Err.new.viewer.front.seen.log) (search rules) (search rules);
+      opens = opens_again cpu c.leave-in-Err.new.pass (opened_of c.leave-in-Err.new.viewer.front.seen.log)
+          (search rules) (search rules);
     }
 
 pub returns-in-Ok-clause-added : goal.returns-in-Ok-clause-added
@@ -90,8 +81,7 @@ returns-in-Ok-clause-added g c =
     let held = c.enter-held.result.value in
     let pass = cpu.pass in
     let now = c.leave.new.pass in
-    let e = c.enter-held.ensures in
-    let found : Finds cpu held = finds cpu held e.begins e.opened e.mine e.part e.meets in
+    let found = found g (goal.at.returns-in-Ok-clause-added g c).After-enter-held in
     let same : IsSamePass pass now = search rules in
     let stepped : IsSameBoard held c.step.new.self = c.step.ensures.same in
     let entry : Entry = next_entry held.board.value.entries cpu.number c.args.event.now c.in-Ok.answered.reply in
@@ -104,7 +94,6 @@ returns-in-Ok-clause-added g c =
     ≡ map_writes_of (setup_in pass) c.step.new.self.board.value.entries =
     known_left pass now c.step.new.self c.leave.new.viewer.front.seen.log same log (found.setup ∙ sym stepped.setup)
     (found.opened ∙ sym stepped.opened) in
-    let place : c.in-Ok.answered.place ≡ length held.board.value.entries = search rules in
     let answer : IsAnswer held.board.value.setup held.board.value.entries c.args.event.now c.in-Ok.answered.reply =
     search rules in
     record {
@@ -112,9 +101,8 @@ returns-in-Ok-clause-added g c =
       begins = found.begins;
       own = found.own;
       meets = found.meets;
-      place = place;
-      answer = subst (λ (setup : Setup).
-          IsAnswer setup held.board.value.entries c.args.event.now c.in-Ok.answered.reply) (sym found.setup) answer;
+      place = search rules;
+      answer = rw found.setup answer;
       seen = seen;
       mine = ap (entries_by cpu.number) seen
           ∙ (own_first cpu.number entry held.board.value.entries refl ∙ ap (λ (w : List Entry). entry ∷ w) found.own);
@@ -123,10 +111,7 @@ returns-in-Ok-clause-added g c =
 
 pub returns-in-Err-clause-refused : goal.returns-in-Err-clause-refused
 returns-in-Err-clause-refused g c =
-    let cpu = c.args.self.now in
-    let held = c.enter-held.result.value in
-    let e = c.enter-held.ensures in
-    let found : Finds cpu held = finds cpu held e.begins e.opened e.mine e.part e.meets in
-    let learnt : HasLearnt cpu c.leave-in-Err.new.pass c.leave-in-Err.new.viewer.front.seen.log =
-    has_learnt cpu held _ _ found (search rules) (search rules) (search rules) in
+    let found = found g (goal.at.returns-in-Err-clause-refused g c).After-enter-held in
+    let learnt : HasLearnt c.args.self.now c.leave-in-Err.new.pass c.leave-in-Err.new.viewer.front.seen.log =
+    has_learnt c.args.self.now c.enter-held.result.value _ _ found (search rules) (search rules) (search rules) in
     record { begins = learnt.begins; mine = learnt.mine; meets = learnt.meets; known = learnt.known }

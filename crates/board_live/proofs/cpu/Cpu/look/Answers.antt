@@ -1,5 +1,3 @@
-use Rattle.std.proofs.Common.{sym, subst}
-use Rattle.map_builder.specs.Map.{Mapped}
 use Rattle.map_publish.specs.Lists.{opened_of}
 use Rattle.board_live.specs.Common.{IsMapOpened, setup_in, opened_in}
 use Rattle.shared_board.proofs.Histories.{known_extend}
@@ -18,7 +16,6 @@ returns-clause-look c =
     let pass = c.args.self.now.pass in
     let log = c.look.new.self.front.seen.log in
     let opens : IsMapOpened (setup_in pass) (opened_in pass) (opened_of log) =
-    subst (λ (map : Mapped). IsMapOpened (setup_in pass) (opened_in pass) map)
-    (sym c.look.ensures.opened) c.args.self.now.opens in
+    rw c.look.ensures.opened c.args.self.now.opens in
     looks_go_on (setup_in pass) (map_writes_of (setup_in pass) (opened_in pass)) log c.args.addr c.args.kind c.args.smm
     c.look.result opens c.look.ensures.look

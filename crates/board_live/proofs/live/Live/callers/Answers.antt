@@ -1,8 +1,7 @@
-use Rattle.std.proofs.Common.{rules, ◌≡◌, ℕ, ◌+◌, List, Some, [], ◌∷◌, ◌++◌, length, map, sym, ap, ◌∙◌, subst, refl}
+use Rattle.std.proofs.Common.{rules, ◌≡◌, ℕ, ◌+◌, Some, [], ◌∷◌, ◌++◌, length, sym, ap, ◌∙◌, refl}
 use Rattle.std.proofs.Common.{arith, length-append}
 use Rattle.board_prelude.proofs.Common.{range_with_len, All-nil, All-push}
 use Rattle.std.proofs.lemmas.List.Elements.{All-same, All-pop}
-use Rattle.board_live.specs.declared.cpu.Cpu.{Cpu}
 use Rattle.board_live.specs.Common.{IsViewerFor, IsCallerOf, IsNewOf}
 use Rattle.board_live.proofs.Opening.{viewer_for, new_of, numbers_more}
 use Rattle.board_live.proofs.live.Live.callers.Goals as goal
@@ -29,8 +28,7 @@ loop-viewer-init c =
       callers = All-same (IsCallerOf c.args.self.now) c.args.cpus.items [] none
           (All-nil (IsCallerOf c.args.self.now));
       new = All-same (IsNewOf pass) c.args.cpus.items [] none (All-nil (IsNewOf pass));
-      numbers = subst (λ (w : List Cpu). map (λ (cpu : Cpu). cpu.number) w ≡ range_with_len 1 (length w))
-          (sym none) refl;
+      numbers = rw none refl;
     }
 
 pub new-requires-clause-viewer : goal.new-requires-clause-viewer

@@ -1,11 +1,9 @@
-use Rattle.std.proofs.Common.{rules, ◌≡◌, ℕ, ◌<◌, List, ◌∷◌, length, drop, get_or, remove, reverse, All, Some, sym, ◌∙◌}
-use Rattle.std.proofs.Common.{subst}
+use Rattle.std.proofs.Common.{rules, ◌≡◌, ◌<◌, ◌∷◌, length, drop, get_or, remove, reverse, All, Some, sym, ◌∙◌}
 use Rattle.board_prelude.proofs.Common.{Any, All-cons, All-get_or, IsPermutation-sym, All-permutation, Entry}
 use Rattle.std.proofs.lemmas.List.Sorted.{IsPermutation-remove}
 use mathlib.Core.List.{IsPrefix}
 use Rattle.bus_turn.specs.Common.{IsSameCaller as IsSamePass, number_of, opened_of as opened_by, part_of}
 use Rattle.bus_turn.specs.Common.{seen_of as seen_in, mine_of as mine_in, own_by}
-use Rattle.board_core.specs.Kept.{Standing}
 use Rattle.board_live.specs.declared.cpu.Cpu.{Cpu}
 use Rattle.board_live.specs.Common.{opened_with, ClosesBoard}
 use Rattle.board_live.proofs.Joining.{caught_up, closes, closes_joined, opened_same}
@@ -14,10 +12,7 @@ use Rattle.board_live.proofs.live.Live.close.Goals as goal
 pub place_of_first-place-requires : goal.place_of_first-place-requires
 place_of_first-place-requires g c =
     let some : Any (λ (cpu : Cpu). cpu.number ≡ 0) c.args.cpus.items = c.requires.cpus.each 0 c.requires.cpus.some in
-    record {
-      first = subst (λ (cpus : List Cpu). Any (λ (cpu : Cpu). cpu.number ≡ 0) cpus)
-          (sym c.deref.ensures.value) some;
-    }
+    record { first = rw c.deref.ensures.value some }
 
 pub returns-clause-cpus : goal.returns-clause-cpus
 returns-clause-cpus g c =
@@ -33,7 +28,7 @@ returns-clause-cpus g c =
     let is : first ≡ get_or items place first = search rules in
     let left : rest ≡ remove items place = search rules in
     let first_part : part_of first.pass ≡ Some opened =
-    subst (λ (cpu : Cpu). part_of cpu.pass ≡ Some opened) (sym is)
+    rw (← is) at
     (All-get_or (λ (cpu : Cpu). part_of cpu.pass ≡ Some opened) items place first below c.requires.cpus.same) in
     let rest_part : All (λ (cpu : Cpu). part_of cpu.pass ≡ Some opened) rest = search rules in
     let same : IsSamePass now.pass pass = search rules in
@@ -45,22 +40,19 @@ returns-clause-cpus g c =
     let mines : mine_in pass ≡ mine_in now.pass = search rules in
     let own : own_by (λ (entry : Entry). entry.actor) (number_of now.pass)
     (drop (length (opened_by pass)) (reverse done.board.value.entries)) ≡ mine_in now.pass =
-    subst (λ (z : ℕ × List Entry). own_by (λ (entry : Entry). entry.actor) z.0
-    (drop (length (opened_by pass)) (reverse done.board.value.entries)) ≡ z.1)
-    (λ k. (same.0 k, mines k)) c.close.ensures.mine in
+    rw (same.0, mines) at c.close.ensures.mine in
     let firstly : ClosesBoard done.board.value first =
-    closes pass done first (number_of now.pass, mine_in now.pass) has.0 has.1 has.2 own c.close.ensures.begins
-    c.close.ensures.opened opened_first (first_part ∙ part) in
+    closes pass done first c.close.ensures.begins c.close.ensures.opened opened_first (first_part ∙ part)
+    (number_of now.pass, mine_in now.pass) has.0 has.1 has.2 own in
     let others : All (ClosesBoard done.board.value) rest =
     λ k d within.
     let cpu = get_or rest k d in
     let its_part : part_of cpu.pass ≡ Some opened = rest_part k d within in
-    closes_joined pass done cpu (c.join.ensures.joined k d within) c.close.ensures.joined c.close.ensures.begins
-    c.close.ensures.opened
-    (opened_same cpu first (its_part ∙ sym first_part) ∙ opened_first) (its_part ∙ part) in
+    closes_joined pass done cpu c.close.ensures.begins c.close.ensures.opened
+    (opened_same cpu first (its_part ∙ sym first_part) ∙ opened_first) (its_part ∙ part)
+    (c.join.ensures.joined k d within) c.close.ensures.joined in
     let all : All (ClosesBoard done.board.value) items =
     All-permutation (ClosesBoard done.board.value) (first ∷ remove items place) items
     (IsPermutation-sym items (first ∷ remove items place) (IsPermutation-remove items place first below is))
-    (All-cons (ClosesBoard done.board.value) first (remove items place) firstly
-    (subst (λ (w : List Cpu). All (ClosesBoard done.board.value) w) left others)) in
-    subst (λ (b : Standing). All (ClosesBoard b) items) (sym c.unshared.ensures.board) all
+    (All-cons (ClosesBoard done.board.value) first (remove items place) firstly (rw left at others)) in
+    rw c.unshared.ensures.board all

@@ -1,9 +1,8 @@
-use Rattle.std.proofs.Common.{rules, ◌≡◌, ℕ, ◌+◌, List, [], ◌∷◌, ◌++◌, length, drop, All, sym, ap, ◌∙◌, subst, arith}
+use Rattle.std.proofs.Common.{rules, ◌≡◌, ◌+◌, [], ◌∷◌, ◌++◌, length, drop, All, ap, ◌∙◌, arith}
 use Rattle.std.proofs.Common.{length-append}
 use Rattle.std.proofs.lemmas.List.Elements.{All-cons, All-weaker}
 use Rattle.bus_turn.specs.Passes.{number_of, mine_of as mine_in, joined_of}
 use Rattle.bus_turn.proofs.Rows.{prefix_trans}
-use Rattle.board_live.specs.declared.cpu.Cpu.{Cpu}
 use Rattle.board_live.specs.Joins.{IsJoined}
 use Rattle.board_live.proofs.Joining.{popped, joined_more, joined_new}
 use Rattle.board_live.proofs.live.Live.join.Goals as goal
@@ -42,11 +41,10 @@ loop-cpu-preserved g c =
       left = both.0;
       count = omega (arith, i.count, long, no_more, fewer);
       seen = prefix_trans _ _ _ i.seen c.join.ensures.seen.0;
-      joined = subst (λ (w : List Cpu). All (IsJoined pass) w) (sym both.1)
-          (All-cons (IsJoined pass) cpu (drop (length items) whole) this before);
+      joined = rw both.1 (All-cons (IsJoined pass) cpu (drop (length items) whole) this before);
     }
 
 pub returns-clause-joined : goal.returns-clause-joined
 returns-clause-joined g c =
     let none : length c.loop-cpu.cpus.items ≡ 0 = search rules in
-    subst (λ (n : ℕ). All (IsJoined c.loop-cpu.pass) (drop n c.args.cpus.items)) none c.loop-cpu.invariant.joined
+    rw none at c.loop-cpu.invariant.joined

@@ -1,11 +1,9 @@
-use Rattle.std.proofs.Common.{rules, ◌≡◌, ℕ, ◌+◌, ◌≤◌, Option, Some, [], length, map, reverse, All, sym, ap, ◌∙◌, subst}
+use Rattle.std.proofs.Common.{rules, ◌≡◌, ◌+◌, ◌≤◌, Option, Some, [], length, map, reverse, All, sym, ap, ◌∙◌}
 use Rattle.std.proofs.Common.{arith}
-use Rattle.board_prelude.proofs.Common.{Any, range_with_len, reverse-reverse, length-map, map_writes_of}
+use Rattle.board_prelude.proofs.Common.{range_with_len, reverse-reverse, length-map, map_writes_of}
 use Rattle.std.proofs.lemmas.List.FromFn.{length-range_with_len}
 use Rattle.std.proofs.lemmas.List.Elements.{All-weaker}
 use Rattle.bus_turn.specs.Passes.{opened_of as opened_by, part_of}
-use Rattle.board_core.specs.Kept.{Standing}
-use Rattle.map_builder.specs.Map.{Mapped}
 use Rattle.map_publish.specs.declared.viewer.Viewer.{Viewer}
 use Rattle.map_publish.specs.Lists.{opened_of, changes_of}
 use Rattle.board_live.specs.declared.cpu.Cpu.{Cpu}
@@ -21,14 +19,12 @@ shared-requires-clause-opens g c =
     let board = c.deref.result.now in
     let map : opened_of c.in-Ok-new.publisher.value.front.seen.log ≡ c.map.result.now = search rules in
     let version : c.map.result.now.version ≡ length (map_writes_of board.setup board.entries) = c.map.ensures.version in
-    subst (λ (b : Standing). IsMapOpened b.setup b.entries (opened_of c.in-Ok-new.publisher.value.front.seen.log))
-    c.deref.ensures
-    (subst (λ (m : Mapped). IsMapOpened board.setup board.entries m) (sym map)
-    (record {
-      stands = stands_after board.setup board.entries c.map.result.now.regs
-          c.map.ensures.stands;
+    let opens : IsMapOpened board.setup board.entries (opened_of c.in-Ok-new.publisher.value.front.seen.log) =
+    rw map (record {
+      stands = stands_after board.setup board.entries c.map.result.now.regs c.map.ensures.stands;
       version = version;
-    }))
+    }) in
+    rw c.deref.ensures at opens
 
 pub callers-cpus-requires-clause-viewers : goal.callers-cpus-requires-clause-viewers
 callers-cpus-requires-clause-viewers g c =
@@ -71,8 +67,7 @@ returns-in-Ok-open-2-clause-opened g c =
         some = omega (arith, count, one);
         each = λ number below.
             let same : 0 + number ≡ number = omega arith in
-            subst (λ (n : ℕ). Any (λ (cpu : Cpu). cpu.number ≡ n) cpus) same
-            (any_numbered 0 cpus (numbers ∙ ap (range_with_len 0) (sym count)) number below);
+            rw same at (any_numbered 0 cpus (numbers ∙ ap (range_with_len 0) (sym count)) number below);
       };
       numbers = numbers;
       new = All-weaker (IsNewOf pass) (IsNew board)

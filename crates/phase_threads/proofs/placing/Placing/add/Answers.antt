@@ -1,10 +1,9 @@
 use Rattle.std.proofs.Common.{rules, ◌≡◌, List, length, map, take, drop, reverse, Option, None, Some, sym, ◌∙◌, ap}
-use Rattle.std.proofs.Common.{subst}
-use Rattle.board_prelude.proofs.Common.{reverse-reverse, length-take-le, Entry, Setup, IsLegal}
+use Rattle.board_prelude.proofs.Common.{reverse-reverse, length-take-le, Entry, Setup}
 use Rattle.run_order.specs.declared.done.Done.{Done}
 use Rattle.run_order.specs.Common.{over, placed, Order, all_looks_in}
 use Rattle.run_order.proofs.Unlooked.{unlooked}
-use Rattle.phase_threads.specs.Placed.{entries_of, IsUpTo}
+use Rattle.phase_threads.specs.Placed.{entries_of}
 use Rattle.phase_threads.proofs.Beginnings.{cut_is, legal_front, front_length, taken_in, on_ok}
 use Rattle.phase_threads.proofs.placing.Placing.add.Goals as goal
 
@@ -14,9 +13,8 @@ returns-in-Some-clause-placed c =
     let before : List Entry = reverse (take c.args.opened bus) in
     let lists : List (List Done) = map (λ done. done.now) c.args.works.items in
     let some : c.args.self.now.order ≡ Some c.in-Some.order = search rules in
-    let size : c.in-Some.order.bus ≡ c.args.opened =
-    subst (λ (order : Option Order). IsUpTo order before) some c.requires.up_to
-    ∙ front_length bus c.args.opened c.requires.gained in
+    let up_to : c.in-Some.order.bus ≡ length before = rw some at c.requires.up_to in
+    let size : c.in-Some.order.bus ≡ c.args.opened = up_to ∙ front_length bus c.args.opened c.requires.gained in
     on_ok c.place.result (λ is. taken_in bus c.args.opened c.args.version lists c.in-Some.order c.place.new.self
     c.requires.gained size c.place.ensures.within is
     ∙ ap (λ (order : Option Order). placed c.args.version (drop c.args.opened bus) lists (entries_of order before))
@@ -32,16 +30,14 @@ returns-then-not-has_looks-clause-placed c =
     let looks : all_looks_in lists ≡ 0 = c.if-not-has_looks.ensures.none (search rules) in
     let cut = cut_is c.args.opened bus in
     let same = unlooked c.requires.legal.0 c.args.version later lists before looks
-    (subst (IsLegal c.requires.legal.0) cut c.requires.legal.1) in
-    subst (λ (order : Option Order). entries_of order (reverse bus) ≡ placed c.args.version later lists
-    (entries_of order before)) (sym none) (cut ∙ sym same)
+    (rw cut at c.requires.legal.1) in
+    rw none (cut ∙ sym same)
 
 pub begin-requires-clause-legal : goal.begin-requires-clause-legal
 begin-requires-clause-legal c =
     let setup : Setup = c.requires.legal.0 in (
       setup,
-      subst (λ (front : List Entry). IsLegal setup (reverse front)) (sym c.before-2.ensures.entries)
-          (legal_front setup c.args.opened c.args.bus.now c.requires.legal.1),
+      rw c.before-2.ensures.entries (legal_front setup c.args.opened c.args.bus.now c.requires.legal.1),
     )
 
 pub returns-clause-placed : goal.returns-clause-placed
@@ -54,7 +50,7 @@ returns-clause-placed c =
     let front : c.before-2.result ≡ take c.args.opened bus = c.before-2.ensures.entries in
     let size : begun.bus ≡ c.args.opened = c.in_ok-order.ensures.bus ∙ ap length front
     ∙ length-take-le c.args.opened bus c.requires.gained in
-    let own = subst (λ (b : List Entry). over b begun.entries ≡ reverse b) front c.in_ok-order.ensures.same in
+    let own = rw front at c.in_ok-order.ensures.same in
     let same : entries_of (Some begun) before ≡ before =
     ap (λ (b : List Entry). over b begun.entries) (reverse-reverse (take c.args.opened bus)) ∙ own in
     taken_in bus c.args.opened c.args.version lists begun c.place-2.new.self c.requires.gained size
