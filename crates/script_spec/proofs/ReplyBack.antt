@@ -102,7 +102,12 @@ counted : (access : WideAccess) (most addr left : ℕ) → length (parts_from ac
 unfolding parts_from part_count
 counted access zero addr left = refl
 counted access (suc most) addr left =
-    grind (arith, nat_tests, counted access most (addr + bytes_of (longest_at addr left)) (left - bytes_of (longest_at addr left)))
+    grind (
+      arith,
+      nat_tests,
+      counted access most (addr + bytes_of (longest_at addr left))
+          (left - bytes_of (longest_at addr left)),
+    )
 
 wide_back : (access : WideAccess) (reply : Reply) → IsWideReply (is_write access.kind) access.bytes
     (length (parts_of access)) reply
