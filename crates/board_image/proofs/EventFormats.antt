@@ -2,9 +2,8 @@
 use Rattle.std.proofs.Common.{◌≡◌, ℕ, ◌+◌, ◌%◌, ◌^◌, ◌<◌, ◌≤◌, inl, inr, Bool, true, false, [], ◌∷◌, Some, ◌⊎◌, refl}
 use Rattle.std.proofs.Common.{Option, None, List, ◌∙◌, ap, arith, ◌≢◌, ◌==◌}
 use Rattle.board_prelude.proofs.Common.{nat_tests, eq-eqb, eqb-true, Kind, Fetch}
-use Rattle.board_prelude.proofs.Common.{Read, Write, Width, One, PortAccess, WideAccess, bytes_of, is_write}
+use Rattle.board_prelude.proofs.Common.{Read, Write, Width, One, PortAccess, bytes_of, is_write}
 use Rattle.board_prelude.proofs.Common.{IsBusAccess, IsWideAccess, FitsBytes}
-use Rattle.std.proofs.Math.Bool.{or-true}
 use Rattle.std.proofs.Math.Nat.{one-le-pow}
 use Rattle.board_base.specs.declared.access.Width.TheVariants.{Two, Four}
 use Rattle.board_base.specs.declared.access.Access.{Access}

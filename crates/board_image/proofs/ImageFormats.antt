@@ -1,7 +1,7 @@
 -- The fields of a whole image.
-use Rattle.std.proofs.Common.{◌≡◌, ℕ, zero, ◌+◌, ◌%◌, ◌/◌, ◌^◌, ◌<◌, ◌≤◌, ◌↔◌, IsTrue, inl, inr, Bool, true, false}
+use Rattle.std.proofs.Common.{◌≡◌, ℕ, ◌+◌, ◌%◌, ◌/◌, ◌^◌, ◌<◌, ◌≤◌, ◌↔◌, IsTrue, inl, inr, Bool, true, false}
 use Rattle.std.proofs.Common.{List, [], ◌∷◌, ◌++◌, length, Option, Some, None, Ok, Err, refl, sym, ap}
-use Rattle.std.proofs.Common.{subst, ◌∙◌, append_assoc, arith, nat_le, nat_lt, ◌==◌, ◌&&◌, ◌||◌, flat_map, All, is_some}
+use Rattle.std.proofs.Common.{◌∙◌, append_assoc, arith, flat_map, All, is_some}
 use Rattle.std.proofs.Common.{unwrap_or}
 use Rattle.board_prelude.proofs.Common.{AllByRecursion, w16, w32, to_le_bytes, nat_tests, eq-eqb, eqb-true}
 use Rattle.board_prelude.proofs.Common.{cases_Bool, false≢true}

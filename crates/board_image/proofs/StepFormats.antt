@@ -1,11 +1,11 @@
 -- The fields of steps, by their tags.
-use Rattle.std.proofs.Common.{◌≡◌, ℕ, ◌^◌, ◌<◌, ◌≤◌, ◌&&◌, Bool, true, false, cond, nat_le, Option, refl, sym, ap}
+use Rattle.std.proofs.Common.{◌≡◌, ℕ, ◌^◌, ◌<◌, ◌&&◌, Bool, true, false, Option, refl, sym, ap}
 use Rattle.std.proofs.Common.{subst, ◌∙◌, arith}
 use Rattle.board_prelude.proofs.Common.{nat_tests, option_map_or, Kind, Fetch, PortAccess}
-use Rattle.board_prelude.proofs.Common.{WideAccess, Moment, IsMoment, days_in_month, is_leap, moment_of, Event, Memory}
-use Rattle.board_prelude.proofs.Common.{Wide, Port, Ack, Pulses, Time, BadSector, Statement, Setup, IsWideAccess}
+use Rattle.board_prelude.proofs.Common.{WideAccess, Moment, IsMoment, days_in_month, moment_of, Event, Memory}
+use Rattle.board_prelude.proofs.Common.{Wide, Port, Ack, Pulses, Time, BadSector, Setup, IsWideAccess}
 use Rattle.board_prelude.proofs.Common.{IsInRange, IsScriptSector, Stimulus, Applied, stimulus_form, applied}
-use Rattle.board_prelude.proofs.Common.{applied_by, applied_again, event_applied, most_pulses_at_once, last_sector}
+use Rattle.board_prelude.proofs.Common.{applied_by, applied_again, event_applied}
 use Rattle.board_base.specs.declared.access.Access.{Access}
 use Rattle.board_spec.specs.declared.event.Event.TheVariants.{Look as LookAt}
 use Rattle.board_spec.specs.declared.stimulus.Stimulus.TheVariants as stimuli

@@ -1,4 +1,4 @@
-use Rattle.std.proofs.Common.{◌≡◌, ℕ, ◌-◌, ◌⊎◌, inl, inr, List, [], length, Result, Ok, Err, refl, sym, ap, ◌∙◌, arith}
+use Rattle.std.proofs.Common.{◌≡◌, ℕ, ◌-◌, ◌⊎◌, inl, inr, List, length, Result, Ok, Err, refl, sym, ◌∙◌, arith}
 use Rattle.board_image.specs.Common.{Saved, image_fields, IsBadAt, AreBytes, IsImageOf}
 use Rattle.byte_fields.proofs.Formats.{err_is}
 use Rattle.board_image.proofs.ImageFormats.{image_never, image_taken, image_bad}

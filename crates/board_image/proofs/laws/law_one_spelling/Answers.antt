@@ -1,4 +1,4 @@
-use Rattle.std.proofs.Common.{[], sym, ap}
+use Rattle.std.proofs.Common.{[], ap}
 use Rattle.board_image.specs.Common.{Saved}
 use Rattle.board_image.proofs.ImageFormats.{image_back, image_same}
 use Rattle.board_image.proofs.laws.law_one_spelling.Goals as goal

@@ -1,4 +1,4 @@
-use Rattle.std.proofs.Common.{◌≡◌, List, rules, subst}
+use Rattle.std.proofs.Common.{◌≡◌, List, rules}
 use Rattle.board_prelude.proofs.Common.{Statement, Setup}
 use Rattle.board_core.specs.Steps.{AreInRange}
 use Rattle.image_writer.specs.ImageBytes.{IsImage}
