@@ -125,16 +125,6 @@ resectored : (left : Bool) (disk : Option Disk) →
 resectored left None = refl
 resectored left (Some disk) = ap (λ (b : List ℕ). Some (holding b disk)) (given_back left disk.medium.bytes)
 
--- a chipset of these parts
-abbrev rebuilt : Running → List ℕ → Option (List ℕ) → Option Disk → Running
-rebuilt chipset dram fitted disk = record {
-  setup = record chipset.setup { disk = fitted };
-  state = record chipset.state {
-    stores = record chipset.state.stores { dram = dram };
-    devices = record chipset.state.devices { disk = disk };
-  };
-}
-
 chipset_restored : (left : LeftOut) (chipset : Running) →
     with_given (left_of left chipset) (dram_left left.dram (disk_left left.disk chipset)) ≡ chipset
 chipset_restored left chipset =

@@ -4,7 +4,7 @@ use Rattle.std.proofs.Common.{Err, OnOk, true, ◌*◌, refl, sym, ap, ◌∙◌
 use Rattle.board_prelude.proofs.Common.{length-append, length-take, length-drop, take_at, drop_at}
 use Rattle.pit_8254.proofs.Saved.{joined}
 use Rattle.byte_fields.specs.Fields.{flag_byte}
-use Rattle.byte_fields.specs.Pages.{memory_bytes, memory_page}
+use Rattle.byte_fields.specs.Pages.{memory_page}
 use Rattle.byte_fields.proofs.PageFormats.{memory_zeros}
 use Rattle.dram_store.specs.State.{HasMib, dram_bytes}
 use Rattle.fitted_bytes.specs.Fitted.{fitting_bytes}
