@@ -1,9 +1,9 @@
 -- A board that is fresh, and after a step.
-use Rattle.std.proofs.Common.{◌≡◌, Bool, not, ℕ, ◌+◌, ◌^◌, ◌<◌, List, ◌∷◌, length, inl, inr, refl, sym, ◌∙◌, ap, subst}
-use Rattle.std.proofs.Common.{arith, get_or-set_same, get_or-set_other, ◌↔◌, Result, Ok, Err, ◌==◌, slice_index}
-use Rattle.std.proofs.Common.{slice_set}
-use Rattle.board_prelude.proofs.Common.{cases_eq, eq-eqb, ne_eqb, Entry, Setup, IsSetup, entries_by, IsLegal}
-use Rattle.board_prelude.proofs.Common.{version_of, IsAnswer, entry_limit}
+use Rattle.std.proofs.Common.{◌≡◌, Bool, not, ℕ, ◌+◌, ◌^◌, ◌<◌, List, ◌∷◌, length, refl, sym, ◌∙◌, ap, subst, arith}
+use Rattle.std.proofs.Common.{◌↔◌, Result, Ok, Err, ◌==◌, slice_index, slice_set}
+use Rattle.board_prelude.proofs.Common.{nat_tests, Entry, Setup, IsSetup, entries_by, IsLegal, version_of, IsAnswer}
+use Rattle.board_prelude.proofs.Common.{entry_limit}
+use Rattle.std.proofs.lemmas.Grind.{elements}
 use Rattle.std.proofs.lemmas.List.Filters.{length-filter_both}
 use Rattle.board_chipset.specs.Common.{Running, IsLeftBy, version_count}
 use Rattle.board_chipset.proofs.Common.{few_entries, state_of}
@@ -33,16 +33,8 @@ counted_after :
     (who : ℕ) → who < 256 → slice_index (slice_set counts entry.actor entry.seq) who ≡ length
     (entries_by who (entry ∷ history))
 counted_after history counts entry within number below counted who below' =
-    elim (cases_eq who entry.actor) [
-      | inl same ↦
-          rw (eq-eqb entry.actor who (sym same))
-          (ap (slice_index (slice_set counts entry.actor entry.seq)) same ∙ get_or-set_same counts entry.actor
-          entry.seq 0 within
-          ∙ omega (arith, number, ap (slice_index counts) same, counted who below'))
-      | inr other ↦
-          rw (ne_eqb entry.actor who (λ same. other (sym same)))
-          (get_or-set_other counts entry.actor who entry.seq 0 other ∙ counted who below')
-    ]
+    let before = counted who below' in
+    grind (arith, nat_tests, elements)
 
 -- a processor has no more entries than the history
 pub count_fits :

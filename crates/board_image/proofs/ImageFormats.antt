@@ -1,60 +1,37 @@
 -- The fields of a whole image.
-use Rattle.std.proofs.Common.{◌≡◌, ℕ, zero, ◌+◌, ◌%◌, ◌/◌, ◌^◌, ◌<◌, ◌≤◌, ◌↔◌, IsTrue, inl, inr, Bool, true, false}
-use Rattle.std.proofs.Common.{List, [], ◌∷◌, ◌++◌, length, Option, Some, None, Ok, Err, refl, sym, ap}
-use Rattle.std.proofs.Common.{subst, ◌∙◌, append_assoc, arith, nat_le, nat_lt, ◌==◌, ◌&&◌, ◌||◌, flat_map, All, is_some}
-use Rattle.std.proofs.Common.{unwrap_or}
-use Rattle.board_prelude.proofs.Common.{AllByRecursion, w16, w32, to_le_bytes, and_from, and_parts, eq-eqb, eqb-true}
-use Rattle.board_prelude.proofs.Common.{leb-true, le-leb, ltb-true, lt-ltb, cases_Bool, false≢true}
-use Rattle.board_prelude.proofs.Common.{length-append, nil_from_length, append-nil}
-use Rattle.board_prelude.proofs.Common.{recursion_from_All, Statement, Setup, IsRomSize, is_rom_size}
-use Rattle.board_prelude.proofs.Common.{IsDisk, IsDiskSize, is_disk_length, most_statements, most_card_memory}
+use Rattle.std.proofs.Common.{◌≡◌, ℕ, ◌+◌, ◌%◌, ◌/◌, ◌^◌, ◌<◌, ◌≤◌, ◌↔◌, IsTrue, inl, inr, Bool, true, false, List, []}
+use Rattle.std.proofs.Common.{◌∷◌, ◌++◌, length, Option, Some, None, Ok, Err, refl, sym, ap, ◌∙◌, append_assoc, arith}
+use Rattle.std.proofs.Common.{flat_map, All, is_some, unwrap_or}
+use Rattle.board_prelude.proofs.Common.{AllByRecursion, w16, w32, to_le_bytes, nat_tests, eq-eqb, eqb-true, cases_Bool}
+use Rattle.board_prelude.proofs.Common.{false≢true, length-append, nil_from_length, append-nil, recursion_from_All}
+use Rattle.board_prelude.proofs.Common.{Statement, Setup, IsRomSize, is_rom_size, IsDisk, IsDiskSize, is_disk_length}
+use Rattle.board_prelude.proofs.Common.{most_statements, most_card_memory}
 use Rattle.std.proofs.lemmas.List.Elements.{All-from_recursion}
 use Rattle.board_image.specs.declared.head.Head.{Head}
 use Rattle.board_image.specs.Common.{Saved, magic, image_version, flag_byte, card_bytes, disk_bytes, size_bytes}
-use Rattle.board_image.specs.Common.{head_bytes, step_bytes, image_bytes, IsImageStep, IsImage, then_read, gives}
-use Rattle.board_image.specs.Common.{ended, has_disk_size, disk_where, head_fields, setup_fields, steps_fields}
-use Rattle.board_image.specs.Common.{saved_fields, image_fields}
+use Rattle.board_image.specs.Common.{head_bytes, step_bytes, image_bytes, IsImageStep, IsImage, then_read, gives, ended}
+use Rattle.board_image.specs.Common.{has_disk_size, disk_where, head_fields, setup_fields, steps_fields, saved_fields}
+use Rattle.board_image.specs.Common.{image_fields}
 use Rattle.byte_fields.specs.Fields.{AreBytes}
-use Rattle.byte_fields.proofs.Formats.{ok_is, not_err, err_is, then_ok, then_err, IsFormat, format_as, then_format}
-use Rattle.byte_fields.proofs.Formats.{last_format, many_format, plain_format, AreGood}
-use Rattle.byte_fields.proofs.Numbers.{flag_format, wide16, wide32, byte_within, within_format, where_format}
-use Rattle.byte_fields.proofs.Numbers.{Ranges}
+use Rattle.byte_fields.proofs.Formats.{ok_is, not_err, err_is, then_ok, then_err, IsFormat, format_as, fields_format}
+use Rattle.byte_fields.proofs.Formats.{◌then◌, ◌&◌, last_field, many_format, plain_format, AreGood}
+use Rattle.byte_fields.proofs.Numbers.{flag_format, wide16, wide32, byte_within, within_format, where_format, Ranges}
 use Rattle.byte_fields.proofs.Exactly.{exactly_format}
-use Rattle.board_image.proofs.EventFormats.{either_true}
+use Rattle.board_image.proofs.EventFormats.{wider}
 use Rattle.board_image.proofs.StepFormats.{step_format}
 use Rattle.board_image.proofs.CardFormats.{AreCardsOf, cards_format}
 use Rattle.board_image.proofs.ImageLoops.{same_setup, steps_loop}
 
--- ---- fixed bytes
-
 -- ---- the head
 
 pub rom_size_to : (size : ℕ) → IsRomSize size → (size < 2 ^ 32) × (is_rom_size size ≡ true)
-rom_size_to size (inl is) = rw is (omega arith, refl)
-rom_size_to size (inr (inl is)) = rw is (omega arith, refl)
-rom_size_to size (inr (inr (inl is))) = rw is (omega arith, refl)
-rom_size_to size (inr (inr (inr is))) = rw is (omega arith, refl)
+rom_size_to size is = grind (arith, nat_tests)
 
 pub rom_size_from : (size : ℕ) → is_rom_size size ≡ true → IsRomSize size
-rom_size_from size is =
-    elim (either_true (size == 0x1_0000 || size == 0x2_0000 || size == 0x4_0000) (size == 0x8_0000) is) [
-      | inl three ↦
-          elim (either_true (size == 0x1_0000 || size == 0x2_0000) (size == 0x4_0000) three) [
-            | inl two ↦
-                elim (either_true (size == 0x1_0000) (size == 0x2_0000) two) [
-                  | inl a ↦ inl (eqb-true size 0x1_0000 a)
-                  | inr b ↦ inr (inl (eqb-true size 0x2_0000 b))
-                ]
-            | inr c ↦ inr (inr (inl (eqb-true size 0x4_0000 c)))
-          ]
-      | inr d ↦ inr (inr (inr (eqb-true size 0x8_0000 d)))
-    ]
+rom_size_from size is = grind (arith, nat_tests)
 
 pub rom_most : (size : ℕ) → IsRomSize size → size ≤ 0x8_0000
-rom_most size (inl is) = omega (arith, is)
-rom_most size (inr (inl is)) = omega (arith, is)
-rom_most size (inr (inr (inl is))) = omega (arith, is)
-rom_most size (inr (inr (inr is))) = omega (arith, is)
+rom_most size is = grind arith
 
 -- the length that a disk has, and 0 where there is none
 abbrev HasDiskSize : (has_disk : Bool) → ℕ → Type 0
@@ -63,19 +40,12 @@ HasDiskSize true size = IsDiskSize size
 
 -- whole sectors, and not too many, are what is asked of a length
 pub length_to : (size : ℕ) → IsDiskSize size → is_disk_length size ≡ true
-length_to size (sectors, some, few, is) =
-    and_from (size % 512 == 0) (nat_lt 0 size && nat_le size 33_554_432) (eq-eqb (size % 512) 0 (omega (arith, is)))
-    (and_from (nat_lt 0 size) (nat_le size 33_554_432) (lt-ltb 0 size (omega (arith, some, is)))
-    (le-leb size 33_554_432 (omega (arith, few, is))))
+length_to size (sectors, some, few, is) = grind (arith, nat_tests)
 
 pub length_from : (size : ℕ) → is_disk_length size ≡ true → IsDiskSize size
 length_from size is =
-    let first = and_parts (size % 512 == 0) (nat_lt 0 size && nat_le size 33_554_432) is in
-    let other = and_parts (nat_lt 0 size) (nat_le size 33_554_432) first.1 in
-    let whole = eqb-true (size % 512) 0 first.0 in
-    let some = ltb-true 0 size other.0 in
-    let few = leb-true size 33_554_432 other.1 in
-    (size / 512, omega (arith, some, whole), omega (arith, few), omega (arith, whole))
+    let said : (size % 512 ≡ 0) × (0 < size) × (size ≤ 33_554_432) = grind (arith, nat_tests) in
+    (size / 512, omega (arith, said.0, said.1), omega (arith, said.2), omega (arith, said.0))
 
 pub length_same : (size : ℕ) (test : Bool) → (IsTrue test ↔ IsDiskSize size) → test ≡ is_disk_length size
 length_same size true is = sym (length_to size (is.0 refl))
@@ -87,9 +57,8 @@ length_same size false is =
 
 disk_size_to : (has_disk : Bool) (size : ℕ) → HasDiskSize has_disk size →
     (size < 2 ^ 32) × (has_disk_size has_disk size ≡ true)
-disk_size_to false size is = (omega (arith, is), eq-eqb size 0 is)
-disk_size_to true size (sectors, some, few, is) =
-    (omega (arith, few, is), length_to size (sectors, some, few, is))
+disk_size_to false size is = (omega arith, eq-eqb size 0 is)
+disk_size_to true size is = (omega (arith, is.2, is.3), length_to size is)
 
 disk_size_from : (has_disk : Bool) (size : ℕ) → has_disk_size has_disk size ≡ true → HasDiskSize has_disk size
 disk_size_from false size is = eqb-true size 0 is
@@ -112,26 +81,22 @@ head_spelled head =
     ++ (head.mib ∷ head.cards ∷ flag_byte head.has_disk ∷ 0
     ∷ (to_le_bytes w32 head.rom_size ++ (to_le_bytes w32 head.disk_size ++ to_le_bytes w32 head.steps))))
 
-only_version : (n : ℕ) → Ranges image_version image_version n → image_version ≡ n
-only_version n is = omega (arith, is.0, is.1)
-
-only_zero : (n : ℕ) → Ranges 0 0 n → 0 ≡ n
-only_zero n is = omega (arith, is.1)
+only : (k n : ℕ) → Ranges k k n → n ≡ k
+only k n is = omega arith
 
 head_format : IsFormat 26 head_fields head_spelled IsHead
 unfolding head_fields
 head_format =
-    format_as 26 head_spelled IsHead
-    (then_format (λ (head : Head). tt) (exactly_format magic) (λ mark any.
-    then_format (λ (head : Head). image_version) (within_format wide16 image_version image_version (omega arith))
-    (λ version good.
-    then_format (λ (head : Head). head.mib) (byte_within 1 64 (omega arith)) (λ mib good.
-    then_format (λ (head : Head). head.cards) (byte_within 0 8 (omega arith)) (λ cards good.
-    then_format (λ (head : Head). head.has_disk) flag_format (λ has_disk any.
-    then_format (λ (head : Head). 0) (byte_within 0 0 (omega arith)) (λ reserved good.
-    then_format (λ (head : Head). head.rom_size) (where_format wide32 is_rom_size) (λ rom_size good.
-    then_format (λ (head : Head). head.disk_size) (where_format wide32 (has_disk_size has_disk)) (λ disk_size good.
-    last_format (λ (head : Head). head.steps)
+    fields_format
+    (exactly_format magic then λ mark any.
+    within_format wide16 image_version image_version (omega arith) then λ version good.
+    byte_within 1 64 (omega arith) then λ mib good.
+    byte_within 0 8 (omega arith) then λ cards good.
+    flag_format then λ has_disk any.
+    byte_within 0 0 (omega arith) then λ reserved good.
+    where_format wide32 is_rom_size then λ rom_size good.
+    where_format wide32 (has_disk_size has_disk) then λ disk_size good.
+    last_field
     (λ steps. record {
       mib = mib;
       cards = cards;
@@ -140,50 +105,24 @@ head_format =
       disk_size = disk_size;
       steps = steps;
     })
-    (within_format wide32 0 most_statements (omega arith)) (λ steps good. refl))
-    (λ disk_size head any good. ap (λ (head : Head). head.disk_size) good.1))
-    (λ rom_size head any good. ap (λ (head : Head). head.rom_size) good.1.1))
-    (λ reserved head zero good. only_zero reserved zero))
-    (λ has_disk head any good. ap (λ (head : Head). head.has_disk) good.1.1.1.1))
-    (λ cards head any good. ap (λ (head : Head). head.cards) good.1.1.1.1.1))
-    (λ mib head any good. ap (λ (head : Head). head.mib) good.1.1.1.1.1.1))
-    (λ version head is good. only_version version is))
-    (λ mark head any good. refl))
-    (omega arith)
+    (within_format wide32 0 most_statements (omega arith)))
     (λ head is. (
-      tt,
-      (
-        (omega arith, omega arith),
-        (
-          is.mib,
-          (
-            is.cards,
-            (
-              tt,
-              (
-                (omega arith, omega arith),
-                (
-                  rom_size_to head.rom_size is.rom,
-                  (
-                    disk_size_to head.has_disk head.disk_size is.disk,
-                    (is.steps, refl),
-                  ),
-                ),
-              ),
-            ),
-          ),
-        ),
-      ),
+      (tt, tt) & (image_version, (omega arith, omega arith)) & (head.mib, is.mib) & (head.cards, is.cards)
+          & (head.has_disk, tt) & (0, (omega arith, omega arith))
+          & (head.rom_size, rom_size_to head.rom_size is.rom)
+          & (head.disk_size, disk_size_to head.has_disk head.disk_size is.disk) & (head.steps, is.steps),
+      refl,
     ))
-    (λ head good.
-    record {
-      mib = good.1.1.0;
-      cards = good.1.1.1.0;
-      rom = rom_size_from head.rom_size good.1.1.1.1.1.1.0.1;
-      disk = disk_size_from head.has_disk head.disk_size good.1.1.1.1.1.1.1.0.1;
-      steps = good.1.1.1.1.1.1.1.1.0;
-    })
-    (λ head good. refl)
+    (λ t. (
+      record {
+        mib = t.2.2.1;
+        cards = t.2.2.2.1;
+        rom = rom_size_from t.2.2.2.2.2.2.0 t.2.2.2.2.2.2.1.1;
+        disk = disk_size_from t.2.2.2.2.0 t.2.2.2.2.2.2.2.0 t.2.2.2.2.2.2.2.1.1;
+        steps = t.2.2.2.2.2.2.2.2.1;
+      },
+      rw (only image_version t.2.0 t.2.1, only 0 t.2.2.2.2.2.0 t.2.2.2.2.2.1) refl,
+    ))
 
 -- ---- the setup
 
@@ -228,27 +167,26 @@ setup_format head is =
     let rom = rom_most head.rom_size is.rom in
     let disk = disk_most head.has_disk head.disk_size is.disk in
     let cards = is.cards.1 in
-    format_as 34_078_800 setup_spelled (IsFitted head)
-    (then_format (λ (setup : Setup). setup.cards) (cards_format head.cards most_card_memory) (λ cards good.
-    then_format (λ (setup : Setup). setup.rom) (plain_format head.rom_size) (λ rom good.
-    last_format disk_bytes
-    (λ disk. record { mib = head.mib; cards = cards; rom = rom; disk = disk_where head.has_disk disk })
-    (plain_format head.disk_size) (λ bytes long. disk_same head.has_disk bytes head.disk_size is.disk long))
-    (λ rom setup any good. ap (λ (setup : Setup). setup.rom) good.1))
-    (λ cards setup any good. ap (λ (setup : Setup). setup.cards) good.1.1))
-    (omega (arith, rom, disk, cards))
-    (λ setup fit.
-    (fit.cards, (fit.rom, (fit.disk_size, made_of head.mib head.has_disk setup fit.mib fit.disk))))
-    (λ setup good.
-    record {
-      mib = ap (λ (setup : Setup). setup.mib) good.1.1.1;
-      cards = good.0;
-      rom = good.1.0;
-      disk =
-          ap (λ (setup : Setup). is_some setup.disk) good.1.1.1 ∙ disk_there head.has_disk (disk_bytes setup);
-      disk_size = good.1.1.0;
-    })
-    (λ setup good. refl)
+    wider 34_078_800 (fields_format
+    (cards_format head.cards most_card_memory then λ cards good.
+    plain_format head.rom_size then λ rom long.
+    last_field (λ disk. record { mib = head.mib; cards = cards; rom = rom; disk = disk_where head.has_disk disk })
+    (plain_format head.disk_size))
+    (λ setup fit. (
+      (setup.cards, fit.cards) & (setup.rom, fit.rom) & (disk_bytes setup, fit.disk_size),
+      made_of head.mib head.has_disk setup fit.mib fit.disk,
+    ))
+    (λ t.
+    let same = disk_same head.has_disk t.2.2.0 head.disk_size is.disk t.2.2.1 in (
+      record {
+        mib = refl;
+        cards = t.1;
+        rom = t.2.1;
+        disk = disk_there head.has_disk t.2.2.0;
+        disk_size = ap length same ∙ t.2.2.1;
+      },
+      rw same refl,
+    ))) (omega (arith, rom, disk, cards))
 
 -- ---- the steps
 
@@ -310,54 +248,52 @@ grouped head cards rom disk steps = simp append_assoc
 saved_format : IsFormat 38_328_826 saved_fields saved_spelled IsSaved
 unfolding saved_fields image_bytes head_bytes size_bytes
 saved_format =
-    format_as 38_328_826 saved_spelled IsSaved
-    (then_format head_of head_format (λ head is.
-    then_format (λ (saved : Saved). saved.setup) (setup_format head is) (λ setup fit.
-    last_format (λ (saved : Saved). saved.steps) (λ steps. record { setup = setup; steps = steps })
-    (steps_format setup head.steps is.steps.1) (λ steps good. refl))
-    (λ setup saved any good. ap (λ (saved : Saved). saved.setup) good.1))
-    (λ head saved is good.
-    same_head (head_of saved) head good.0.mib good.0.cards.0 good.0.disk good.0.rom good.0.disk_size
-    good.1.0.0))
-    (omega arith)
+    fields_format
+    (head_format then λ head is.
+    setup_format head is then λ setup fit.
+    last_field (λ steps. record { setup = setup; steps = steps }) (steps_format setup head.steps is.steps.1))
     (λ saved is.
     let setup = saved.setup in
-    let cards = is.fitted.cards in (
+    let cards = is.fitted.cards in
+    let head : IsHead (head_of saved) = record {
+      mib = (is.fitted.some_memory, is.few_mib);
+      cards = (omega arith, cards.count);
+      rom = is.fitted.rom;
+      disk = disk_of_head setup.disk is.fitted.disk;
+      steps = (omega arith, is.count);
+    } in
+    let fitted : IsFitted (head_of saved) setup = record {
+      mib = refl;
+      cards = (refl, cards.each, cards.rises, is.fitted.windows);
+      rom = refl;
+      disk = refl;
+      disk_size = refl;
+    } in
+    ((head_of saved, head) & (setup, fitted) & (saved.steps, (refl, is.each)), refl))
+    (λ t.
+    let setup = t.2.0 in
+    let fit = t.2.1 in
+    let saved : Saved = record { setup = setup; steps = t.2.2.0 } in
+    let same : head_of saved ≡ t.0 =
+    same_head (head_of saved) t.0 fit.mib fit.cards.0 fit.disk fit.rom fit.disk_size t.2.2.1.0 in
+    let head : IsHead (head_of saved) = rw same t.1 in (
       record {
-        mib = (is.fitted.some_memory, is.few_mib);
-        cards = (omega arith, cards.count);
-        rom = is.fitted.rom;
-        disk = disk_of_head setup.disk is.fitted.disk;
-        steps = (omega arith, is.count);
+        fitted = record {
+          some_memory = head.mib.0;
+          most_memory = omega (arith, head.mib.1);
+          cards = record { count = head.cards.1; each = fit.cards.1; rises = fit.cards.2 };
+          windows = fit.cards.3;
+          rom = head.rom;
+          disk = disk_of_setup setup.disk head.disk;
+        };
+        few_mib = head.mib.1;
+        count = head.steps.1;
+        each = t.2.2.1.1;
       },
-      (
-        record {
-          mib = refl;
-          cards = (refl, cards.each, cards.rises, is.fitted.windows);
-          rom = refl;
-          disk = refl;
-          disk_size = refl;
-        },
-        ((refl, is.each), refl),
-      ),
+      sym (grouped (head_spelled (head_of saved)) (flat_map card_bytes setup.cards) setup.rom (disk_bytes setup)
+          (flat_map step_bytes t.2.2.0))
+          ∙ ap (λ (head : Head). head_spelled head ++ (setup_spelled setup ++ flat_map step_bytes t.2.2.0)) same,
     ))
-    (λ saved good.
-    record {
-      fitted = record {
-        some_memory = good.0.mib.0;
-        most_memory = omega (arith, good.0.mib.1);
-        cards = record { count = good.0.cards.1; each = good.1.0.cards.1; rises = good.1.0.cards.2 };
-        windows = good.1.0.cards.3;
-        rom = good.0.rom;
-        disk = disk_of_setup saved.setup.disk good.0.disk;
-      };
-      few_mib = good.0.mib.1;
-      count = good.0.steps.1;
-      each = good.1.1.0.1;
-    })
-    (λ saved good.
-    grouped (head_spelled (head_of saved)) (flat_map card_bytes saved.setup.cards) saved.setup.rom
-    (disk_bytes saved.setup) (flat_map step_bytes saved.steps))
 
 -- ---- nothing follows
 
@@ -377,9 +313,23 @@ pub image_back : (setup : Setup) (steps : List Statement) → IsImage setup step
 unfolding image_fields
 image_back setup steps is =
     let saved : Saved = record { setup = setup; steps = steps } in
-    let read : saved_fields (image_bytes setup steps) ≡ Ok (saved, []) =
-    ap saved_fields (sym (append-nil (image_bytes setup steps))) ∙ saved_format.back saved [] is in
+    let read = rw append-nil at (saved_format.back saved [] is) in
     rw read refl
+
+-- and as no other, and never as bad
+module _ (bytes : List ℕ) (setup : Setup) (steps : List Statement) (is : IsImage setup steps)
+    (spelled : bytes ≡ image_bytes setup steps) where
+  pub image_same : (saved : Saved) (rest : List ℕ) → image_fields bytes ≡ Ok (saved, rest) →
+      saved ≡ record { setup = setup; steps = steps }
+  image_same saved rest read =
+      ap (λ (pair : Saved × List ℕ). pair.0)
+      (ok_is (saved, rest) (record { setup = setup; steps = steps }, [])
+      (sym read ∙ rw spelled (image_back setup steps is)))
+
+  pub image_never : (left : ℕ) → image_fields bytes ≡ Err left → ⊥
+  image_never left read =
+      let saved : Saved × List ℕ = (record { setup = setup; steps = steps }, []) in
+      not_err saved left (sym (rw spelled (image_back setup steps is)) ∙ read)
 
 -- what is read is an image, and the bytes are its
 pub image_taken : (bytes rest : List ℕ) (saved : Saved) → AreBytes bytes → image_fields bytes ≡ Ok (saved, rest) →
@@ -390,11 +340,7 @@ image_taken bytes rest saved are is =
     saved rest is in
     let end = end_ok first.0.0 saved first.0.1 rest first.2 in
     let told = saved_format.taken bytes first.0.0 first.0.1 are first.1 in
-    subst (λ (saved : Saved). IsImage saved.setup saved.steps × (bytes ≡ image_bytes saved.setup saved.steps)) end.1 (
-      told.1,
-      told.0 ∙ (ap (λ (last : List ℕ). saved_spelled first.0.0 ++ last) end.0
-          ∙ append-nil (saved_spelled first.0.0)),
-    )
+    rw (← end.1) (told.1, rw (end.0, append-nil (saved_spelled first.0.0)) at told.0)
 
 -- a bad field lies within the bytes, and not far from their start
 pub image_bad : (bytes : List ℕ) (left : ℕ) → AreBytes bytes → image_fields bytes ≡ Err left →

@@ -1,11 +1,9 @@
 -- The fields of steps, by their tags.
-use Rattle.std.proofs.Common.{◌≡◌, ℕ, ◌^◌, ◌<◌, ◌≤◌, ◌&&◌, Bool, true, false, cond, nat_le, Option, refl, sym, ap}
-use Rattle.std.proofs.Common.{subst, ◌∙◌, arith}
-use Rattle.board_prelude.proofs.Common.{and_from, and_parts, le-leb, leb-true, option_map_or, Kind, Fetch, PortAccess}
-use Rattle.board_prelude.proofs.Common.{WideAccess, Moment, IsMoment, days_in_month, is_leap, moment_of, Event, Memory}
-use Rattle.board_prelude.proofs.Common.{Wide, Port, Ack, Pulses, Time, BadSector, Statement, Setup, IsWideAccess}
-use Rattle.board_prelude.proofs.Common.{IsInRange, IsScriptSector, Stimulus, Applied, stimulus_form, applied}
-use Rattle.board_prelude.proofs.Common.{applied_by, applied_again, event_applied, most_pulses_at_once, last_sector}
+use Rattle.std.proofs.Common.{◌≡◌, ℕ, ◌^◌, ◌<◌, ◌&&◌, Bool, true, false, Option, refl, sym, ap, subst, ◌∙◌, arith}
+use Rattle.board_prelude.proofs.Common.{nat_tests, option_map_or, Kind, Fetch, PortAccess, WideAccess, Moment, IsMoment}
+use Rattle.board_prelude.proofs.Common.{days_in_month, moment_of, Event, Memory, Wide, Port, Ack, Pulses, Time}
+use Rattle.board_prelude.proofs.Common.{BadSector, Setup, IsWideAccess, IsInRange, IsScriptSector, Stimulus, Applied}
+use Rattle.board_prelude.proofs.Common.{stimulus_form, applied, applied_by, applied_again, event_applied}
 use Rattle.board_base.specs.declared.access.Access.{Access}
 use Rattle.board_spec.specs.declared.event.Event.TheVariants.{Look as LookAt}
 use Rattle.board_spec.specs.declared.stimulus.Stimulus.TheVariants as stimuli
@@ -14,75 +12,52 @@ use Rattle.image_writer.specs.declared.tag.Tag.TheVariants as tags
 use Rattle.board_image.specs.Common.{tag_of_event, look_bytes, moment_bytes, applied_bytes, field_bytes, step_bytes}
 use Rattle.board_image.specs.Common.{FitsField, IsImageStep, can_have, look_fields, moment_fields, applied_fields}
 use Rattle.board_image.specs.Common.{event_fields, step_fields}
-use Rattle.byte_fields.proofs.Formats.{IsFormat, format_as, then_format, last_format, made_format, done_format}
+use Rattle.byte_fields.proofs.Formats.{IsFormat, format_as, fields_format, ◌then◌, ◌&◌, last_field, made_format}
+use Rattle.byte_fields.proofs.Formats.{done_format}
 use Rattle.byte_fields.proofs.Numbers.{flag_format, wide8, wide16, wide32, byte_within, where_format, within_format}
 use Rattle.board_image.proofs.EventFormats.{kind_format, tag_format, CanSpellMemory, CanSpellPort, memory_format}
-use Rattle.board_image.proofs.EventFormats.{port_format, wide_format}
+use Rattle.board_image.proofs.EventFormats.{port_format, wide_format, wider}
 
 -- ---- moments
 
-chosen_most : (test : Bool) (x y most : ℕ) → x ≤ most → y ≤ most → cond test x y ≤ most
-chosen_most true x y most one other = one
-chosen_most false x y most one other = other
-
 few_days : (year month : ℕ) → days_in_month year month < 2 ^ 8
-few_days year month =
-    let most : days_in_month year month ≤ 31 =
-    chosen_most _ _ _ 31 (chosen_most (is_leap year) 29 28 31 (omega arith) (omega arith))
-    (chosen_most _ 30 31 31 (omega arith) (omega arith)) in
-    omega (arith, most)
+few_days year month = grind (arith, nat_tests)
 
-moment_format : IsFormat 15 moment_fields moment_bytes IsMoment
+moment_format : IsFormat 7 moment_fields moment_bytes IsMoment
 unfolding moment_fields moment_bytes
 moment_format =
-    format_as 15 moment_bytes IsMoment
-    (then_format (λ (m : Moment). m.year) (within_format wide16 1980 2099 (omega arith)) (λ year good.
-    then_format (λ (m : Moment). m.month) (byte_within 1 12 (omega arith)) (λ month good.
-    then_format (λ (m : Moment). m.day) (byte_within 1 (days_in_month year month) (few_days year month)) (λ day good.
-    then_format (λ (m : Moment). m.hour) (byte_within 0 23 (omega arith)) (λ hour good.
-    then_format (λ (m : Moment). m.minute) (byte_within 0 59 (omega arith)) (λ minute good.
-    last_format (λ (m : Moment). m.second) (λ second. moment_of year month day hour minute second)
-    (byte_within 0 59 (omega arith)) (λ second good. refl))
-    (λ minute m any good. ap (λ (m : Moment). m.minute) good.1))
-    (λ hour m any good. ap (λ (m : Moment). m.hour) good.1.1))
-    (λ day m any good. ap (λ (m : Moment). m.day) good.1.1.1))
-    (λ month m any good. ap (λ (m : Moment). m.month) good.1.1.1.1))
-    (λ year m any good. ap (λ (m : Moment). m.year) good.1.1.1.1.1))
-    (omega arith)
+    fields_format
+    (within_format wide16 1980 2099 (omega arith) then λ year good.
+    byte_within 1 12 (omega arith) then λ month good.
+    byte_within 1 (days_in_month year month) (few_days year month) then λ day good.
+    byte_within 0 23 (omega arith) then λ hour good.
+    byte_within 0 59 (omega arith) then λ minute good.
+    last_field (λ second. moment_of year month day hour minute second) (byte_within 0 59 (omega arith)))
     (λ m is. (
-      (is.date.year_low, is.date.year_high),
-      (
-        (is.date.month_low, is.date.month_high),
-        (
-          (is.date.day_low, is.date.day_high),
-          (
-            (omega arith, is.time.hour_high),
-            (
-              (omega arith, is.time.minute_high),
-              ((omega arith, is.time.second_high), ap (λ (day : ℕ). record m { weekday = day }) is.weekday),
-            ),
-          ),
-        ),
-      ),
+      (m.year, (is.date.year_low, is.date.year_high)) & (m.month, (is.date.month_low, is.date.month_high))
+          & (m.day, (is.date.day_low, is.date.day_high)) & (m.hour, (omega arith, is.time.hour_high))
+          & (m.minute, (omega arith, is.time.minute_high)) & (m.second, (omega arith, is.time.second_high)),
+      ap (λ (day : ℕ). record m { weekday = day }) is.weekday,
     ))
-    (λ m good.
-    record {
-      date = record {
-        year_low = good.0.0;
-        year_high = good.0.1;
-        month_low = good.1.0.0;
-        month_high = good.1.0.1;
-        day_low = good.1.1.0.0;
-        day_high = good.1.1.0.1;
-      };
-      weekday = ap (λ (m : Moment). m.weekday) good.1.1.1.1.1.1;
-      time = record {
-        hour_high = good.1.1.1.0.1;
-        minute_high = good.1.1.1.1.0.1;
-        second_high = good.1.1.1.1.1.0.1;
-      };
-    })
-    (λ m good. refl)
+    (λ t. (
+      record {
+        date = record {
+          year_low = t.1.0;
+          year_high = t.1.1;
+          month_low = t.2.1.0;
+          month_high = t.2.1.1;
+          day_low = t.2.2.1.0;
+          day_high = t.2.2.1.1;
+        };
+        weekday = refl;
+        time = record {
+          hour_high = t.2.2.2.1.1;
+          minute_high = t.2.2.2.2.1.1;
+          second_high = t.2.2.2.2.2.1.1;
+        };
+      },
+      refl,
+    ))
 
 -- ---- looks
 
@@ -103,20 +78,18 @@ abbrev pub IsLook : Event → Type 0
 IsLook event =
     (look_addr event < 2 ^ 32) × (event ≡ LookAt (look_kind event) (look_addr event) (look_smm event))
 
-look_format : IsFormat 15 look_fields field_bytes IsLook
+look_format : IsFormat 6 look_fields field_bytes IsLook
 unfolding look_fields look_bytes field_bytes
 look_format =
-    format_as 15 field_bytes IsLook
-    (then_format look_kind kind_format (λ kind good.
-    then_format look_smm flag_format (λ smm good.
-    last_format look_addr (λ addr. LookAt kind addr smm) (within_format wide32 0 0xFFFF_FFFF (omega arith))
-    (λ addr good. refl))
-    (λ smm event any good. ap look_smm good.1))
-    (λ kind event any good. ap look_kind good.1.1))
-    (omega arith)
-    (λ event is. (tt, (tt, ((omega arith, omega (arith, is.0)), is.1))))
-    (λ event good. (omega (arith, good.1.1.0.1), good.1.1.1))
-    (λ event good. sym (ap field_bytes good.1.1.1))
+    fields_format
+    (kind_format then λ kind any.
+    flag_format then λ smm any.
+    last_field (λ addr. LookAt kind addr smm) (within_format wide32 0 0xFFFF_FFFF (omega arith)))
+    (λ event is. (
+      (look_kind event, tt) & (look_smm event, tt) & (look_addr event, (omega arith, omega (arith, is.0))),
+      is.1,
+    ))
+    (λ t. ((omega (arith, t.2.2.1.1), refl), refl))
 
 -- ---- stimuli
 
@@ -161,22 +134,19 @@ applied_format : (setup : Setup) (one : Stimulus) (has_level : Bool) → (stimul
     IsFormat 15 (applied_fields setup one has_level) field_bytes (IsStimulus setup one has_level)
 unfolding applied_fields
 applied_format setup one true is =
-    format_as 15 field_bytes (IsStimulus setup one true)
-    (then_format number_of (where_format wide8 (can_have setup one)) (λ number good.
-    last_format level_of (λ on. event_applied one number on) flag_format (λ on any. level_again one number on is))
-    (λ number event any good. ap number_of good.1 ∙ number_again one number (level_of event)))
-    (omega arith)
-    (λ event can. (can.0, (tt, can.1)))
-    (λ event good. (good.0, good.1.1))
-    (λ event good. sym (ap field_bytes good.1.1 ∙ bytes_again one (number_of event) (level_of event) ∙ rw is refl))
+    wider 15 (fields_format
+    (where_format wide8 (can_have setup one) then λ number good.
+    last_field (λ on. event_applied one number on) flag_format)
+    (λ event can. ((number_of event, can.0) & (level_of event, tt), can.1))
+    (λ t. (
+      rw (number_again one t.0 t.2.0, level_again one t.0 t.2.0 is) (t.1, refl),
+      bytes_again one t.0 t.2.0 ∙ rw is refl,
+    ))) (omega arith)
 applied_format setup one false is =
-    format_as 15 field_bytes (IsStimulus setup one false)
-    (last_format number_of (λ number. event_applied one number false) (where_format wide32 (can_have setup one))
-    (λ number good. number_again one number false))
-    (omega arith)
-    (λ event can. can)
-    (λ event good. good)
-    (λ event good. sym (ap field_bytes good.1 ∙ bytes_again one (number_of event) false ∙ rw is refl))
+    wider 15 (fields_format
+    (last_field (λ number. event_applied one number false) (where_format wide32 (can_have setup one)))
+    (λ event can. ((number_of event, can.0), can.1))
+    (λ t. (rw (number_again one t.0 false) (t.1, refl), bytes_again one t.0 false ∙ rw is refl))) (omega arith)
 
 -- ---- events
 
@@ -192,13 +162,15 @@ CanSpell setup (tags.Stimulus one) event = IsStimulus setup one (stimulus_form o
 
 event_format : (setup : Setup) (tag : Tag) → IsFormat 15 (event_fields setup tag) field_bytes (CanSpell setup tag)
 unfolding event_fields field_bytes
-event_format setup tags.Memory = made_format Memory field_bytes memory_format (λ access. refl)
-event_format setup tags.Port = made_format Port field_bytes port_format (λ access. refl)
-event_format setup tags.Look = look_format
+event_format setup tags.Memory =
+    wider 15 (made_format Memory field_bytes memory_format (λ access. refl)) (omega arith)
+event_format setup tags.Port = wider 15 (made_format Port field_bytes port_format (λ access. refl)) (omega arith)
+event_format setup tags.Look = wider 15 look_format (omega arith)
 event_format setup tags.Ack =
     format_as 15 field_bytes (CanSpell setup tags.Ack) (done_format Ack) (omega arith) (λ event good. good)
     (λ event good. good) (λ event good. sym (ap field_bytes good))
-event_format setup tags.Time = made_format Time field_bytes moment_format (λ moment. refl)
+event_format setup tags.Time =
+    wider 15 (made_format Time field_bytes moment_format (λ moment. refl)) (omega arith)
 event_format setup tags.Wide = made_format Wide field_bytes wide_format (λ access. refl)
 event_format setup (tags.Stimulus one) = applied_format setup one (stimulus_form one).has_level refl
 
@@ -220,12 +192,8 @@ spelled_to setup (LookAt kind addr smm) fits is sector = (fits, refl)
 spelled_to setup Ack fits is sector = refl
 spelled_to setup (Time moment) fits is sector = (moment, is, refl)
 spelled_to setup (Wide access) fits is sector = (access, is, refl)
-spelled_to setup (Pulses count) fits is sector =
-    ((omega arith, and_from _ _ (le-leb 1 count is.0) (le-leb count most_pulses_at_once is.1)), refl)
-spelled_to setup (BadSector sector) fits is few = (
-  (omega (arith, few), and_from _ _ (le-leb 0 sector (omega arith)) (le-leb sector last_sector (omega (arith, few)))),
-  refl,
-)
+spelled_to setup (Pulses count) fits is sector = ((omega arith, grind (arith, nat_tests)), refl)
+spelled_to setup (BadSector sector) fits is few = ((omega arith, grind (arith, nat_tests)), refl)
 spelled_to setup _ fits is sector = ((fits, is), refl)
 
 IsGoodEvent : Setup → Event → Type 0
@@ -243,27 +211,23 @@ spelled_from setup (LookAt kind addr smm) can = (can.0, tt, tt)
 spelled_from setup Ack can = (tt, tt, tt)
 spelled_from setup (Time moment) can = let same : can.0 ≡ moment = cc in (tt, subst IsMoment same can.1, tt)
 spelled_from setup (Wide access) can = let same : can.0 ≡ access = cc in (tt, subst IsWideAccess same can.1, tt)
-spelled_from setup (Pulses count) can =
-    let both = and_parts (nat_le 1 count) (nat_le count most_pulses_at_once) can.0.1 in
-    (tt, (leb-true 1 count both.0, leb-true count most_pulses_at_once both.1), tt)
-spelled_from setup (BadSector sector) can =
-    let few = leb-true sector last_sector (and_parts (nat_le 0 sector) (nat_le sector last_sector) can.0.1).1 in
-    (tt, tt, omega (arith, few))
+spelled_from setup (Pulses count) can = let had = can.0.1 in (tt, grind (arith, nat_tests), tt)
+spelled_from setup (BadSector sector) can = let had = can.0.1 in (tt, tt, grind (arith, nat_tests))
 spelled_from setup _ can = (can.0.0, can.0.1, tt)
 
 pub step_format : (setup : Setup) → IsFormat 17 (step_fields setup) step_bytes (IsImageStep setup)
 unfolding step_fields IsGoodEvent
 step_format setup =
-    format_as 17 step_bytes (IsImageStep setup)
-    (then_format (λ (step : Statement). step.actor) (byte_within 0 7 (omega arith)) (λ actor good.
-    then_format (λ (step : Statement). tag_of_event step.event) tag_format (λ tag good.
-    last_format (λ (step : Statement). step.event) (λ event. record { actor = actor; event = event })
-    (event_format setup tag) (λ event good. refl))
-    (λ tag step any good. tag_told setup tag step.event good.0))
-    (λ actor step any good. ap (λ (step : Statement). step.actor) good.1.1))
-    (omega arith)
-    (λ step is. ((omega arith, is.actor), (tt, (spelled_to setup step.event is.fits is.event is.sector, refl))))
-    (λ step good.
-    let is = spelled_from setup step.event good.1.1.0 in
-    record { actor = good.0.1; fits = is.0; event = is.1; sector = is.2 })
-    (λ step good. refl)
+    fields_format
+    (byte_within 0 7 (omega arith) then λ actor good.
+    tag_format then λ tag any.
+    last_field (λ event. record { actor = actor; event = event }) (event_format setup tag))
+    (λ step is. (
+      (step.actor, (omega arith, is.actor)) & (tag_of_event step.event, tt)
+          & (step.event, spelled_to setup step.event is.fits is.event is.sector),
+      refl,
+    ))
+    (λ t.
+    let same = tag_told setup t.2.0 t.2.2.0 t.2.2.1 in
+    let is = spelled_from setup t.2.2.0 (rw (← same) at t.2.2.1) in
+    (record { actor = t.1.1; fits = is.0; event = is.1; sector = is.2 }, rw same refl))

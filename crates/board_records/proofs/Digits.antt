@@ -1,5 +1,5 @@
 -- The digits of a moment, read back.
-use Rattle.std.proofs.Common.{◌≡◌, ℕ, ◌+◌, ◌*◌, ◌/◌, ◌%◌, ◌<◌, ◌≤◌, ◌^◌, Some, option_map, refl, ap, sym, ◌∙◌, arith}
+use Rattle.std.proofs.Common.{◌≡◌, ℕ, ◌+◌, ◌*◌, ◌/◌, ◌%◌, ◌<◌, Some, option_map, refl, ap, sym, ◌∙◌, arith}
 use Rattle.board_base.proofs.CalendarLemmas.{moments_decided, days_in_month_bound}
 use Rattle.board_prelude.proofs.Common.{Moment, IsMoment, Time}
 use Rattle.uart_16550.specs.declared.com1.Happening.TheVariants.{Happens}
@@ -19,12 +19,12 @@ parts_of_digits : (year month day hour minute second : ℕ) → month < 100 → 
     AreParts (((year * 100 + month) * 100 + day) * 1_000_000 + ((hour * 100 + minute) * 100 + second)) year month day
     hour minute second
 parts_of_digits year month day hour minute second mo da ho mi se = record {
-  year_is = omega (arith, mo, da, ho, mi, se);
-  month_is = omega (arith, mo, da, ho, mi, se);
-  day_is = omega (arith, mo, da, ho, mi, se);
-  hour_is = omega (arith, mo, da, ho, mi, se);
-  minute_is = omega (arith, mo, da, ho, mi, se);
-  second_is = omega (arith, mo, da, ho, mi, se);
+  year_is = omega arith;
+  month_is = omega arith;
+  day_is = omega arith;
+  hour_is = omega arith;
+  minute_is = omega arith;
+  second_is = omega arith;
 }
 
 same_said : {digits year month day hour minute second : ℕ} → AreParts digits year month day hour minute second →

@@ -1,10 +1,10 @@
 -- A board that was loaded, with the bytes that are given.
-use Rattle.std.proofs.Common.{◌≡◌, ℕ, ◌⊎◌, inl, inr, List, Result, Ok, Err, IfOk, IfErr, sym, ap, subst, ◌∙◌}
+use Rattle.std.proofs.Common.{◌≡◌, ℕ, ◌⊎◌, inl, inr, List, Result, Ok, Err, IfOk, IfErr, refl, sym}
 use Rattle.board_records.specs.Doors.{Behind}
 use Rattle.board_records.specs.Given.{AreAsMany, Given, IsGivenBoard, IsGivenRefusal, on_board, with_given}
 use Rattle.board_records.specs.Images.{IsBehind, image_bytes}
 use Rattle.board_records.specs.Statuses.{bad_length, no_memory}
-use Rattle.board_records.proofs.Images.{never_err, ok_of, ok_same}
+use Rattle.board_records.proofs.Images.{never_err, ok_same}
 use Rattle.board_records.proofs.LeftSteps.{sound_with}
 
 -- what a call says that puts them in
@@ -30,7 +30,7 @@ pub given_sound :
     (result : Result Behind ℕ) (given : Given) (loaded : Behind) → Puts given loaded result → IsBehind loaded →
     IfOk result IsBehind
 given_sound (Ok it) given loaded puts sound =
-    subst IsBehind (sym puts.0.0) (sound_with given loaded puts.0.1 sound)
+    rw puts.0.0 (sound_with given loaded puts.0.1 sound)
 given_sound (Err status) given loaded puts sound = tt
 
 pub given_refused :
@@ -48,15 +48,12 @@ pub given_exact :
 given_exact (Ok it) given loaded behind puts read as_many =
     elim read [
       | inl never ↦ absurd (never_err loaded no_memory never)
-      | inr is ↦
-          inr (ap ok_of (puts.0.0 ∙ ap (on_board (with_given given)) (ok_same loaded behind is)))
+      | inr is ↦ inr (rw (puts.0.0, ok_same loaded behind is) refl)
     ]
 given_exact (Err status) given loaded behind puts read as_many =
     elim read [
       | inl never ↦ absurd (never_err loaded no_memory never)
-      | inr is ↦
-          absurd (puts.1.1 (subst (λ (b : Behind). AreAsMany given b.serial.board.setup)
-          (sym (ok_same loaded behind is)) as_many))
+      | inr is ↦ absurd (puts.1.1 (rw (ok_same loaded behind is) as_many))
     ]
 
 -- nothing was loaded

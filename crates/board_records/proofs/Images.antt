@@ -1,5 +1,5 @@
 -- A board is read from its bytes: what it is fitted with, and then its state.
-use Rattle.std.proofs.Common.{◌≡◌, ◌⊎◌, ℕ, inl, inr, List, [], ◌∷◌, ◌++◌, Result, Ok, Err, IfOk, refl, sym, ap, ◌∙◌}
+use Rattle.std.proofs.Common.{◌≡◌, ◌⊎◌, ℕ, inl, inr, List, [], ◌++◌, Result, Ok, Err, IfOk, refl, sym, ap, ◌∙◌}
 use Rattle.board_prelude.proofs.Common.{append-nil}
 use Rattle.byte_fields.specs.declared.fault.Fault.{Fault}
 use Rattle.byte_fields.specs.declared.fault.Fault.TheVariants.{NoMemory}
@@ -49,9 +49,8 @@ state_exact before after serial identities loads behind rest is same begins =
     elim (loads.exact behind.serial rest (ap (λ (fitting : Fitting). fitting.setup) same) is.state begins) [
       | inl never ↦ absurd (never_err serial NoMemory never)
       | inr given ↦
-          let state : serial ≡ behind.serial = ok_same serial behind.serial given.0 in
-          let say : identities ≡ behind.identities = sym (ap (λ (fitting : Fitting). fitting.identities) same) in
-          inr (rw state (rw say refl), given.1)
+          let say = ap (λ (fitting : Fitting). fitting.identities) same in
+          inr (rw (ok_same serial behind.serial given.0, say) refl, given.1)
     ]
 
 pub state_refused :
@@ -74,12 +73,7 @@ pub last_loaded :
     IsBehind behind × (fitting_of behind ≡ fitted) × (before ≡ serial_bytes behind.serial ++ mid) →
     IfOk result (λ given. IsBehind given × (fitting_of given ≡ fitted) × (before ≡ serial_bytes given.serial))
 last_loaded (Ok given) behind fitted before mid told is =
-    rw (told.0) (
-      is.0,
-      is.1,
-      is.2 ∙ (ap (λ (rest : List ℕ). serial_bytes behind.serial ++ rest) told.1
-          ∙ append-nil (serial_bytes behind.serial)),
-    )
+    rw told.0 (is.0, is.1, rw (told.1, append-nil (serial_bytes behind.serial)) at is.2)
 last_loaded (Err fault) behind fitted before mid told is = tt
 
 -- what a call says of a state and of what follows it, where nothing does
@@ -112,11 +106,7 @@ pub whole_loaded :
     (result : Result Behind Fault) (fitted : Fitting) (before mid : List ℕ) → before ≡ fitting_bytes fitted ++ mid →
     IfOk result (λ given. IsBehind given × (fitting_of given ≡ fitted) × (mid ≡ serial_bytes given.serial)) →
     IfOk result (λ given. IsBehind given × (before ≡ image_bytes given))
-whole_loaded (Ok given) fitted before mid begins told = (
-  told.0,
-  begins ∙ (ap (λ (rest : List ℕ). fitting_bytes fitted ++ rest) told.2
-      ∙ ap (λ (f : Fitting). fitting_bytes f ++ serial_bytes given.serial) (sym told.1)),
-)
+whole_loaded (Ok given) fitted before mid begins told = (told.0, begins ∙ rw (told.2, ← told.1) refl)
 whole_loaded (Err fault) fitted before mid begins told = tt
 
 -- what the bytes of a board say of what was read first

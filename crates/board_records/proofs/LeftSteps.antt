@@ -48,34 +48,13 @@ disk_over_other fitted sectors (Some own) (Some disk) fits same is = over_other 
 pub whole_with : (dram fitted sectors : List ℕ) (chipset : Running) → length dram ≡ length (dram_on chipset) →
     length fitted ≡ length (fitted_on chipset) → length sectors ≡ length (sectors_on chipset) → IsChipset chipset →
     IsChipset (with_dram dram (with_fitted fitted (with_sectors sectors chipset)))
-whole_with dram fitted sectors chipset of_dram of_fitted of_sectors is = record {
-  fits = record {
-    some_memory = is.fits.some_memory;
-    most_memory = is.fits.most_memory;
-    cards = is.fits.cards;
-    windows = is.fits.windows;
-    rom = is.fits.rom;
-    disk = disk_refitted fitted chipset.setup.disk of_fitted is.fits.disk;
-  };
-  whole = record {
-    registers = is.whole.registers;
-    stores = record { dram = of_dram ∙ is.whole.stores.dram; contents = is.whole.stores.contents };
-    devices = record {
-      machines = record {
-        pair = is.whole.devices.machines.pair;
-        timer = is.whole.devices.machines.timer;
-        clock = is.whole.devices.machines.clock;
-        triggers = is.whole.devices.machines.triggers;
-        plain = is.whole.devices.machines.plain;
-        wires = is.whole.devices.machines.wires;
-        irqs = is.whole.devices.machines.irqs;
-      };
-      disk =
-          disk_over_other fitted sectors chipset.setup.disk chipset.state.devices.disk of_fitted of_sectors
-          is.whole.devices.disk;
-    };
-  };
-}
+whole_with dram fitted sectors chipset of_dram of_fitted of_sectors is =
+    assumption (
+      disk_refitted fitted chipset.setup.disk of_fitted is.fits.disk,
+      of_dram ∙ is.whole.stores.dram,
+      disk_over_other fitted sectors chipset.setup.disk chipset.state.devices.disk of_fitted of_sectors
+          is.whole.devices.disk,
+    )
 
 pub sound_without : (left : LeftOut) (behind : Behind) → IsBehind behind → IsBehind (without left behind)
 sound_without left behind is = record {
@@ -229,14 +208,10 @@ resectored_own None = refl
 resectored_own (Some disk) = refl
 
 pub own_fitted : (chipset : Running) → with_fitted (fitted_on chipset) chipset ≡ chipset
-own_fitted chipset =
-    ap (λ (disk : Option (List ℕ)). rebuilt chipset (dram_on chipset) disk chipset.state.devices.disk)
-    (refitted_own chipset.setup.disk)
+own_fitted chipset = rw (refitted_own chipset.setup.disk) refl
 
 pub own_sectors : (chipset : Running) → with_sectors (sectors_on chipset) chipset ≡ chipset
-own_sectors chipset =
-    ap (λ (disk : Option Disk). rebuilt chipset (dram_on chipset) chipset.setup.disk disk)
-    (resectored_own chipset.state.devices.disk)
+own_sectors chipset = rw (resectored_own chipset.state.devices.disk) refl
 
 pub none_left : (chipset : Running) → disk_left false chipset ≡ chipset
 none_left chipset =
@@ -251,10 +226,8 @@ none_left_behind behind =
 
 pub dram_kept : (left : LeftOut) (behind : Behind) → left.dram ≡ false →
     on_board (disk_left left.disk) behind ≡ without left behind
-dram_kept left behind kept =
-    ap (λ (d : Bool). without (record { dram = d; disk = left.disk }) behind) (sym kept)
+dram_kept left behind kept = rw kept refl
 
 pub dram_gone : (left : LeftOut) (behind : Behind) → left.dram ≡ true →
     without (record { dram = true; disk = left.disk }) behind ≡ without left behind
-dram_gone left behind gone =
-    ap (λ (d : Bool). without (record { dram = d; disk = left.disk }) behind) (sym gone)
+dram_gone left behind gone = rw gone refl

@@ -1,5 +1,5 @@
 -- What a bus master reaches, as a record: never SMRAM, nor memory in its range.
-use Rattle.std.proofs.Common.{◌≡◌, ◌≢◌, ℕ, ◌≤◌, ◌⊎◌, inl, inr, false, Option, Some, refl, sym, ◌∙◌, arith}
+use Rattle.std.proofs.Common.{◌≡◌, ◌≢◌, ℕ, ◌≤◌, ◌⊎◌, false, Option, Some, refl, sym, ◌∙◌, arith}
 use Rattle.board_prelude.proofs.Common.{Target, Dram, Shadow, Smram, Denial, Register}
 use Rattle.board_prelude.proofs.Common.{is_smram_range}
 use Rattle.board_chipset.specs.Common.{IsOutsideSmram}
@@ -24,8 +24,7 @@ abbrev pub IsMemory : ℕ → Type 0
 IsMemory target = (target ≡ dram_target) ⊎ (target ≡ shadow_target)
 
 pub no_memory : (target : ℕ) → 3 ≤ target → IsMemory target → ⊥
-no_memory target past (inl is) = omega (arith, past, is)
-no_memory target past (inr is) = omega (arith, past, is)
+no_memory target past is = grind arith
 
 outside_target : (target : Target) (addr : ℕ) → IsOutsideSmram target addr → IsMemory (target_said target).target →
     is_smram_range addr ≡ false

@@ -1,6 +1,6 @@
 -- What an open looks at before it copies: the cards that records say are as many as the records.
 use Rattle.std.proofs.Common.{◌≡◌, ℕ, suc, ◌+◌, ◌<◌, ◌&&◌, true, arith, IsSomeAnd, List, [], ◌∷◌, length, get_or, drop}
-use Rattle.std.proofs.Common.{is_some, Option, Some, None, option_map, option_and_then, refl, ap, sym}
+use Rattle.std.proofs.Common.{is_some, Option, Some, None, option_map, option_and_then, refl, ap}
 use Rattle.std.proofs.lemmas.List.{drop_more}
 use Rattle.board_spec.specs.Setup.{FittedCard, IsCardList, IsSetup, Setup}
 use Rattle.board_chipset.specs.declared.check.SetupFault.TheVariants.{Cards}
@@ -26,9 +26,7 @@ said_count (first ∷ later) cards is = one_more (length later) (card_said first
 
 both_said : {B : Type 0} (one : Option B) (others : Option (List B)) →
     is_some (option_and_then (λ it. option_map (λ later. it ∷ later) others) one) ≡ (is_some one && is_some others)
-both_said None others = refl
-both_said (Some it) None = refl
-both_said (Some it) (Some later) = refl
+both_said one others = grind arith
 
 -- all say something where the first does, and all behind it do
 pub said_next : (records : List CardRecord) (index : ℕ) (last : CardRecord) → index < length records →
@@ -61,12 +59,7 @@ many_cards mib records rom disk test many memory =
 
 -- ---- at most eight
 
-said_is : (mib : ℕ) (records : List CardRecord) (rom disk : List ℕ) (cards : List FittedCard) →
-    Some cards ≡ cards_said records →
-    setup_said mib records rom disk ≡ Some (setup_of mib cards rom disk)
-said_is mib records rom disk cards is = ap (λ said. option_map (λ cards. setup_of mib cards rom disk) said) (sym is)
-
 pub said_fits : (mib : ℕ) (records : List CardRecord) (rom disk : List ℕ) (cards : List FittedCard) →
     Some cards ≡ cards_said records → IsSetup (setup_of mib cards rom disk) →
     IsSomeAnd (setup_said mib records rom disk) IsSetup
-said_fits mib records rom disk cards is fits = rw (said_is mib records rom disk cards is) fits
+said_fits mib records rom disk cards is fits = rw (← is) fits

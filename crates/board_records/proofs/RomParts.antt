@@ -1,6 +1,6 @@
 -- Which part moved a byte, and the cards one after another; and replies where no ROM was given bytes.
-use Rattle.std.proofs.Common.{◌≡◌, ℕ, ◌+◌, ◌-◌, ◌<◌, ◌≤◌, ◌&&◌, ◌||◌, ◌==◌, nat_lt, false}
-use Rattle.std.proofs.Common.{if◌then◌else◌, List, [], length, drop, get_or, find, Some, None, refl, sym, ap}
+use Rattle.std.proofs.Common.{◌≡◌, ℕ, ◌+◌, ◌-◌, ◌<◌, ◌≤◌, ◌==◌, nat_lt, false}
+use Rattle.std.proofs.Common.{if◌then◌else◌, List, [], length, drop, get_or, find, Some, None, refl, sym}
 use Rattle.std.proofs.Common.{◌∙◌}
 use Rattle.std.proofs.lemmas.List.{drop_more}
 use Rattle.board_prelude.proofs.Common.{and_right, drop_all, le-ltb, lt-ltb, bytes_of, longest_at}
@@ -19,8 +19,7 @@ pub part_next : (parts : List PartRecord) (index addr bytes before place : ℕ) 
     if nat_lt place after then Some (get_or parts index last, place - before)
     else part_of (drop (index + 1) parts) addr bytes after place)
 unfolding part_of
-part_next parts index addr bytes before place last within =
-    ap (λ rest. part_of rest addr bytes before place) (drop_more parts index last within)
+part_next parts index addr bytes before place last within = rw (drop_more parts index last within) refl
 
 pub part_here : (parts : List PartRecord) (index addr bytes before place : ℕ) (last : PartRecord) (count left : ℕ) →
     index < length parts → left ≡ bytes - before → count ≡ bytes_of (longest_at (addr + before) left) →
@@ -48,8 +47,7 @@ pub card_next : (cards : List FittedCard) (index dev : ℕ) (last : FittedCard) 
     find (λ card. card.dev == dev) (drop index cards)
     ≡ (if (get_or cards index last).dev == dev then Some (get_or cards index last)
     else find (λ card. card.dev == dev) (drop (index + 1) cards))
-card_next cards index dev last within = ap (λ rest. find (λ card. card.dev == dev) rest)
-    (drop_more cards index last within)
+card_next cards index dev last within = rw (drop_more cards index last within) refl
 
 -- ---- no ROM was given any
 

@@ -1,6 +1,6 @@
 -- The bytes of a board in three: those before the DRAM's, these, and those after them.
 use Rattle.std.proofs.Common.{◌≡◌, ℕ, ◌+◌, ◌≤◌, Bool, List, [], ◌∷◌, ◌++◌, length, take, drop, replicate, Result, Ok}
-use Rattle.std.proofs.Common.{Err, OnOk, true, ◌*◌, refl, sym, ap, subst, ◌∙◌, append_assoc, arith}
+use Rattle.std.proofs.Common.{Err, OnOk, true, ◌*◌, refl, sym, ap, ◌∙◌, append_assoc, arith}
 use Rattle.board_prelude.proofs.Common.{length-append, length-take, length-drop, take_at, drop_at}
 use Rattle.pit_8254.proofs.Saved.{joined}
 use Rattle.byte_fields.specs.Fields.{flag_byte}
@@ -36,14 +36,12 @@ image_with behind bytes at is whole =
     let after : List ℕ = after_dram behind.serial.board in
     let com1 : List ℕ = com1_bytes behind.serial.com1 in
     let front : List ℕ = fitting ++ before in
-    let split : with_dram bytes at behind.serial.board.state.stores.dram ≡ front ++ (dram ++ (after ++ com1)) =
-    rw (whole, take_at front (after ++ com1) at (sym is), drop_at front (after ++ com1) at (sym is)) refl in
-    split
-    ∙ append_assoc fitting before (dram ++ (after ++ com1))
-    ∙ ap (λ (rest : List ℕ). fitting ++ rest)
-    (ap (λ (rest : List ℕ). before ++ rest) (sym (append_assoc dram after com1))
-    ∙ sym (append_assoc before (dram ++ after) com1)
-    ∙ ap (λ (state : List ℕ). state ++ com1) (sym (between behind.serial.board)))
+    rw (
+      whole,
+      take_at front (after ++ com1) at (sym is),
+      drop_at front (after ++ com1) at (sym is),
+      between behind.serial.board,
+    ) (simp append_assoc)
 
 -- the bytes in three
 pub image_split : (behind : Behind) →
@@ -61,9 +59,8 @@ pub image_around : (behind : Behind) (none front bytes : List ℕ) (at : ℕ) �
     front ≡ none ++ before_bytes behind → at ≡ length front → bytes ≡ front ++ after_bytes behind →
     with_dram bytes at behind.serial.board.state.stores.dram ≡ image_bytes behind
 image_around behind none front bytes at empty first is second =
-    let begins : front ≡ before_bytes behind = first ∙ ap (λ (old : List ℕ). old ++ before_bytes behind) empty in
-    image_with behind bytes at (is ∙ ap length begins)
-    (second ∙ ap (λ (old : List ℕ). old ++ after_bytes behind) begins)
+    let begins : front ≡ before_bytes behind = rw empty at first in
+    image_with behind bytes at (is ∙ ap length begins) (rw begins at second)
 
 -- what was added after the DRAM
 pub after_added :
@@ -74,10 +71,9 @@ pub after_added :
     OnOk result (new ≡ old ++ (after_dram (disk_left left serial.board) ++ com1_bytes serial.com1))
 after_added result serial board level uart left old one two new of_board first of_level second of_uart third =
     joined result old one new (after_dram (disk_left left serial.board)) (com1_bytes serial.com1)
-    (first ∙ ap (λ (b : Running). old ++ after_dram (disk_left left b)) of_board)
+    (rw of_board at first)
     (joined result one two new (flag_byte serial.com1.script_level ∷ []) (uart_bytes serial.com1.uart)
-    (second ∙ ap (λ (l : Bool). one ++ flag_byte l ∷ []) of_level)
-    (subst (λ (u : Uart). OnOk result (new ≡ two ++ uart_bytes u)) of_uart third))
+    (rw of_level at second) (rw of_uart at third))
 
 -- what was added before the DRAM
 pub before_added :
@@ -128,15 +124,7 @@ same_image bytes held dram store image at of_bytes of_dram is = rw (of_bytes, of
 -- how many bytes they are together
 pub with_length : (bytes dram : List ℕ) (at : ℕ) → at ≤ length bytes →
     length (with_dram bytes at dram) ≡ length bytes + length (dram_bytes dram)
-with_length bytes dram at within =
-    omega (
-      arith,
-      within,
-      length-append (take at bytes) (dram_bytes dram ++ drop at bytes),
-      length-append (dram_bytes dram) (drop at bytes),
-      length-take at bytes,
-      length-drop at bytes,
-    )
+with_length bytes dram at within = simp (length-append, length-take, length-drop) (omega arith)
 
 -- those before, the DRAM's, and those after, one behind another from the front of the room on
 pub written_in_three :
@@ -149,7 +137,7 @@ written_in_three bytes dram last room one two three at start end first starts se
     let put : IsPutAt 0 all room three =
     put_then 0 start (take at bytes) (dram_bytes dram ++ drop at bytes) all room one three first (omega (arith, starts))
     (put_then start end (dram_bytes dram) last (dram_bytes dram ++ drop at bytes) one two three second ends third
-    (ap (λ (tail : List ℕ). dram_bytes dram ++ tail) (sym is))) refl in
+    (rw is refl)) refl in
     record {
       fits = omega (arith, put.fits);
       written = put.put ∙ ap (λ (n : ℕ). all ++ drop n room) (omega arith);

@@ -1,33 +1,29 @@
 -- What cards say that they are is spelled and read back.
-use Rattle.std.proofs.Common.{◌≡◌, ℕ, ◌+◌, ◌*◌, ◌^◌, ◌<◌, ◌≤◌, List, [], ◌∷◌, ◌++◌, length, flat_map, All, refl, ap}
+use Rattle.std.proofs.Common.{◌≡◌, ℕ, ◌≤◌, List, [], ◌∷◌, length, flat_map, All, refl}
 use Rattle.std.proofs.Common.{arith}
 use Rattle.std.proofs.lemmas.List.Elements.{All-from_recursion}
 use Rattle.board_prelude.proofs.Common.{AllByRecursion, recursion_from_All}
 use Rattle.card_identity.specs.declared.identity.FittedIdentity.{FittedIdentity}
 use Rattle.byte_fields.specs.Fields.{Reading}
 use Rattle.byte_fields.proofs.Loops.{IsLoop}
-use Rattle.byte_fields.proofs.Formats.{IsFormat, format_as, then_format, last_format, many_format, AreGood}
-use Rattle.byte_fields.proofs.Numbers.{wide16, wide32, byte_within, within_format}
+use Rattle.byte_fields.proofs.Formats.{IsFormat, format_as, fields_format, ◌then◌, ◌&◌, last_field, whole_field}
+use Rattle.byte_fields.proofs.Formats.{many_format, AreGood}
+use Rattle.byte_fields.proofs.Numbers.{wide16, wide32, byte_within, any_byte, any_number}
 use Rattle.fitted_bytes.specs.Identities.{AreIdentities, IsIdentity, first_bytes, last_bytes, identity_bytes}
 use Rattle.fitted_bytes.specs.Identities.{identity_fields, identities_bytes, identities_fields, some_identities}
 
 identity_format : IsFormat 15 identity_fields identity_bytes IsIdentity
 unfolding identity_fields first_bytes last_bytes
 identity_format =
-    format_as 15 identity_bytes IsIdentity
-    (then_format (λ (c : FittedIdentity). c.dev) (byte_within 0 255 (omega arith)) (λ dev good.
-    then_format (λ (c : FittedIdentity). c.identity.vendor_id) (within_format wide16 0 65_535 (omega arith))
-    (λ vendor_id good.
-    then_format (λ (c : FittedIdentity). c.identity.device_id) (within_format wide16 0 65_535 (omega arith))
-    (λ device_id good.
-    then_format (λ (c : FittedIdentity). c.identity.revision_id) (byte_within 0 255 (omega arith)) (λ revision_id good.
-    then_format (λ (c : FittedIdentity). c.identity.class_code) (within_format wide32 0 4_294_967_295 (omega arith))
-    (λ class_code good.
-    then_format (λ (c : FittedIdentity). c.identity.subsystem_vendor_id) (within_format wide16 0 65_535 (omega arith))
-    (λ subsystem_vendor_id good.
-    then_format (λ (c : FittedIdentity). c.identity.subsystem_id) (within_format wide16 0 65_535 (omega arith))
-    (λ subsystem_id good.
-    last_format (λ (c : FittedIdentity). c.identity.interrupt_pin)
+    fields_format
+    (any_byte then λ dev below.
+    any_number wide16 (omega arith) then λ vendor_id below.
+    any_number wide16 (omega arith) then λ device_id below.
+    any_byte then λ revision_id below.
+    any_number wide32 (omega arith) then λ class_code below.
+    any_number wide16 (omega arith) then λ subsystem_vendor_id below.
+    any_number wide16 (omega arith) then λ subsystem_id below.
+    last_field
     (λ interrupt_pin. record {
       dev = dev;
       identity = record {
@@ -40,48 +36,27 @@ identity_format =
         interrupt_pin = interrupt_pin;
       };
     })
-    (byte_within 0 255 (omega arith)) (λ interrupt_pin good. refl))
-    (λ subsystem_id c any good. ap (λ (c : FittedIdentity). c.identity.subsystem_id) good.1))
-    (λ subsystem_vendor_id c any good. ap (λ (c : FittedIdentity). c.identity.subsystem_vendor_id) good.1.1))
-    (λ class_code c any good. ap (λ (c : FittedIdentity). c.identity.class_code) good.1.1.1))
-    (λ revision_id c any good. ap (λ (c : FittedIdentity). c.identity.revision_id) good.1.1.1.1))
-    (λ device_id c any good. ap (λ (c : FittedIdentity). c.identity.device_id) good.1.1.1.1.1))
-    (λ vendor_id c any good. ap (λ (c : FittedIdentity). c.identity.vendor_id) good.1.1.1.1.1.1))
-    (λ dev c any good. ap (λ (c : FittedIdentity). c.dev) good.1.1.1.1.1.1.1))
-    (omega arith)
+    any_byte)
     (λ c is. (
-      (omega arith, omega (arith, is.dev)),
-      (
-        (omega arith, omega (arith, is.vendor_id)),
-        (
-          (omega arith, omega (arith, is.device_id)),
-          (
-            (omega arith, omega (arith, is.revision_id)),
-            (
-              (omega arith, omega (arith, is.class_code)),
-              (
-                (omega arith, omega (arith, is.subsystem_vendor_id)),
-                (
-                  (omega arith, omega (arith, is.subsystem_id)),
-                  ((omega arith, omega (arith, is.interrupt_pin)), refl),
-                ),
-              ),
-            ),
-          ),
-        ),
-      ),
+      (c.dev, is.dev) & (c.identity.vendor_id, is.vendor_id) & (c.identity.device_id, is.device_id)
+          & (c.identity.revision_id, is.revision_id) & (c.identity.class_code, is.class_code)
+          & (c.identity.subsystem_vendor_id, is.subsystem_vendor_id) & (c.identity.subsystem_id, is.subsystem_id)
+          & (c.identity.interrupt_pin, is.interrupt_pin),
+      refl,
     ))
-    (λ c good. record {
-      dev = omega (arith, good.0.1);
-      vendor_id = omega (arith, good.1.0.1);
-      device_id = omega (arith, good.1.1.0.1);
-      revision_id = omega (arith, good.1.1.1.0.1);
-      class_code = omega (arith, good.1.1.1.1.0.1);
-      subsystem_vendor_id = omega (arith, good.1.1.1.1.1.0.1);
-      subsystem_id = omega (arith, good.1.1.1.1.1.1.0.1);
-      interrupt_pin = omega (arith, good.1.1.1.1.1.1.1.0.1);
-    })
-    (λ c good. refl)
+    (λ t. (
+      record {
+        dev = t.1;
+        vendor_id = t.2.1;
+        device_id = t.2.2.1;
+        revision_id = t.2.2.2.1;
+        class_code = t.2.2.2.2.1;
+        subsystem_vendor_id = t.2.2.2.2.2.1;
+        subsystem_id = t.2.2.2.2.2.2.1;
+        interrupt_pin = t.2.2.2.2.2.2.2.1;
+      },
+      refl,
+    ))
 
 -- ---- one after another
 
@@ -121,10 +96,6 @@ some_format count few =
 pub identities_format : IsFormat 121 identities_fields identities_bytes AreIdentities
 unfolding identities_fields
 identities_format =
-    format_as 121 identities_bytes AreIdentities
-    (then_format (λ (cards : List FittedIdentity). length cards) (byte_within 0 8 (omega arith))
-    (λ count few. some_format count few.1) (λ count cards few are. are.0))
-    (omega arith)
-    (λ cards are. ((omega arith, are.few), (refl, are.each)))
-    (λ cards good. record { few = good.0.1; each = good.1.1 })
-    (λ cards good. refl)
+    fields_format (byte_within 0 8 (omega arith) then λ count few. whole_field (some_format count few.1))
+    (λ cards are. ((length cards, (omega arith, are.few)) & (cards, (refl, are.each)), refl))
+    (λ t. (record { few = rw t.2.1.0 t.1.1; each = t.2.1.1 }, rw t.2.1.0 refl))

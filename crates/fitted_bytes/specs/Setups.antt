@@ -1,5 +1,5 @@
 -- What a board is fitted with, as bytes. Of the ROM and of the disk the pages that are not all zeros.
-use Rattle.std.specs.Prelude.{ℕ, ◌≡◌, ◌==◌, ◌||◌, ◌++◌, Bool, if◌then◌else◌, List, [], ◌∷◌, length, flat_map, Option}
+use Rattle.std.specs.Prelude.{ℕ, ◌==◌, ◌||◌, ◌++◌, Bool, if◌then◌else◌, List, [], ◌∷◌, length, flat_map, Option}
 use Rattle.std.specs.Prelude.{Some, None, unwrap_or}
 use Rattle.board_prelude.specs.Common.{w8, w32, to_le_bytes, most_mib, most_card_memory, Setup, is_rom_size}
 use Rattle.board_prelude.specs.Common.{is_disk_length}

@@ -1,10 +1,10 @@
 -- The steps on the length of the list keep the rule.
-use Rattle.std.proofs.Common.{◌≡◌, ℕ, ◌+◌, ◌<◌, ◌==◌, Bool, true, false, List, [], ◌∷◌, ◌++◌, length, refl, ap, sym}
-use Rattle.std.proofs.Common.{subst, arith, inl, length-append, None}
+use Rattle.std.proofs.Common.{◌≡◌, ℕ, ◌+◌, ◌==◌, Bool, true, false, List, [], ◌∷◌, ◌++◌, length, refl, ap, sym, arith}
+use Rattle.std.proofs.Common.{inl, length-append, None}
 use Rattle.board_prelude.proofs.Common.{append-nil, nat_tests}
 use mathlib.Core.List.{IsPrefix}
 use prog.Atomic.{either}
-use Rattle.logbook.specs.Pages.{Cell, cell, keeps, no_nib, step, Moves, Goes}
+use Rattle.logbook.specs.Pages.{keeps, no_nib, step, Moves, Goes}
 use Rattle.map_publish.specs.declared.mark.Mark.{Mark}
 use Rattle.map_publish.specs.Fronts.{KeepsLength, AddsStep}
 use Rattle.map_publish.proofs.Fronts.{prefix_whole}
@@ -48,7 +48,4 @@ pub adds_moves : (v : List Mark) (e : Mark) (old : ℕ) → length v ≡ old
     → Moves KeepsLength shown moved 0 (v, (no_nib, None)) (λ n. either (n == old) (old + 1) n)
     (AddsStep (step 0 old (old + 1) e) (v, (no_nib, None)))
 adds_moves v e old len cs log kept pre away =
-    let P : List Cell → Type 0 = λ c. (0 < length c) × ((cell c 0).1 ≡ true)
-    × Goes KeepsLength shown moved 0 (v, (no_nib, None)) (λ n. either (n == old) (old + 1) n)
-    (AddsStep (step 0 old (old + 1) e) (v, (no_nib, None))) c log in
-    subst P (sym kept.words) (omega arith, refl, adds_goes log v e old len pre (length log == old) refl)
+    rw kept.words (omega arith, refl, adds_goes log v e old len pre (length log == old) refl)

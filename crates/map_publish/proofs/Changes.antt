@@ -1,16 +1,13 @@
 -- Maps after changes, and the changes of lists.
-use Rattle.std.proofs.Common.{◌≡◌, ◌+◌, ◌<◌, ◌≤◌, List, [], ◌∷◌, ◌++◌, length, refl, sym, ap, ◌∙◌, arith, length-append}
-use Rattle.std.proofs.Common.{flat_map, reverse}
-use Rattle.board_prelude.proofs.Common.{nat_tests, flat_map-append, reverse-append, MapChange, Setup, Bytes}
-use Rattle.board_prelude.proofs.Common.{registers_after}
+use Rattle.std.proofs.Common.{◌≡◌, ◌<◌, ◌≤◌, List, [], ◌∷◌, ◌++◌, length, refl, ◌∙◌, arith, length-append, flat_map}
+use Rattle.board_prelude.proofs.Common.{nat_tests, flat_map-append, reverse-append, MapChange, Setup, registers_after}
 use mathlib.Core.List.{IsPrefix}
-use Rattle.pci_bars.specs.Cards.{cards_of}
-use Rattle.addr_decode.specs.MapRegs.{StandsFor}
-use Rattle.map_builder.specs.Common.{Mapped, after}
+use Rattle.map_builder.specs.Common.{Mapped, Changed as Bounds}
 use Rattle.map_publish.specs.Common.{bytes_after, IsMapAfter, changes_in, changes_of, opened_of, version_after}
 use Rattle.map_publish.specs.Common.{with_change, IsMapOfLog}
 use Rattle.map_publish.specs.declared.mark.Mark.{Mark}
 use Rattle.map_publish.specs.declared.mark.Mark.TheVariants.{Changed}
+use Rattle.map_builder.specs.Applied.{IsApplied}
 
 -- ---- maps
 
@@ -18,27 +15,12 @@ pub unchanged : (map : Mapped) → IsMapAfter map [] map
 unfolding bytes_after
 unchanged map = record { stands = λ setup bytes stands. stands; cards = refl; version = omega arith }
 
--- a map after one change more
-pub changed_again :
-    (opened now next : Mapped) (changes : List MapChange) (change : MapChange) → IsMapAfter opened changes now →
-    ((setup : Setup) (bytes : Bytes) → StandsFor setup bytes now.regs
-    → StandsFor setup (after setup change bytes) next.regs) →
-    cards_of next.regs.cards ≡ cards_of now.regs.cards → next.version ≡ now.version + 1
-    → IsMapAfter opened (change ∷ changes) next
-unfolding bytes_after
-changed_again opened now next changes change before stands cards version = record {
-  stands = λ setup bytes was. stands setup (bytes_after setup changes bytes) (before.stands setup bytes was);
-  cards = cards ∙ before.cards;
-  version = omega (arith, version, before.version);
-}
-
 -- the registers after changes that followed others from reset on
 pub registers_after_more : (setup : Setup) (changes earlier : List MapChange)
     → bytes_after setup changes (registers_after setup earlier) ≡ registers_after setup (changes ++ earlier)
 unfolding bytes_after registers_after
 registers_after_more setup [] earlier = refl
-registers_after_more setup (change ∷ changes) earlier =
-    ap (after setup change) (registers_after_more setup changes earlier)
+registers_after_more setup (change ∷ changes) earlier = rw (registers_after_more setup changes earlier) refl
 
 -- ---- lists
 
@@ -47,30 +29,28 @@ pub changes_extend : (front whole : List Mark) → IsPrefix front whole
     → (more : List MapChange) × (changes_of whole ≡ more ++ changes_of front)
 changes_extend front whole (rest, is) = (
   changes_of rest,
-  ap changes_of (sym is)
-      ∙ (ap reverse (flat_map-append changes_in front rest) ∙ reverse-append (flat_map changes_in front)
+  rw (← is, flat_map-append changes_in front rest) (reverse-append (flat_map changes_in front)
       (flat_map changes_in rest)),
 )
 
 pub changes_added : (log : List Mark) (change : MapChange)
     → changes_of (log ++ Changed change ∷ []) ≡ change ∷ changes_of log
-changes_added log change = ap reverse (flat_map-append changes_in log (Changed change ∷ []))
-    ∙ reverse-append (flat_map changes_in log) (change ∷ [])
+changes_added log change =
+    rw (flat_map-append changes_in log (Changed change ∷ [])) (reverse-append (flat_map changes_in log) (change ∷ []))
 
 -- a list that goes on was opened with the same map
 pub opened_same : (front whole : List Mark) → 0 < length front → IsPrefix front whole
     → opened_of whole ≡ opened_of front
 opened_same [] whole some prefix = absurd (omega (arith, some))
-opened_same (first ∷ later) whole some (rest, is) = ap opened_of (sym is)
+opened_same (first ∷ later) whole some (rest, is) = rw (← is) refl
 
 -- a list that goes on has no lower version
 pub version_grows : (front whole : List Mark) → 0 < length front → IsPrefix front whole
     → version_after front ≤ version_after whole
 version_grows front whole some prefix =
-    let opened = ap (λ (map : Mapped). map.version) (opened_same front whole some prefix) in
+    let opened = opened_same front whole some prefix in
     let changes = changes_extend front whole prefix in
-    let count = ap length changes.1 ∙ length-append changes.0 (changes_of front) in
-    omega (arith, opened, count)
+    rw (opened, changes.1, length-append changes.0 (changes_of front)) (omega arith)
 
 -- a change at the end leaves the map that the list was opened with
 pub opened_changed : (log : List Mark) (change : MapChange) → opened_of (log ++ Changed change ∷ []) ≡ opened_of log
@@ -82,12 +62,14 @@ pub with_change_below : (log : List Mark) (change : MapChange) → version_after
 with_change_below log change below = grind (arith, nat_tests)
 
 -- the map of a list with a change made in it is the map of the list with the change at its end
-pub changed_map :
-    (log : List Mark) (change : MapChange) (now next : Mapped) → IsMapOfLog log now →
-    ((setup : Setup) (bytes : Bytes) → StandsFor setup bytes now.regs
-    → StandsFor setup (after setup change bytes) next.regs) →
-    cards_of next.regs.cards ≡ cards_of now.regs.cards → next.version ≡ now.version + 1
-    → IsMapOfLog (log ++ Changed change ∷ []) next
-changed_map log change now next before stands cards version =
-    rw (opened_changed log change, changes_added log change)
-    (changed_again (opened_of log) now next (changes_of log) change before stands cards version)
+pub changed_map : (log : List Mark) (change : MapChange) {now next : Mapped} {bounds : Bounds} →
+    IsMapOfLog log now → IsApplied now next change bounds → now.version < 4_000_000 →
+    IsMapOfLog (log ++ Changed change ∷ []) next
+unfolding bytes_after
+changed_map log change before made below =
+    rw (opened_changed log change, changes_added log change) (record {
+      stands = λ setup bytes was.
+          made.stands setup (bytes_after setup (changes_of log) bytes) (before.stands setup bytes was);
+      cards = made.same_cards ∙ before.cards;
+      version = omega (arith, made.version, before.version);
+    })

@@ -1,5 +1,5 @@
 -- The steps on the published copies keep the rule.
-use Rattle.std.proofs.Common.{◌≡◌, ◌≢◌, ℕ, ◌<◌, List, [], ◌∷◌, ◌++◌, fold, set, refl, sym, ◌∙◌, ap, subst, ⊎_elim}
+use Rattle.std.proofs.Common.{◌≡◌, ℕ, ◌<◌, List, [], ◌∷◌, ◌++◌, fold, set, refl, ◌∙◌, arith, inl, inr}
 use mathlib.Core.Option.{some}
 use lib.ListN.{get_elem?}
 use Rattle.left_right.specs.Register.{Admits, TurnsAt, Turns, Forks, Merges}
@@ -7,13 +7,11 @@ use Rattle.atomic_table.proofs.Lists.{at_set, at_snoc}
 use Rattle.map_publish.specs.declared.shown.Shown.{Shown}
 use Rattle.map_publish.specs.declared.names.Name.{Name}
 use Rattle.map_publish.specs.declared.front.Front.{Front}
-use Rattle.map_publish.specs.declared.mark.Mark.{Mark}
 use Rattle.map_publish.specs.declared.mark.Mark.TheVariants.{Changed}
 use Rattle.map_publish.specs.declared.shown.Next.{Next}
 use Rattle.map_publish.specs.declared.shown.Next.TheVariants.{Same, Change}
 use Rattle.board_spec.specs.declared.map_change.MapChange.{MapChange}
-use Rattle.map_publish.specs.Common.{version_after, with_change, IsMapOfLog, applied, nobody, name, KnowsBook, AllKnow}
-use Rattle.map_publish.specs.Common.{LearnsName, Stays}
+use Rattle.map_publish.specs.Common.{version_after, IsMapOfLog, applied, nobody, KnowsBook, AllKnow, LearnsName, Stays}
 use Rattle.map_publish.proofs.Changes.{with_change_below}
 
 nobody_knows : (shown : Shown) → KnowsBook shown nobody
@@ -22,29 +20,22 @@ nobody_knows shown named = absurd (cc named)
 snoc_holds : (shown : Shown) (views : List Name) (given : Name) → AllKnow shown views → KnowsBook shown given
     → AllKnow shown (views ++ given ∷ [])
 snoc_holds shown views given holds knows seat other at =
-    ⊎_elim (λ before. holds seat other before) (λ (last : given ≡ other). subst (KnowsBook shown) last knows)
-    (at_snoc views given other seat at)
+    grind (arith, at_snoc views given other seat at, holds seat other)
 
 set_holds :
     (shown next : Shown) (views : List Name) (seat : ℕ) (given : Name) →
     ((j : ℕ) (other : Name) → get_elem? views j ≡ some other → KnowsBook next other) → KnowsBook next given
     → AllKnow next (set views seat given)
 set_holds shown next views seat given others knows j other at =
-    ⊎_elim
-    (λ (here : (j ≡ seat) × (given ≡ other)). subst (KnowsBook next) here.1 knows)
-    (λ (there : (j ≢ seat) × (get_elem? views j ≡ some other)). others j other there.1)
-    (at_set views seat j given other at)
+    elim (at_set views seat j given other at) [ inl here ↦ rw here.1 at knows | inr there ↦ others j other there.1 ]
 
 pub admits : Admits AllKnow nobody
 admits shown views holds = snoc_holds shown views nobody holds (nobody_knows shown)
 
 -- an entry keeps the seat's name
 pub enters : (seat : ℕ) (given : Name) → Turns AllKnow seat given (λ shown. shown) Stays
-enters seat given shown views holds at = (
-  given,
-  set_holds shown shown views seat given holds (holds seat given at),
-  (refl, holds seat given at),
-)
+enters seat given shown views holds at =
+    let knows = holds seat given at in (given, set_holds shown shown views seat given holds knows, (refl, knows))
 
 pub forks : (seat : ℕ) (given : Name) → Forks AllKnow seat given given given
 forks seat given shown views holds at =
@@ -53,11 +44,10 @@ forks seat given shown views holds at =
 
 pub merges : (seat : ℕ) (given : Name) (other : ℕ) (told : Name) → Merges AllKnow seat given other told told nobody
 merges seat given other told shown views holds at apart there =
-    let knows : KnowsBook shown told =
-    ⊎_elim
-    (λ (same : (other ≡ seat) × (told ≡ told)). absurd (apart same.0))
-    (λ (beside : (other ≢ seat) × (get_elem? views other ≡ some told)). holds other told beside.1)
-    (at_set views seat other told told there) in
+    let knows : KnowsBook shown told = elim (at_set views seat other told told there) [
+      | inl same ↦ absurd (apart same.0)
+      | inr beside ↦ holds other told beside.1
+    ] in
     set_holds shown shown (set views seat told) other nobody (set_holds shown shown views seat told holds knows)
     (nobody_knows shown)
 
@@ -68,40 +58,11 @@ next_known shown next own map given knows named = record { own = own ∙ (knows 
 
 turns_to : (seat : ℕ) (given : Name) (shown next : Shown) → next.front.seen.book ≡ shown.front.seen.book
     → IsMapOfLog next.front.seen.log next.map → TurnsAt AllKnow seat given shown next Stays
-turns_to seat given shown next own map views holds at =
-    let known : (other : Name) → KnowsBook shown other → KnowsBook next other = next_known shown next own map in (
-      given,
-      set_holds shown next views seat given (λ j other there. known other (holds j other there))
-          (known given (holds seat given at)),
-      (refl, known given (holds seat given at)),
-    )
+turns_to seat given shown next own map views holds at = grind (arith, set_holds, next_known)
 
 names_it : (seat : ℕ) (given : Name) (shown next : Shown) → next.front.seen.book ≡ shown.front.seen.book
     → IsMapOfLog next.front.seen.log next.map → TurnsAt AllKnow seat given shown next LearnsName
-names_it seat given shown next own map views holds at =
-    let known : (other : Name) → KnowsBook shown other → KnowsBook next other = next_known shown next own map in
-    let to = name shown.front.seen.book in (
-      to,
-      set_holds shown next views seat to (λ j other there. known other (holds j other there))
-          (λ named. record { own = own; map = map }),
-      refl,
-    )
-
--- what a copy shows once it has taken in what was published next
-step :
-    (shown next : Shown) (list : List Mark) (front : Front) → next.list.log ≡ list → next.front ≡ front →
-    front.seen.book ≡ shown.front.seen.book → list ≡ front.seen.log →
-    (next.front.seen.book ≡ shown.front.seen.book) × IsMapOfLog next.front.seen.log next.map
-step shown next list front log is own listed = (
-  ap (λ f. f.seen.book) is ∙ own,
-  subst (λ (l : List Mark). IsMapOfLog l next.map) (log ∙ (listed ∙ sym (ap (λ f. f.seen.log) is))) next.is_map,
-)
-
-taken_in :
-    (shown next : Shown) (ops : List Next) (op : Next) → ops ≡ op ∷ [] →
-    (next.list.log, next.front) ≡ fold applied (shown.list.log, shown.front) ops →
-    (next.list.log, next.front) ≡ applied (shown.list.log, shown.front) op
-taken_in shown next ops op is to = to ∙ ap (fold applied (shown.list.log, shown.front)) is
+names_it seat given shown next own map views holds at = grind (arith, set_holds, next_known)
 
 -- a change is published after the others
 pub publishes :
@@ -112,12 +73,7 @@ pub publishes :
     (next.list.log, next.front) ≡ fold applied (shown.list.log, shown.front) ops
     → TurnsAt AllKnow seat given shown next Stays
 publishes seat given shown next change front ops listed room own added is to =
-    let both = taken_in shown next ops (Change change front) is to in
-    let list : with_change shown.list.log change ≡ front.seen.log =
-    rw (listed) (with_change_below shown.front.seen.log change room ∙ sym added) in
-    let done = step shown next (with_change shown.list.log change) front (ap (λ p. p.0) both) (ap (λ p. p.1) both) own
-    list in
-    turns_to seat given shown next done.0 done.1
+    turns_to seat given shown next (grind arith) (grind (arith, with_change_below))
 
 -- the first publish names the seat
 pub begins :
@@ -125,7 +81,4 @@ pub begins :
     shown.list.log ≡ shown.front.seen.log → ops ≡ Same ∷ [] →
     (next.list.log, next.front) ≡ fold applied (shown.list.log, shown.front) ops
     → TurnsAt AllKnow seat given shown next LearnsName
-begins seat given shown next ops listed is to =
-    let both = taken_in shown next ops Same is to in
-    let done = step shown next shown.list.log shown.front (ap (λ p. p.0) both) (ap (λ p. p.1) both) refl listed in
-    names_it seat given shown next done.0 done.1
+begins seat given shown next ops listed is to = names_it seat given shown next (grind arith) (grind arith)

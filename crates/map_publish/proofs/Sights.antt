@@ -1,5 +1,5 @@
 -- What a viewer keeps of a map.
-use Rattle.std.proofs.Common.{◌≡◌, ◌≤◌, ◌∙◌, ℕ, Bool, List, length, map, take, ap, arith}
+use Rattle.std.proofs.Common.{◌≡◌, ◌≤◌, ◌∙◌, ℕ, Bool, List, length, map, take, arith}
 use Rattle.std.proofs.lemmas.List.{length-map}
 use Rattle.board_prelude.proofs.Common.{Kind, Area, Setup, Bytes, MapRange, Tiles, IsFlatMapOf, IsSpan}
 use Rattle.addr_decode.specs.MapRegs.{StandsFor}
@@ -14,14 +14,7 @@ pub span_at :
     (setup : Setup) (bytes : Bytes) (addr x : ℕ) (kind : Kind) (smm : Bool) (lo hi : ℕ) (area : Area)
     → IsSpan setup bytes addr kind smm lo hi area →
     lo ≤ x → x ≤ hi → IsSpan setup bytes x kind smm lo hi area
-span_at setup bytes addr x kind smm lo hi area span above below = record {
-  above = above;
-  below = below;
-  last = span.last;
-  same = span.same;
-  begins = span.begins;
-  ends = span.ends;
-}
+span_at setup bytes addr x kind smm lo hi area span above below = assumption
 
 -- the ranges of a map, where no span is remembered
 pub kept_of :
@@ -29,12 +22,7 @@ pub kept_of :
     → map range_of seen ≡ of → Tiles 0 of →
     length of ≤ most_ranges → count ≡ length seen → length cells ≡ most_ranges → take count cells ≡ seen →
     IsSight cells count kind smm (record { lo = 1; hi = 0; area = area })
-kept_of of seen cells count kind smm area ranges tiles few all room copied = record {
-  room = room;
-  within = let long = length-map seen range_of in let short = ap length ranges in omega (arith, long, short, few, all);
-  tiles = rw (copied, ranges) tiles;
-  spans = λ some. absurd (omega (arith, some));
-}
+kept_of of seen cells count kind smm area ranges tiles few all room copied = grind (arith, length-map)
 
 -- the sight of a list's map is that of the list
 pub sight_of :

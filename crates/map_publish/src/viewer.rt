@@ -101,6 +101,7 @@ impl Viewer {
     /// Looks at the newest published map that it finds: how many changes led to it, and the longest interval round an
     /// address in which this kind of access has one area. The map is no older than one that the viewer found or learnt
     /// before. It neither waits nor takes memory.
+    #[tactic(auto, using(crate::proofs::Changes::version_grows))]
     pub fn look(&mut self, addr: u32, kind: Kind, smm: bool) -> Look
         ensures own { self.new.front.seen.book ≡ self.old.front.seen.book }
         ensures opened { opened_of self.new.front.seen.log ≡ opened_of self.old.front.seen.log }

@@ -207,13 +207,14 @@ plain_has_run number before now phase old new within empty only stepped =
       count = count ∙ (size ∙ sym stepped.grown.count);
       each = λ actor less. one_acted before.setup before.entries now.entries phase number lists done
           (map_writes_of before.setup now.entries) begins only stepped.grown.others has refl
-          (listed_at lists number
-          ∙ get_or-set_at (done_in old) number number done [] refl (omega (arith, size, within)))
+          (listed_at lists number ∙ get_or-set_at (done_in old) number number done [] refl
+          (omega (arith, size, within)))
           (λ other unlike few. listed_at lists other ∙ (get_or-set_other (done_in old) number other done [] unlike
           ∙ nothing_at old other (omega (arith, few, count, size)) empty)) actor
           (omega (arith, less, count, size, stepped.grown.count));
-      same = λ version later history. rw stepped.kept (plain_same version version later (done_in old) lists history
-          plain (All-set AreWent (done_in old) number done (all_reverse IsWent (dones before.setup before.entries a.more)
+      same = λ version later history. rw stepped.kept
+          (plain_same version version later (done_in old) lists history plain
+          (All-set AreWent (done_in old) number done (all_reverse IsWent (dones before.setup before.entries a.more)
           (dones_went before.setup before.entries a.more)) plain));
     }
 

@@ -1,13 +1,12 @@
 -- A statement that is read straight from the bytes of its line is the one that its fields say.
-use Rattle.board_prelude.proofs.Common.{nat_tests, option_map, All-nil, All-cons, Event, Width, Kind, Read}
-use Rattle.board_prelude.proofs.Common.{Fetch, bytes_of}
-use Rattle.std.proofs.Common.{arith, ◌≡◌, ℕ, ◌+◌, ◌*◌, false, eqb, Option, Some, None, List, [], ◌∷◌, ◌++◌, All}
-use Rattle.std.proofs.Common.{sym, ap, ◌∙◌, IfSome, MatchOption}
+use Rattle.board_prelude.proofs.Common.{nat_tests, option_map, All-nil, All-cons, Event, Width, Kind, Read, Fetch}
+use Rattle.board_prelude.proofs.Common.{bytes_of}
+use Rattle.std.proofs.Common.{arith, ◌≡◌, ℕ, ◌+◌, ◌*◌, false, eqb, Option, Some, None, List, [], ◌∷◌, ◌++◌, All, sym}
+use Rattle.std.proofs.Common.{ap, ◌∙◌, IfSome, MatchOption}
 use Rattle.std.proofs.lemmas.List.Splits.{slice_split_none, slice_split_at}
 use Rattle.script_spec.specs.Common.{HasForm, fields_of, parse_size, parse_width, parse_kind, parse_hex, parse_decimal}
-use Rattle.script_spec.specs.Common.{parse_digit, number_after, parse_smm, parse_read, parse_write}
-use Rattle.script_spec.specs.Common.{parse_in, parse_out, parse_look, ask, is_skipped, parse_by_verb}
-use Rattle.script_spec.specs.Common.{parse_statement_words, parse_item}
+use Rattle.script_spec.specs.Common.{parse_digit, number_after, parse_smm, parse_read, parse_write, parse_in, parse_out}
+use Rattle.script_spec.specs.Common.{parse_look, ask, is_skipped, parse_by_verb, parse_statement_words}
 use Rattle.script_spec.specs.Events.{read_event, write_event, in_event, out_event, look_event}
 use Rattle.script_spec.proofs.Chains.{guarded, then_said}
 use Rattle.script_spec.proofs.NumberTexts.{decimal_read}
@@ -76,96 +75,66 @@ unfolding parse_read parse_smm read_event
 access_straight version size kind text addr found is made =
     grind (arith, nat_tests, then_said, last_field, size_lacks, hex_lacks)
 
-write_read : (version size : ℕ) (text fields addr value : List ℕ) (event : Event) → text ≡ size ∷ 32 ∷ fields
-    → fields ≡ addr ++ 32 ∷ value → Some event ≡ write_event version (size ∷ []) addr value false
-    → parse_write version (fields_of text) ≡ Some event
-unfolding parse_write parse_smm write_event
-write_read version size text fields addr value event is cut made =
-    let b = then_said (parse_size version (size ∷ [])) _ event (sym made) in
-    let a = then_said (parse_hex 8 addr) _ event b.2 in
-    let v = then_said (parse_hex (2 * b.0) value) _ event a.2 in
-    ap (λ (t : List ℕ). parse_write version (fields_of t)) is
-    ∙ ap (parse_write version)
-    (last_fields size fields addr value cut (size_lacks version size b.0 b.1) (hex_lacks 8 a.0 addr a.1)
-    (hex_lacks (2 * b.0) v.0 value v.1))
-    ∙ sym made
-
-in_read : (byte : ℕ) (text port : List ℕ) (event : Event) → text ≡ byte ∷ 32 ∷ port
-    → Some event ≡ in_event (byte ∷ []) port → parse_in (fields_of text) ≡ Some event
-unfolding parse_in in_event
-in_read byte text port event is made = grind (arith, nat_tests, then_said, last_field, width_lacks, hex_lacks)
-
-out_read : (byte : ℕ) (text fields port value : List ℕ) (event : Event) → text ≡ byte ∷ 32 ∷ fields
-    → fields ≡ port ++ 32 ∷ value → Some event ≡ out_event (byte ∷ []) port value
-    → parse_out (fields_of text) ≡ Some event
-unfolding parse_out out_event
-out_read byte text fields port value event is cut made =
-    let w = then_said (parse_width (byte ∷ [])) _ event (sym made) in
-    let p = then_said (parse_hex 4 port) _ event w.2 in
-    let v = then_said (parse_hex (2 * bytes_of w.0) value) _ event p.2 in
-    ap (λ (t : List ℕ). parse_out (fields_of t)) is
-    ∙ ap parse_out
-    (last_fields byte fields port value cut (width_lacks byte w.0 w.1) (hex_lacks 4 p.0 port p.1)
-    (hex_lacks (2 * bytes_of w.0) v.0 value v.1))
-    ∙ sym made
-
-look_read : (byte : ℕ) (text addr : List ℕ) (event : Event) → text ≡ byte ∷ 32 ∷ addr
-    → Some event ≡ look_event (byte ∷ []) addr false → parse_look (fields_of text) ≡ Some event
-unfolding parse_look parse_smm look_event
-look_read byte text addr event is made = grind (arith, nat_tests, then_said, last_field, kind_lacks, hex_lacks)
-
 -- ---- verbs
 
 pub matched : {A : Type 0} (N : Type 0) (P : A → Type 0) (found : Option A) → MatchOption found N P → IfSome found P
 matched N P found m = grind (arith, nat_tests)
 
-asks_read : (version : ℕ) (words text : List ℕ) (event : Event) → words ≡ 114 ∷ 32 ∷ text
-    → parse_read version Read (fields_of text) ≡ Some event → Asks version words event
-unfolding parse_statement_words parse_by_verb
-asks_read version words text event is said actor = grind (arith, nat_tests)
-
 pub each_read : (version : ℕ) (words text : List ℕ) (found : Option Event) → words ≡ 114 ∷ 32 ∷ text
     → IfSome found (λ event. parse_read version Read (fields_of text) ≡ Some event) → IfSome found (Asks version words)
-each_read version words text found is said = grind (arith, nat_tests, asks_read)
-
-asks_fetch : (version : ℕ) (words text : List ℕ) (event : Event) → words ≡ 102 ∷ 32 ∷ text
-    → parse_read version Fetch (fields_of text) ≡ Some event → Asks version words event
 unfolding parse_statement_words parse_by_verb
-asks_fetch version words text event is said actor = grind (arith, nat_tests)
+each_read version words text found is said = grind (arith, nat_tests)
 
 pub each_fetch : (version : ℕ) (words text : List ℕ) (found : Option Event) → words ≡ 102 ∷ 32 ∷ text
     → IfSome found (λ event. parse_read version Fetch (fields_of text) ≡ Some event) → IfSome found (Asks version words)
-each_fetch version words text found is said = grind (arith, nat_tests, asks_fetch)
+unfolding parse_statement_words parse_by_verb
+each_fetch version words text found is said = grind (arith, nat_tests)
 
 pub write_straight : (version size : ℕ) (words text fields addr value : List ℕ) (found : Option Event)
     → words ≡ 119 ∷ 32 ∷ text → text ≡ size ∷ 32 ∷ fields → fields ≡ addr ++ 32 ∷ value
     → found ≡ write_event version (size ∷ []) addr value false → IfSome found (Asks version words)
-unfolding parse_statement_words parse_by_verb
+unfolding parse_statement_words parse_by_verb parse_write parse_smm write_event
 write_straight version size words text fields addr value None verb is cut made = tt
 write_straight version size words text fields addr value (Some event) verb is cut made = λ actor.
+    let b = then_said (parse_size version (size ∷ [])) _ event (sym made) in
+    let a = then_said (parse_hex 8 addr) _ event b.2 in
+    let v = then_said (parse_hex (2 * b.0) value) _ event a.2 in
+    let parts = last_fields size fields addr value cut (size_lacks version size b.0 b.1) (hex_lacks 8 a.0 addr a.1)
+    (hex_lacks (2 * b.0) v.0 value v.1) in
     ap (λ (t : List ℕ). parse_statement_words version actor (fields_of t)) verb
-    ∙ ap (option_map (ask actor)) (write_read version size text fields addr value event is cut made)
+    ∙ ap (λ (t : List ℕ). option_map (ask actor) (parse_write version (fields_of t))) is
+    ∙ ap (λ (fields : List (List ℕ)). option_map (ask actor) (parse_write version fields)) parts
+    ∙ ap (option_map (ask actor)) (sym made)
 
 pub in_straight : (version byte : ℕ) (words text port : List ℕ) (found : Option Event)
     → words ≡ 105 ∷ 110 ∷ 32 ∷ text → text ≡ byte ∷ 32 ∷ port → found ≡ in_event (byte ∷ []) port
     → IfSome found (Asks version words)
-unfolding parse_statement_words parse_by_verb
-in_straight version byte words text port found verb is made = grind (arith, nat_tests, in_read)
+unfolding parse_statement_words parse_by_verb parse_in in_event
+in_straight version byte words text port found verb is made =
+    grind (arith, nat_tests, then_said, last_field, width_lacks, hex_lacks)
 
 pub out_straight : (version byte : ℕ) (words text fields port value : List ℕ) (found : Option Event)
     → words ≡ 111 ∷ 117 ∷ 116 ∷ 32 ∷ text → text ≡ byte ∷ 32 ∷ fields → fields ≡ port ++ 32 ∷ value
     → found ≡ out_event (byte ∷ []) port value → IfSome found (Asks version words)
-unfolding parse_statement_words parse_by_verb
+unfolding parse_statement_words parse_by_verb parse_out out_event
 out_straight version byte words text fields port value None verb is cut made = tt
 out_straight version byte words text fields port value (Some event) verb is cut made = λ actor.
+    let w = then_said (parse_width (byte ∷ [])) _ event (sym made) in
+    let p = then_said (parse_hex 4 port) _ event w.2 in
+    let v = then_said (parse_hex (2 * bytes_of w.0) value) _ event p.2 in
+    let parts = last_fields byte fields port value cut (width_lacks byte w.0 w.1) (hex_lacks 4 p.0 port p.1)
+    (hex_lacks (2 * bytes_of w.0) v.0 value v.1) in
     ap (λ (t : List ℕ). parse_statement_words version actor (fields_of t)) verb
-    ∙ ap (option_map (ask actor)) (out_read byte text fields port value event is cut made)
+    ∙ ap (λ (t : List ℕ). option_map (ask actor) (parse_out (fields_of t))) is
+    ∙ ap (λ (fields : List (List ℕ)). option_map (ask actor) (parse_out fields)) parts
+    ∙ ap (option_map (ask actor)) (sym made)
 
 pub look_straight : (version byte : ℕ) (words text addr : List ℕ) (found : Option Event)
     → words ≡ 108 ∷ 111 ∷ 111 ∷ 107 ∷ 32 ∷ text → text ≡ byte ∷ 32 ∷ addr → found ≡ look_event (byte ∷ []) addr false
     → IfSome found (Asks version words)
-unfolding parse_statement_words parse_by_verb
-look_straight version byte words text addr found verb is made = grind (arith, nat_tests, look_read)
+unfolding parse_statement_words parse_by_verb parse_look parse_smm look_event
+look_straight version byte words text addr found verb is made =
+    grind (arith, nat_tests, then_said, last_field, kind_lacks, hex_lacks)
 
 -- ---- the line
 
@@ -174,10 +143,8 @@ pub line_straight : (version digit actor : ℕ) (line words : List ℕ) (event :
 line_straight version digit actor line words event cut said asks =
     let is = decimal_read (digit ∷ []) actor (sym said) in
     read_says version line (ask actor event)
-    (ap (λ (t : List ℕ). parse_item version (fields_of t)) cut
-    ∙ ap (parse_item version)
-    (one_byte digit words (decimal_lacks digit actor (sym said)) ∙ ap (λ (key : List ℕ). key ∷ fields_of words) is.0)
-    ∙ number_first version actor (fields_of words) (ask actor event) is.1 (asks actor))
+    (rw (cut, one_byte digit words (decimal_lacks digit actor (sym said)), is.0)
+    (number_first version actor (fields_of words) (ask actor event) is.1 (asks actor)))
 
 decimal_said : (byte n : ℕ) → parse_decimal (byte ∷ []) ≡ Some n → eqb byte 0x23 ≡ false
 unfolding number_after

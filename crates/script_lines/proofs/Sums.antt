@@ -1,7 +1,7 @@
 -- What digits add up to is the number that they make.
 use Rattle.board_prelude.proofs.Common.{nat_tests, option_and_then, range_with_len, get_or-map-range_with_len}
-use Rattle.std.proofs.Common.{◌≡◌, ℕ, ◌+◌, ◌*◌, ◌^◌, ◌<◌, ◌≤◌, Option, Some, None, List, [], ◌∷◌, get_or}
-use Rattle.std.proofs.Common.{map, refl, sym, ap, subst, ◌∙◌, arith}
+use Rattle.std.proofs.Common.{◌≡◌, ℕ, ◌+◌, ◌*◌, ◌^◌, ◌<◌, ◌≤◌, Option, Some, None, List, [], ◌∷◌}
+use Rattle.std.proofs.Common.{get_or, map, refl, sym, ap, subst, ◌∙◌, arith}
 use Rattle.script_spec.specs.Numbers.{parse_digit, parse_digits, number_after}
 use Rattle.script_lines.specs.Sums.{IsSum, sum_after, summand_of, value_or_more}
 use Rattle.script_lines.specs.declared.numbers.TheConstants.{SUMMANDS}
@@ -51,88 +51,61 @@ first_goes :
 unfolding number_after
 first_goes high digit byte field e = grind (arith, nat_tests)
 
-step :
-    (limit sum total whole : ℕ) (high : Option ℕ) (byte : ℕ) (field : List ℕ) → limit * 16 ≤ 2 ^ 32
-    → IsSum limit high sum
-    → ((carried : Option ℕ) → IsSum (limit * 16) carried (sum * 16 + summand_of byte)
-    → IsSum total (after carried field) whole)
-    → IsSum total (after high (byte ∷ field)) whole
-step limit sum total whole high byte field few is go = grind (arith, nat_tests, first_goes, more, is_digit)
+-- the limit after so many digits more, where each leaves it small
+abbrev grown : (limit : ℕ) → List ℕ → ℕ
+grown limit [] = limit
+grown limit (_ ∷ field) = grown (limit * 16) field
 
-none_left : (carried : Option ℕ) → after carried [] ≡ carried
+abbrev IsSmall : (limit : ℕ) → List ℕ → Type 0
+IsSmall limit [] = Unit {0}
+IsSmall limit (_ ∷ field) = (limit * 16 ≤ 2 ^ 32) × IsSmall (limit * 16) field
+
+sums : (limit sum : ℕ) (high : Option ℕ) (field : List ℕ) → IsSmall limit field → IsSum limit high sum
+    → IsSum (grown limit field) (after high field) (sum_after sum field)
 unfolding number_after
-none_left carried = grind (arith, nat_tests)
-
-done : (total whole : ℕ) (carried : Option ℕ) → IsSum total carried whole → IsSum total (after carried []) whole
-done total whole carried is = subst (λ (number : Option ℕ). IsSum total number whole) (sym (none_left carried)) is
-
--- ---- two, four and eight digits
-
-begun : IsSum 1 (Some 0) 0
-begun = (refl, omega arith)
+sums limit sum None [] few is = is
+sums limit sum (Some high) [] few is = is
+sums limit sum high (byte ∷ field) few is =
+    rw (first_goes high (parse_digit 16 byte) byte field refl)
+    (sums (limit * 16) (sum * 16 + summand_of byte) (longer high (parse_digit 16 byte)) field few.1
+    (more limit sum high (parse_digit 16 byte) few.0 (is_digit byte (parse_digit 16 byte) refl) is))
 
 two : (a b : ℕ) → IsSum 0x100 (parse_digits 16 (a ∷ b ∷ [])) (sum_after 0 (a ∷ b ∷ []))
-two a b =
-    step 1 0 0x100 _ (Some 0) a (b ∷ []) (omega arith) begun
-    (λ one one_is. step 16 _ 0x100 _ one b [] (omega arith) one_is (λ all is. done 0x100 _ all is))
+two a b = sums 1 0 (Some 0) (a ∷ b ∷ []) (grind arith) (refl, omega arith)
 
-four :
-    (a b c d : ℕ) → IsSum 0x1_0000 (parse_digits 16 (a ∷ b ∷ c ∷ d ∷ [])) (sum_after 0 (a ∷ b ∷ c ∷ d ∷ []))
-four a b c d =
-    step 1 0 0x1_0000 _ (Some 0) a (b ∷ c ∷ d ∷ []) (omega arith) begun
-    (λ one one_is. step 16 _ 0x1_0000 _ one b (c ∷ d ∷ []) (omega arith) one_is
-    (λ two two_is. step 0x100 _ 0x1_0000 _ two c (d ∷ []) (omega arith) two_is
-    (λ three three_is. step 0x1000 _ 0x1_0000 _ three d [] (omega arith) three_is
-    (λ all is. done 0x1_0000 _ all is))))
+four : (a b c d : ℕ) → IsSum 0x1_0000 (parse_digits 16 (a ∷ b ∷ c ∷ d ∷ [])) (sum_after 0 (a ∷ b ∷ c ∷ d ∷ []))
+four a b c d = sums 1 0 (Some 0) (a ∷ b ∷ c ∷ d ∷ []) (grind arith) (refl, omega arith)
 
 eight :
     (a b c d e f g h : ℕ) → IsSum 0x1_0000_0000 (parse_digits 16 (a ∷ b ∷ c ∷ d ∷ e ∷ f ∷ g ∷ h ∷ []))
     (sum_after 0 (a ∷ b ∷ c ∷ d ∷ e ∷ f ∷ g ∷ h ∷ []))
 eight a b c d e f g h =
-    step 1 0 0x1_0000_0000 _ (Some 0) a (b ∷ c ∷ d ∷ e ∷ f ∷ g ∷ h ∷ []) (omega arith) begun
-    (λ n1 is1. step 16 _ 0x1_0000_0000 _ n1 b (c ∷ d ∷ e ∷ f ∷ g ∷ h ∷ []) (omega arith) is1
-    (λ n2 is2. step 0x100 _ 0x1_0000_0000 _ n2 c (d ∷ e ∷ f ∷ g ∷ h ∷ []) (omega arith) is2
-    (λ n3 is3. step 0x1000 _ 0x1_0000_0000 _ n3 d (e ∷ f ∷ g ∷ h ∷ []) (omega arith) is3
-    (λ n4 is4. step 0x1_0000 _ 0x1_0000_0000 _ n4 e (f ∷ g ∷ h ∷ []) (omega arith) is4
-    (λ n5 is5. step 0x10_0000 _ 0x1_0000_0000 _ n5 f (g ∷ h ∷ []) (omega arith) is5
-    (λ n6 is6. step 0x100_0000 _ 0x1_0000_0000 _ n6 g (h ∷ []) (omega arith) is6
-    (λ n7 is7. step 0x1000_0000 _ 0x1_0000_0000 _ n7 h [] (omega arith) is7
-    (λ all is. done 0x1_0000_0000 _ all is))))))))
+    sums 1 0 (Some 0) (a ∷ b ∷ c ∷ d ∷ e ∷ f ∷ g ∷ h ∷ []) (grind arith) (refl, omega arith)
 
 -- ---- as they are added
 
 pub two_added :
     (a b x y : ℕ) → x ≡ summand_of a → y ≡ summand_of b → IsSum 0x100 (parse_digits 16 (a ∷ b ∷ [])) (x * 16 + y)
 two_added a b x y is_x is_y =
-    let flat : (0 * 16 + x) * 16 + y ≡ x * 16 + y = omega arith in
-    let same : sum_after 0 (a ∷ b ∷ []) ≡ (0 * 16 + x) * 16 + y = rw (is_x, is_y) refl in
-    subst (IsSum 0x100 (parse_digits 16 (a ∷ b ∷ []))) (same ∙ flat) (two a b)
+    let same : sum_after 0 (a ∷ b ∷ []) ≡ x * 16 + y = omega arith in
+    subst (IsSum 0x100 (parse_digits 16 (a ∷ b ∷ []))) same (two a b)
 
 pub four_added :
     (a b c d x y z w : ℕ) → x ≡ summand_of a → y ≡ summand_of b → z ≡ summand_of c → w ≡ summand_of d
     → (x * 16 + y) * 0x100 + (z * 16 + w) ≡ sum_after 0 (a ∷ b ∷ c ∷ d ∷ [])
-four_added a b c d x y z w is_x is_y is_z is_w = grind (arith, nat_tests)
+four_added a b c d x y z w is_x is_y is_z is_w = omega arith
 
 pub four_is :
     (a b c d sum : ℕ) → sum ≡ sum_after 0 (a ∷ b ∷ c ∷ d ∷ [])
     → IsSum 0x1_0000 (parse_digits 16 (a ∷ b ∷ c ∷ d ∷ [])) sum
 four_is a b c d sum is = subst (IsSum 0x1_0000 (parse_digits 16 (a ∷ b ∷ c ∷ d ∷ []))) (sym is) (four a b c d)
 
-joined :
-    (high e f g h : ℕ) → high * 0x1_0000 + ((((0 * 16 + e) * 16 + f) * 16 + g) * 16 + h)
-    ≡ (((high * 16 + e) * 16 + f) * 16 + g) * 16 + h
-joined high e f g h = omega arith
-
 pub eight_is :
     (a b c d e f g h high low : ℕ) → high ≡ sum_after 0 (a ∷ b ∷ c ∷ d ∷ []) → low ≡ sum_after 0 (e ∷ f ∷ g ∷ h ∷ [])
     → IsSum 0x1_0000_0000 (parse_digits 16 (a ∷ b ∷ c ∷ d ∷ e ∷ f ∷ g ∷ h ∷ [])) (high * 0x1_0000 + low)
 eight_is a b c d e f g h high low is_high is_low =
-    let same : high * 0x1_0000 + low ≡ sum_after 0 (a ∷ b ∷ c ∷ d ∷ e ∷ f ∷ g ∷ h ∷ []) =
-    ap (λ (n : ℕ). n * 0x1_0000 + low) is_high
-    ∙ ap (λ (n : ℕ). sum_after 0 (a ∷ b ∷ c ∷ d ∷ []) * 0x1_0000 + n) is_low
-    ∙ joined (sum_after 0 (a ∷ b ∷ c ∷ d ∷ [])) (summand_of e) (summand_of f) (summand_of g) (summand_of h) in
-    subst (IsSum 0x1_0000_0000 (parse_digits 16 (a ∷ b ∷ c ∷ d ∷ e ∷ f ∷ g ∷ h ∷ []))) (sym same)
-    (eight a b c d e f g h)
+    let same : sum_after 0 (a ∷ b ∷ c ∷ d ∷ e ∷ f ∷ g ∷ h ∷ []) ≡ high * 0x1_0000 + low = omega arith in
+    subst (IsSum 0x1_0000_0000 (parse_digits 16 (a ∷ b ∷ c ∷ d ∷ e ∷ f ∷ g ∷ h ∷ []))) same (eight a b c d e f g h)
 
 -- ---- where the sum is below the limit, and where not
 

@@ -57,6 +57,7 @@ static SUMMANDS: [u64; 256] = [
 ];
 
 /// What a digit stands for, with letters in either case.
+#[tactic(auto, using(crate::proofs::DigitTable::some_digit, crate::proofs::DigitTable::no_digit))]
 fn digit_value(byte: u8) -> Option<u64>
     ensures digit { result ≡ digit_value byte }
 {
@@ -101,6 +102,7 @@ fn summand_of(byte: u8) -> u64
 }
 
 /// What four bytes add up to as hexadecimal digits.
+#[tactic(auto, using(crate::proofs::Sums::four_added))]
 #[inline(always)]
 fn sum_of(a: u8, b: u8, c: u8, d: u8) -> u64
     ensures sum { result ≡ sum_after 0 (a ∷ b ∷ c ∷ d ∷ []) }
@@ -112,6 +114,7 @@ fn sum_of(a: u8, b: u8, c: u8, d: u8) -> u64
 }
 
 /// The number that a sum is if it is below a limit, which no sum is with a byte that is no digit.
+#[tactic(auto, using(crate::proofs::Sums::within, crate::proofs::Sums::past))]
 #[inline(always)]
 fn if_below(limit: u64, sum: u64) -> Option<u64>
     ensures number { (number : Option ℕ) → IsSum limit number sum → result ≡ number }
@@ -150,6 +153,7 @@ fn of_eight(a: u8, b: u8, c: u8, d: u8, e: u8, f: u8, g: u8, h: u8) -> Option<u6
 }
 
 /// The number that hexadecimal digits make, at most sixteen. Two, four and eight are read at once.
+#[tactic(auto, using(crate::proofs::NumberLemmas::power_within))]
 #[inline(always)]
 fn parse_straight_hex(field: &[u8]) -> Option<u64>
     requires few { length field.now ≤ 16 }
@@ -186,6 +190,7 @@ fn has_leading_zero(field: &[u8]) -> bool
 }
 
 /// The number of 1 to 9 decimal digits, with no leading zero but in `0` itself.
+#[tactic(auto, using(crate::proofs::NumberLemmas::power_within))]
 pub fn parse_decimal(field: &[u8]) -> Option<u32>
     ensures number { result ≡ parse_decimal field.now }
 {

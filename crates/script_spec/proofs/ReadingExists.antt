@@ -1,11 +1,11 @@
 -- Each text is a script's, or bad.
 use Rattle.board_prelude.proofs.Common.{nat_tests, option_map, find, list_any, IsPermutation, true≢false, false≢true}
-use Rattle.board_prelude.proofs.Common.{and_parts, cases_Bool, ltb-true, ltb-false, eqb-false, flat_map-append}
-use Rattle.board_prelude.proofs.Common.{map-append, reverse-append, All-nil, All-cons, All-head, All-tail}
-use Rattle.board_prelude.proofs.Common.{All-permutation, IsPermutation-sym, Statement, FittedCard, Rises}
+use Rattle.board_prelude.proofs.Common.{cases_Bool, ltb-true, ltb-false, eqb-false, flat_map-append, map-append}
+use Rattle.board_prelude.proofs.Common.{reverse-append, All-nil, All-cons, All-head, All-tail, All-permutation}
+use Rattle.board_prelude.proofs.Common.{IsPermutation-sym, Statement, FittedCard, Rises}
 use Rattle.std.proofs.Common.{ℕ, ◌≡◌, ◌≢◌, ◌<◌, ◌≤◌, ◌⊎◌, Bool, true, false, not, ◌&&◌, ◌||◌, cond, ltb, Option, Some}
-use Rattle.std.proofs.Common.{None, Result, List, [], ◌∷◌, ◌++◌, map, reverse, get_or, All, filter, refl, sym, ap, ◌∙◌}
-use Rattle.std.proofs.Common.{inl, inr, append_assoc, append-nil, arith, ◌==◌}
+use Rattle.std.proofs.Common.{None, Result, List, [], ◌∷◌, ◌++◌, map, reverse, get_or, All, filter, refl, sym, ◌∙◌, inl}
+use Rattle.std.proofs.Common.{inr, append_assoc, append-nil, arith, ◌==◌}
 use Rattle.std.proofs.lemmas.List.Sorted.{IsPermutation-refl, IsPermutation-trans, IsPermutation-cons}
 use Rattle.std.proofs.lemmas.List.Sorted.{IsPermutation-middle}
 use Rattle.script_spec.specs.Common.{lines_of, Item, SetCpus, SetMemory, SetRom, SetDisk, FitCard, BeginPhase, Ask}
@@ -33,6 +33,10 @@ whole_setup version [] good whole = absurd (true≢false whole)
 whole_setup version (item ∷ before) good whole =
     by_phase (is_phase item) (list_any is_phase before) (has_setup before) (has_setup (item ∷ before)) whole
     (λ front. whole_setup version before good.2 front) good.1.begun (more_setup item before)
+
+whole_parts : (items : List Item) → has_setup items ≡ true
+    → (list_any is_cpus items ≡ true) × (list_any is_memory items ≡ true) × (list_any is_rom items ≡ true)
+whole_parts items whole = grind (arith, nat_tests)
 
 found_cpus : (items : List Item) → list_any is_cpus items ≡ true → (count : ℕ) × (find is_cpus items ≡ Some
     (SetCpus count))
@@ -65,17 +69,13 @@ inserted card (first ∷ later) = cond (ltb card.dev first.dev) (card ∷ first 
 
 inserted_same : (card : FittedCard) (cards : List FittedCard) → IsPermutation (card ∷ cards) (inserted card cards)
 inserted_same card [] = IsPermutation-refl (card ∷ [])
-inserted_same card (first ∷ later) =
-    elim (cases_Bool (ltb card.dev first.dev)) [
-      | inl less ↦ rw less (IsPermutation-refl (card ∷ first ∷ later))
-      | inr above ↦
-          rw above (
-          IsPermutation-trans (card ∷ first ∷ later) (first ∷ card ∷ later) (first ∷ inserted card later)
-          (IsPermutation-sym (first ∷ card ∷ later) (card ∷ first ∷ later) (IsPermutation-middle
-          (first ∷ []) card later))
-          (IsPermutation-cons first (card ∷ later) (inserted card later) (inserted_same card later))
-          )
-    ]
+inserted_same card (first ∷ later) = elim (cases_Bool (ltb card.dev first.dev)) [
+  | inl less ↦ rw less (IsPermutation-refl (card ∷ first ∷ later))
+  | inr above ↦ rw above (
+      IsPermutation-trans (card ∷ first ∷ later) (first ∷ card ∷ later) (first ∷ inserted card later)
+      (IsPermutation-sym _ (card ∷ first ∷ later) (IsPermutation-middle (first ∷ []) card later))
+      (IsPermutation-cons first (card ∷ later) (inserted card later) (inserted_same card later)))
+]
 
 all_inserted : (P : FittedCard → Type 0) (card : FittedCard) (cards : List FittedCard) → P card → All P cards →
     All P (inserted card cards)
@@ -86,24 +86,19 @@ inserted_rises : (card : FittedCard) (cards : List FittedCard) → Rises cards �
     All (λ other. other.dev ≢ card.dev) cards → Rises (inserted card cards)
 inserted_rises card [] rises apart = (All-nil (λ other. card.dev < other.dev), tt)
 inserted_rises card (first ∷ later) rises apart =
+    let other : first.dev ≢ card.dev = All-head (λ c. c.dev ≢ card.dev) first later apart in
     elim (cases_Bool (ltb card.dev first.dev)) [
       | inl less ↦
           let below : card.dev < first.dev = ltb-true card.dev first.dev less in
           rw less (
-            All-cons (λ other. card.dev < other.dev) first later below
-                (λ k d inside. let up : first.dev < (get_or later k d).dev = rises.0 k d inside in omega (
-                  arith,
-                  below,
-                  up,
-                )),
+            All-cons (λ other. card.dev < other.dev) first later below (λ k d inside.
+                let up : first.dev < (get_or later k d).dev = rises.0 k d inside in omega arith),
             rises,
           )
       | inr above ↦
-          let other : first.dev ≢ card.dev = All-head (λ c. c.dev ≢ card.dev) first later apart in
           let least : first.dev ≤ card.dev = ltb-false card.dev first.dev above in
-          let before : first.dev < card.dev = omega (arith, other, least) in
           rw above (
-            all_inserted (λ c. first.dev < c.dev) card later before rises.0,
+            all_inserted (λ c. first.dev < c.dev) card later (omega arith) rises.0,
             inserted_rises card later rises.1 (All-tail (λ c. c.dev ≢ card.dev) first later apart),
           )
     ]
@@ -156,14 +151,12 @@ begin_phase : (before : List Item) → Run before → Run (BeginPhase ∷ before
 begin_phase before (inl none) = inr (record {
   front = [];
   last = [];
-  is = reverse_more BeginPhase (filter (λ item. not (is_setup item)) before) ∙ ap (λ (items : List Item). items
-      ++ BeginPhase ∷ []) none.1;
+  is = rw (reverse_more BeginPhase (filter (λ item. not (is_setup item)) before), none.1) refl;
 })
 begin_phase before (inr some) = inr (record {
   front = some.front ++ some.last ∷ [];
   last = [];
-  is = reverse_more BeginPhase (filter (λ item. not (is_setup item)) before)
-      ∙ ap (λ (items : List Item). items ++ BeginPhase ∷ []) (some.is ∙ sym (phases_more some.front some.last));
+  is = rw (reverse_more BeginPhase (filter (λ item. not (is_setup item)) before), phases_more, some.is) refl;
 })
 
 ask_more : (before : List Item) (statement : Statement) → NoReason before (Ask statement) → Run before →
@@ -172,11 +165,12 @@ ask_more before statement none (inl no_phase) = grind (arith, nat_tests)
 ask_more before statement none (inr some) = inr (record {
   front = some.front;
   last = some.last ++ statement ∷ [];
-  is = reverse_more (Ask statement) (filter (λ item. not (is_setup item)) before)
-      ∙ ap (λ (items : List Item). items ++ Ask statement ∷ []) some.is
-      ∙ append_assoc (phase_items some.front) (BeginPhase ∷ map Ask some.last) (Ask statement ∷ [])
-      ∙ ap (λ (items : List Item). phase_items some.front ++ BeginPhase ∷ items) (sym (map-append Ask some.last
-      (statement ∷ [])));
+  is = rw (
+    reverse_more (Ask statement) (filter (λ item. not (is_setup item)) before),
+    some.is,
+    append_assoc (phase_items some.front) (BeginPhase ∷ map Ask some.last) (Ask statement ∷ []),
+    map-append,
+  ) refl;
 })
 
 setup_more : (item : Item) (before : List Item) → is_phase item ≡ false → run_of (item ∷ before) ≡ run_of before →
@@ -199,22 +193,13 @@ phases_there items (inr some) = (some.front ++ some.last ∷ [], some.is ∙ sym
 said_by : (version : ℕ) (items : List Item) → AreGood version items → lacks_setup items ≡ false →
     (script : Script) × (script.version ≡ version) × IsSaidBy script items
 said_by version items good whole =
-    let parts : (list_any is_cpus items && list_any is_memory items && list_any is_rom items) ≡ true =
-    whole_setup version items good whole
-    in
-    let outer : ((list_any is_cpus items && list_any is_memory items) ≡ true) × (list_any is_rom items ≡ true) =
-    and_parts (list_any is_cpus items && list_any is_memory items) (list_any is_rom items) parts
-    in
-    let inner : (list_any is_cpus items ≡ true) × (list_any is_memory items ≡ true) =
-    and_parts (list_any is_cpus items) (list_any is_memory items) outer.0
-    in
-    let cpus : (count : ℕ) × (find is_cpus items ≡ Some (SetCpus count)) = found_cpus items inner.0 in
-    let memory : (mib : ℕ) × (find is_memory items ≡ Some (SetMemory mib)) = found_memory items inner.1 in
-    let rom : (name : List ℕ) × (find is_rom items ≡ Some (SetRom name)) = found_rom items outer.1 in
-    let disk : (disk : Option (List ℕ)) × (find is_disk items ≡ option_map SetDisk disk) = found_disk items in
-    let cards : InOrder (cards_of items) = in_order version items good in
-    let phases : (phases : List (List Statement)) × (run_of items ≡ phase_items phases) = phases_there items
-    (run version items good) in (
+    let parts = whole_parts items (whole_setup version items good whole) in
+    let cpus = found_cpus items parts.0 in
+    let memory = found_memory items parts.1 in
+    let rom = found_rom items parts.2 in
+    let disk = found_disk items in
+    let cards = in_order version items good in
+    let phases = phases_there items (run version items good) in (
       record {
         version = version;
         cpus = cpus.0;

@@ -1,20 +1,20 @@
 -- A reply is read back from its words, and what is read has the shape of its event.
-use Rattle.board_prelude.proofs.Common.{nat_tests, pow-le-pow_right, cases_Bool, eqb-true, All-head, All-tail, Kind}
-use Rattle.board_prelude.proofs.Common.{Write, WideAccess, Target, Denial, bytes_of, Event, Memory, Wide, Port, Ack}
-use Rattle.board_prelude.proofs.Common.{Look, Part, Parts, Two, Three, Four, Reply, Bus, Saw, is_write, longest_at}
-use Rattle.board_prelude.proofs.Common.{parts_from, parts_of, parts_list, space, hex_long, area_text, target_text}
-use Rattle.board_prelude.proofs.Common.{denial_text, value_bytes, value_text, answered_text, reply_text}
-use Rattle.std.proofs.Common.{◌≡◌, ℕ, zero, suc, ◌+◌, ◌-◌, ◌^◌, ◌<◌, ◌≤◌, ◌↔◌, Bool, true, false, eqb, Option, Some}
-use Rattle.std.proofs.Common.{None, List, [], ◌∷◌, length, All, flat_map, refl, sym, ap, ◌∙◌, inl, inr, append_assoc}
-use Rattle.std.proofs.Common.{append-nil, arith, decimal, IfSome, IsTrue}
+use Rattle.board_prelude.proofs.Common.{eq-eqb, nat_tests, pow-le-pow_right, eqb-true, Kind, Write, WideAccess}
+use Rattle.board_prelude.proofs.Common.{bytes_of, Event, Memory, Wide, Port, Ack, Part, Parts, Two, Three, Four, Reply}
+use Rattle.board_prelude.proofs.Common.{Bus, Saw, is_write, longest_at, parts_from, parts_of, parts_list, space}
+use Rattle.board_prelude.proofs.Common.{hex_long, area_text, target_text, denial_text, value_bytes, value_text}
+use Rattle.board_prelude.proofs.Common.{answered_text, reply_text}
+use Rattle.script_spec.proofs.FieldTexts.{lacks_hex}
+use Rattle.std.proofs.Common.{◌≡◌, ℕ, zero, suc, ◌+◌, ◌-◌, ◌^◌, ◌<◌, ◌≤◌, ◌↔◌, Bool, true, false, Option, Some, None}
+use Rattle.std.proofs.Common.{List, [], ◌∷◌, length, All, flat_map, refl, sym, ap, ◌∙◌, append_assoc, append-nil, arith}
+use Rattle.std.proofs.Common.{decimal, IfSome, IsTrue}
 use Rattle.board_spec.specs.declared.event.Event.TheVariants.{Look as LookAt}
 use Rattle.board_spec.specs.declared.event.Reply.TheVariants.{Parts as InParts}
 use Rattle.script_spec.specs.Common.{IsDecimal, FitsPart, IsReplyValue, IsBusReply, IsWideReply, IsLookReply, HasShape}
-use Rattle.script_spec.specs.Common.{fields_of, parse_hex, parse_decimal, parse_denial, parse_area, parse_target}
-use Rattle.script_spec.specs.Common.{parse_value, parse_bus_reply, parse_last_parts, parse_more_parts, parse_parts}
-use Rattle.script_spec.specs.Common.{part_count, parts_with, parse_wide_reply, parse_reply, parse_spaced_reply}
-use Rattle.script_spec.proofs.PlainText.{is_word, lacks-word, hex_number_word, decimal_word, area_word, target_word}
-use Rattle.script_spec.proofs.PlainText.{denial_word}
+use Rattle.script_spec.specs.Common.{fields_of, parse_decimal, parse_value, parse_bus_reply, parse_last_parts}
+use Rattle.script_spec.specs.Common.{parse_more_parts, parse_parts, part_count, parts_with, parse_wide_reply}
+use Rattle.script_spec.specs.Common.{parse_reply, parse_spaced_reply}
+use Rattle.script_spec.proofs.PlainText.{is_word, lacks-word, decimal_word, area_word, target_word, denial_word}
 use Rattle.script_spec.proofs.PlainLines.{value_word}
 use Rattle.script_spec.proofs.Digits.{lacks}
 use Rattle.script_spec.proofs.Words.{spaced, line_spaced}
@@ -56,10 +56,7 @@ words_lack bytes (Bus value target denial) = grind (arith, nat_tests, lack, valu
 words_lack bytes (InParts parts value) = grind (arith, nat_tests, lack, value_word, parts_lack)
 words_lack bytes (Saw look) = (
   lack (decimal look.version) (decimal_word look.version),
-  (
-    lack (hex_long look.lo) (hex_number_word 4 look.lo),
-    (lack (hex_long look.hi) (hex_number_word 4 look.hi), (lack (area_text look.area) (area_word look.area), tt)),
-  ),
+  (lacks_hex 4 look.lo, (lacks_hex 4 look.hi, (lack (area_text look.area) (area_word look.area), tt))),
 )
 
 -- the first field is empty
@@ -74,92 +71,64 @@ value_back : (writes : Bool) (bytes : ℕ) (value : Option ℕ) → IsReplyValue
     → parse_value writes bytes (value_text bytes value) ≡ Some value
 value_back writes bytes value fits = grind (arith, nat_tests, hex_read)
 
-bus_said : (writes : Bool) (bytes : ℕ) (v t d : List ℕ) (value : Option ℕ) (target : Target) (denial : Option Denial)
-    → parse_value writes bytes v ≡ Some value → parse_target t ≡ Some target → parse_denial d ≡ Some denial
-    → parse_bus_reply writes bytes (v ∷ t ∷ d ∷ []) ≡ Some (Bus value target denial)
-unfolding parse_bus_reply bus_reply
-bus_said writes bytes v t d value target denial one two three = rw (one, two, three) refl
-
 bus_back : (writes : Bool) (bytes : ℕ) (reply : Reply) → IsBusReply writes bytes reply
     → parse_bus_reply writes bytes (words_in bytes reply) ≡ Some reply
-bus_back writes bytes reply fits = grind (arith, nat_tests, bus_said, value_back, target_back, denial_back)
-
-part_said : (t d : List ℕ) (target : Target) (denial : Option Denial) → parse_target t ≡ Some target
-    → parse_denial d ≡ Some denial
-    → parse_part t d ≡ Some (record { target = target; denial = denial })
-unfolding parse_part
-part_said t d target denial one two = rw (one, two) refl
+unfolding parse_bus_reply bus_reply
+bus_back writes bytes (Bus value target denial) fits =
+    rw (value_back writes bytes value fits.0, target_back target fits.1, denial_back denial fits.2) refl
+bus_back writes bytes _ fits = absurd fits
 
 part_back : (part : Part) → FitsPart part → parse_part (target_text part.target) (denial_text part.denial) ≡ Some part
-part_back part fits = grind (arith, nat_tests, part_said, target_back, denial_back)
+unfolding parse_part
+part_back part fits = rw (target_back part.target fits.0, denial_back part.denial fits.1) refl
 
 parts_back : (parts : Parts) → All FitsPart (parts_list parts) → parse_parts (words_of (parts_list parts)) ≡ Some parts
 unfolding parse_parts parse_more_parts parse_last_parts
-parts_back (Two a b) fits =
-    let later = All-tail FitsPart a (b ∷ []) fits in
-    rw (part_back a (All-head FitsPart a (b ∷ []) fits), part_back b (All-head FitsPart b [] later)) refl
-parts_back (Three a b c) fits =
-    let second = All-tail FitsPart a (b ∷ c ∷ []) fits in
-    let third = All-tail FitsPart b (c ∷ []) second in
-    rw (
-      part_back a (All-head FitsPart a (b ∷ c ∷ []) fits),
-      part_back b (All-head FitsPart b (c ∷ []) second),
-      part_back c (All-head FitsPart c [] third),
-    ) refl
-parts_back (Four a b c d) fits =
-    let second = All-tail FitsPart a (b ∷ c ∷ d ∷ []) fits in
-    let third = All-tail FitsPart b (c ∷ d ∷ []) second in
-    let fourth = All-tail FitsPart c (d ∷ []) third in
-    rw (
-      part_back a (All-head FitsPart a (b ∷ c ∷ d ∷ []) fits),
-      part_back b (All-head FitsPart b (c ∷ d ∷ []) second),
-      part_back c (All-head FitsPart c (d ∷ []) third),
-      part_back d (All-head FitsPart d [] fourth),
-    ) refl
+parts_back (Two a b) fits = simp (part_back a (fits 0 a (omega arith)), part_back b (fits 1 a (omega arith)))
+parts_back (Three a b c) fits = simp (
+  part_back a (fits 0 a (omega arith)),
+  part_back b (fits 1 a (omega arith)),
+  part_back c (fits 2 a (omega arith)),
+)
+parts_back (Four a b c d) fits = simp (
+  part_back a (fits 0 a (omega arith)),
+  part_back b (fits 1 a (omega arith)),
+  part_back c (fits 2 a (omega arith)),
+  part_back d (fits 3 a (omega arith)),
+)
 
 counted : (access : WideAccess) (most addr left : ℕ) → length (parts_from access most addr left) ≡ part_count most
     addr left
 unfolding parts_from part_count
 counted access zero addr left = refl
-counted access (suc most) addr left = elim (cases_Bool (eqb left 0)) [
-  | inl none ↦ rw none refl
-  | inr some ↦
-      let bytes : ℕ = bytes_of (longest_at addr left) in
-      let e = counted access most (addr + bytes) (left - bytes) in
-      rw some (omega (arith, e))
-]
-
-wide_said : (access : WideAccess) (v : List ℕ) (words : List (List ℕ)) (value : Option ℕ) (parts : Parts)
-    → parse_value (is_write access.kind) access.bytes v ≡ Some value → parse_parts words ≡ Some parts
-    → length (parts_list parts) ≡ part_count 4 access.addr access.bytes
-    → parse_wide_reply access (v ∷ words) ≡ Some (InParts parts value)
-unfolding parse_wide_reply
-wide_said access v words value parts one two three = grind (arith, nat_tests)
+counted access (suc most) addr left =
+    grind (
+      arith,
+      nat_tests,
+      counted access most (addr + bytes_of (longest_at addr left))
+          (left - bytes_of (longest_at addr left)),
+    )
 
 wide_back : (access : WideAccess) (reply : Reply) → IsWideReply (is_write access.kind) access.bytes
     (length (parts_of access)) reply
     → parse_wide_reply access (words_in access.bytes reply) ≡ Some reply
-wide_back access (Bus value target denial) fits = absurd fits
-wide_back access (InParts parts value) fits =
-    wide_said access (value_text access.bytes value) (words_of (parts_list parts)) value parts
-    (value_back (is_write access.kind) access.bytes value fits.0) (parts_back parts fits.1)
-    (fits.2 ∙ counted access 4 access.addr access.bytes)
-wide_back access (Saw look) fits = absurd fits
-
-look_said : (v l h a : List ℕ) (look : Look) → parse_decimal v ≡ Some look.version → parse_hex 8 l ≡ Some look.lo
-    → parse_hex 8 h ≡ Some look.hi → parse_area a ≡ Some look.area
-    → parse_look_reply (v ∷ l ∷ h ∷ a ∷ []) ≡ Some (Saw look)
-unfolding parse_look_reply look_reply
-look_said v l h a look one two three four = rw (one, two, three, four) refl
+unfolding parse_wide_reply
+wide_back access (InParts parts value) fits = rw (
+  value_back (is_write access.kind) access.bytes value fits.0,
+  parts_back parts fits.1,
+  eq-eqb (length (parts_list parts)) _ (fits.2 ∙ counted access 4 access.addr access.bytes),
+) refl
+wide_back access _ fits = absurd fits
 
 look_back : (bytes : ℕ) (reply : Reply) → IsLookReply reply → parse_look_reply (words_in bytes reply) ≡ Some reply
-look_back bytes (Bus value target denial) fits = absurd fits
-look_back bytes (InParts parts value) fits = absurd fits
-look_back bytes (Saw look) fits =
-    look_said (decimal look.version) (hex_long look.lo) (hex_long look.hi) (area_text look.area) look
-    (decimal_back look.version fits.0) (hex_read 4 look.lo (omega (arith, fits.1)))
-    (hex_read 4 look.hi (omega (arith, fits.2)))
-    (area_back look.area fits.3)
+unfolding parse_look_reply look_reply
+look_back bytes (Saw look) fits = rw (
+  decimal_back look.version fits.0,
+  hex_read 4 look.lo (omega (arith, fits.1)),
+  hex_read 4 look.hi (omega (arith, fits.2)),
+  area_back look.area fits.3,
+) refl
+look_back bytes _ fits = absurd fits
 
 reply_back : (event : Event) (reply : Reply) → HasShape event reply → parse_reply event
     (words_in (value_bytes event) reply) ≡ Some reply

@@ -23,6 +23,17 @@ in_all P [] card all is = absurd is
 in_all P (first ∷ later) card all (inl is) = rw is (All-head P first later all)
 in_all P (first ∷ later) card all (inr is) = in_all P later card (All-tail P first later all) is
 
+-- cards above the first of a list are among those after it
+none_first : (x y : FittedCard) (xs ys : List FittedCard) → x ≡ y → All (λ other. x.dev < other.dev) xs
+    → All (In (y ∷ ys)) xs → All (In ys) xs
+none_first x y xs ys same above all k d below = elim (all k d below) [
+  | inl is ↦
+      let up : x.dev < (get_or xs k d).dev = above k d below in
+      let equal : (get_or xs k d).dev ≡ x.dev = ap (λ card. card.dev) (is ∙ sym same) in
+      absurd (omega (arith, up, equal))
+  | inr after ↦ after
+]
+
 -- two lists that rise and have the same cards are one
 rising_same : (left right : List FittedCard) → Rises left → Rises right → All (In right) left →
     All (In left) right → left ≡ right
@@ -30,38 +41,18 @@ rising_same [] [] one two there back = refl
 rising_same [] (y ∷ ys) one two there back = absurd (All-head (In []) y ys back)
 rising_same (x ∷ xs) [] one two there back = absurd (All-head (In []) x xs there)
 rising_same (x ∷ xs) (y ∷ ys) one two there back =
-    let same : x ≡ y =
-    elim (All-head (In (y ∷ ys)) x xs there) [
+    let same : x ≡ y = elim (All-head (In (y ∷ ys)) x xs there) [
       | inl is ↦ is
-      | inr after ↦
-          elim (All-head (In (x ∷ xs)) y ys back) [
-            | inl is ↦ sym is
-            | inr before ↦
-                let up : y.dev < x.dev = in_all (λ other. y.dev < other.dev) ys x two.0 after in
-                let down : x.dev < y.dev = in_all (λ other. x.dev < other.dev) xs y one.0 before in
-                let none : ⊥ = omega (arith, up, down) in absurd none
-          ]
-    ]
-    in
-    let there_later : All (In ys) xs = λ k d below.
-    elim (All-tail (In (y ∷ ys)) x xs there k d below) [
-      | inl is ↦
-          let above : x.dev < (get_or xs k d).dev = one.0 k d below in
-          let equal : (get_or xs k d).dev ≡ x.dev = ap (λ card. card.dev) (is ∙ sym same) in
-          let none : ⊥ = omega (arith, above, equal) in absurd none
-      | inr after ↦ after
-    ]
-    in
-    let back_later : All (In xs) ys = λ k d below.
-    elim (All-tail (In (x ∷ xs)) y ys back k d below) [
-      | inl is ↦
-          let above : y.dev < (get_or ys k d).dev = two.0 k d below in
-          let equal : (get_or ys k d).dev ≡ y.dev = ap (λ card. card.dev) (is ∙ same) in
-          let none : ⊥ = omega (arith, above, equal) in absurd none
-      | inr after ↦ after
-    ]
-    in
-    let later : xs ≡ ys = rising_same xs ys one.1 two.1 there_later back_later in
+      | inr after ↦ elim (All-head (In (x ∷ xs)) y ys back) [
+        | inl is ↦ sym is
+        | inr before ↦
+            let up = in_all (λ other. y.dev < other.dev) ys x two.0 after in
+            let down = in_all (λ other. x.dev < other.dev) xs y one.0 before in
+            absurd (omega (arith, up, down))
+      ]
+    ] in
+    let later = rising_same xs ys one.1 two.1 (none_first x y xs ys same one.0 (All-tail (In (y ∷ ys)) x xs there))
+    (none_first y x ys xs (sym same) two.0 (All-tail (In (x ∷ xs)) y ys back)) in
     λ i. same i ∷ later i
 
 one_order : (cards left right : List FittedCard) → IsPermutation cards left → IsPermutation cards right →
@@ -85,11 +76,11 @@ cut_phases (_ ∷ later) = cut_phases later
 cut_statements : (phase : List Statement) (later : List Item) →
     cut_phases (map Ask phase ++ later) ≡ (phase ++ (cut_phases later).0, (cut_phases later).1)
 cut_statements [] later = refl
-cut_statements (statement ∷ phase) later = grind (arith, nat_tests, cut_statements phase later)
+cut_statements (statement ∷ phase) later = rw (cut_statements phase later) refl
 
 phases_cut : (phases : List (List Statement)) → cut_phases (phase_items phases) ≡ ([], phases)
 phases_cut [] = refl
-phases_cut (phase ∷ later) = simp (cut_statements, append-nil, phases_cut later)
+phases_cut (phase ∷ later) = rw (cut_statements phase (phase_items later), phases_cut later, append-nil) refl
 
 pub one_cutting : (left right : List (List Statement)) → phase_items left ≡ phase_items right → left ≡ right
 one_cutting left right e = ap (λ p. p.1) (sym (phases_cut left) ∙ ap cut_phases e ∙ phases_cut right)
@@ -112,22 +103,17 @@ disk_of _ = None
 disk_said : (disk : Option (List ℕ)) → disk_of (option_map SetDisk disk) ≡ disk
 disk_said disk = grind (arith, nat_tests)
 
-scripts_equal :
-    (left right : Script) → left.version ≡ right.version → left.cpus ≡ right.cpus → left.mib ≡ right.mib →
-    left.rom ≡ right.rom →
-    left.disk ≡ right.disk → left.cards ≡ right.cards → left.phases ≡ right.phases → left ≡ right
-scripts_equal left right e1 e2 e3 e4 e5 e6 e7 = grind (arith, nat_tests)
-
 one_meaning : (items : List Item) (left right : Script) → left.version ≡ right.version →
     IsSaidBy left items → IsSaidBy right items → left ≡ right
-one_meaning items left right version one two =
-    scripts_equal left right version
-    (ap count_of (sym one.cpus ∙ two.cpus))
-    (ap count_of (sym one.memory ∙ two.memory))
-    (ap name_of (sym one.rom ∙ two.rom))
-    (sym (disk_said left.disk) ∙ ap disk_of (sym one.disk ∙ two.disk) ∙ disk_said right.disk)
-    (one_order (cards_of items) left.cards right.cards one.cards two.cards one.rises two.rises)
-    (one_cutting left.phases right.phases (sym one.phases ∙ two.phases))
+one_meaning items left right version one two = λ i. record {
+  version = version i;
+  cpus = ap count_of (sym one.cpus ∙ two.cpus) i;
+  mib = ap count_of (sym one.memory ∙ two.memory) i;
+  rom = ap name_of (sym one.rom ∙ two.rom) i;
+  disk = (sym (disk_said left.disk) ∙ ap disk_of (sym one.disk ∙ two.disk) ∙ disk_said right.disk) i;
+  cards = one_order (cards_of items) left.cards right.cards one.cards two.cards one.rises two.rises i;
+  phases = one_cutting left.phases right.phases (sym one.phases ∙ two.phases) i;
+}
 
 -- what is judged to be a script is one version and one list of items
 same_found : (one two : ℕ × List Item) → ◌≡◌ {A = Result (ℕ × List Item) (ℕ × ℕ)} (Ok one) (Ok two) → one ≡ two
@@ -135,8 +121,6 @@ same_found one two e = cc
 
 pub one_script : OneScript
 one_script bytes script other one two =
-    let same : (script.version, one.items) ≡ (other.version, two.items) =
-    same_found _ _ (sym (text_decided bytes script one) ∙ text_decided bytes other two)
-    in
+    let same = same_found _ _ (sym (text_decided bytes script one) ∙ text_decided bytes other two) in
     let said = rw (ap (λ (p : ℕ × List Item). p.1) same) at one.said in
     one_meaning two.items script other (ap (λ (p : ℕ × List Item). p.0) same) said two.said

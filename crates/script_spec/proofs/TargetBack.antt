@@ -1,10 +1,9 @@
 -- A word of a reply is read as what it names.
-use Rattle.board_prelude.proofs.Common.{nat_tests, digits, option_map, ne_eqb, Reg, Dev, Area, Target, Denial, byte}
-use Rattle.board_prelude.proofs.Common.{hex_digit, hex_byte, hex_number, hex_long, hex_offset, register_text, area_text}
+use Rattle.board_prelude.proofs.Common.{nat_tests, digits, option_map, Reg, Dev, Area, Target, Denial, byte, hex_digit}
+use Rattle.board_prelude.proofs.Common.{hex_byte, hex_number, hex_long, hex_offset, register_text, area_text}
 use Rattle.board_prelude.proofs.Common.{device_text, target_text, denial_text}
-use Rattle.std.proofs.Common.{◌≡◌, ℕ, zero, suc, ◌+◌, ◌*◌, ◌/◌, ◌%◌, ◌^◌, ◌<◌, ◌⊎◌, true, false, cond, eqb, ltb, Option}
-use Rattle.std.proofs.Common.{Some, List, [], ◌∷◌, ◌++◌, refl, sym, ap, ◌∙◌, inl, inr, append_assoc, arith, codes}
-use Rattle.std.proofs.Common.{decimal}
+use Rattle.std.proofs.Common.{◌≡◌, ℕ, zero, suc, ◌*◌, ◌/◌, ◌%◌, ◌^◌, ◌<◌, true, false, eqb, Option, Some, List, [], ◌∷◌}
+use Rattle.std.proofs.Common.{◌++◌, refl, sym, ap, ◌∙◌, inl, inr, append_assoc, arith, codes, decimal}
 use Rattle.std.proofs.lemmas.Fmt.{decimal_digit}
 use Rattle.board_base.specs.declared.target.Dev.TheVariants as devices
 use Rattle.board_base.specs.declared.target.Target.TheVariants as targets
@@ -45,33 +44,21 @@ digit_back n small = grind (arith, nat_tests, decimal_digit, digit_so)
 
 -- ---- registers and denials
 
-digit_is_not : (d mark : ℕ) → d < 16 → (mark < 0x30) ⊎ (0x46 < mark) → cond (ltb d 10) (0x30 + d) (0x37 + d) ≡ mark → ⊥
-digit_is_not d mark small outside = grind (arith, nat_tests)
-
-digit_not : (n mark : ℕ) → (mark < 0x30) ⊎ (0x46 < mark) → eqb (hex_digit n) mark ≡ false
-digit_not n mark outside = ne_eqb (hex_digit n) mark (digit_is_not (n % 0x10) mark (omega arith) outside)
-
-hex_lacks : (mark n : ℕ) → (mark < 0x30) ⊎ (0x46 < mark) → lacks mark (hex_digit n ∷ []) ≡ true
-hex_lacks mark n outside = rw (digit_not n mark outside) refl
-
-byte_lacks : (mark n : ℕ) → (mark < 0x30) ⊎ (0x46 < mark) → lacks mark (hex_byte n) ≡ true
-byte_lacks mark n outside = rw (digit_not (n / 0x10) mark outside, digit_not n mark outside) refl
-
-register_said :
-    (field dev fun off rest : List ℕ) (d f o : ℕ) → cut 0x2E field ≡ Some (dev, rest) → cut 0x2E rest ≡ Some (fun, off)
-    → parse_hex 2 dev ≡ Some d → parse_hex 1 fun ≡ Some f → parse_hex 2 off ≡ Some o
-    → parse_register field ≡ Some (record { dev = d; fun = f; off = o })
-unfolding parse_register
-register_said field dev fun off rest d f o one two three four five = rw (one, two, three, four, five) refl
+-- no digit is a point
+digit_not : (n : ℕ) → eqb (hex_digit n) 0x2E ≡ false
+digit_not n = grind (arith, nat_tests)
 
 register_back : (reg : Reg) → FitsReg reg → parse_register (register_text reg) ≡ Some reg
+unfolding parse_register
 register_back reg fits =
     let rest : List ℕ = hex_digit reg.fun ∷ 0x2E ∷ hex_byte reg.off in
-    register_said (register_text reg) (hex_byte reg.dev) (hex_digit reg.fun ∷ []) (hex_byte reg.off) rest reg.dev
-    reg.fun reg.off
-    (cut_field 0x2E (hex_byte reg.dev) rest (byte_lacks 0x2E reg.dev (inl (omega arith))))
-    (cut_field 0x2E (hex_digit reg.fun ∷ []) (hex_byte reg.off) (hex_lacks 0x2E reg.fun (inl (omega arith))))
-    (byte_back reg.dev fits.0) (nibble_back reg.fun fits.1) (byte_back reg.off fits.2)
+    rw (
+      cut_field 0x2E (hex_byte reg.dev) rest (rw (digit_not (reg.dev / 0x10), digit_not reg.dev) refl),
+      cut_field 0x2E (hex_digit reg.fun ∷ []) (hex_byte reg.off) (rw (digit_not reg.fun) refl),
+      byte_back reg.dev fits.0,
+      nibble_back reg.fun fits.1,
+      byte_back reg.off fits.2,
+    ) refl
 
 pub denial_back : (denial : Option Denial) → FitsDenial denial → parse_denial (denial_text denial) ≡ Some denial
 unfolding parse_denial parse_register cut
@@ -79,18 +66,14 @@ denial_back denial fits = grind (arith, nat_tests, register_back)
 
 -- ---- areas
 
-base_said : (field dev base : List ℕ) (d b : ℕ) → cut 0x2E field ≡ Some (dev, base) → parse_one_digit dev ≡ Some d
-    → parse_one_digit base ≡ Some b
-    → parse_card_base field ≡ Some (d, b)
-unfolding parse_card_base
-base_said field dev base d b one two three = rw (one, two, three) refl
-
 base_back : (dev base : ℕ) → dev < 10 → base < 10
     → parse_card_base (decimal dev ++ 0x2E ∷ decimal base) ≡ Some (dev, base)
-base_back dev base one two =
-    base_said (decimal dev ++ 0x2E ∷ decimal base) (decimal dev) (decimal base) dev base
-    (cut_field 0x2E (decimal dev) (decimal base) (lacks-decimal 0x2E dev (inl (omega arith)) (omega (arith, one))))
-    (digit_back dev one) (digit_back base two)
+unfolding parse_card_base
+base_back dev base one two = rw (
+  cut_field 0x2E (decimal dev) (decimal base) (lacks-decimal 0x2E dev (inl (omega arith)) (omega (arith, one))),
+  digit_back dev one,
+  digit_back base two,
+) refl
 
 base_parts : (dev base : ℕ) → dev < 10 → base < 10 → parse_card_base (decimal dev ++ codes "." ++ decimal base) ≡ Some
     (dev, base)
@@ -102,28 +85,22 @@ area_back area fits = grind (arith, nat_tests, digit_back, base_parts)
 
 -- ---- targets
 
-card_said : (field place off : List ℕ) (dev base n : ℕ) → cut 0x3A field ≡ Some (place, off)
-    → parse_card_base place ≡ Some (dev, base)
-    → parse_hex 8 off ≡ Some n → parse_card_target field ≡ Some (targets.Card dev base n)
-unfolding parse_card_target
-card_said field place off dev base n one two three = rw (one, two, three) refl
-
 card_back : (dev base off : ℕ) → dev < 10 → base < 10 → off < 2 ^ 32
-    → parse_card_target (decimal dev ++ codes "." ++ decimal base ++ codes ":" ++ hex_long off) ≡ Some
-    (targets.Card dev base off)
+    → parse_card_target (decimal dev ++ codes "." ++ decimal base ++ codes ":" ++ hex_long off)
+    ≡ Some (targets.Card dev base off)
+unfolding parse_card_target
 card_back dev base off one two three =
     let place : List ℕ = decimal dev ++ codes "." ++ decimal base in
-    let parts : place ++ codes ":" ++ hex_long off ≡ place ++ 0x3A ∷ hex_long off = append_assoc place (codes ":")
-    (hex_long off) in
     let first : lacks 0x3A (decimal dev) ≡ true = lacks-decimal 0x3A dev (inr (omega arith)) (omega (arith, one)) in
     let second : lacks 0x3A (decimal base) ≡ true = lacks-decimal 0x3A base (inr (omega arith)) (omega (arith, two)) in
-    let lack : lacks 0x3A place ≡ true =
-    lacks-append 0x3A (decimal dev ++ codes ".") (decimal base)
+    let lack = lacks-append 0x3A (decimal dev ++ codes ".") (decimal base)
     (lacks-append 0x3A (decimal dev) (codes ".") first refl) second in
-    ap parse_card_target parts
-    ∙ card_said (place ++ 0x3A ∷ hex_long off) place (hex_long off) dev base off
-    (cut_field 0x3A place (hex_long off) lack)
-    (base_parts dev base one two) (hex_read 4 off (omega (arith, three)))
+    rw (
+      append_assoc place (codes ":") (hex_long off),
+      cut_field 0x3A place (hex_long off) lack,
+      base_parts dev base one two,
+      hex_read 4 off (omega (arith, three)),
+    ) refl
 
 device_back : (dev : Dev) → FitsDevice dev → parse_target (device_text dev) ≡ Some (targets.Device dev)
 unfolding parse_target parse_device digits

@@ -5,38 +5,32 @@ use Rattle.std.proofs.Common.{ap, ◌∙◌, arith}
 use Rattle.board_prelude.proofs.Common.{bytes_eq-Decides, cases_lt, length-append, length-replicate, length-take}
 use Rattle.board_prelude.proofs.Common.{length-drop, take_at, take_all, drop_all, take-append-drop, append-nil}
 use Rattle.board_prelude.proofs.Common.{get_or-take, get_or-drop, get_or_append_left, get_or-append_right}
-use Rattle.board_prelude.proofs.Common.{get_or-replicate, get_or_past}
+use Rattle.board_prelude.proofs.Common.{get_or_past}
 use Rattle.std.proofs.lemmas.Grind.{same_number_lists}
 use Rattle.std.proofs.lemmas.List.{take-replicate, drop-replicate, replicate-append-replicate, take_min, take_rest}
 use Rattle.std.specs.Cmp.{both_ways}
 use Rattle.std.proofs.Math.Seq.{take-add}
+use Rattle.board_base.proofs.ZeroLemmas.{zero_at}
 use Rattle.byte_fields.specs.Pages.{memory_page, memory_bytes, page_bytes, pages_bytes}
 use Rattle.byte_fields.proofs.PageFormats.{bytes_first, no_pages, memory_append, memory_format}
 use Rattle.dram_store.specs.Common.{bank_size}
 use Rattle.state_room.specs.Room.{page_of}
 
 pub page_length : (kept : List ℕ) → length kept ≤ memory_page → length (page_of kept) ≡ memory_page
-page_length kept within =
-    omega (
-      arith,
-      within,
-      length-append kept (replicate {A = ℕ} (memory_page - length kept) 0),
-      length-replicate {A = ℕ} (memory_page - length kept) 0,
-    )
+page_length kept within = simp (length-append, length-replicate {A = ℕ}) (omega arith)
 
 -- ---- one page
 
-pub one_page : (page : List ℕ) → length page ≡ memory_page →
-    memory_bytes page ≡ page_bytes (replicate memory_page 0) page
+one_page : (page : List ℕ) → length page ≡ memory_page → memory_bytes page ≡ page_bytes (replicate memory_page 0) page
 one_page page whole =
     let plain : List ℕ = replicate memory_page 0 in
     let long : length plain ≡ memory_page = length-replicate {A = ℕ} memory_page 0 in
     ap (λ (n : ℕ). pages_bytes memory_page (replicate n 0) page) whole
-    ∙ bytes_first memory_page plain page (omega arith) (omega (arith, long))
+    ∙ bytes_first memory_page plain page (omega arith) (omega arith)
     ∙ rw (
-      take_all memory_page plain (omega (arith, long)),
-      take_all (length plain) page (omega (arith, long, whole)),
-      drop_all memory_page plain (omega (arith, long)),
+      take_all memory_page plain (omega arith),
+      take_all (length plain) page (omega arith),
+      drop_all memory_page plain (omega arith),
       no_pages memory_page (drop (length plain) page),
     ) (append-nil (page_bytes plain page))
 
@@ -47,37 +41,39 @@ zero_page kept within =
     let n = length kept in
     let front : take n (replicate {A = ℕ} memory_page 0) ≡ replicate n 0 =
     take-replicate {X = ℕ} n memory_page 0 within in
-    let all : n + (memory_page - n) ≡ memory_page = omega (arith, within) in
+    let all : n + (memory_page - n) ≡ memory_page = omega arith in
+    let kept_is = bytes_eq-Decides kept (take n (replicate memory_page 0)) in
+    let page_is = bytes_eq-Decides (page_of kept) (replicate memory_page 0) in
     both_ways (bytes_eq kept (take n (replicate memory_page 0))) (bytes_eq (page_of kept) (replicate memory_page 0))
-    (λ is. (bytes_eq-Decides (page_of kept) (replicate memory_page 0)).1
-    (ap (λ (bytes : List ℕ). bytes ++ replicate (memory_page - n) 0)
-    ((bytes_eq-Decides kept (take n (replicate memory_page 0))).0 is ∙ front)
+    (λ is. page_is.1
+    (ap (λ (bytes : List ℕ). bytes ++ replicate (memory_page - n) 0) (kept_is.0 is ∙ front)
     ∙ replicate-append-replicate {A = ℕ} n (memory_page - n) 0
     ∙ ap (λ (count : ℕ). replicate {A = ℕ} count 0) all))
-    (λ is. (bytes_eq-Decides kept (take n (replicate memory_page 0))).1
-    (sym (take_at kept (replicate (memory_page - n) 0) n refl)
-    ∙ ap (take n) ((bytes_eq-Decides (page_of kept) (replicate memory_page 0)).0 is)))
+    (λ is. kept_is.1 (sym (take_at kept (replicate (memory_page - n) 0) n refl) ∙ ap (take n) (page_is.0 is)))
 
-told_page : (kept : List ℕ) (same : Bool) → length kept ≤ memory_page →
-    same ≡ bytes_eq (page_of kept) (replicate memory_page 0) →
-    memory_bytes (page_of kept) ≡ cond same (0 ∷ []) (1 ∷ page_of kept)
-told_page kept same within is =
-    one_page (page_of kept) (page_length kept within)
-    ∙ ap (λ (b : Bool). cond b (0 ∷ []) (1 ∷ page_of kept)) (sym is)
+module _ (kept : List ℕ) (is_zero : Bool) (within : length kept ≤ memory_page)
+    (is : is_zero ≡ bytes_eq (page_of kept) (replicate memory_page 0)) where
+  pub told_page : memory_bytes (page_of kept) ≡ cond is_zero (0 ∷ []) (1 ∷ page_of kept)
+  told_page = rw is (one_page (page_of kept) (page_length kept within))
 
-pub zeros_told : (kept : List ℕ) → length kept ≤ memory_page →
-    true ≡ bytes_eq (page_of kept) (replicate memory_page 0) → memory_bytes (page_of kept) ≡ 0 ∷ []
-zeros_told kept within is = told_page kept true within is
-
-pub bytes_told : (kept : List ℕ) → length kept ≤ memory_page →
-    false ≡ bytes_eq (page_of kept) (replicate memory_page 0) → memory_bytes (page_of kept) ≡ 1 ∷ page_of kept
-bytes_told kept within is = told_page kept false within is
+  pub size_told : length (memory_bytes (page_of kept)) ≡ cond is_zero 1 4097
+  size_told = sized is_zero told_page
+    where
+      sized : (is_zero : Bool) → memory_bytes (page_of kept) ≡ cond is_zero (0 ∷ []) (1 ∷ page_of kept) →
+          length (memory_bytes (page_of kept)) ≡ cond is_zero 1 4097
+      sized true told = ap length told
+      sized false told = omega (arith, ap length told, page_length kept within)
 
 -- what follows the bytes that are kept
 pub rest_zeros : (kept zeros : List ℕ) → zeros ≡ replicate memory_page 0 →
     take (length zeros - length kept) (drop (length kept) zeros) ≡ replicate (memory_page - length kept) 0
 rest_zeros kept zeros is =
-    take_rest zeros (length kept) ∙ ap (drop (length kept)) is ∙ drop-replicate {X = ℕ} (length kept) memory_page 0
+    take_rest zeros (length kept) ∙ rw is (drop-replicate {X = ℕ} (length kept) memory_page 0)
+
+pub rest_length : (kept zeros : List ℕ) → zeros ≡ replicate memory_page 0 →
+    length (take (length zeros - length kept) (drop (length kept) zeros)) ≡ memory_page - length kept
+rest_length kept zeros is =
+    rw (rest_zeros kept zeros is) (length-replicate {A = ℕ} (memory_page - length kept) 0)
 
 -- ---- page after page
 
@@ -86,12 +82,10 @@ pub page_on : (bytes kept : List ℕ) (page : ℕ) → (page + 1) * memory_page 
     memory_bytes (take ((page + 1) * memory_page) bytes)
     ≡ memory_bytes (take (page * memory_page) bytes) ++ memory_bytes (page_of kept)
 page_on bytes kept page there is =
-    let front : List ℕ = take (page * memory_page) bytes in
     let next : (page + 1) * memory_page ≡ page * memory_page + memory_page = omega arith in
-    ap memory_bytes (ap (λ (n : ℕ). take n bytes) next
-    ∙ take-add (page * memory_page) memory_page bytes
-    ∙ ap (λ (rest : List ℕ). front ++ rest) is)
-    ∙ memory_append page front (page_of kept) (omega (arith, there, length-take (page * memory_page) bytes))
+    rw (next, take-add (page * memory_page) memory_page bytes, is)
+    (memory_append page (take (page * memory_page) bytes) (page_of kept)
+    (omega (arith, length-take (page * memory_page) bytes)))
 
 -- how many bytes spell one page more
 pub size_on : (bytes kept : List ℕ) (page : ℕ) → (page + 1) * memory_page ≤ length bytes →
@@ -99,8 +93,8 @@ pub size_on : (bytes kept : List ℕ) (page : ℕ) → (page + 1) * memory_page 
     length (memory_bytes (take ((page + 1) * memory_page) bytes))
     ≡ length (memory_bytes (take (page * memory_page) bytes)) + length (memory_bytes (page_of kept))
 size_on bytes kept page there is =
-    ap length (page_on bytes kept page there is)
-    ∙ length-append (memory_bytes (take (page * memory_page) bytes)) (memory_bytes (page_of kept))
+    rw (page_on bytes kept page there is)
+    (length-append (memory_bytes (take (page * memory_page) bytes)) (memory_bytes (page_of kept)))
 
 pub memory_few : (bytes : List ℕ) → length (memory_bytes bytes) ≤ 2 * length bytes
 memory_few bytes = (memory_format (length bytes)).size bytes refl
@@ -114,10 +108,12 @@ pub front_fits : (bytes : List ℕ) (page : ℕ) → page * memory_page ≤ leng
 front_fits bytes page there =
     let front : List ℕ = take (page * memory_page) bytes in
     let rest : List ℕ = drop (page * memory_page) bytes in
-    let whole : memory_bytes bytes ≡ memory_bytes front ++ memory_bytes rest =
-    ap memory_bytes (sym (take-append-drop (page * memory_page) bytes))
-    ∙ memory_append page front rest (omega (arith, there, length-take (page * memory_page) bytes)) in
-    omega (arith, ap length whole, length-append (memory_bytes front) (memory_bytes rest))
+    let whole = memory_append page front rest (omega (arith, length-take (page * memory_page) bytes)) in
+    omega (
+      arith,
+      ap length (rw (take-append-drop (page * memory_page) bytes) at whole),
+      length-append (memory_bytes front) (memory_bytes rest),
+    )
 
 -- ---- the part of a MiB that is kept of a page
 
@@ -126,41 +122,38 @@ pub part_is : (kept : List ℕ) (at from count : ℕ) → from ≡ min at (lengt
     count ≡ min (length (take (length kept - from) (drop from kept))) memory_page →
     take count (take (length kept - from) (drop from kept)) ≡ take memory_page (drop at kept)
 part_is kept at from count is short =
-    let few : count ≡ min (length kept - from) memory_page =
-    short ∙ ap (λ (rest : List ℕ). min (length rest) memory_page) (take_rest kept from)
-    ∙ omega (arith, length-drop from kept) in
-    ap (take count) (take_rest kept from)
-    ∙ elim (cases_lt at (length kept)) [
+    let few : count ≡ min (length kept - from) memory_page = rw (take_rest kept from, length-drop from kept) at short in
+    rw (take_rest kept from) (elim (cases_lt at (length kept)) [
       | inl within ↦
           let same : from ≡ at = omega (arith, is, within) in
-          rw same
-          (ap (λ (n : ℕ). take n (drop at kept)) (omega (arith, is, few, within, length-drop at kept))
-          ∙ take_min memory_page (drop at kept))
+          let all : count ≡ min memory_page (length (drop at kept)) =
+          omega (arith, is, few, within, length-drop at kept) in
+          rw (same, all) (take_min memory_page (drop at kept))
       | inr past ↦
-          ap (take count) (drop_all from kept (omega (arith, is, past)) ∙ sym (drop_all at kept past))
-          ∙ (take_all count (drop at kept) (omega (arith, past, length-drop at kept))
-          ∙ sym (take_all memory_page (drop at kept) (omega (arith, past, length-drop at kept))))
-    ]
+          rw (drop_all from kept (omega (arith, is, past)), drop_all at kept past) (take_all count [] (omega arith))
+    ])
 
 module _ (dram kept part : List ℕ) (page place : ℕ) (at : place ≡ page % 256 * memory_page)
     (is : part ≡ take memory_page (drop place kept)) where
-  long : length part ≡ min memory_page (length kept - place)
-  long = ap length is ∙ length-take memory_page (drop place kept) ∙ omega (arith, length-drop place kept)
-
   -- a byte of the page
   byte_in : (k : ℕ) → k < memory_page → get_or kept (place + k) 0 ≡ get_or (page_of part) k 0
   byte_in k below =
       let zeros : List ℕ = replicate (memory_page - length part) 0 in
       elim (cases_lt k (length part)) [
         | inl within ↦
-            sym (get_or_append_left part zeros 0 k within
-            ∙ ap (λ (bytes : List ℕ). get_or bytes k 0) is
-            ∙ get_or-take memory_page (drop place kept) k 0 below
-            ∙ get_or-drop place kept k 0)
+            rw (
+              get_or_append_left part zeros 0 k within,
+              is,
+              get_or-take memory_page (drop place kept) k 0 below,
+              get_or-drop place kept k 0,
+            ) refl
         | inr past ↦
-            get_or_past kept (place + k) 0 (omega (arith, past, long, below))
-            ∙ sym (get_or-append_right part zeros (length part) k 0 refl past
-            ∙ get_or-replicate (memory_page - length part) (k - length part) 0 0 (omega (arith, past, below)))
+            let long = rw (length-take memory_page (drop place kept), length-drop place kept) at (ap length is) in
+            rw (
+              get_or_past kept (place + k) 0 (omega arith),
+              get_or-append_right part zeros (length part) k 0 refl past,
+              zero_at (memory_page - length part) (k - length part),
+            ) refl
       ]
 
   pub kept_page : (page / 256 + 1) * bank_size ≤ length dram →
@@ -168,18 +161,14 @@ module _ (dram kept part : List ℕ) (page place : ℕ) (at : place ≡ page % 2
       take memory_page (drop (page * memory_page) dram) ≡ page_of part
   kept_page there same =
       let front : List ℕ = take memory_page (drop (page * memory_page) dram) in
-      let size : length front ≡ memory_page =
-      omega (
-        arith,
-        there,
-        length-take memory_page (drop (page * memory_page) dram),
-        length-drop (page * memory_page) dram,
-      ) in
-      same_number_lists front (page_of part) (size ∙ sym (page_length part (omega (arith, long)))) (λ k below.
+      let size : length front ≡ memory_page = simp (length-take, length-drop) (omega arith) in
+      let long : length part ≤ memory_page = rw is (simp length-take (omega arith)) in
+      same_number_lists front (page_of part) (size ∙ sym (page_length part long)) (λ k below.
       let within : k < memory_page = omega (arith, below, size) in
       let same_place : page * memory_page + k ≡ page / 256 * bank_size + (place + k) = omega (arith, at) in
-      get_or-take memory_page (drop (page * memory_page) dram) k 0 within
-      ∙ get_or-drop (page * memory_page) dram k 0
-      ∙ ap (λ (n : ℕ). get_or dram n 0) same_place
-      ∙ same (place + k) (omega (arith, at, within))
-      ∙ byte_in k within)
+      rw (
+        get_or-take memory_page (drop (page * memory_page) dram) k 0 within,
+        get_or-drop (page * memory_page) dram k 0,
+        same_place,
+        same (place + k) (omega (arith, at, within)),
+      ) (byte_in k within))

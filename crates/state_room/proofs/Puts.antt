@@ -7,15 +7,8 @@ use Rattle.state_room.specs.Room.{IsPutAt}
 
 pub put_length : (at : ℕ) (bytes before after : List ℕ) → IsPutAt at bytes before after → length after ≡ length before
 put_length at bytes before after is =
-    ap length is.put
-    ∙ omega (
-      arith,
-      is.fits,
-      length-append (take at before) (bytes ++ drop (at + length bytes) before),
-      length-append bytes (drop (at + length bytes) before),
-      length-take at before,
-      length-drop (at + length bytes) before,
-    )
+    let fits = is.fits in
+    rw is.put (simp (length-append, length-take, length-drop) (omega arith))
 
 -- none are put
 pub put_none : (at : ℕ) (room : List ℕ) → at ≤ length room → IsPutAt at [] room room
@@ -32,24 +25,25 @@ put_then at mid xs ys all before between after one is two whole =
     let rest : List ℕ = drop (at + length xs) before in
     let front : List ℕ = take at before ++ xs in
     let same = put_length at xs before between one in
+    let fits = one.fits in
+    let long : length front ≡ mid = omega (arith, length-append (take at before) xs, length-take at before) in
     let begins : between ≡ front ++ rest = one.put ∙ sym (append_assoc (take at before) xs rest) in
-    let long : length front ≡ mid =
-    omega (arith, is, one.fits, length-append (take at before) xs, length-take at before) in
-    let both : length all ≡ length xs + length ys = ap length whole ∙ length-append xs ys in
-    let past : drop (mid + length ys) between ≡ drop (at + length all) before =
-    sym (drop-drop (length ys) mid between)
-    ∙ ap (drop (length ys)) (ap (drop mid) begins ∙ drop_at front rest mid long)
-    ∙ drop-drop (length ys) (at + length xs) before
-    ∙ ap (λ (k : ℕ). drop k before) (omega (arith, both)) in
+    let both = length-append xs ys in
+    let sum : at + (length xs + length ys) ≡ at + length xs + length ys = omega arith in
     record {
-      fits = omega (arith, is, both, same, two.fits);
+      fits = let later = two.fits in rw whole (omega arith);
       put =
-          two.put
-          ∙ rw (ap (take mid) begins ∙ take_at front rest mid long, past)
-          (append_assoc (take at before) xs (ys ++ drop (at + length all) before)
-          ∙ ap (λ (tail : List ℕ). take at before ++ tail)
-          (sym (append_assoc xs ys (drop (at + length all) before))
-          ∙ ap (λ (bytes : List ℕ). bytes ++ drop (at + length all) before) (sym whole)));
+          rw (
+            two.put,
+            begins,
+            take_at front rest mid long,
+            ← drop-drop (length ys) mid (front ++ rest),
+            drop_at front rest mid long,
+            drop-drop (length ys) (at + length xs) before,
+            whole,
+            both,
+            sum,
+          ) (simp append_assoc);
     }
 
 -- a byte, then some, and then others

@@ -1,11 +1,10 @@
 -- No byte that was received is lost, and all are read in their order.
-use Rattle.std.proofs.Common.{◌≡◌, ℕ, Bool, true, List, [], ◌∷◌, ◌++◌, length, inl, inr, refl, sym, ap, ◌∙◌}
-use Rattle.std.proofs.Common.{append_assoc, ◌==◌, Option, Some, None}
-use Rattle.board_prelude.proofs.Common.{cases_Bool, ne_eqb, append-nil, Event, Memory, Port}
-use Rattle.board_prelude.proofs.Common.{Line, control_written, resets_hard, not-true}
+use Rattle.std.proofs.Common.{◌≡◌, ℕ, Bool, true, List, [], ◌∷◌, ◌++◌, length, refl, sym, ap, ◌∙◌, append_assoc}
+use Rattle.std.proofs.Common.{Option, Some, arith}
+use Rattle.board_prelude.proofs.Common.{nat_tests, ne_eqb, append-nil, Event, Memory, Port, Line, control_written}
+use Rattle.board_prelude.proofs.Common.{resets_hard, not-true}
 use Rattle.uart_16550.specs.declared.interrupt.Interrupt.{Interrupt}
-use Rattle.uart_16550.specs.declared.interrupt.Interrupt.TheVariants.{LineStatus, DataAvailable, TransmitterEmpty}
-use Rattle.uart_16550.specs.declared.interrupt.Interrupt.TheVariants.{ModemStatus}
+use Rattle.uart_16550.specs.declared.interrupt.Interrupt.TheVariants.{LineStatus}
 use Rattle.uart_16550.specs.declared.register.ReadRegister.{ReadRegister}
 use Rattle.uart_16550.specs.declared.register.ReadRegister.TheVariants as read
 use Rattle.uart_16550.specs.declared.register.WriteRegister.{WriteRegister}
@@ -14,11 +13,11 @@ use Rattle.uart_16550.specs.declared.com1.Com1.{Com1}
 use Rattle.uart_16550.specs.declared.com1.Happening.{Happening}
 use Rattle.uart_16550.specs.declared.com1.Happening.TheVariants.{Comes, Happens}
 use Rattle.uart_16550.specs.Common.{Uart, is_dlab, is_loopback, pending, register_read, front_of, rest_of, value_of}
-use Rattle.uart_16550.specs.Common.{after_identity, after_value, register_written, is_emptying, with_value, com1_irq}
-use Rattle.uart_16550.specs.Common.{is_for_uart, com1_after, Call, Renews, Receives, Reads, Writes, after_call, brought}
-use Rattle.uart_16550.specs.Common.{front_taken, taken, is_kept, is_keeping, after_calls, all_brought, all_taken}
-use Rattle.uart_16550.specs.Common.{ReadInOrder, calls_of, Sending, sending_after, calls_for, all_calls, after_all}
-use Rattle.uart_16550.specs.Common.{bytes_come, SerialReadsInOrder}
+use Rattle.uart_16550.specs.Common.{after_identity, after_value, register_written, is_emptying, with_value, com1_after}
+use Rattle.uart_16550.specs.Common.{Call, Renews, Receives, Reads, Writes, after_call, brought, front_taken, taken}
+use Rattle.uart_16550.specs.Common.{is_kept, is_keeping, after_calls, all_brought, all_taken, ReadInOrder, calls_of}
+use Rattle.uart_16550.specs.Common.{Sending, sending_after, calls_for, all_calls, after_all, bytes_come}
+use Rattle.uart_16550.specs.Common.{SerialReadsInOrder}
 
 front_and_rest : (queue : List ℕ) → front_taken queue read.Rbr (front_of queue) ++ rest_of queue ≡ queue
 front_and_rest [] = refl
@@ -26,10 +25,7 @@ front_and_rest (byte ∷ later) = rw (ne_eqb (length (byte ∷ later)) 0 (λ is.
 
 identity_keeps : (told : Option Interrupt) (uart : Uart) → (after_identity told uart).queue ≡ uart.queue
 identity_keeps (Some LineStatus) uart = refl
-identity_keeps (Some DataAvailable) uart = refl
-identity_keeps (Some TransmitterEmpty) uart = refl
-identity_keeps (Some ModemStatus) uart = refl
-identity_keeps None uart = refl
+identity_keeps _ uart = refl
 
 -- what a read takes, and what it leaves, is what was there
 pub read_in_order : (uart : Uart) (register : ReadRegister) →
@@ -59,36 +55,24 @@ pub calls_in_order : ReadInOrder
 calls_in_order uart [] kept = sym (append-nil uart.queue)
 calls_in_order uart (call ∷ later) kept =
     let next = after_call uart call in
-    append_assoc (taken uart call) (all_taken next later) (after_calls next later).queue
-    ∙ (ap (λ (bytes : List ℕ). taken uart call ++ bytes) (calls_in_order next later kept.1)
-    ∙ (sym (append_assoc (taken uart call) next.queue (all_brought later))
-    ∙ (ap (λ (bytes : List ℕ). bytes ++ all_brought later) (call_in_order uart call kept.0)
-    ∙ append_assoc uart.queue (brought call) (all_brought later))))
+    rw (
+      append_assoc (taken uart call) (all_taken next later) (after_calls next later).queue,
+      calls_in_order next later kept.1,
+      ← append_assoc (taken uart call) next.queue (all_brought later),
+      call_in_order uart call kept.0,
+    ) (append_assoc uart.queue (brought call) (all_brought later))
 
 -- ---- events of a board
 
 event_is_calls : (resets : Bool) (event : Event) (com1 : Com1) →
     (com1_after resets event com1).uart ≡ after_calls com1.uart (calls_of resets event)
-event_is_calls resets (Port access) com1 = elim (cases_Bool (is_for_uart access)) [
-  | inl uart ↦ elim (cases_Bool access.write) [
-    | inl writes ↦ rw (uart, writes) refl
-    | inr reads ↦ rw (uart, reads) refl
-  ]
-  | inr board ↦ elim (cases_Bool resets) [ inl hard ↦ rw (board, hard) refl | inr soft ↦ rw (board, soft) refl ]
-]
-event_is_calls resets (Line irq on) com1 =
-    elim (cases_Bool (irq == com1_irq)) [ inl own ↦ rw own refl | inr other ↦ rw other refl ]
+event_is_calls resets (Port access) com1 = grind (arith, nat_tests)
+event_is_calls resets (Line irq on) com1 = grind (arith, nat_tests)
 event_is_calls resets (Memory access) com1 = refl
 event_is_calls resets _ com1 = refl
 
 event_brings_nothing : (resets : Bool) (event : Event) → all_brought (calls_of resets event) ≡ []
-event_brings_nothing resets (Port access) = elim (cases_Bool (is_for_uart access)) [
-  | inl uart ↦ elim (cases_Bool access.write) [
-    | inl writes ↦ rw (uart, writes) refl
-    | inr reads ↦ rw (uart, reads) refl
-  ]
-  | inr board ↦ elim (cases_Bool resets) [ inl hard ↦ rw (board, hard) refl | inr soft ↦ rw (board, soft) refl ]
-]
+event_brings_nothing resets (Port access) = grind (arith, nat_tests)
 event_brings_nothing resets (Line irq on) = refl
 event_brings_nothing resets _ = refl
 
@@ -114,9 +98,8 @@ run_is_calls : (before : Sending) (happenings : List Happening) →
 run_is_calls before [] = refl
 run_is_calls before (happening ∷ later) =
     let next = sending_after before happening in
-    run_is_calls next later
-    ∙ (ap (λ (uart : Uart). after_calls uart (all_calls next later)) (happening_is_calls before happening)
-    ∙ sym (calls_in_turn before.com1.uart (calls_for before happening) (all_calls next later)))
+    rw (run_is_calls next later, happening_is_calls before happening)
+    (sym (calls_in_turn before.com1.uart (calls_for before happening) (all_calls next later)))
 
 run_brings : (before : Sending) (happenings : List Happening) →
     all_brought (all_calls before happenings) ≡ bytes_come happenings
@@ -126,13 +109,13 @@ run_brings before (Comes byte ∷ later) =
 run_brings before (Happens event ∷ later) =
     let next = sending_after before (Happens event) in
     let resets = resets_hard before.control (control_written event) in
-    brought_in_turn (calls_of resets event) (all_calls next later)
-    ∙ (ap (λ (bytes : List ℕ). bytes ++ all_brought (all_calls next later)) (event_brings_nothing resets event)
-    ∙ run_brings next later)
+    rw (brought_in_turn (calls_of resets event) (all_calls next later), event_brings_nothing resets event)
+    (run_brings next later)
 
 pub serial_in_order : SerialReadsInOrder
 serial_in_order before happenings kept =
-    ap (λ (uart : Uart). all_taken before.com1.uart (all_calls before happenings) ++ uart.queue)
-    (run_is_calls before happenings)
-    ∙ (calls_in_order before.com1.uart (all_calls before happenings) kept
-    ∙ ap (λ (bytes : List ℕ). before.com1.uart.queue ++ bytes) (run_brings before happenings))
+    rw (
+      run_is_calls before happenings,
+      calls_in_order before.com1.uart (all_calls before happenings) kept,
+      run_brings before happenings,
+    ) refl

@@ -1,8 +1,6 @@
 -- The reset control register of a board with a serial port.
-use Rattle.std.proofs.Common.{◌≡◌, ℕ, Bool, true, false, ◌&&◌, List, [], ◌∷◌, ◌++◌, inl, inr, refl, sym, ap, ◌∙◌, ◌==◌}
-use Rattle.std.proofs.Common.{nat_le, if◌then◌else◌, Some, None}
-use Rattle.board_prelude.proofs.Common.{cases_Bool, ne_eqb, PortAccess, bytes_of, Event, Memory, Port}
-use Rattle.board_prelude.proofs.Common.{Entry, Statement, reset_control_port}
+use Rattle.std.proofs.Common.{◌≡◌, ℕ, Bool, true, List, [], ◌∷◌, ◌++◌, inl, inr, refl, sym, if◌then◌else◌, None, arith}
+use Rattle.board_prelude.proofs.Common.{cases_Bool, nat_tests, PortAccess, Event, Memory, Port, Entry, Statement}
 use Rattle.board_prelude.proofs.Common.{control_written, control_after, reset_control, is_hard_reset, statement_of}
 use Rattle.board_prelude.proofs.Common.{statements_of}
 use Rattle.board_spec.proofs.OrderLawProofs.{statements-append}
@@ -28,9 +26,8 @@ control_more : (more history : List Entry) →
 unfolding reset_control control_over
 control_more [] history = refl
 control_more (entry ∷ more) history =
-    ap (λ (control : ℕ). control_after control (control_written entry.event)) (control_more more history)
-    ∙ (sym (control_last (reset_control history) (statements_of more) (statement_of entry))
-    ∙ ap (control_over (reset_control history)) (sym (statements-append (entry ∷ []) more)))
+    rw (control_more more history, statements-append (entry ∷ []) more)
+    (sym (control_last (reset_control history) (statements_of more) (statement_of entry)))
 
 -- levels of line 4 leave it
 control_of_change : (control : ℕ) (old new : Bool) → control_over control (line_steps old new) ≡ control
@@ -41,18 +38,8 @@ control_of_change control old new = elim (cases_Bool (differ old new)) [
 ]
 
 -- and so does an access to the UART
-other_port : (access : PortAccess) → is_for_uart access ≡ true → (access.port == reset_control_port) ≡ false
-other_port access uart =
-    ne_eqb access.port reset_control_port (λ is. no_uart access.port (bytes_of access.width == 1) is uart)
-  where
-    no_uart : (port : ℕ) (one : Bool) → port ≡ reset_control_port →
-        (nat_le 0x3F8 port && nat_le port 0x3FF && one) ≡ true → ⊥
-    no_uart port one is within = cc (rw is at within)
-
-written_nothing : (write here one : Bool) (value : ℕ) → here ≡ false →
-    (if write && here && one then Some value else None) ≡ None
-written_nothing true here one value is = rw is refl
-written_nothing false here one value is = refl
+nothing_written : (access : PortAccess) → is_for_uart access ≡ true → control_written (Port access) ≡ None
+nothing_written access uart = grind (arith, nat_tests)
 
 control_stepped : (control actor : ℕ) (resets : Bool) (event : Event) (com1 : Com1) →
     control_over control (board_steps actor resets event com1) ≡ control_after control (control_written event)
@@ -61,11 +48,7 @@ control_stepped control actor resets (Port access) com1 =
     let next = com1_after resets (Port access) com1 in
     elim (cases_Bool (is_for_uart access)) [
       | inl uart ↦
-          rw (
-            uart,
-            written_nothing access.write (access.port == reset_control_port) (bytes_of access.width == 1)
-                access.value (other_port access uart),
-          )
+          rw (uart, nothing_written access uart)
           (control_of_change control (level_of com1) (level_of (record com1 { uart = uart_after access com1.uart })))
       | inr board ↦
           rw board
@@ -77,7 +60,5 @@ control_stepped control actor resets _ com1 = refl
 
 pub control_follows : ControlFollows
 control_follows history after actor event com1 goes_on =
-    ap reset_control goes_on.grows
-    ∙ (control_more goes_on.more history
-    ∙ (ap (control_over (reset_control history)) goes_on.same
-    ∙ control_stepped (reset_control history) actor (is_hard_reset history event) event com1))
+    rw (goes_on.grows, control_more goes_on.more history, goes_on.same)
+    (control_stepped (reset_control history) actor (is_hard_reset history event) event com1)

@@ -1,90 +1,108 @@
 -- Bytes that are written from outside the bus leave line 4 as it is.
 use Rattle.std.proofs.Common.{◌≡◌, ℕ, List, [], ◌∷◌, ◌++◌, map, refl, ◌∙◌, Result, Ok, Err, OnOk, OnErr}
+use Rattle.std.proofs.lemmas.Result.{on_ok_weaker}
 use Rattle.board_prelude.proofs.Common.{length-map, Entry, irq_of}
 use Rattle.board_chipset.specs.Common.{Running, IsLeftBy, WriteInTurn, WriteAll, WriteClockByte}
 use Rattle.board_chipset.proofs.LoadSteps.{some_entries, some_clock_entries}
-use Rattle.dram_store.specs.declared.dram.PastTheEnd.{PastTheEnd}
-use Rattle.board_chipset.specs.declared.load.NoClockByte.{NoClockByte}
 use Rattle.uart_16550.specs.Common.{com1_irq, Serial, AreOwn, IsLeftBy as IsPortLeftBy}
 
--- ---- bytes of the DRAM
+-- ---- entries that are not the port's own
 
 pub own_with : (entries history : List Entry) → AreOwn entries → AreOwn history → AreOwn (entries ++ history)
 own_with [] history own before = before
 own_with (entry ∷ entries) history own before = (own.0, own_with entries history own.1 before)
 
-line_stays : (addr : ℕ) (bytes : List ℕ) (entries history : List Entry) → WriteInTurn addr bytes entries →
-    irq_of (entries ++ history) com1_irq ≡ irq_of history com1_irq
-unfolding WriteInTurn irq_of
-line_stays addr bytes [] history each = refl
-line_stays addr bytes (entry ∷ entries) history each =
-    rw (each.0.event) (line_stays addr bytes entries history each.1)
-
 -- an entry as one of processor 0
 abbrev pub by_processor : Entry → Entry
 by_processor entry = record entry { actor = 0 }
-
-in_turn_by : (addr : ℕ) (bytes : List ℕ) (entries : List Entry) → WriteInTurn addr bytes entries →
-    WriteInTurn addr bytes (map by_processor entries)
-unfolding WriteInTurn
-in_turn_by addr bytes [] each = tt
-in_turn_by addr bytes (entry ∷ entries) each = (
-  rw (length-map entries by_processor)
-      (record {
-        smm = each.0.smm;
-        target = each.0.target;
-        denial = each.0.denial;
-        event = each.0.event;
-        reply = each.0.reply;
-        in_dram = each.0.in_dram;
-      }),
-  in_turn_by addr bytes entries each.1,
-)
 
 pub own_by : (entries : List Entry) → AreOwn (map by_processor entries)
 own_by [] = tt
 own_by (entry ∷ entries) = (λ is. absurd (cc is), own_by entries)
 
--- there are entries that write these bytes, and none is the port's own
-own_entries : (addr : ℕ) (bytes : List ℕ) → (entries : List Entry) × WriteAll addr bytes entries × AreOwn entries
-own_entries addr bytes =
-    let some = some_entries addr bytes in (
-      map by_processor some.0,
-      record { all = length-map some.0 by_processor ∙ some.1.all; each = in_turn_by addr bytes some.0 some.1.each },
-      own_by some.0,
-    )
+-- ---- what writes from outside, and does not set line 4
 
-module _ (old new : Serial Running) (addr : ℕ) (bytes : List ℕ) where
+-- what is written, and how a history goes on with it
+pub record IsWriting (later : List Entry → List Entry → List Entry) (Write : List Entry → List Entry → Type 0) :
+    Type 0 where
+  pub line : (entries history : List Entry) → Write entries history →
+      irq_of (later entries history) com1_irq ≡ irq_of history com1_irq
+  pub own : (entries history : List Entry) → AreOwn entries → AreOwn history → AreOwn (later entries history)
+  pub some : (history : List Entry) → AreOwn history →
+      (entries : List Entry) × Write entries history × AreOwn entries
+
+module _ {later : List Entry → List Entry → List Entry} {Write : List Entry → List Entry → Type 0}
+    (writing : IsWriting later Write) (old new : Serial Running) (same : old.com1 ≡ new.com1) where
   abbrev LeavesChipset : Type 0
   LeavesChipset =
-      (history entries : List Entry) → IsLeftBy old.board history → WriteAll addr bytes entries →
-      IsLeftBy new.board (entries ++ history)
+      (history entries : List Entry) → IsLeftBy old.board history → Write entries history →
+      IsLeftBy new.board (later entries history)
 
   abbrev LeavesPort : Type 0
   LeavesPort =
-      (history entries : List Entry) → IsPortLeftBy IsLeftBy old history → WriteAll addr bytes entries →
-      AreOwn entries →
-      IsPortLeftBy IsLeftBy new (entries ++ history)
+      (history entries : List Entry) → IsPortLeftBy IsLeftBy old history → Write entries history → AreOwn entries →
+      IsPortLeftBy IsLeftBy new (later entries history)
 
-  port_left : old.com1 ≡ new.com1 → LeavesChipset → LeavesPort
-  port_left same left history entries was all own = rw (← same) (record {
+  leaves : LeavesChipset → LeavesPort
+  leaves left history entries was all own = rw (← same) (record {
     left = left history entries was.left all;
-    level_is = line_stays addr bytes entries history all.each ∙ was.level_is;
-    own = own_with entries history own was.own;
+    level_is = writing.line entries history all ∙ was.level_is;
+    own = writing.own entries history own was.own;
   })
 
-  pub dram_left : (result : Result (Unit {0}) PastTheEnd) → old.com1 ≡ new.com1 → OnOk result LeavesChipset →
-      OnOk result LeavesPort
-  dram_left (Ok done) same left = port_left same left
-  dram_left (Err past) same left = tt
+  pub written : {E : Type 0} (result : Result (Unit {0}) E) → OnOk result LeavesChipset → OnOk result LeavesPort
+  written result = on_ok_weaker result leaves
 
-  pub dram_kept : (result : Result (Unit {0}) PastTheEnd) → old.com1 ≡ new.com1 → OnOk result LeavesChipset →
+  -- so it goes on, where a call that was refused has changed nothing
+  pub written_on : {E : Type 0} (result : Result (Unit {0}) E) → OnOk result LeavesChipset →
       OnErr result (new.board ≡ old.board) → (history : List Entry) → IsPortLeftBy IsLeftBy old history →
-      (later : List Entry) × IsPortLeftBy IsLeftBy new later
-  dram_kept (Ok done) same left still history was =
-      let some = own_entries addr bytes in
-      (some.0 ++ history, port_left same left history some.0 was some.1 some.2)
-  dram_kept (Err past) same left still history was = (history, rw (still, ← same) was)
+      (after : List Entry) × IsPortLeftBy IsLeftBy new after
+  written_on (Ok done) left still history was =
+      let some = writing.some history was.own in
+      (later some.0 history, leaves left history some.0 was some.1 some.2)
+  written_on (Err bad) left still history was = (history, rw (still, ← same) was)
+
+-- ---- bytes of the DRAM
+
+module _ (addr : ℕ) (bytes : List ℕ) where
+  line_in_turn : (entries history : List Entry) → WriteInTurn addr bytes entries →
+      irq_of (entries ++ history) com1_irq ≡ irq_of history com1_irq
+  unfolding WriteInTurn irq_of
+  line_in_turn [] history each = refl
+  line_in_turn (entry ∷ entries) history each = rw (each.0.event) (line_in_turn entries history each.1)
+
+  in_turn_by : (entries : List Entry) → WriteInTurn addr bytes entries →
+      WriteInTurn addr bytes (map by_processor entries)
+  unfolding WriteInTurn
+  in_turn_by [] each = tt
+  in_turn_by (entry ∷ entries) each =
+      let is = each.0 in (
+        rw (length-map entries by_processor) (record {
+          smm = is.smm;
+          target = is.target;
+          denial = is.denial;
+          event = is.event;
+          reply = is.reply;
+          in_dram = is.in_dram;
+        }),
+        in_turn_by entries each.1,
+      )
+
+  -- there are entries that write these bytes, and none is the port's own
+  own_entries : (entries : List Entry) × WriteAll addr bytes entries × AreOwn entries
+  own_entries =
+      let some = some_entries addr bytes in (
+        map by_processor some.0,
+        record { all = length-map some.0 by_processor ∙ some.1.all; each = in_turn_by some.0 some.1.each },
+        own_by some.0,
+      )
+
+  pub writes_dram : IsWriting (λ entries history. entries ++ history) (λ entries history. WriteAll addr bytes entries)
+  writes_dram = record {
+    line = λ entries history all. line_in_turn entries history all.each;
+    own = own_with;
+    some = λ history own. own_entries;
+  }
 
 -- ---- a byte of the clock
 
@@ -111,33 +129,10 @@ own_clock_entries history address byte own =
       (λ is. absurd (cc is), (λ is. absurd (cc is), (λ is. absurd (cc is), own))),
     )
 
-module _ (old new : Serial Running) (address byte : ℕ) where
-  abbrev SetsChipset : Type 0
-  SetsChipset =
-      (history later : List Entry) → IsLeftBy old.board history → WriteClockByte history address byte later →
-      IsLeftBy new.board later
-
-  abbrev SetsPort : Type 0
-  SetsPort =
-      (history later : List Entry) → IsPortLeftBy IsLeftBy old history → WriteClockByte history address byte later →
-      AreOwn later → IsPortLeftBy IsLeftBy new later
-
-  clock_port_left : old.com1 ≡ new.com1 → SetsChipset → SetsPort
-  clock_port_left same left history later was puts own = rw (← same) (record {
-    left = left history later was.left puts;
-    level_is = line_stays_for puts ∙ was.level_is;
-    own = own;
-  })
-
-  pub clock_left : (result : Result (Unit {0}) NoClockByte) → old.com1 ≡ new.com1 → OnOk result SetsChipset →
-      OnOk result SetsPort
-  clock_left (Ok done) same left = clock_port_left same left
-  clock_left (Err none) same left = tt
-
-  pub clock_kept : (result : Result (Unit {0}) NoClockByte) → old.com1 ≡ new.com1 → OnOk result SetsChipset →
-      OnErr result (new.board ≡ old.board) → (history : List Entry) → IsPortLeftBy IsLeftBy old history →
-      (later : List Entry) × IsPortLeftBy IsLeftBy new later
-  clock_kept (Ok done) same left still history was =
-      let some = own_clock_entries history address byte was.own in
-      (some.0, clock_port_left same left history some.0 was some.1 some.2)
-  clock_kept (Err none) same left still history was = (history, rw (still, ← same) was)
+pub writes_clock : (address byte : ℕ) →
+    IsWriting (λ later history. later) (λ later history. WriteClockByte history address byte later)
+writes_clock address byte = record {
+  line = λ later history puts. line_stays_for puts;
+  own = λ later history own before. own;
+  some = λ history own. own_clock_entries history address byte own;
+}

@@ -1,12 +1,12 @@
 -- What a step of a chipset with a serial port says, where the chipset does it without an event.
-use Rattle.std.proofs.Common.{◌≡◌, ◌<◌, ℕ, Bool, List, [], ◌∷◌, refl}
+use Rattle.std.proofs.Common.{◌≡◌, ◌<◌, ℕ, Bool, List, [], ◌∷◌}
 use Rattle.board_prelude.proofs.Common.{Kind, Event, Line, Reply, Entry, IsAnswer, next_entry}
 use Rattle.board_spec.specs.declared.event.Event.TheVariants.{Look as LookAt}
 use Rattle.board_chipset.specs.Common.{Running, IsAnswerModulo, IsForDevices, IsLeftBy}
 use Rattle.board_chipset.proofs.Exact.{modulo}
 use Rattle.uart_16550.specs.Common.{com1_actor, board_event, board_steps, level_of, IsChipsetAfter}
 use Rattle.uart_16550.specs.Common.{IsLeftBy as IsPortLeftBy, Serial}
-use Rattle.uart_16550.proofs.SerialSteps.{IsPlain, is_plain, one_step, other_actor}
+use Rattle.uart_16550.proofs.SerialSteps.{IsPlain, is_plain, quiet_step}
 
 pub plain_outside : (event : Event) → IsForDevices event → ((irq : ℕ) (on : Bool) → event ≡ Line irq on → ⊥) →
     IsPlain event
@@ -31,9 +31,8 @@ module _ (old new : Serial Running) (same : old.com1 ≡ new.com1) (setup : new.
   pub gone_on : IsChipsetAfter new history (record { actor = actor; event = event } ∷ [])
   gone_on =
       rw (← same)
-      (one_step IsAnswerModulo (λ (chipset : Running). chipset.setup) IsLeftBy old.board new.board (level_of old.com1)
-      (level_of old.com1) history actor event reply left_at setup answer left (rw (plain.unset) refl)
-      (other_actor actor event below))
+      (quiet_step IsAnswerModulo (λ (chipset : Running). chipset.setup) IsLeftBy old.board new.board
+      (level_of old.com1) history actor event reply left_at setup answer left plain.unset below)
 
   pub gone_on_by : (resets : Bool) → IsChipsetAfter new history (board_steps actor resets event old.com1)
   gone_on_by resets = rw (plain.alone actor resets old.com1) gone_on

@@ -1,12 +1,9 @@
 -- The states of the UART and of the serial port are spelled and read back.
-use Rattle.std.proofs.Common.{◌≡◌, ◌≤◌, Bool, true, false, length, refl, ap, arith}
-use Rattle.byte_fields.proofs.Formats.{IsFormat, format_as, then_format, last_format, plain_format}
-use Rattle.byte_fields.proofs.Numbers.{Any, byte_within, flag_format}
-use Rattle.uart_16550.specs.declared.com1.Com1.{Com1}
-use Rattle.uart_16550.specs.declared.state.Registers.{Registers}
-use Rattle.uart_16550.specs.declared.state.Causes.{Causes}
-use Rattle.uart_16550.specs.declared.state.Receiver.{Receiver}
-use Rattle.uart_16550.specs.Uart.{Uart, size_with}
+use Rattle.std.proofs.Common.{◌≡◌, ◌≤◌, Bool, true, false, length, ℕ, refl, arith}
+use Rattle.byte_fields.proofs.Formats.{IsFormat, format_as, fields_format, ◌then◌, ◌&◌, last_field, plain_format}
+use Rattle.byte_fields.proofs.Numbers.{Any, byte_to, any_byte, flag_format}
+use Rattle.byte_fields.specs.Fields.{plain}
+use Rattle.uart_16550.specs.Uart.{size_with}
 use Rattle.uart_16550.specs.State.{registers_in, registers_bytes, registers_fields, AreRegisters, causes_of}
 use Rattle.uart_16550.specs.State.{causes_bytes, causes_fields, receiver_of, receiver_bytes, receiver_fields}
 use Rattle.uart_16550.specs.State.{IsReceiver, IsUart, uart_bytes, uart_fields, IsCom1, com1_bytes, com1_fields}
@@ -14,65 +11,45 @@ use Rattle.uart_16550.specs.State.{IsReceiver, IsUart, uart_bytes, uart_fields, 
 registers_format : IsFormat 6 registers_fields registers_bytes AreRegisters
 unfolding registers_fields
 registers_format =
-    format_as 6 registers_bytes AreRegisters
-    (then_format (λ (r : Registers). r.ier) (byte_within 0 15 (omega arith)) (λ ier good.
-    then_format (λ (r : Registers). r.lcr) (byte_within 0 255 (omega arith)) (λ lcr good.
-    then_format (λ (r : Registers). r.mcr) (byte_within 0 31 (omega arith)) (λ mcr good.
-    then_format (λ (r : Registers). r.scr) (byte_within 0 255 (omega arith)) (λ scr good.
-    then_format (λ (r : Registers). r.dll) (byte_within 0 255 (omega arith)) (λ dll good.
-    last_format (λ (r : Registers). r.dlm)
-    (λ dlm. record { ier = ier; lcr = lcr; mcr = mcr; scr = scr; dll = dll; dlm = dlm })
-    (byte_within 0 255 (omega arith)) (λ dlm good. refl))
-    (λ dll r any good. ap (λ (r : Registers). r.dll) good.1))
-    (λ scr r any good. ap (λ (r : Registers). r.scr) good.1.1))
-    (λ mcr r any good. ap (λ (r : Registers). r.mcr) good.1.1.1))
-    (λ lcr r any good. ap (λ (r : Registers). r.lcr) good.1.1.1.1))
-    (λ ier r any good. ap (λ (r : Registers). r.ier) good.1.1.1.1.1))
-    (omega arith)
+    fields_format
+    (byte_to 15 (omega arith) then λ ier good.
+    any_byte then λ lcr good.
+    byte_to 31 (omega arith) then λ mcr good.
+    any_byte then λ scr good.
+    any_byte then λ dll good.
+    last_field _ any_byte)
     (λ r is. (
-      (omega arith, omega (arith, is.ier)),
-      (
-        (omega arith, omega (arith, is.lcr)),
-        (
-          (omega arith, omega (arith, is.mcr)),
-          (
-            (omega arith, omega (arith, is.scr)),
-            ((omega arith, omega (arith, is.dll)), ((omega arith, omega (arith, is.dlm)), refl)),
-          ),
-        ),
-      ),
+      (r.ier, omega (arith, is.ier)) & (r.lcr, is.lcr) & (r.mcr, omega (arith, is.mcr)) & (r.scr, is.scr)
+          & (r.dll, is.dll) & (r.dlm, is.dlm),
+      refl,
     ))
-    (λ r good. record {
-      ier = omega (arith, good.0.1);
-      lcr = omega (arith, good.1.0.1);
-      mcr = omega (arith, good.1.1.0.1);
-      scr = omega (arith, good.1.1.1.0.1);
-      dll = omega (arith, good.1.1.1.1.0.1);
-      dlm = omega (arith, good.1.1.1.1.1.0.1);
-    })
-    (λ r good. refl)
+    (λ t. (
+      record {
+        ier = omega (arith, t.1);
+        lcr = t.2.1;
+        mcr = omega (arith, t.2.2.1);
+        scr = t.2.2.2.1;
+        dll = t.2.2.2.2.1;
+        dlm = t.2.2.2.2.2.1;
+      },
+      refl,
+    ))
 
 causes_format : IsFormat 6 causes_fields causes_bytes Any
 unfolding causes_fields
 causes_format =
-    format_as 6 causes_bytes Any
-    (then_format (λ (c : Causes). c.overrun) flag_format (λ overrun good.
-    then_format (λ (c : Causes). c.emptied) flag_format (λ emptied good.
-    then_format (λ (c : Causes). c.dcts) flag_format (λ dcts good.
-    then_format (λ (c : Causes). c.ddsr) flag_format (λ ddsr good.
-    then_format (λ (c : Causes). c.teri) flag_format (λ teri good.
-    last_format (λ (c : Causes). c.ddcd)
-    (λ ddcd. record { overrun = overrun; emptied = emptied; dcts = dcts; ddsr = ddsr; teri = teri; ddcd = ddcd })
-    flag_format (λ ddcd good. refl))
-    (λ teri c any good. ap (λ (c : Causes). c.teri) good.1))
-    (λ ddsr c any good. ap (λ (c : Causes). c.ddsr) good.1.1))
-    (λ dcts c any good. ap (λ (c : Causes). c.dcts) good.1.1.1))
-    (λ emptied c any good. ap (λ (c : Causes). c.emptied) good.1.1.1.1))
-    (λ overrun c any good. ap (λ (c : Causes). c.overrun) good.1.1.1.1.1))
-    (omega arith)
-    (λ c any. (tt, (tt, (tt, (tt, (tt, (tt, refl)))))))
-    (λ c good. tt)
-    (λ c good. refl)
+    fields_format
+    (flag_format then λ overrun any.
+    flag_format then λ emptied any.
+    flag_format then λ dcts any.
+    flag_format then λ ddsr any.
+    flag_format then λ teri any.
+    last_field _ flag_format)
+    (λ c any. (
+      (c.overrun, tt) & (c.emptied, tt) & (c.dcts, tt) & (c.ddsr, tt) & (c.teri, tt) & (c.ddcd, tt),
+      refl,
+    ))
+    (λ t. (tt, refl))
 
 -- ---- the receiver
 
@@ -80,64 +57,40 @@ pub size_small : (fifos : Bool) → size_with fifos ≤ 16
 size_small true = omega arith
 size_small false = omega arith
 
+-- as many bytes as were said, at most 16
+queue_format : (fifos : Bool) (count : ℕ) → count ≤ size_with fifos →
+    IsFormat 16 (plain count) (λ bytes. bytes) (λ bytes. length bytes ≡ count)
+queue_format fifos count few =
+    format_as _ _ _ (plain_format count) (omega (arith, few, size_small fifos)) (λ bytes is. is) (λ bytes is. is)
+    (λ bytes is. refl)
+
 receiver_format : IsFormat 18 receiver_fields receiver_bytes IsReceiver
 unfolding receiver_fields
 receiver_format =
-    format_as 18 receiver_bytes IsReceiver
-    (then_format (λ (r : Receiver). r.fifos) flag_format (λ fifos any.
-    then_format (λ (r : Receiver). length r.queue) (byte_within 0 (size_with fifos) (omega (arith, size_small fifos)))
-    (λ count few.
-    last_format (λ (r : Receiver). r.queue) (λ queue. record { fifos = fifos; queue = queue })
-    (format_as 16 (λ bytes. bytes) (λ bytes. length bytes ≡ count) (plain_format count)
-    (omega (arith, few.1, size_small fifos)) (λ bytes is. is) (λ bytes is. is) (λ bytes is. refl))
-    (λ queue good. refl))
-    (λ count r any good. good.0))
-    (λ fifos r any good. ap (λ (r : Receiver). r.fifos) good.1.1))
-    (omega arith)
-    (λ r is. (tt, ((omega arith, is), (refl, refl))))
-    (λ r good. good.1.0.1)
-    (λ r good. refl)
+    fields_format
+    (flag_format then λ fifos any.
+    byte_to (size_with fifos) (omega (arith, size_small fifos)) then λ count few.
+    last_field _ (queue_format fifos count few))
+    (λ r is. ((r.fifos, tt) & (length r.queue, is) & (r.queue, refl), refl))
+    (λ t. rw (t.2.2.1) (t.2.1, refl))
 
 -- ---- the UART
-
-abbrev made_uart : Registers → Causes → Receiver → Uart
-made_uart registers causes receiver = record {
-  ier = registers.ier;
-  lcr = registers.lcr;
-  mcr = registers.mcr;
-  scr = registers.scr;
-  dll = registers.dll;
-  dlm = registers.dlm;
-  fifos = receiver.fifos;
-  queue = receiver.queue;
-  overrun = causes.overrun;
-  emptied = causes.emptied;
-  changes = record { dcts = causes.dcts; ddsr = causes.ddsr; teri = causes.teri; ddcd = causes.ddcd };
-}
 
 pub uart_format : IsFormat 30 uart_fields uart_bytes IsUart
 unfolding uart_fields
 uart_format =
-    format_as 30 uart_bytes IsUart
-    (then_format registers_in registers_format (λ registers are.
-    then_format causes_of causes_format (λ causes any.
-    last_format receiver_of (λ receiver. made_uart registers causes receiver) receiver_format (λ receiver is. refl))
-    (λ causes u any good. ap causes_of good.1))
-    (λ registers u are good. ap registers_in good.1.1))
-    (omega arith)
-    (λ u is. (is.registers, (tt, (is.receiver, refl))))
-    (λ u good. record { registers = good.0; receiver = good.1.1.0 })
-    (λ u good. refl)
+    fields_format
+    (registers_format then λ registers are.
+    causes_format then λ causes any.
+    last_field _ receiver_format)
+    (λ u is. ((registers_in u, is.registers) & (causes_of u, tt) & (receiver_of u, is.receiver), refl))
+    (λ t. (record { registers = t.1; receiver = t.2.2.1 }, refl))
 
 pub com1_format : IsFormat 31 com1_fields com1_bytes IsCom1
 unfolding com1_fields
 com1_format =
-    format_as 31 com1_bytes IsCom1
-    (then_format (λ (c : Com1). c.script_level) flag_format (λ script_level any.
-    last_format (λ (c : Com1). c.uart) (λ uart. record { uart = uart; script_level = script_level }) uart_format
-    (λ uart is. refl))
-    (λ script_level c any good. ap (λ (c : Com1). c.script_level) good.1))
-    (omega arith)
-    (λ c is. (tt, (is, refl)))
-    (λ c good. good.1.0)
-    (λ c good. refl)
+    fields_format
+    (flag_format then λ script_level any.
+    last_field _ uart_format)
+    (λ c is. ((c.script_level, tt) & (c.uart, is), refl))
+    (λ t. (t.2.1, refl))

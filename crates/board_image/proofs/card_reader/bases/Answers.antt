@@ -18,16 +18,13 @@ returns-in_err-base-clause-took c =
     c.loop.invariant.read)
 
 pub push-requires : goal.push-requires
-push-requires c = (omega arith, omega (arith, c.loop.invariant.count, c.requires.few, c.loop-test.true))
+push-requires c = (omega arith, omega arith)
 
 room_left : (room now : ℕ) (bases : List BaseSpec) (base : BaseSpec) →
     now ≡ room - sum_by memory_size (map base_of bases) →
     now - memory_size (base_of base) ≡ room - sum_by memory_size (map base_of (bases ++ base ∷ []))
 room_left room now bases base is =
-    let all : sum_by memory_size (map base_of (bases ++ base ∷ []))
-    ≡ sum_by memory_size (map base_of bases) + memory_size (base_of base) =
-    rw (map_push base_of bases base) (sum_by_push memory_size (map base_of bases) (base_of base)) in
-    rw (is, all) (omega arith)
+    rw (is, map_push base_of bases base, sum_by_push memory_size (map base_of bases) (base_of base)) (omega arith)
 
 pub loop-preserved : goal.loop-preserved
 loop-preserved c =

@@ -1,7 +1,7 @@
-use Rattle.std.proofs.Common.{◌≡◌, ℕ, ◌-◌, ◌⊎◌, inl, inr, List, [], length, Result, Ok, Err, refl, sym, ap, ◌∙◌, arith}
+use Rattle.std.proofs.Common.{◌≡◌, ℕ, ◌-◌, ◌⊎◌, inl, inr, List, length, Result, Ok, Err, refl, sym, ◌∙◌, arith}
 use Rattle.board_image.specs.Common.{Saved, image_fields, IsBadAt, AreBytes, IsImageOf}
-use Rattle.byte_fields.proofs.Formats.{not_err, err_is}
-use Rattle.board_image.proofs.ImageFormats.{image_back, image_taken, image_bad}
+use Rattle.byte_fields.proofs.Formats.{err_is}
+use Rattle.board_image.proofs.ImageFormats.{image_never, image_taken, image_bad}
 use Rattle.board_image.proofs.laws.law_image_or_bad.Goals as goal
 
 either_read : (bytes : List ℕ) (read : Result (Saved × List ℕ) ℕ) → AreBytes bytes → image_fields bytes ≡ read →
@@ -13,12 +13,6 @@ either_read bytes (Err left) are is =
     let within = image_bad bytes left are is in
     inr (length bytes - left, record { left = left; place = omega (arith, within.0); bad = is })
 
-never : (bytes : List ℕ) (at : ℕ) → IsImageOf bytes → IsBadAt bytes at → ⊥
-never bytes at image bad =
-    let saved : Saved × List ℕ = (record { setup = image.setup; steps = image.steps }, []) in
-    not_err saved bad.left (sym (image_back image.setup image.steps image.image)
-    ∙ (ap image_fields (sym image.spelled) ∙ bad.bad))
-
 one_place : (bytes : List ℕ) (at other : ℕ) → IsBadAt bytes at → IsBadAt bytes other → at ≡ other
 one_place bytes at other one two =
     let same : one.left ≡ two.left = err_is {X = Saved × List ℕ} one.left two.left (sym one.bad ∙ two.bad) in
@@ -28,7 +22,8 @@ pub returns : goal.returns
 returns c = record {
   one = record {
     either = λ bytes are. either_read bytes (image_fields bytes) are refl;
-    not_both = never;
+    not_both = λ bytes at image bad.
+        image_never bytes image.setup image.steps image.image image.spelled bad.left bad.bad;
     one_place = one_place;
   };
 }

@@ -1,4 +1,4 @@
-use Rattle.std.proofs.Common.{◌≡◌, List, rules, subst}
+use Rattle.std.proofs.Common.{◌≡◌, List, rules}
 use Rattle.board_prelude.proofs.Common.{Statement, Setup}
 use Rattle.board_core.specs.Steps.{AreInRange}
 use Rattle.image_writer.specs.ImageBytes.{IsImage}
@@ -6,9 +6,7 @@ use Rattle.board_image.proofs.loader.load.Goals as goal
 
 in_range : (setup other : Setup) (steps others : List Statement) → setup ≡ other → steps ≡ others →
     IsImage setup steps → AreInRange other others
-in_range setup other steps others same all is =
-    subst (λ (setup : Setup). AreInRange setup others) same
-    (subst (AreInRange setup) all (λ k d below. (is.each k d below).event))
+in_range setup other steps others same all is = rw (← same, ← all) (λ k d below. (is.each k d below).event)
 
 pub steps-requires-clause-in_range : goal.steps-requires-clause-in_range
 steps-requires-clause-in_range c =

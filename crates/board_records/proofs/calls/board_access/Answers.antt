@@ -1,8 +1,7 @@
-use Rattle.std.proofs.Common.{ap, sym, subst, ◌∙◌, lit<}
-use Rattle.board_chipset.specs.Chipset.{Running, IsLeftBy}
+use Rattle.std.proofs.Common.{◌∙◌, lit<, refl}
 use Rattle.board_chipset.specs.Common.{reply_of}
 use Rattle.uart_16550.specs.declared.com1.SerialReply.TheVariants.{Board as OfBoard}
-use Rattle.board_records.specs.Common.{serial_said, after_step}
+use Rattle.board_records.specs.Common.{after_step}
 use Rattle.board_records.proofs.AskedSteps.{bus_told, board_steps_are}
 use Rattle.board_records.proofs.EventReplies.{after_as}
 use Rattle.board_records.proofs.calls.board_access.Goals as goal
@@ -31,11 +30,7 @@ returns c =
                   c.tell_cycle.ensures.said gone.after gone.left_at.left
                   ∙ bus_told said.value said.target said.denial
                   (after_step new.board.setup gone.after c.reset_by-reset.result new.com1)
-                  ∙ ap (serial_said (OfBoard (reply_of said)))
-                  (ap (λ setup. after_step setup gone.after c.reset_by-reset.result new.com1) step.setup
-                  ∙ ap (λ reset. after_step old.board.setup gone.after reset new.com1)
-                  (c.reset_by-reset.ensures.kind history
-                  (subst (λ (chipset : Running). IsLeftBy chipset history) (sym c.board.ensures.board) left.left)));
+                  ∙ rw (step.setup, c.reset_by-reset.ensures.kind history (rw c.board.ensures.board left.left)) refl;
             };
       };
     }

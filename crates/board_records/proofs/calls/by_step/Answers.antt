@@ -1,8 +1,6 @@
 -- `by_step`: the reply is that of the step, and what stands after it is what the chipset tells then.
-use Rattle.std.proofs.Common.{ap, sym, subst, ◌∙◌}
-use Rattle.board_chipset.specs.Chipset.{Running, IsLeftBy}
+use Rattle.std.proofs.Common.{◌∙◌, refl}
 use Rattle.uart_16550.specs.Common.{uart_access}
-use Rattle.board_records.specs.Common.{serial_said, after_step}
 use Rattle.board_records.proofs.EventReplies.{reply_is}
 use Rattle.board_records.proofs.calls.by_step.Goals as goal
 
@@ -25,12 +23,11 @@ returns c =
               goes_on = gone;
               told =
                   c.tell.ensures.said
-                  ∙ ap (serial_said c.step-said.result)
-                  (c.after_step-after.ensures.after gone.after gone.left_at.left
-                  ∙ ap (λ setup. after_step setup gone.after c.reset_of-reset.result new.com1) step.setup
-                  ∙ ap (λ reset. after_step old.board.setup gone.after reset new.com1)
-                  (c.reset_of-reset.ensures.kind history
-                  (subst (λ (chipset : Running). IsLeftBy chipset history) (sym c.board.ensures.board) left.left)));
+                  ∙ rw (
+                    c.after_step-after.ensures.after gone.after gone.left_at.left,
+                    step.setup,
+                    c.reset_of-reset.ensures.kind history (rw c.board.ensures.board left.left),
+                  ) refl;
             };
       };
     }

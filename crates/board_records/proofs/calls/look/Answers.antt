@@ -1,7 +1,6 @@
-use Rattle.std.proofs.Common.{ap, refl, ◌∙◌, lit<}
+use Rattle.std.proofs.Common.{refl, ◌∙◌, lit<}
 use Rattle.board_spec.specs.declared.event.Reply.TheVariants.{Saw}
 use Rattle.uart_16550.specs.declared.com1.SerialReply.TheVariants.{Board as OfBoard}
-use Rattle.board_records.specs.Common.{serial_said}
 use Rattle.board_records.proofs.AskedSteps.{look_told}
 use Rattle.board_records.proofs.calls.look.Goals as goal
 
@@ -23,8 +22,7 @@ returns c =
               told =
                   c.tell_look.ensures.said
                   ∙ look_told said c.after_step-after.result
-                  ∙ ap (serial_said (OfBoard (Saw said)))
-                  (c.after_step-after.ensures.after gone.after gone.left_at.left);
+                  ∙ rw (c.after_step-after.ensures.after gone.after gone.left_at.left) refl;
             };
       });
     }

@@ -1,8 +1,8 @@
-use Rattle.std.proofs.Common.{ap, ◌∙◌, lit<}
+use Rattle.std.proofs.Common.{◌∙◌, lit<, refl}
 use Rattle.board_chipset.specs.declared.reset_control.ResetKind.TheVariants.{None as NoReset}
 use Rattle.board_chipset.specs.Common.{reply_of}
 use Rattle.uart_16550.specs.declared.com1.SerialReply.TheVariants.{Board as OfBoard}
-use Rattle.board_records.specs.Common.{serial_said, after_step}
+use Rattle.board_records.specs.Common.{after_step}
 use Rattle.board_records.proofs.AskedSteps.{bus_told}
 use Rattle.board_records.proofs.calls.memory_access.Goals as goal
 
@@ -25,8 +25,7 @@ returns c =
               told =
                   c.tell_memory.ensures.said gone.after gone.left_at.left
                   ∙ bus_told said.value said.target said.denial (after_step new.board.setup gone.after NoReset new.com1)
-                  ∙ ap (serial_said (OfBoard (reply_of said)))
-                  (ap (λ setup. after_step setup gone.after NoReset new.com1) step.setup);
+                  ∙ rw step.setup refl;
             };
       };
     }

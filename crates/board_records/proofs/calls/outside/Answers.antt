@@ -1,9 +1,8 @@
-use Rattle.std.proofs.Common.{ap, sym, subst, ◌∙◌, lit<}
+use Rattle.std.proofs.Common.{◌∙◌, lit<, refl}
 use Rattle.board_spec.specs.Registers.{is_hard_reset}
-use Rattle.board_chipset.specs.Chipset.{Running, IsLeftBy}
 use Rattle.board_chipset.specs.Common.{reply_of}
 use Rattle.uart_16550.specs.declared.com1.SerialReply.TheVariants.{Board as OfBoard}
-use Rattle.board_records.specs.Common.{serial_said, after_step}
+use Rattle.board_records.specs.Common.{after_step}
 use Rattle.board_records.proofs.AskedSteps.{bus_told}
 use Rattle.board_records.proofs.calls.outside.Goals as goal
 
@@ -12,7 +11,6 @@ returns c =
     let step = c.outside-said.ensures in
     let said = c.outside-said.result in
     let event = c.args.event.now in
-    let old = c.args.serial.now in
     let new = c.outside-said.new.self in
     record {
       done = record {
@@ -30,11 +28,7 @@ returns c =
                   c.tell_cycle.ensures.said gone.after gone.left_at.left
                   ∙ bus_told said.value said.target said.denial
                   (after_step new.board.setup gone.after c.reset_of-reset.result new.com1)
-                  ∙ ap (serial_said (OfBoard (reply_of said)))
-                  (ap (λ setup. after_step setup gone.after c.reset_of-reset.result new.com1) step.setup
-                  ∙ ap (λ reset. after_step old.board.setup gone.after reset new.com1)
-                  (c.reset_of-reset.ensures.kind history
-                  (subst (λ (chipset : Running). IsLeftBy chipset history) (sym c.board.ensures.board) left.left)));
+                  ∙ rw (step.setup, c.reset_of-reset.ensures.kind history (rw c.board.ensures.board left.left)) refl;
             };
       };
     }

@@ -1,8 +1,6 @@
 use Rattle.std.proofs.Common.{None, refl, sym, ap, ◌∙◌}
-use Rattle.board_chipset.specs.declared.reset_control.ResetKind.TheVariants.{None as NoReset}
 use Rattle.uart_16550.specs.declared.com1.SerialReply.TheVariants.{Uart as OfUart}
 use Rattle.uart_16550.specs.Com1.{change_steps}
-use Rattle.board_records.specs.Common.{serial_said, after_step}
 use Rattle.board_records.proofs.AskedSteps.{uart_told}
 use Rattle.board_records.proofs.EventReplies.{after_as}
 use Rattle.board_records.proofs.calls.receive.Goals as goal
@@ -22,8 +20,6 @@ returns-in-true-clause-done c = λ ok. record {
         told =
             c.tell_uart.ensures.said
             ∙ uart_told None None c.after_step.result
-            ∙ ap (serial_said (OfUart None None))
-            (c.after_step.ensures.after gone.after gone.left_at.left
-            ∙ ap (λ setup. after_step setup gone.after NoReset c.receive.new.self.com1) c.receive.ensures.setup);
+            ∙ rw (c.after_step.ensures.after gone.after gone.left_at.left, c.receive.ensures.setup) refl;
       };
 }

@@ -1,7 +1,5 @@
-use Rattle.std.proofs.Common.{ap, sym, subst, ◌∙◌}
-use Rattle.board_chipset.specs.Chipset.{Running, IsLeftBy}
+use Rattle.std.proofs.Common.{◌∙◌, refl}
 use Rattle.uart_16550.specs.Common.{from_uart}
-use Rattle.board_records.specs.Common.{serial_said, after_step}
 use Rattle.board_records.proofs.AskedSteps.{uart_told, uart_steps_are, uart_com1_is}
 use Rattle.board_records.proofs.EventReplies.{after_as}
 use Rattle.board_records.proofs.calls.uart_access.Goals as goal
@@ -28,12 +26,11 @@ returns c =
               told =
                   c.tell_uart.ensures.said
                   ∙ uart_told said.value said.sent c.after_step-after.result
-                  ∙ ap (serial_said (from_uart said))
-                  (c.after_step-after.ensures.after gone.after gone.left_at.left
-                  ∙ ap (λ setup. after_step setup gone.after c.reset_by-reset.result new.com1) step.setup
-                  ∙ ap (λ reset. after_step old.board.setup gone.after reset new.com1)
-                  (c.reset_by-reset.ensures.kind history
-                  (subst (λ (chipset : Running). IsLeftBy chipset history) (sym c.board.ensures.board) left.left)));
+                  ∙ rw (
+                    c.after_step-after.ensures.after gone.after gone.left_at.left,
+                    step.setup,
+                    c.reset_by-reset.ensures.kind history (rw c.board.ensures.board left.left),
+                  ) refl;
             };
       };
     }

@@ -1,5 +1,3 @@
-use Rattle.std.proofs.Common.{◌≡◌, ◌*◌, ◌++◌, replicate, ap, ◌∙◌}
-use Rattle.board_chipset.specs.Common.{Running}
 use Rattle.board_records.proofs.SavedParts.{blank_image}
 use Rattle.board_records.proofs.left.bytes_without.Goals as goal
 
@@ -9,7 +7,5 @@ returns-clause-bytes c =
     blank_image c.args.disk (record { serial = c.args.serial.now; identities = c.args.identities.now })
     c.new-bytes.result.items c.push_before.new.into.items c.push_pages.new.into.items c.push_after.new.into.items
     serial.chipset.whole.stores.dram c.new-bytes.ensures.items c.in_ok-push_before.ensures.added
-    (c.in_ok-push_pages.ensures.added
-    ∙ ap (λ (board : Running). c.push_before.new.into.items ++ replicate (board.setup.mib * 256) 0)
-    c.board.ensures.board)
+    (rw c.board.ensures.board at c.in_ok-push_pages.ensures.added)
     c.in_ok-push_after.ensures.added

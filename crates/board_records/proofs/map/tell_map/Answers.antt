@@ -1,9 +1,8 @@
-use Rattle.std.proofs.Common.{◌∙◌, ap, sym, List, length, map}
+use Rattle.std.proofs.Common.{◌∙◌, ap, refl, length}
 use Rattle.std.proofs.lemmas.List.{length-map}
 use Rattle.std.proofs.lemmas.Simd.{map-map}
 use Rattle.map_builder.specs.Map.{range_of}
-use Rattle.board_records.specs.declared.map.RangeRecord.{RangeRecord}
-use Rattle.board_records.specs.Maps.{range_said, window_said, filled}
+use Rattle.board_records.specs.Maps.{range_said}
 use Rattle.board_records.proofs.map.tell_map.Goals as goal
 
 pub returns-clause-version : goal.returns-clause-version
@@ -15,11 +14,8 @@ returns-clause-ranges c =
     record {
       ranges = c.map-map.result.now.ranges;
       flat = c.map-map.ensures.map;
-      count_is = sym (length-map c.ranges-all.result.now range_of) ∙ ap length same;
-      told =
-          c.tell_ranges.ensures.told
-          ∙ ap (λ (records : List RangeRecord). filled records c.args.ranges.now)
-          (sym (map-map range_said range_of c.ranges-all.result.now) ∙ ap (map range_said) same);
+      count_is = rw (← same, length-map c.ranges-all.result.now range_of) refl;
+      told = rw (← same, map-map range_said range_of c.ranges-all.result.now) c.tell_ranges.ensures.told;
     }
 
 pub returns-clause-windows : goal.returns-clause-windows
@@ -27,6 +23,5 @@ returns-clause-windows c = record {
   windows = c.map-map.result.now.changed;
   changed = c.map-map.ensures.changed;
   count_is = ap length c.changed-changed.ensures.windows;
-  told = c.tell_windows.ensures.told ∙ ap (λ windows. filled (map window_said windows) c.args.windows.now)
-      c.changed-changed.ensures.windows;
+  told = rw (← c.changed-changed.ensures.windows) c.tell_windows.ensures.told;
 }

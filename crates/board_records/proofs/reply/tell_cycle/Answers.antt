@@ -1,6 +1,3 @@
-use Rattle.std.proofs.Common.{ap, ◌∙◌}
-use Rattle.board_records.specs.declared.reply.ReplyRecord.{ReplyRecord}
-use Rattle.board_records.specs.Replies.{beside_cycle}
 use Rattle.board_records.specs.Steps.{after_step}
 use Rattle.board_records.proofs.AskedSteps.{cycle_beside}
 use Rattle.board_records.proofs.reply.tell_cycle.Goals as goal
@@ -11,7 +8,6 @@ returns c =
     record {
       said = λ history left.
           let after = after_step c.args.serial.now.board.setup history c.args.reset c.args.serial.now.com1 in
-          c.tell_beside.ensures.beside history left
-          ∙ ap (λ (said : ReplyRecord). beside_cycle said after) c.tell_answer.ensures.told
-          ∙ cycle_beside c.args.told.now reply.value reply.target reply.denial after;
+          rw (c.tell_beside.ensures.beside history left, c.tell_answer.ensures.told)
+          (cycle_beside c.args.told.now reply.value reply.target reply.denial after);
     }

@@ -1,4 +1,4 @@
-use Rattle.std.proofs.Common.{◌≡◌, ap, ◌∙◌}
+use Rattle.std.proofs.Common.{ap, ◌∙◌}
 use Rattle.board_chipset.specs.Common.{Running}
 use Rattle.board_records.proofs.SavedParts.{before_added}
 use Rattle.board_records.proofs.saved.push_before.Goals as goal

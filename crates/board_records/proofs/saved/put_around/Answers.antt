@@ -1,4 +1,4 @@
-use Rattle.std.proofs.Common.{◌+◌, ◌-◌, length, drop, arith}
+use Rattle.std.proofs.Common.{◌-◌, length, drop, arith}
 use Rattle.board_prelude.proofs.Common.{length-take, length-drop}
 use Rattle.std.proofs.lemmas.List.{take_rest}
 use Rattle.state_room.proofs.Puts.{put_length}
@@ -6,34 +6,19 @@ use Rattle.board_records.proofs.SavedParts.{written_in_three}
 use Rattle.board_records.proofs.saved.put_around.Goals as goal
 
 pub put-start-requires : goal.put-start-requires
-put-start-requires c = record {
-  room = omega (arith, c.requires.room, c.requires.place, length-take c.args.dram_at c.args.bytes.now);
-}
+put-start-requires c = record { room = omega (arith, length-take c.args.dram_at c.args.bytes.now) }
 
 pub put_dram-end-requires-clause-room : goal.put_dram-end-requires-clause-room
-put_dram-end-requires-clause-room c =
-    omega (
-      arith,
-      c.requires.room,
-      c.requires.place,
-      length-take c.args.dram_at c.args.bytes.now,
-      c.put-start.ensures.end,
-      c.put-start.ensures.size,
-    )
+put_dram-end-requires-clause-room c = omega (arith, length-take c.args.dram_at c.args.bytes.now)
 
 pub put-requires : goal.put-requires
 put-requires c = record {
   room =
       omega (
         arith,
-        c.requires.room,
-        c.requires.place,
         length-take c.args.dram_at c.args.bytes.now,
         length-drop c.args.dram_at c.args.bytes.now,
         length-take (length c.args.bytes.now - c.args.dram_at) (drop c.args.dram_at c.args.bytes.now),
-        c.put-start.ensures.end,
-        c.put-start.ensures.size,
-        c.put_dram-end.ensures.end,
         put_length _ _ _ _ c.put_dram-end.ensures.put,
       );
 }

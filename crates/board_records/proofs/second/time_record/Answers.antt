@@ -4,15 +4,5 @@ use Rattle.board_records.proofs.second.time_record.Goals as goal
 
 pub returns : goal.returns
 returns c = record {
-  said =
-      time_said _ c.args.moment c.requires.moment refl refl refl
-      (omega (
-        arith,
-        c.from.ensures,
-        c.from-2.ensures,
-        c.from-3.ensures,
-        c.from-4.ensures,
-        c.from-5.ensures,
-        c.from-6.ensures,
-      ));
+  said = time_said _ c.args.moment c.requires.moment refl refl refl (omega arith);
 }

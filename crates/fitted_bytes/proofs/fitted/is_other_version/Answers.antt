@@ -1,11 +1,9 @@
-use Rattle.std.proofs.Common.{◌≡◌, ◌≢◌, ℕ, true, not, nat_eq, sym, subst, ap, ◌∙◌}
+use Rattle.std.proofs.Common.{◌≡◌, ◌≢◌, ℕ, true, not, nat_eq, sym, ap, ◌∙◌}
 use Rattle.fitted_bytes.specs.Fitted.{version, version_field}
 use Rattle.fitted_bytes.proofs.fitted.is_other_version.Goals as goal
 
 differs : (number : ℕ) → not (nat_eq number version) ≡ true → number ≢ version
-differs number is same =
-    let never : not (nat_eq version version) ≡ true = subst (λ (n : ℕ). not (nat_eq n version) ≡ true) same is in
-    absurd cc
+differs number is same = let never = rw same at is in absurd cc
 
 pub returns-in-Ok : goal.returns-in-Ok
 returns-in-Ok c = record {

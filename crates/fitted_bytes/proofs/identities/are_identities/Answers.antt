@@ -1,4 +1,4 @@
-use Rattle.std.proofs.Common.{◌≡◌, ℕ, ◌<◌, ◌≤◌, ◌+◌, inl, inr, get_or, subst, arith}
+use Rattle.std.proofs.Common.{◌≡◌, inl, inr, subst, arith}
 use Rattle.std.proofs.lemmas.List.{get_or_default}
 use Rattle.board_prelude.proofs.Common.{cases_lt}
 use Rattle.fitted_bytes.specs.Identities.{IsIdentity}
@@ -11,7 +11,7 @@ loop-card-preserved c k d below =
     elim (cases_lt k index) [
       | inl earlier ↦ c.loop-card.invariant k d earlier
       | inr past ↦
-          let same : index ≡ k = omega (arith, below, past) in
-          subst (λ (i : ℕ). IsIdentity (get_or cards i d)) same
+          let same : k ≡ index = omega (arith, below, past) in
+          rw same
           (subst IsIdentity (get_or_default cards index _ d c.loop-card-test.true) c.is_identity.ensures.sound)
     ]

@@ -1,4 +1,4 @@
-use Rattle.std.proofs.Common.{◌≡◌, ◌-◌, ◌+◌, ◌<◌, ◌++◌, ◌∷◌, length, ap, ◌∙◌, arith}
+use Rattle.std.proofs.Common.{◌+◌, length, ap, ◌∙◌, arith}
 use Rattle.board_prelude.proofs.Common.{err_from_is_err_and, length_push}
 use Rattle.byte_fields.proofs.Loops.{goes_on, stops, is_done}
 use Rattle.fitted_bytes.specs.Identities.{some_identities}
@@ -16,7 +16,7 @@ returns-in_err-read_identity c =
     }
 
 pub push-requires : goal.push-requires
-push-requires c = (omega arith, omega (arith, c.loop.invariant.count, c.requires.few, c.loop-test.true))
+push-requires c = (omega arith, omega arith)
 
 pub loop-preserved : goal.loop-preserved
 loop-preserved c =

@@ -13,10 +13,6 @@ overflow_add-size c =
     size_on c.args.dram.now c.in-Some.kept.now c.loop-kept.page c.in-Some.ensures.some c.in-Some.ensures.bytes in
     omega (
       arith,
-      next,
-      c.loop-kept.invariant.size,
-      c.page_size-size.ensures.size,
-      c.requires.few,
       memory_few (take ((c.loop-kept.page + 1) * memory_page) c.args.dram.now),
       length-take ((c.loop-kept.page + 1) * memory_page) c.args.dram.now,
     )
@@ -25,16 +21,12 @@ pub loop-kept-preserved : goal.loop-kept-preserved
 loop-kept-preserved c =
     let next =
     size_on c.args.dram.now c.in-Some.kept.now c.loop-kept.page c.in-Some.ensures.some c.in-Some.ensures.bytes in
-    record {
-      size = omega (arith, next, c.loop-kept.invariant.size, c.page_size-size.ensures.size);
-      within = c.in-Some.ensures.some;
-    }
+    record { size = omega arith; within = c.in-Some.ensures.some }
 
 pub returns-clause-most : goal.returns-clause-most
 returns-clause-most c =
     omega (
       arith,
-      c.loop-kept.invariant.size,
       memory_few (take (c.loop-kept.page * memory_page) c.args.dram.now),
       length-take (c.loop-kept.page * memory_page) c.args.dram.now,
     )

@@ -1,16 +1,11 @@
-use Rattle.std.proofs.Common.{◌%◌, ◌*◌, ap, length, arith, refl, drop}
+use Rattle.std.proofs.Common.{◌%◌, ◌*◌, arith, refl}
 use Rattle.board_prelude.proofs.Common.{length-take}
 use Rattle.state_room.proofs.Pages.{kept_page}
 use Rattle.byte_fields.specs.Pages.{memory_page}
 use Rattle.state_room.proofs.dram.kept_of.Goals as goal
 
 pub returns-in-Some-clause-within : goal.returns-in-Some-clause-within
-returns-in-Some-clause-within c =
-    omega (
-      arith,
-      ap length c.part_of.ensures.part,
-      length-take memory_page (drop (c.args.page % 256 * memory_page) c.in-Some.kept.now),
-    )
+returns-in-Some-clause-within c = rw c.part_of.ensures.part (simp length-take (omega arith))
 
 pub returns-in-Some-clause-bytes : goal.returns-in-Some-clause-bytes
 returns-in-Some-clause-bytes c =

@@ -18,10 +18,7 @@ put_page-end-requires-clause-room c =
     size_on c.args.dram.now c.in-Some.kept.now c.loop-kept.page c.in-Some.ensures.some c.in-Some.ensures.bytes in
     omega (
       arith,
-      next,
       front_fits c.args.dram.now (c.loop-kept.page + 1) c.in-Some.ensures.some,
-      c.loop-kept.invariant.end,
-      c.requires.room,
       put_length _ _ _ _ c.loop-kept.invariant.put,
     )
 
@@ -35,6 +32,6 @@ loop-kept-preserved c =
           (memory_bytes (page_of c.in-Some.kept.now)) _ c.args.into.now c.loop-kept.into c.put_page-end.new.into
           c.loop-kept.invariant.put c.loop-kept.invariant.end c.put_page-end.ensures.put
           (page_on c.args.dram.now c.in-Some.kept.now c.loop-kept.page c.in-Some.ensures.some c.in-Some.ensures.bytes);
-      end = omega (arith, next, c.loop-kept.invariant.end, c.put_page-end.ensures.end);
+      end = omega arith;
       within = c.in-Some.ensures.some;
     }

@@ -7,23 +7,21 @@ use Rattle.uart_16550.proofs.line.move_line.Goals as goal
 
 differs : (old new : Bool) → not (beq old new) ≡ true → differ old new ≡ true
 differs true true is = is
-differs true false is = refl
-differs false true is = refl
 differs false false is = is
+differs _ _ is = refl
 
 pub returns-then-old-new-clause-moved : goal.returns-then-old-new-clause-moved
 returns-then-old-new-clause-moved g c = λ history left_at.
     rw (differs c.args.old c.args.new c.if-old-new.true)
     (one_step g.B.SteppedBoard.is_answer g.B.SteppedBoard.setup g.B.SteppedBoard.is_left_by c.args.board.now
-    c.step.new.self c.args.old c.args.new
-    history com1_actor (Line com1_irq c.args.new) c.step.result left_at c.step.ensures.setup
-    (c.step.ensures.answer history left_at.left) (c.step.ensures.left history left_at.left) refl (λ _. refl))
+    c.step.new.self c.args.old history com1_actor (Line com1_irq c.args.new) c.step.result left_at
+    c.step.ensures.setup (c.step.ensures.answer history left_at.left) (c.step.ensures.left history left_at.left)
+    c.args.new refl (λ _. refl))
 
 agrees : (old new : Bool) → not (beq old new) ≡ false → (old ≡ new) × (differ old new ≡ false)
 agrees true true is = (refl, refl)
-agrees true false is = absurd (cc is)
-agrees false true is = absurd (cc is)
 agrees false false is = (refl, refl)
+agrees _ _ is = absurd (cc is)
 
 pub returns-else-old-new-clause-moved : goal.returns-else-old-new-clause-moved
 returns-else-old-new-clause-moved g c =

@@ -5,9 +5,7 @@ pub invariant_of-result : goal.invariant_of-result
 invariant_of-result c =
     let seen = c.ranges-2.ensures in
     let copied = c.copy_over-count.ensures in
-    kept_of c.args.map.now.ranges c.ranges-2.result.now c.copy_over-count.new.row c.copy_over-count.result _ _ _
-    seen.ranges seen.tiles seen.few
-    copied.count.0 copied.count.1 copied.copied
+    kept_of _ _ _ _ _ _ _ seen.ranges seen.tiles seen.few copied.count.0 copied.count.1 copied.copied
 
 pub returns-clause-map : goal.returns-clause-map
 returns-clause-map c setup bytes stands = rw (c.copy_over-count.ensures.copied, c.ranges-2.ensures.ranges)

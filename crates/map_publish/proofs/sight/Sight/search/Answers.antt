@@ -1,6 +1,4 @@
-use Rattle.std.proofs.Common.{arith, subst, sym}
-use Rattle.board_prelude.proofs.Common.{IsFlatMapOf}
-use Rattle.map_publish.specs.Sights.{Sighted}
+use Rattle.std.proofs.Common.{arith}
 use Rattle.map_publish.proofs.Sights.{span_at}
 use Rattle.map_publish.proofs.sight.Sight.search.Goals as goal
 
@@ -13,12 +11,10 @@ invariant_of-self c =
       within = was.within;
       tiles = was.tiles;
       spans = λ some setup bytes flat.
-          let found = c.span_in-span.ensures.span setup bytes flat in
-          span_at setup bytes c.args.addr span.lo c.args.kind c.args.smm span.lo span.hi span.area found (omega arith)
-          some;
+          span_at setup bytes c.args.addr span.lo c.args.kind c.args.smm span.lo span.hi span.area
+          (c.span_in-span.ensures.span setup bytes flat) (omega arith) some;
     }
 
 pub returns-clause-span : goal.returns-clause-span
 returns-clause-span c setup bytes flat =
-    c.span_in-span.ensures.span setup bytes (subst (λ (sight : Sighted). IsFlatMapOf setup bytes sight.ranges)
-    (sym c.self.view_is) flat)
+    c.span_in-span.ensures.span setup bytes (rw (← c.self.view_is) at flat)

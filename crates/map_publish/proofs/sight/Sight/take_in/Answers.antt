@@ -5,9 +5,7 @@ pub invariant_of-self : goal.invariant_of-self
 invariant_of-self c =
     let seen = c.ranges-2.ensures in
     let copied = c.copy_over-self-inside.ensures in
-    kept_of c.args.map.now.ranges c.ranges-2.result.now c.copy_over-self-inside.new.row c.copy_over-self-inside.result _
-    _ _ seen.ranges seen.tiles seen.few
-    copied.count.0 copied.count.1 copied.copied
+    kept_of _ _ _ _ _ _ _ seen.ranges seen.tiles seen.few copied.count.0 copied.count.1 copied.copied
 
 pub returns-clause-map : goal.returns-clause-map
 returns-clause-map c setup bytes stands = rw (c.copy_over-self-inside.ensures.copied, c.ranges-2.ensures.ranges)

@@ -1,14 +1,11 @@
-use Rattle.std.proofs.Common.{◌∙◌, ap}
 use Rattle.map_publish.specs.Common.{bytes_after, changes_of}
-use Rattle.map_publish.specs.Sights.{Sighted}
 use Rattle.map_publish.proofs.viewer.Viewer.find.Goals as goal
 
 pub returns-clause-look : goal.returns-clause-look
 returns-clause-look c =
     let viewer = c.args.self.now in
     record {
-      version = c.version.ensures.version ∙ (ap (λ (sight : Sighted). sight.version) c.find-span.ensures.same
-          ∙ viewer.seen.same);
+      version = rw (c.version.ensures.version, c.find-span.ensures.same) viewer.seen.same;
       span = λ setup bytes stands. c.find-span.ensures.span setup
           (bytes_after setup (changes_of viewer.front.seen.log) bytes) (viewer.seen.flat setup bytes stands);
     }

@@ -4,7 +4,6 @@ use Rattle.board_spec.specs.declared.event.Event.TheVariants.{Look as LookAt}
 use Rattle.board_spec.specs.declared.event.Reply.TheVariants.{Saw}
 use Rattle.board_chipset.specs.Common.{Running}
 use Rattle.uart_16550.specs.Common.{Serial}
-use Rattle.uart_16550.proofs.SerialSteps.{is_plain}
 use Rattle.uart_16550.proofs.OverChipset.{gone_on}
 use Rattle.uart_16550.proofs.over_chipset.SerialBoard+Chipset.look.Goals as goal
 
@@ -16,5 +15,4 @@ returns-clause-history c =
     rw (← c.self.view_is)
     (λ history actor below left_at.
     gone_on here here refl refl history actor below left_at event reply (c.look.ensures.answer history left_at.left)
-    (c.look.ensures.left history (next_entry history actor event reply) left_at.left refl)
-    (is_plain event (λ access same. absurd (cc same)) (λ irq on same. absurd (cc same))))
+    (c.look.ensures.left history (next_entry history actor event reply) left_at.left refl) (assumption))

@@ -1,19 +1,19 @@
 use Rattle.std.proofs.Common.{refl}
-use Rattle.uart_16550.proofs.Loads.{clock_left, clock_kept}
+use Rattle.uart_16550.proofs.Loads.{writes_clock, written, written_on}
 use Rattle.uart_16550.proofs.over_chipset.SerialBoard+Chipset.set_clock_byte.Goals as goal
 
 pub returns-clause-goes_on : goal.returns-clause-goes_on
 returns-clause-goes_on c =
     rw (← c.self.view_is)
-    (clock_kept (record { board = c.self.inside.board; com1 = c.self.inside.com1 })
-    (record { board = c.set_clock_byte.new.self; com1 = c.self.inside.com1 }) c.args.address c.args.byte
-    c.set_clock_byte.result refl
+    (written_on (writes_clock c.args.address c.args.byte)
+    (record { board = c.self.inside.board; com1 = c.self.inside.com1 })
+    (record { board = c.set_clock_byte.new.self; com1 = c.self.inside.com1 }) refl c.set_clock_byte.result
     c.set_clock_byte.ensures.left c.set_clock_byte.ensures.unchanged)
 
 pub returns-clause-left : goal.returns-clause-left
 returns-clause-left c =
     rw (← c.self.view_is)
-    (clock_left (record { board = c.self.inside.board; com1 = c.self.inside.com1 })
-    (record { board = c.set_clock_byte.new.self; com1 = c.self.inside.com1 }) c.args.address c.args.byte
-    c.set_clock_byte.result refl
-    c.set_clock_byte.ensures.left)
+    (written (writes_clock c.args.address c.args.byte)
+    (record { board = c.self.inside.board; com1 = c.self.inside.com1 })
+    (record { board = c.set_clock_byte.new.self; com1 = c.self.inside.com1 }) refl
+    c.set_clock_byte.result c.set_clock_byte.ensures.left)

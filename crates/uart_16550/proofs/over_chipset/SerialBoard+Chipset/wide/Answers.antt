@@ -2,7 +2,6 @@ use Rattle.std.proofs.Common.{refl}
 use Rattle.board_prelude.proofs.Common.{Wide, next_entry}
 use Rattle.board_chipset.specs.Common.{Running, wide_reply_of}
 use Rattle.uart_16550.specs.Common.{Serial}
-use Rattle.uart_16550.proofs.SerialSteps.{is_plain}
 use Rattle.uart_16550.proofs.OverChipset.{gone_on}
 use Rattle.uart_16550.proofs.over_chipset.SerialBoard+Chipset.wide.Goals as goal
 
@@ -16,5 +15,4 @@ returns-clause-history c =
     (λ history actor below left_at.
     gone_on old new refl c.wide.ensures.setup history actor below left_at event reply
     (c.wide.ensures.answer history left_at.left)
-    (c.wide.ensures.left history (next_entry history actor event reply) left_at.left refl refl)
-    (is_plain event (λ access same. absurd (cc same)) (λ irq on same. absurd (cc same))))
+    (c.wide.ensures.left history (next_entry history actor event reply) left_at.left refl refl) (assumption))

@@ -1,22 +1,30 @@
-use Rattle.uart_16550.proofs.SerialSteps.{level_given, other_given}
+use Rattle.std.proofs.Common.{◌≡◌, false, ◌==◌, refl}
+use Rattle.board_prelude.proofs.Common.{Line, ne_eqb}
+use Rattle.uart_16550.specs.Common.{board_event, com1_irq, level_of}
+use Rattle.uart_16550.proofs.SerialSteps.{with_level, named_step}
 use Rattle.uart_16550.proofs.serial.SerialBoard.line.Goals as goal
 
 pub returns-then-irq-eq-COM1_IRQ-clause-history : goal.returns-then-irq-eq-COM1_IRQ-clause-history
 returns-then-irq-eq-COM1_IRQ-clause-history g c =
+    let com1 = c.self.inside.com1 in
+    let own = c.if-irq-eq-COM1_IRQ.true in
+    let level = c.level-on.ensures.level in
     rw (← c.self.view_is)
     (λ history left_at.
-    level_given g.B.SteppedBoard.is_answer g.B.SteppedBoard.setup g.B.SteppedBoard.is_left_by c.self.inside.board
-    c.step.new.self c.self.inside.com1
-    c.args.irq c.args.on c.level-on.result history c.args.actor c.step.result c.if-irq-eq-COM1_IRQ.true
-    c.level-on.ensures.level left_at c.step.ensures.setup (c.step.ensures.answer history left_at.left)
-    (c.step.ensures.left history left_at.left) c.requires.actor)
+    named_step g.B.SteppedBoard.is_answer g.B.SteppedBoard.setup g.B.SteppedBoard.is_left_by c.self.inside.board
+    c.step.new.self (level_of com1) history c.args.actor (Line c.args.irq c.level-on.result) c.step.result left_at
+    c.step.ensures.setup (c.step.ensures.answer history left_at.left) (c.step.ensures.left history left_at.left)
+    (level_of (with_level com1 c.args.on)) (board_event com1 (Line c.args.irq c.args.on)) (rw own level)
+    c.requires.actor (rw (own, level) refl))
 
 pub returns-clause-history : goal.returns-clause-history
 returns-clause-history g c =
+    let com1 = c.self.inside.com1 in
+    let other : (c.args.irq == com1_irq) ≡ false = ne_eqb _ _ c.if-irq-eq-COM1_IRQ.false in
     rw (← c.self.view_is)
     (λ history left_at.
-    other_given g.B.SteppedBoard.is_answer g.B.SteppedBoard.setup g.B.SteppedBoard.is_left_by c.self.inside.board
-    c.step-2.new.self c.self.inside.com1
-    c.args.irq c.args.on history c.args.actor c.step-2.result c.if-irq-eq-COM1_IRQ.false
-    left_at c.step-2.ensures.setup (c.step-2.ensures.answer history left_at.left)
-    (c.step-2.ensures.left history left_at.left) c.requires.actor)
+    named_step g.B.SteppedBoard.is_answer g.B.SteppedBoard.setup g.B.SteppedBoard.is_left_by c.self.inside.board
+    c.step-2.new.self (level_of com1) history c.args.actor (Line c.args.irq c.args.on) c.step-2.result left_at
+    c.step-2.ensures.setup (c.step-2.ensures.answer history left_at.left)
+    (c.step-2.ensures.left history left_at.left) (level_of com1) (board_event com1 (Line c.args.irq c.args.on))
+    (rw other refl) c.requires.actor (rw other refl))

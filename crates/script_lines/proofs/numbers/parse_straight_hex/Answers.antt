@@ -1,7 +1,0 @@
-use Rattle.std.proofs.Common.{arith, length, lit<}
-use Rattle.script_lines.proofs.NumberLemmas.{power_within}
-use Rattle.script_lines.proofs.numbers.parse_straight_hex.Goals as goal
-
-pub parse_digits-requires : goal.parse_digits-requires
-parse_digits-requires c =
-    record { some = lit< tt; fits = power_within 16 (length c.args.field.now) 16 (lit< tt) (omega arith) }
