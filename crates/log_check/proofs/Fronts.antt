@@ -1,7 +1,7 @@
 -- The next statement of a processor in a phase.
 use Rattle.std.proofs.Common.{ℕ, ◌≡◌, ◌+◌, ◌<◌, List, ◌∷◌, length, drop, get_or, sym, ap, ◌∙◌, add-one}
 use Rattle.board_prelude.proofs.Common.{drop-cons, Statement, events_by}
-use Rattle.board_spec.proofs.GoesOnProofs.{events-own}
+use Rattle.log_check.proofs.NextStatements.{events-own}
 use Rattle.std.proofs.lemmas.Option.{slice_get-get_or}
 use Rattle.log_check.specs.Fronts.{IsNextOf}
 

@@ -1,18 +1,27 @@
 -- A processor has one statement that may come next.
 use Rattle.std.proofs.Common.{ℕ, ◌≡◌, ◌≢◌, ◌+◌, ◌<◌, ◌≤◌, List, [], ◌∷◌, ◌++◌, length, drop, All, refl, sym, ap, ◌∙◌}
 use Rattle.std.proofs.Common.{subst, inl, inr, append_assoc, length-append, add-one, arith, ◌==◌}
-use Rattle.board_prelude.proofs.Common.{take-append_seam, drop-append_seam, cases_lt, cond-true, eq-eqb}
+use Rattle.board_prelude.proofs.Common.{take-append_seam, drop-append_seam, cases_lt, cond-true, eq-eqb, ne_eqb}
 use Rattle.board_prelude.proofs.Common.{append_cancel_left, append-nil, All-head}
 use Rattle.board_prelude.proofs.Common.{All-tail, All-drop, Event, Entry, Statement, Setup, IsNext, IsLegal}
 use Rattle.board_prelude.proofs.Common.{statement_of, statements_of, entries_by, events_by, BeginsWith, IsFrontOfPhase}
 use Rattle.board_prelude.proofs.Common.{HasPhasesSoFar, IsBegunFor, in_file_order, OneReplay, statements-newest}
 use Rattle.std.proofs.lemmas.List.Elements.{All-take}
 use Rattle.board_spec.proofs.OrderLawProofs.{events-append}
-use Rattle.board_spec.proofs.GoesOnProofs.{events-own, events-other}
 use Rattle.log_check.specs.Phases.{IsTyped}
 use Rattle.log_check.proofs.PhaseCuts.{in_first_phase, past_first_phase}
 
 -- ---- the events of a processor
+
+pub events-own :
+    (actor : ℕ) (first : Statement) (later : List Statement) → first.actor ≡ actor →
+    events_by actor (first ∷ later) ≡ first.event ∷ events_by actor later
+events-own actor first later own = rw (eq-eqb first.actor actor own) refl
+
+events-other :
+    (actor : ℕ) (first : Statement) (later : List Statement) → first.actor ≢ actor →
+    events_by actor (first ∷ later) ≡ events_by actor later
+events-other actor first later other = rw (ne_eqb first.actor actor other) refl
 
 pub events-last :
     (actor : ℕ) (part : List Statement) (last : Statement) → last.actor ≡ actor →
