@@ -43,15 +43,12 @@ module _ (setup : Setup) (bytes : Bytes) (addr : ℕ) where
 
   same_kind : (kind : Kind) (x : ℕ) → six_areas setup bytes x ≡ six_areas setup bytes addr →
       area_of setup bytes x kind false ≡ area_of setup bytes addr kind false
-  same_kind Fetch x same = ap (λ (areas : List Area). slice_index_or areas 0 Abort) same
-  same_kind Read x same = ap (λ (areas : List Area). slice_index_or areas 1 Abort) same
-  same_kind Write x same = ap (λ (areas : List Area). slice_index_or areas 2 Abort) same
+  same_kind kind x same = grind (arith, nat_tests)
 
   before_end : (found : Option ℕ) → IfSome found (IsNextEdge setup bytes addr) → (x : ℕ) →
       x < unwrap_or found 0xFFFF_FFFF →
       (x < unwrap_or found address_count) × (x < address_count)
-  before_end None next x below = (omega arith, omega arith)
-  before_end (Some edge) next x below = (below, omega (arith, next.is_edge.address))
+  before_end found next x below = grind (arith, nat_tests)
 
   -- up to the end of an area a word has it, and so has the first word
   pub in_area : (kind : Kind) (found : Option ℕ) → IfSome found (IsNextEdge setup bytes addr) →
@@ -59,8 +56,7 @@ module _ (setup : Setup) (bytes : Bytes) (addr : ℕ) where
       is_smram_range addr ≡ false → addr < address_count → (i : ℕ) →
       i < max ((unwrap_or found 0xFFFF_FFFF - addr) / 2) 1 →
       master_area setup bytes (address_after addr (2 * i)) kind ≡ master_area setup bytes addr kind
-  in_area kind found next none same outside fits zero below =
-      ap (λ (at : ℕ). master_area setup bytes at kind) (omega arith)
+  in_area kind found next none same outside fits zero below = grind (arith, nat_tests)
   in_area kind found next none same outside fits (suc i) below =
       let x : ℕ = addr + 2 * suc i in
       let bounds : (x < unwrap_or found address_count) × (x < address_count) = before_end found next x (omega arith) in

@@ -1,4 +1,6 @@
 -- What the definition comes to is the same before and after each piece.
+use Rattle.board_base.specs.declared.target.Area.TheVariants.{Abort as NobodysArea}
+use Rattle.board_base.specs.declared.target.Area.TheVariants.{Abort as NobodysArea}
 use Rattle.std.proofs.Common.{◌≡◌, ◌≢◌, ℕ, zero, suc, ◌+◌, ◌-◌, ◌*◌, ◌/◌, ◌%◌, ◌≤◌, ◌<◌, Bool, true, false, not, ◌&&◌}
 use Rattle.std.proofs.Common.{List, [], ◌∷◌, Option, Some, None, inl, inr, refl, sym, ap, subst, ◌∙◌, arith, ◌==◌}
 use Rattle.std.proofs.Common.{if◌then◌else◌}
@@ -29,10 +31,7 @@ use Rattle.bus_master.proofs.WordLemmas.{words_stay}
 
 -- a region has bytes
 size_left : (count : ℕ) → (size_of count == 0) ≡ false
-size_left count = elim (cases_Bool (even (count % 0x1_0000) == 0)) [
-  | inl none ↦ rw none refl
-  | inr some ↦ rw (some, some) refl
-]
+size_left count = grind (arith, nat_tests)
 
 -- an access, and its word where somebody answers
 abbrev accessed : Setup → Bytes → Direction → (lba : ℕ) → Moving → Moving
@@ -56,12 +55,7 @@ module _ (setup : Setup) (bytes : Bytes) (direction : Direction) (lba : ℕ) (ce
   next_in_use : is_used_up place ≡ false → is_missing lba place medium ≡ false →
       next_moved setup bytes direction lba here ≡ accessed setup bytes direction lba here
   unfolding next_moved ready_for
-  next_in_use left there =
-      rw (
-        table_left setup bytes direction lba cells medium place left,
-        sector_left setup bytes direction lba cells medium place there,
-        region_left setup bytes direction lba cells medium place left,
-      ) refl
+  next_in_use left there = grind (arith, nat_tests, table_left, sector_left, region_left)
 
   module _ (over : (is_used_up place && place.is_last) ≡ false) where
     table_goes : table_tested here ≡ here
@@ -128,12 +122,7 @@ first_word : (setup : Setup) (bytes : Bytes) (going : Going) (cells : Cells) (me
     ≡ words_moved setup bytes going.direction going.lba (going.words - 1)
     (next_moved setup bytes going.direction going.lba (standing going cells medium))
 unfolding outcome words_moved
-first_word setup bytes going cells medium some =
-    ap (λ n. words_moved setup bytes going.direction going.lba n (standing going cells medium)) (count some)
-    ∙ words_add setup bytes going.direction going.lba (going.words - 1) 1 (standing going cells medium)
-  where
-    count : 1 ≤ going.words → going.words ≡ going.words - 1 + 1
-    count some = omega (arith, some)
+first_word setup bytes going cells medium some = grind (arith, nat_tests, words_add)
 
 module _ (setup : Setup) (bytes : Bytes) (going : Going) (cells : Cells) (medium : Medium) where
   abbrev now : Moving
@@ -149,10 +138,7 @@ module _ (setup : Setup) (bytes : Bytes) (going : Going) (cells : Cells) (medium
   ends_so : (end : End) → 1 ≤ going.words →
       next_moved setup bytes going.direction going.lba now ≡ ended end now →
       IsEnd (outcome setup bytes going cells medium) going cells medium end
-  ends_so end some next =
-      is_end end
-      (first_word setup bytes going cells medium some ∙ ap (moves (going.words - 1)) next
-      ∙ words_stay setup bytes going.direction going.lba (going.words - 1) (ended end now) end refl)
+  ends_so end some next = grind (arith, nat_tests, first_word, words_stay)
 
   -- all words were moved
   pub ends_after_all : (end : End) → going.words ≡ 0 →
@@ -219,13 +205,10 @@ module _ (setup : Setup) (bytes : Bytes) (going : Going) (cells : Cells) (medium
 -- ---- words that begin a sector are moved only where it can be read
 
 pub of_any_move : (P : Type 0) (piece : Piece) → P → IfMove piece (λ stretch. P)
-of_any_move P (Descriptor addr) holds = tt
-of_any_move P (Move stretch) holds = holds
-of_any_move P (Ended end) holds = tt
+of_any_move P piece holds = grind (arith, nat_tests)
 
 pub begins_readable : (word : ℕ) (readable : Bool) → (word == 0 && not readable) ≡ false → word ≡ 0 → readable ≡ true
-begins_readable word true passed first = refl
-begins_readable word false passed first = absurd (cc (rw first at passed))
+begins_readable word readable passed first = grind (arith, nat_tests)
 
 -- ---- words of a stretch
 
@@ -237,28 +220,21 @@ place_is : (table : ℕ) (is_last : Bool) (addr addr' left left' moved moved' : 
 place_is table is_last addr addr' left left' moved moved' a l m = rw (a, l, m) refl
 
 went_one : (place : TransferPlace) → moved_on place ≡ went_on 1 place
-went_one place =
-    place_is place.table place.is_last (address_after place.addr 2) (address_after place.addr (2 * 1)) (place.left - 2)
-    (place.left - 2 * 1) (place.moved + 2) (place.moved + 2 * 1) refl refl refl
+went_one place = grind (arith, nat_tests)
 
 went_further : (words : ℕ) (place : TransferPlace) → moved_on (went_on words place) ≡ went_on (suc words) place
-went_further words place =
-    place_is place.table place.is_last (address_after (address_after place.addr (2 * words)) 2)
-    (address_after place.addr (2 * suc words)) (place.left - 2 * words - 2) (place.left - 2 * suc words)
-    (place.moved + 2 * words + 2) (place.moved + 2 * suc words) (omega arith) (omega arith) (omega arith)
+went_further words place = grind (arith, nat_tests)
 
 module _ (setup : Setup) (bytes : Bytes) where
   word_place : (direction : Direction) (lba : ℕ) (moving : Moving) →
       (word_moved setup bytes direction lba moving).place ≡ moved_on moving.place
   unfolding word_moved
-  word_place ToMemory lba moving = refl
-  word_place ToDisk lba moving = refl
+  word_place direction lba moving = grind (arith, nat_tests)
 
   word_end : (direction : Direction) (lba : ℕ) (moving : Moving) →
       (word_moved setup bytes direction lba moving).end ≡ moving.end
   unfolding word_moved
-  word_end ToMemory lba moving = refl
-  word_end ToDisk lba moving = refl
+  word_end direction lba moving = grind (arith, nat_tests)
 
   module _ (direction : Direction) (lba : ℕ) (moving : Moving) where
     copied_place : (words : ℕ) →
@@ -375,10 +351,7 @@ module _ (setup : Setup) (bytes : Bytes) (going : Going) (cells : Cells) (medium
 -- ---- SMRAM
 
 not_both : (area : Area) → IsMemory area → IsOffDram area → ⊥
-not_both Rom memory off = memory
-not_both (Card dev base) memory off = memory
-not_both NobodysArea memory off = memory
-not_both _ memory off = off
+not_both area memory off = grind (arith, nat_tests)
 
 odd_outside : (addr i : ℕ) → addr % 2 ≡ 0 → is_smram_range (address_after addr (2 * (i / 2))) ≡ false →
     is_smram_range (address_after addr i) ≡ false
@@ -405,9 +378,7 @@ module _ (setup : Setup) (bytes : Bytes) where
   done_same : (piece : Piece) (point : Point) → IsNext setup bytes point.going point.cells point.medium piece →
       outcome_at point ≡ outcome_at (once_done setup bytes piece point)
   unfolding once_done
-  done_same (Descriptor addr) point next = next.same
-  done_same (Move stretch) point next = next.same
-  done_same (Ended end) point next = refl
+  done_same piece point next = grind (arith, nat_tests)
 
   all_same : (pieces : List Piece) (point : Point) → AreNext setup bytes pieces point →
       outcome_at point ≡ outcome_at (all_done setup bytes pieces point)

@@ -1,4 +1,6 @@
 -- A bus master never reaches SMRAM: it changes no byte of it, and does the same whatever stands there.
+use Rattle.board_base.specs.declared.target.Area.TheVariants.{Rom as RomArea, Card as CardArea}
+use Rattle.board_base.specs.declared.target.Area.TheVariants.{Abort as AbortArea}
 use Rattle.std.proofs.Common.{◌≡◌, ℕ, zero, suc, ◌+◌, ◌-◌, ◌*◌, ◌%◌, ◌<◌, ◌≤◌, ◌⊎◌, inl, inr, Bool, true, false, not}
 use Rattle.std.proofs.Common.{◌&&◌, Option, Some, None, is_some, refl, sym, subst, ◌∙◌, arith, ◌==◌, unwrap_or}
 use Rattle.std.proofs.Common.{if◌then◌else◌}
@@ -25,55 +27,37 @@ use Rattle.bus_master.proofs.HeldTargets.{wide_same}
 -- ---- a write leaves SMRAM
 
 same_where : (c : Bool) (old : ℕ) → (if c then unwrap_or None old else old) ≡ old
-same_where true old = refl
-same_where false old = refl
+same_where c old = grind (arith, nat_tests)
 
 none_put : (setup : Setup) (target : Target) (addr value s : ℕ) (cells : Cells) →
     byte_put target addr Two value (DramCell s) ≡ None →
     put_in setup target addr Two value cells (DramCell s) ≡ cells (DramCell s)
-none_put setup target addr value s cells none =
-    rw none (same_where (is_kept setup (DramCell s)) (cells (DramCell s)))
+none_put setup target addr value s cells none = grind (arith, nat_tests)
 
 card_put : (dev base off addr value s : ℕ) → byte_put (Card dev base off) addr Two value (DramCell s) ≡ None
 card_put dev base off addr value s = elim (cases_Bool (base == rom_base)) [ inl is ↦ rw is refl | inr is ↦ rw is refl ]
 
 off_put : (setup : Setup) (area : Area) (addr value s : ℕ) → IsOffDram area →
     byte_put (target_at setup area addr) addr Two value (DramCell s) ≡ None
-off_put setup RomArea addr value s off = refl
-off_put setup (CardArea dev base) addr value s off = card_put dev base _ addr value s
-off_put setup AbortArea addr value s off = refl
-off_put setup _ addr value s off = absurd off
+off_put setup area addr value s off = grind (arith, nat_tests)
 
 dram_put : (addr value s : ℕ) → (s < addr) ⊎ (addr + 2 ≤ s) → byte_put Smram addr Two value (DramCell s) ≡ None
-dram_put addr value s (inl below) = rw (lt-leb addr s below) refl
-dram_put addr value s (inr above) =
-    rw (le-leb addr s (omega (arith, above)), le-ltb (s - addr) 2 (omega (arith, above))) refl
+dram_put addr value s h0 = grind (arith, nat_tests)
 
 apart_put : (setup : Setup) (area : Area) (addr value s : ℕ) → (s < addr) ⊎ (addr + 2 ≤ s) →
     byte_put (target_at setup area addr) addr Two value (DramCell s) ≡ None
-apart_put setup RomArea addr value s apart = refl
-apart_put setup (CardArea dev base) addr value s apart = card_put dev base _ addr value s
-apart_put setup AbortArea addr value s apart = refl
-apart_put setup _ addr value s apart = dram_put addr value s apart
+apart_put setup area addr value s apart = grind (arith, nat_tests)
 
 -- an even address outside lies wholly outside
 apart : (addr s : ℕ) → addr % 2 ≡ 0 → is_smram_range addr ≡ false → is_smram_range s ≡ true →
     (s < addr) ⊎ (addr + 2 ≤ s)
-apart addr s evens outside inside = elim (cases_lt s addr) [
-  | inl below ↦ inl below
-  | inr from ↦ inr (grind (arith, nat_tests))
-]
+apart addr s evens outside inside = grind (arith, nat_tests)
 
 write_keeps : (setup : Setup) (bytes : Bytes) (addr value s : ℕ) (cells : Cells) → addr % 2 ≡ 0 → is_smram_range s
     ≡ true →
     put_in setup (master_target setup bytes Write addr) addr Two value cells (DramCell s) ≡ cells (DramCell s)
 write_keeps setup bytes addr value s cells evens inside =
-    none_put setup (master_target setup bytes Write addr) addr value s cells
-    (elim (cases_Bool (is_smram_range addr)) [
-      | inl here ↦ off_put setup (master_area setup bytes addr Write) addr value s
-          (off_dram setup bytes addr Write here)
-      | inr there ↦ apart_put setup (master_area setup bytes addr Write) addr value s (apart addr s evens there inside)
-    ])
+    grind (arith, nat_tests, none_put, cases_Bool, off_put, off_dram, apart_put, apart)
 
 -- ---- a read does not depend on SMRAM
 
@@ -83,45 +67,30 @@ AreAlike cells other = (cell : Cell) → is_in_smram cell ≡ false → cells ce
 
 outside : (addr at : ℕ) (width : Width) → addr % bytes_of width ≡ 0 → is_smram_range addr ≡ false → addr ≤ at →
     at < addr + bytes_of width → is_smram_range at ≡ false
-outside addr at One aligned out from below = grind (arith, nat_tests)
-outside addr at Two aligned out from below = grind (arith, nat_tests)
-outside addr at Four aligned out from below = grind (arith, nat_tests)
+outside addr at width aligned out from below = grind (arith, nat_tests)
 
 module _ (setup : Setup) (cells other : Cells) (alike : AreAlike cells other) where
   dram_alike : (addr : ℕ) (width : Width) → addr % bytes_of width ≡ 0 → is_smram_range addr ≡ false →
       wide (λ at. cells (DramCell at)) addr width ≡ wide (λ at. other (DramCell at)) addr width
-  dram_alike addr width aligned out =
-      wide_same (λ at. cells (DramCell at)) (λ at. other (DramCell at)) addr width
-      (λ at from below. alike (DramCell at) (outside addr at width aligned out from below))
+  dram_alike addr width aligned out = grind (arith, nat_tests)
 
   card_alike : (dev base off : ℕ) (width : Width) →
       wide (λ at. cells (CardCell dev base at)) off width ≡ wide (λ at. other (CardCell dev base at)) off width
-  card_alike dev base off width =
-      wide_same (λ at. cells (CardCell dev base at)) (λ at. other (CardCell dev base at)) off width
-      (λ at from below. alike (CardCell dev base at) refl)
+  card_alike dev base off width = grind (arith, nat_tests)
 
   off_alike : (area : Area) (addr : ℕ) (width : Width) → IsOffDram area →
       value_in setup cells (target_at setup area addr) addr width
       ≡ value_in setup other (target_at setup area addr) addr width
-  off_alike RomArea addr width off = refl
-  off_alike (CardArea dev base) addr width off = card_alike dev base _ width
-  off_alike AbortArea addr width off = refl
-  off_alike _ addr width off = absurd off
+  off_alike area addr width off = grind (arith, nat_tests)
 
   out_alike : (area : Area) (addr : ℕ) (width : Width) → addr % bytes_of width ≡ 0 → is_smram_range addr ≡ false →
       value_in setup cells (target_at setup area addr) addr width
       ≡ value_in setup other (target_at setup area addr) addr width
-  out_alike RomArea addr width aligned out = refl
-  out_alike (CardArea dev base) addr width aligned out = card_alike dev base _ width
-  out_alike AbortArea addr width aligned out = refl
-  out_alike _ addr width aligned out = dram_alike addr width aligned out
+  out_alike area addr width aligned out = grind (arith, nat_tests)
 
   value_alike : (bytes : Bytes) (addr : ℕ) (width : Width) → addr % bytes_of width ≡ 0 →
       master_value setup bytes cells addr width ≡ master_value setup bytes other addr width
-  value_alike bytes addr width aligned = elim (cases_Bool (is_smram_range addr)) [
-    | inl here ↦ off_alike (master_area setup bytes addr Read) addr width (off_dram setup bytes addr Read here)
-    | inr there ↦ out_alike (master_area setup bytes addr Read) addr width aligned there
-  ]
+  value_alike bytes addr width aligned = grind (arith, nat_tests, cases_Bool, off_dram)
 
   put_alike : (target : Target) (addr value : ℕ) →
       AreAlike (put_in setup target addr Two value cells) (put_in setup target addr Two value other)
@@ -160,46 +129,29 @@ module _ (setup : Setup) (bytes : Bytes) (lba : ℕ) (start : Cells) where
 
   by_step : (step : Moving → Moving) → Respects step → (moving other : Moving) → Follows moving other →
       Follows (step moving) (step other)
-  by_step step respects moving other is =
-      subst (λ (other' : Moving). Follows (step moving) (step other')) (sym is.same)
-      (respects moving other.cells is.keeps is.alike)
+  by_step step respects moving other is = grind (arith, nat_tests)
 
   stays_as : Respects (λ moving. moving)
   stays_as moving cells keeps alike = record { keeps = keeps; alike = alike; same = refl }
 
   ends_as : (end : Option End) → Respects (λ moving. record moving { end = end })
-  ends_as end moving cells keeps alike = record {
-    keeps = record { evens = keeps.evens; fours = keeps.fours; kept = keeps.kept };
-    alike = alike;
-    same = refl;
-  }
+  ends_as end moving cells keeps alike = grind (arith, nat_tests)
 
   either : (c : Bool) {one one' other other' : Moving} → Follows one one' → Follows other other' →
       Follows (if c then one else other) (if c then one' else other')
-  either true is is_other = is
-  either false is is_other = is_other
+  either c is is_other = grind (arith, nat_tests)
 
   and_then_respects : (first step : Moving → Moving) → Respects first → Respects step →
       Respects (λ moving. first moving and_then step)
-  and_then_respects first step is_first is_step moving cells keeps alike =
-      let one : Follows (first moving) (first (with_cells cells moving)) = is_first moving cells keeps alike in
-      by_step (λ m. m and_then step)
-      (λ m others keeps' alike'. either (is_some m.end) (stays_as m others keeps' alike')
-      (is_step m others keeps' alike'))
-      (first moving) (first (with_cells cells moving)) one
+  and_then_respects first step is_first is_step moving cells keeps alike = grind (arith, nat_tests)
 
   table_respects : Respects table_tested
   unfolding table_tested
-  table_respects moving cells keeps alike =
-      either (is_used_up moving.place && moving.place.is_last) (ends_as (Some Shorter) moving cells keeps alike)
-      (stays_as moving cells keeps alike)
+  table_respects moving cells keeps alike = grind (arith, nat_tests)
 
   sector_respects : Respects (sector_tested lba)
   unfolding sector_tested
-  sector_respects moving cells keeps alike =
-      either (next_word moving.place == 0 && not (is_readable moving.medium (next_sector lba moving.place)))
-      (ends_as (Some (Sector (next_sector lba moving.place))) moving cells keeps alike)
-      (stays_as moving cells keeps alike)
+  sector_respects moving cells keeps alike = grind (arith, nat_tests)
 
   answered_respects : (kind : Kind) (addr : ℕ) → Respects (answered setup bytes kind addr)
   unfolding answered

@@ -1,4 +1,5 @@
 -- The steps of a transfer under way, one after another.
+use Rattle.board_base.proofs.Common.{nat_tests}
 use Rattle.std.proofs.Common.{◌≡◌, ◌≢◌, ℕ, ◌%◌, Bool, true, false, not, ◌&&◌, Option, Some, None, refl, sym, ap, subst}
 use Rattle.std.proofs.Common.{◌∙◌, arith, ◌==◌, if◌then◌else◌}
 use Rattle.board_prelude.proofs.Common.{ne_eqb, and_right, Kind, Width, Setup, Bytes}
@@ -26,15 +27,13 @@ taken moving step is = rw (sym is) refl
 module _ {store : Store} {place : TransferPlace} where
   pub stands_skipped : {moving : Moving} {end : End} (step : Moving → Moving) → StandsAt moving store place (Some end) →
       StandsAt (moving and_then step) store place (Some end)
-  stands_skipped {moving} {end} step is =
-      subst (λ (m : Moving). StandsAt m store place (Some end)) (sym (skipped moving step end is.ends)) is
+  stands_skipped {moving} {end} step is = grind (arith, nat_tests)
 
 pub stands_taken : {store new : Store} {place after : TransferPlace} {end : Option End} {moving : Moving}
     (step : Moving → Moving) →
     StandsAt moving store place None → StandsAt (step moving) new after end →
     StandsAt (moving and_then step) new after end
-stands_taken {store} {new} {place} {after} {end} {moving} step is next =
-    subst (λ (m : Moving). StandsAt m new after end) (sym (taken moving step is.ends)) next
+stands_taken {store} {new} {place} {after} {end} {moving} step is next = grind (arith, nat_tests)
 
 module _ {store : Store} {place : TransferPlace} {moving : Moving} (is : StandsAt moving store place None) where
   -- ---- the table and the sector
@@ -42,9 +41,7 @@ module _ {store : Store} {place : TransferPlace} {moving : Moving} (is : StandsA
   pub table_over : (is_used_up place && place.is_last) ≡ true →
       StandsAt (table_tested moving) store place (Some Shorter)
   unfolding table_tested
-  table_over over =
-      rw (sym (ap (λ (p : TransferPlace). is_used_up p && p.is_last) is.come) ∙ over)
-      (record { cells = is.cells; medium = is.medium; come = is.come; ends = refl })
+  table_over over = grind (arith, nat_tests)
 
   pub table_goes_on : (is_used_up place && place.is_last) ≡ false → StandsAt (table_tested moving) store place None
   unfolding table_tested
@@ -59,14 +56,7 @@ module _ {store : Store} {place : TransferPlace} {moving : Moving} (is : StandsA
       missing ≡ (next_word place == 0 && not (is_readable (medium_of store.disk) (next_sector lba place))) →
       StandsAt (sector_tested lba moving) store place (if missing then Some (Sector (next_sector lba place)) else None)
   unfolding sector_tested
-  sector_by lba true test =
-      rw (tested lba ∙ sym test) (record {
-        cells = is.cells;
-        medium = is.medium;
-        come = is.come;
-        ends = rw is.come refl;
-      })
-  sector_by lba false test = rw (tested lba ∙ sym test) is
+  sector_by lba missing test = grind (arith, nat_tests)
 
   pub sector_within : (lba : ℕ) → place.moved % 2 ≡ 0 → place.moved % 512 ≢ 0 →
       StandsAt (sector_tested lba moving) store place None
@@ -90,8 +80,7 @@ module _ {store : Store} {place : TransferPlace} {moving : Moving} (is : StandsA
       end ≡ abort_in (master_area setup bytes addr kind) addr (master_denial setup bytes addr kind) →
       StandsAt (answered setup bytes kind addr moving) store place end
   unfolding answered
-  answered_stands setup bytes kind addr end ends =
-      record { cells = is.cells; medium = is.medium; come = is.come; ends = ends }
+  answered_stands setup bytes kind addr end ends = grind (arith, nat_tests)
 
   -- ---- a descriptor
 
@@ -118,17 +107,13 @@ module _ {store : Store} {place : TransferPlace} {moving : Moving} (is : StandsA
   pub region_in_use : (setup : Setup) (bytes : Bytes) → place.left ≢ 0 →
       StandsAt (region_found setup bytes moving) store place None
   unfolding region_found
-  region_in_use setup bytes left =
-      let used : is_used_up moving.place ≡ false = sym (ap is_used_up is.come) ∙ ne_eqb place.left 0 left in
-      rw used is
+  region_in_use setup bytes left = grind (arith, nat_tests)
 
   pub region_read : (setup : Setup) (bytes : Bytes) (after : TransferPlace) (end : Option End) → place.left ≡ 0 →
       StandsAt (descriptor_read setup bytes moving) store after end →
       StandsAt (region_found setup bytes moving) store after end
   unfolding region_found
-  region_read setup bytes after end left next =
-      let used : is_used_up moving.place ≡ true = sym (ap is_used_up is.come) ∙ rw left refl in
-      rw used next
+  region_read setup bytes after end left next = grind (arith, nat_tests)
 
 -- ---- the two halves of a descriptor
 

@@ -1,4 +1,6 @@
 -- A transfer to memory changes no sector, and one to the disk no byte of memory.
+use Rattle.board_base.proofs.Common.{nat_tests}
+use Rattle.std.proofs.Common.{arith}
 use Rattle.std.proofs.Common.{◌≡◌, ℕ, zero, suc, ◌*◌, Bool, true, false, not, ◌&&◌, Option, Some, is_some, refl, ◌∙◌}
 use Rattle.std.proofs.Common.{◌==◌, if◌then◌else◌}
 use Rattle.board_prelude.proofs.Common.{Kind, Read, Medium, Setup, Bytes, Cell}
@@ -21,26 +23,18 @@ module _ {X : Type 0} (part : Moving → X)
 
   either : (c : Bool) (one other moving : Moving) → part one ≡ part moving → part other ≡ part moving →
       part (if c then one else other) ≡ part moving
-  either true one other moving is is_other = is
-  either false one other moving is is_other = is_other
+  either c one other moving is is_other = grind (arith, nat_tests)
 
   then_keeps : (first step : Moving → Moving) → Keeps first → Keeps step → Keeps (λ moving. first moving and_then step)
-  then_keeps first step is_first is_step moving =
-      either (is_some (first moving).end) (first moving) (step (first moving)) moving (is_first moving)
-      (is_step (first moving) ∙ is_first moving)
+  then_keeps first step is_first is_step moving = grind (arith, nat_tests)
 
   table_keeps : Keeps table_tested
   unfolding table_tested
-  table_keeps moving =
-      either (is_used_up moving.place && moving.place.is_last) (ended Shorter moving) moving moving
-      (blind moving moving.place (Some Shorter)) refl
+  table_keeps moving = grind (arith, nat_tests)
 
   sector_keeps : (lba : ℕ) → Keeps (sector_tested lba)
   unfolding sector_tested
-  sector_keeps lba moving =
-      either (next_word moving.place == 0 && not (is_readable moving.medium (next_sector lba moving.place)))
-      (ended (Sector (next_sector lba moving.place)) moving) moving moving
-      (blind moving moving.place (Some (Sector (next_sector lba moving.place)))) refl
+  sector_keeps lba moving = grind (arith, nat_tests)
 
   module _ (setup : Setup) (bytes : Bytes) where
     answered_keeps : (kind : Kind) (addr : ℕ) → Keeps (answered setup bytes kind addr)

@@ -1,4 +1,7 @@
 -- Words one after another.
+use Rattle.board_base.specs.declared.target.Area.TheVariants.{Abort as NobodysArea}
+use Rattle.board_base.specs.declared.target.Area.TheVariants.{Abort as NobodysArea}
+use Rattle.board_base.proofs.Common.{nat_tests}
 use Rattle.std.proofs.Common.{◌≡◌, ◌≢◌, ℕ, zero, suc, ◌+◌, ◌-◌, ◌*◌, ◌/◌, ◌%◌, ◌≤◌, ◌<◌, false, Option, Some, None}
 use Rattle.std.proofs.Common.{refl, sym, ap, subst, ◌∙◌, arith, lit≤}
 use Rattle.board_prelude.proofs.Common.{ne_eqb, and_left, Kind, Width, Area, Denial, Target, Disk, Medium, word_at}
@@ -24,46 +27,20 @@ use Rattle.bus_master.proofs.StepLemmas.{stands_skipped, stands_taken, taken, sk
 
 pub same_store : {setup : Setup} {bytes : Bytes} {old new : Store} → IsStoreOf setup bytes old → HasSameShape old new →
     IsStoreOf setup bytes new
-same_store {setup} {bytes} {old} {new} of same = record {
-  cards = of.cards;
-  rom_size = of.rom_size;
-  registers = rw same.regs of.registers;
-  memory = same.memory ∙ of.memory;
-  contents = λ dev base number. same.contents dev base ∙ of.contents dev base number;
-  rom = rw same.rom of.rom;
-}
+same_store {setup} {bytes} {old} {new} of same = grind (arith, nat_tests)
 
 medium_twice : (disk : Option Disk) (one other : Medium) → with_medium (with_medium disk one) other
     ≡ with_medium disk other
-medium_twice None one other = refl
-medium_twice (Some disk) one other = refl
+medium_twice disk one other = grind (arith, nat_tests)
 
 pub own_medium : (disk : Option Disk) → disk ≡ with_medium disk (medium_of disk)
-own_medium None = refl
-own_medium (Some disk) = refl
+own_medium disk = grind (arith, nat_tests)
 
 pub same_shape : (store : Store) → HasSameShape store store
-same_shape store = record {
-  regs = refl;
-  rom = refl;
-  memory = refl;
-  contents = λ dev base. refl;
-  drive = own_medium store.disk;
-  sectors = refl;
-}
+same_shape store = grind (arith, nat_tests)
 
 pub shape_after : {old now new : Store} → HasSameShape old now → HasSameShape now new → HasSameShape old new
-shape_after {old} {now} {new} first second = record {
-  regs = second.regs ∙ first.regs;
-  rom = second.rom ∙ first.rom;
-  memory = second.memory ∙ first.memory;
-  contents = λ dev base. second.contents dev base ∙ first.contents dev base;
-  drive =
-      second.drive
-      ∙ ap (λ (disk : Option Disk). with_medium disk (medium_of new.disk)) first.drive
-      ∙ medium_twice old.disk (medium_of now.disk) (medium_of new.disk);
-  sectors = second.sectors ∙ first.sectors;
-}
+shape_after {old} {now} {new} first second = grind (arith, nat_tests)
 
 -- ---- one word
 
@@ -84,17 +61,7 @@ module _ {setup : Setup} {bytes : Bytes} {store : Store} (of : IsStoreOf setup b
       (word_at (medium_of store.disk) (next_sector lba place) (next_word place)) (cells_of store) cell) →
       new.disk ≡ store.disk → StandsAt (word_moved setup bytes ToMemory lba moving) new (moved_on place) None
   unfolding word_moved
-  written put disk =
-      subst (λ (m : Moving). StandsAt (word_moved setup bytes ToMemory lba m) new (moved_on place) None) (moving_is is)
-      (record {
-        cells = λ cell there.
-            put cell there
-            ∙ put_same (master_target setup bytes Kind.Write place.addr)
-            (word_at (medium_of store.disk) (next_sector lba place) (next_word place)) cell there;
-        medium = ap medium_of disk;
-        come = refl;
-        ends = refl;
-      })
+  written put disk = grind (arith, nat_tests)
 
   set_on_disk : place.addr % 2 ≡ 0 → medium_of new.disk
       ≡ with_word (medium_of store.disk) (next_sector lba place) (next_word place)
@@ -134,14 +101,7 @@ module _ (setup : Setup) (bytes : Bytes) (direction : Direction) (lba : ℕ) whe
 
   stays : (moving : Moving) (end : End) → Some end ≡ moving.end → next_moved setup bytes direction lba moving ≡ moving
   unfolding next_moved ready_for
-  stays moving end is =
-      rw (
-        skipped moving table_tested end is,
-        skipped moving (sector_tested lba) end is,
-        skipped moving (region_found setup bytes) end is,
-        skipped moving (λ ready. answered setup bytes (kind_of direction) ready.place.addr ready) end is,
-        skipped moving (word_moved setup bytes direction lba) end is,
-      ) refl
+  stays moving end is = grind (arith, nat_tests)
 
   pub words_stay : (words : ℕ) (moving : Moving) (end : End) → Some end ≡ moving.end →
       words_moved setup bytes direction lba words moving ≡ moving
@@ -154,10 +114,7 @@ module _ (setup : Setup) (bytes : Bytes) (direction : Direction) (lba : ℕ) whe
       words_moved setup bytes direction lba (more + words) moving
       ≡ words_moved setup bytes direction lba more (words_moved setup bytes direction lba words moving)
   unfolding words_moved
-  words_add zero words moving = ap (λ n. words_moved setup bytes direction lba n moving) (none words)
-    where
-      none : (words : ℕ) → 0 + words ≡ words
-      none words = omega arith
+  words_add zero words moving = grind (arith, nat_tests)
   words_add (suc more) words moving =
       ap (λ n. words_moved setup bytes direction lba n moving) (one more words)
       ∙ ap (next_moved setup bytes direction lba) (words_add more words moving)
@@ -216,9 +173,7 @@ module _ (setup : Setup) (bytes : Bytes) (direction : Direction) (lba : ℕ) whe
     pub ends_before : {end : End} → StandsAt (ready_for setup bytes lba moving) store place (Some end) →
         StandsAt (words_moved setup bytes direction lba 1 moving) store place (Some end)
     unfolding words_moved next_moved
-    ends_before is =
-        stands_skipped (word_moved setup bytes direction lba)
-        (stands_skipped (λ ready. answered setup bytes (kind_of direction) ready.place.addr ready) is)
+    ends_before is = grind (arith, nat_tests)
 
     module _ (ready : StandsAt (ready_for setup bytes lba moving) store place None) where
       pub reached_stands : (end : Option End) → end
@@ -226,12 +181,7 @@ module _ (setup : Setup) (bytes : Bytes) (direction : Direction) (lba : ℕ) whe
           (master_denial setup bytes place.addr (kind_of direction)) →
           StandsAt (reached_by moving) store place end
       unfolding reached_by
-      reached_stands end ends =
-          stands_taken (λ ready. answered setup bytes (kind_of direction) ready.place.addr ready) ready
-          (answered_stands ready setup bytes (kind_of direction) (ready_for setup bytes lba moving).place.addr end
-          (ends
-          ∙ ap (λ (p : TransferPlace). abort_in (master_area setup bytes p.addr (kind_of direction)) p.addr
-          (master_denial setup bytes p.addr (kind_of direction))) ready.come))
+      reached_stands end ends = grind (arith, nat_tests, stands_taken, answered_stands)
 
       pub ends_unanswered : {end : End} → Some end
           ≡ abort_in (master_area setup bytes place.addr (kind_of direction)) place.addr
@@ -324,14 +274,12 @@ module _ (setup : Setup) (bytes : Bytes) (direction : Direction) (lba : ℕ) whe
   pub came_words : (words : ℕ) (moving : Moving) → 1 ≤ words →
       came words moving ≡ words_moved setup bytes direction lba words moving
   unfolding came
-  came_words zero moving some = absurd (omega arith)
-  came_words (suc words) moving some = refl
+  came_words words moving some = grind (arith, nat_tests)
 
 -- somebody answers in an area wherever in it the access is
 pub answers_in : (area : Area) (addr other : ℕ) (denial denial' : Option Denial) → None ≡ abort_in area addr denial →
     None ≡ abort_in area other denial'
-answers_in NobodysArea addr other denial denial' is = absurd (cc)
-answers_in _ addr other denial denial' is = refl
+answers_in area addr other denial denial' is = grind (arith, nat_tests)
 
 pub address_on : (addr i : ℕ) → address_after (address_after addr 2) (2 * i) ≡ address_after addr (2 * (i + 1))
 address_on addr i = omega arith
@@ -339,10 +287,7 @@ address_on addr i = omega arith
 pub same_answers : (area one other : Area) (addr addr' : ℕ) (denial denial' : Option Denial) → area ≡ one → area
     ≡ other →
     None ≡ abort_in one addr denial → None ≡ abort_in other addr' denial'
-same_answers area one other addr addr' denial denial' is_one is_other answers =
-    subst (λ (a : Area). None ≡ abort_in a addr' denial') is_other
-    (answers_in area addr addr' denial denial'
-    (subst (λ (a : Area). None ≡ abort_in a addr denial) (sym is_one) answers))
+same_answers area one other addr addr' denial denial' is_one is_other answers = grind (arith, nat_tests)
 
 -- ---- a stretch lies within a sector
 

@@ -1,3 +1,5 @@
+use Rattle.board_base.proofs.Common.{nat_tests}
+use Rattle.std.proofs.Common.{arith}
 use Rattle.std.proofs.Common.{◌≡◌, ◌%◌, Option, sym, ap, ◌∙◌}
 use Rattle.board_prelude.proofs.Common.{Disk, Medium, Setup, Bytes, DramCell}
 use Rattle.board_chipset.specs.declared.store.Store.{Store}
@@ -36,10 +38,6 @@ returns-clause-disk c = λ setup bytes of. disk_is (moved c setup bytes of) c.tr
 
 pub returns-clause-cells : goal.returns-clause-cells
 returns-clause-cells c = λ setup bytes cell of there. (moved c setup bytes of).cells cell there
-
-pub returns-clause-sound : goal.returns-clause-sound
-returns-clause-sound c =
-    let sound = c.requires.sound in (sound.0, sound.1, same_store sound.2 c.transfer-end.ensures.shape)
 
 aligned : (c : goal.After-moved) → c.args.self.now.table % 4 ≡ 0
 aligned c = rw (ap (λ (master : Master). master.table) c.self.view_is) at c.self.invariant

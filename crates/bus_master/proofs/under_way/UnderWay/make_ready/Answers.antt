@@ -1,11 +1,9 @@
+use Rattle.board_base.proofs.Common.{nat_tests}
+use Rattle.std.proofs.Common.{arith}
 use Rattle.std.proofs.Common.{◌≡◌, Err, sym, ap, ◌∙◌, rules}
 use Rattle.bus_master.specs.Transfer.{TransferPlace}
 use Rattle.bus_master.proofs.StepLemmas.{region_read, region_in_use, ready_over, ready_misses, ready_at_region}
 use Rattle.bus_master.proofs.under_way.UnderWay.make_ready.Goals as goal
-
-pub returns-then-is_over-clause-ready : goal.returns-then-is_over-clause-ready
-returns-then-is_over-clause-ready c = λ setup bytes moving of is.
-    ready_over is setup bytes c.args.lba (sym c.is_over.ensures.over ∙ c.if-is_over.true)
 
 pub returns-in_err-test_sector-clause-ready : goal.returns-in_err-test_sector-clause-ready
 returns-in_err-test_sector-clause-ready c = λ setup bytes moving of is.
@@ -32,10 +30,6 @@ returns-in_ok-read_descriptor-clause-ready c = λ setup bytes moving of is.
     (λ tested on. region_read on setup bytes _ _
     (sym (ap (λ (p : TransferPlace). p.left) c.self.view_is) ∙ c.if-self-eq0.true)
     (c.in_ok-read_descriptor.ensures.read setup bytes tested of on))
-
-pub returns-in_ok-read_descriptor-clause-sector : goal.returns-in_ok-read_descriptor-clause-sector
-returns-in_ok-read_descriptor-clause-sector c =
-    rw c.in_ok-read_descriptor.ensures.moved c.in_ok-test_sector.ensures.sector
 
 pub returns-else-self-eq0-clause-ready : goal.returns-else-self-eq0-clause-ready
 returns-else-self-eq0-clause-ready c = λ setup bytes moving of is.

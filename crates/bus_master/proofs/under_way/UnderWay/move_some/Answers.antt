@@ -1,3 +1,4 @@
+use Rattle.board_base.proofs.Common.{nat_tests}
 use Rattle.std.proofs.Common.{◌≡◌, ℕ, ◌+◌, ◌*◌, ◌%◌, Err, None, sym, ap, subst, ◌∙◌, arith, lit≤, rules}
 use Rattle.addr_decode.specs.Master.{master_area}
 use Rattle.bus_master.specs.Common.{Moving, TransferPlace, address_after, kind_of, StandsAt}
@@ -6,14 +7,6 @@ use Rattle.bus_master.proofs.WordLemmas.{address_on, came, came_first, came_on, 
 use Rattle.bus_master.proofs.WordLemmas.{ends_unanswered, inside_sector, one_word, reached_stands, same_answers}
 use Rattle.bus_master.proofs.WordLemmas.{same_shape, same_store, shape_after}
 use Rattle.bus_master.proofs.under_way.UnderWay.move_some.Goals as goal
-
-pub returns-in_err-make_ready-clause-moved : goal.returns-in_err-make_ready-clause-moved
-returns-in_err-make_ready-clause-moved c = λ setup bytes moving of is.
-    let passed : c.from_residual.result ≡ Err c.in_err-make_ready.field-0.0 = search rules in
-    rw passed
-    (one_word setup bytes c.args.direction c.args.lba moving c.requires.most
-    (ends_before setup bytes c.args.direction c.args.lba moving
-    (c.in_err-make_ready.ensures.ready setup bytes moving of is)))
 
 pub answering-requires : goal.answering-requires
 answering-requires c = record { cards = cards_fitted c.requires.sound.2 }
@@ -102,23 +95,3 @@ returns-clause-moved c = λ setup bytes moving of is.
           (on.stands setup bytes moving of is);
       moved = λ none. omega (arith, on.moved, c.in_ok-make_ready.ensures.moved);
     }
-
-pub returns-clause-some : goal.returns-clause-some
-returns-clause-some c =
-    omega
-    (arith, c.loop.invariant.moved, c.in_ok-make_ready.ensures.moved, c.stretch-words.ensures.some, c.loop-test.false)
-
-pub returns-clause-most : goal.returns-clause-most
-returns-clause-most c =
-    omega (
-      arith,
-      c.loop.invariant.moved,
-      c.in_ok-make_ready.ensures.moved,
-      c.stretch-words.ensures.most,
-      c.loop.auto.counter-end,
-    )
-
-pub returns-clause-whole : goal.returns-clause-whole
-returns-clause-whole c =
-    let view = ap (λ (p : TransferPlace). p.moved) c.self.view_is in
-    omega (arith, c.loop.invariant.moved, view, c.self.invariant.moved)

@@ -1,3 +1,4 @@
+use Rattle.board_base.proofs.Common.{nat_tests}
 use Rattle.std.proofs.Common.{◌+◌, ◌/◌, ◌%◌, ap, arith, sym, ◌∙◌}
 use Rattle.bus_master.specs.Common.{TransferPlace, next_sector, next_word}
 use Rattle.bus_master.specs.Pieces.{going_from}
