@@ -1,11 +1,9 @@
 -- Words that lie in one area.
-use Rattle.std.proofs.Common.{◌≡◌, ℕ, zero, suc, ◌+◌, ◌-◌, ◌*◌, ◌/◌, ◌<◌, ◌≤◌, max, false, List, ◌++◌, Option, Some}
-use Rattle.std.proofs.Common.{None, inl, inr, refl, sym, ap, ◌∙◌, arith, lit<, IfSome, IsNone, unwrap_or, flat_map}
-use Rattle.std.proofs.Common.{slice_index_or}
-use Rattle.board_prelude.proofs.Common.{cases_lt, nat_tests, Kind, Fetch, Read, Write, Area, Setup, smram_range, Bytes}
-use Rattle.board_prelude.proofs.Common.{area_of, is_smram_range, address_count, six_areas}
+use Rattle.std.proofs.Common.{◌≡◌, ℕ, zero, suc, ◌+◌, ◌-◌, ◌*◌, ◌/◌, ◌<◌, ◌≤◌, max, false, ◌++◌, Option, Some, None}
+use Rattle.std.proofs.Common.{refl, sym, ap, ◌∙◌, arith, lit<, IfSome, IsNone, unwrap_or, flat_map}
+use Rattle.board_prelude.proofs.Common.{nat_tests, Kind, Setup, smram_range, Bytes, area_of, is_smram_range}
+use Rattle.board_prelude.proofs.Common.{address_count, six_areas}
 use Rattle.std.proofs.lemmas.List.Elements.{Contains-append_left}
-use Rattle.board_base.specs.declared.target.Area.TheVariants.{Abort}
 use Rattle.addr_decode.specs.Common.{IsEdge, IsNextEdge, NoEdgeAbove, SameAreas, card_edges, edges_of, fixed_edges}
 use Rattle.addr_decode.specs.Common.{row_edges, master_area}
 use Rattle.bus_master.specs.Transfer.{address_after}
@@ -34,12 +32,7 @@ module _ (setup : Setup) (bytes : Bytes) (addr : ℕ) where
   still_outside None next none outside x from below =
       let last : smram_range.0 ≤ addr = none refl smram_range.0 (smram_edge setup bytes) in grind (arith, nat_tests)
   still_outside (Some edge) next none outside x from below =
-      elim (cases_lt addr smram_range.0) [
-        | inl before ↦
-            let first : edge ≤ smram_range.0 = next.least smram_range.0 (smram_edge setup bytes) before in
-            grind (arith, nat_tests)
-        | inr after ↦ grind (arith, nat_tests)
-      ]
+      let first = next.least smram_range.0 (smram_edge setup bytes) in grind (arith, nat_tests)
 
   same_kind : (kind : Kind) (x : ℕ) → six_areas setup bytes x ≡ six_areas setup bytes addr →
       area_of setup bytes x kind false ≡ area_of setup bytes addr kind false

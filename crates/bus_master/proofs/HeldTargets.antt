@@ -1,18 +1,15 @@
 -- What a bus master reaches has the bytes that it asks for.
-use Rattle.board_base.specs.declared.target.Area.TheVariants.{Rom as RomArea, Card as CardArea}
-use Rattle.board_base.specs.declared.target.Area.TheVariants.{Rom as RomArea, Card as CardArea}
-use Rattle.board_base.specs.declared.target.Area.TheVariants.{Rom as RomArea, Card as CardArea}
-use Rattle.board_base.specs.declared.target.Area.TheVariants.{Rom as RomArea, Card as CardArea}
+use Rattle.board_base.specs.declared.target.Area.TheVariants.{Rom as RomArea, Card as CardArea, Rom as RomArea}
+use Rattle.board_base.specs.declared.target.Area.TheVariants.{Card as CardArea, Rom as RomArea, Card as CardArea}
+use Rattle.board_base.specs.declared.target.Area.TheVariants.{Rom as RomArea, Card as CardArea, Rom as RomArea}
+use Rattle.board_base.specs.declared.target.Area.TheVariants.{Card as CardArea}
 use Rattle.board_base.proofs.Common.{nat_tests}
 use Rattle.std.proofs.Common.{◌≡◌, ℕ, ◌+◌, ◌%◌, ◌≤◌, ◌<◌, false, not, ◌&&◌, List, length, sym, refl, arith, is_some}
 use Rattle.std.proofs.Common.{unwrap_or}
-use Rattle.board_prelude.proofs.Common.{bytes_of, Kind, Width, One, Area, Target, Dram, Shadow, Smram, Card}
-use Rattle.board_prelude.proofs.Common.{Setup, wide, lies_in, upper_memory, Bytes}
-use Rattle.board_prelude.proofs.Common.{row_of, is_smram_range, is_shadowed}
-use Rattle.board_prelude.proofs.Common.{memory_claim, target_at, Cell, DramCell, CardCell}
-use Rattle.board_prelude.proofs.Common.{is_in_hole, is_bios_selected}
+use Rattle.board_prelude.proofs.Common.{bytes_of, Kind, Width, One, Area, Target, Dram, Shadow, Smram, Card, Setup}
+use Rattle.board_prelude.proofs.Common.{wide, lies_in, upper_memory, Bytes, row_of, is_smram_range, is_shadowed}
+use Rattle.board_prelude.proofs.Common.{memory_claim, target_at, Cell, is_in_hole, is_bios_selected}
 use Rattle.board_base.specs.declared.access.Width.TheVariants.{Two, Four}
-use Rattle.board_base.specs.declared.target.Area.TheVariants.{Rom as RomArea, Card as CardArea}
 use Rattle.pci_bars.specs.Cards.{AreFitted}
 use Rattle.pci_bars.proofs.WindowLemmas.{IsSized, memory_claim_sized, lies_in_window}
 use Rattle.addr_decode.specs.Master.{master_area}

@@ -1,13 +1,12 @@
 -- A whole transfer.
 use Rattle.board_base.proofs.Common.{nat_tests}
-use Rattle.std.proofs.Common.{arith}
-use Rattle.std.proofs.Common.{◌≡◌, ℕ, ◌*◌, ◌%◌, true, None, refl, sym, ap, ◌∙◌}
-use Rattle.board_prelude.proofs.Common.{Medium, Setup, Bytes, is_smram_range, DramCell, CardCell}
+use Rattle.std.proofs.Common.{arith, ◌≡◌, ℕ, ◌*◌, ◌%◌, true, None, refl}
+use Rattle.board_prelude.proofs.Common.{Setup, Bytes, is_smram_range, DramCell}
 use Rattle.dram_store.specs.Dram.{dram_at}
 use Rattle.board_chipset.specs.declared.store.Store.{Store}
 use Rattle.bus_master.specs.declared.done.End.{End}
 use Rattle.bus_master.specs.declared.direction.Direction.{Direction}
-use Rattle.bus_master.specs.Common.{Master, Moving, TransferPlace, begun, direction_of, done_of, first_place, medium_of}
+use Rattle.bus_master.specs.Common.{Master, Moving, TransferPlace, direction_of, done_of, first_place, medium_of}
 use Rattle.bus_master.specs.Common.{transferred, with_medium, words_moved, cells_of, DiffersInSmramAlone, HasSameShape}
 use Rattle.bus_master.specs.Common.{transfer_of, EndedSo, StandsAt}
 use Rattle.bus_master.proofs.SmramLemmas.{AreAlike, hides_smram}

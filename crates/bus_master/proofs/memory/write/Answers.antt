@@ -1,4 +1,4 @@
-use Rattle.std.proofs.Common.{refl, sym, ◌∙◌}
+use Rattle.std.proofs.Common.{sym, ◌∙◌}
 use Rattle.bus_master.proofs.HeldTargets.{cards_fitted, held_at}
 use Rattle.bus_master.proofs.memory.write.Goals as goal
 

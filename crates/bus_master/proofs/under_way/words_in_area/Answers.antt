@@ -1,5 +1,5 @@
 use Rattle.std.proofs.Common.{sym, ◌∙◌, arith}
-use Rattle.bus_master.proofs.AreaLemmas.{in_area, first_in_area}
+use Rattle.bus_master.proofs.AreaLemmas.{in_area}
 use Rattle.bus_master.proofs.under_way.words_in_area.Goals as goal
 
 pub returns-clause-area : goal.returns-clause-area

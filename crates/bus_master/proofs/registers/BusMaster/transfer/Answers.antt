@@ -1,5 +1,3 @@
-use Rattle.board_base.proofs.Common.{nat_tests}
-use Rattle.std.proofs.Common.{arith}
 use Rattle.std.proofs.Common.{◌≡◌, ◌%◌, Option, sym, ap, ◌∙◌}
 use Rattle.board_prelude.proofs.Common.{Disk, Medium, Setup, Bytes, DramCell}
 use Rattle.board_chipset.specs.declared.store.Store.{Store}
@@ -7,7 +5,7 @@ use Rattle.bus_master.specs.Common.{Master, Moving, TransferPlace, done_of, end_
 use Rattle.bus_master.specs.Common.{cells_of, transfer_of, EndedSo}
 use Rattle.board_chipset.specs.Stores.{IsStoreOf}
 use Rattle.bus_master.proofs.TransferLemmas.{all_moved, disk_is, done_is, same_transfer, smram_kept}
-use Rattle.bus_master.proofs.WordLemmas.{own_medium, same_store}
+use Rattle.bus_master.proofs.WordLemmas.{own_medium}
 use Rattle.bus_master.proofs.WayLemmas.{memory_kept, sectors_kept}
 use Rattle.bus_master.proofs.registers.BusMaster.transfer.Goals as goal
 

@@ -1,8 +1,6 @@
-use Rattle.board_base.proofs.Common.{nat_tests}
-use Rattle.std.proofs.Common.{arith}
 use Rattle.std.proofs.Common.{◌≡◌, Err, sym, ap, ◌∙◌, rules}
 use Rattle.bus_master.specs.Transfer.{TransferPlace}
-use Rattle.bus_master.proofs.StepLemmas.{region_read, region_in_use, ready_over, ready_misses, ready_at_region}
+use Rattle.bus_master.proofs.StepLemmas.{region_read, region_in_use, ready_misses, ready_at_region}
 use Rattle.bus_master.proofs.under_way.UnderWay.make_ready.Goals as goal
 
 pub returns-in_err-test_sector-clause-ready : goal.returns-in_err-test_sector-clause-ready

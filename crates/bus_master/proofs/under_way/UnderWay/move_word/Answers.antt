@@ -1,5 +1,3 @@
-use Rattle.board_base.proofs.Common.{nat_tests}
-use Rattle.std.proofs.Common.{arith}
 use Rattle.std.proofs.Common.{sym}
 use Rattle.bus_master.proofs.WordLemmas.{word_stands}
 use Rattle.bus_master.proofs.under_way.UnderWay.move_word.Goals as goal

@@ -1,7 +1,6 @@
-use Rattle.board_base.proofs.Common.{nat_tests}
-use Rattle.std.proofs.Common.{◌≡◌, ◌/◌, Err, None, refl, sym, ap, subst, arith, rules}
-use Rattle.bus_master.specs.Common.{TransferPlace, words_moved, StandsAt}
-use Rattle.bus_master.proofs.WordLemmas.{came_further, came_to_end, no_words, same_shape, same_store, shape_after}
+use Rattle.std.proofs.Common.{◌≡◌, ◌/◌, Err, ap, arith, rules}
+use Rattle.bus_master.specs.Common.{TransferPlace, words_moved}
+use Rattle.bus_master.proofs.WordLemmas.{came_further, came_to_end, same_store, shape_after}
 use Rattle.bus_master.proofs.under_way.UnderWay.move_words.Goals as goal
 
 pub loop-self-preserved : goal.loop-self-preserved

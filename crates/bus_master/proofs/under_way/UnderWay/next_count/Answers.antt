@@ -1,9 +1,6 @@
 use Rattle.board_base.proofs.Common.{nat_tests}
 use Rattle.std.proofs.Common.{arith}
-use Rattle.std.proofs.Common.{ap}
-use Rattle.bus_master.specs.Common.{TransferPlace}
-use Rattle.bus_master.specs.Pieces.{going_from}
-use Rattle.bus_master.proofs.PieceLemmas.{described_same, ends_at_count}
+use Rattle.bus_master.proofs.PieceLemmas.{ends_at_count}
 use Rattle.bus_master.proofs.under_way.UnderWay.next_count.Goals as goal
 
 pub returns-in-Err-clause-next : goal.returns-in-Err-clause-next

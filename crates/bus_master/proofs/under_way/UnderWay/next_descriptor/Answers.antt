@@ -1,5 +1,3 @@
-use Rattle.board_base.proofs.Common.{nat_tests}
-use Rattle.std.proofs.Common.{arith}
 use Rattle.std.proofs.Common.{ap}
 use Rattle.bus_master.specs.Common.{TransferPlace}
 use Rattle.bus_master.specs.Pieces.{going_from}

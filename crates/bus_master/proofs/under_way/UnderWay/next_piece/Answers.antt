@@ -1,7 +1,4 @@
 use Rattle.std.proofs.Common.{sym, ◌∙◌, arith}
-use Rattle.bus_master.specs.Common.{next_word}
-use Rattle.bus_master.specs.Pieces.{going_from}
-use Rattle.bus_master.proofs.PieceLemmas.{begins_readable, ends_after_all, ends_missing, ends_over, of_any_move}
 use Rattle.bus_master.proofs.under_way.UnderWay.next_piece.Goals as goal
 
 pub returns-clause-next : goal.returns-clause-next

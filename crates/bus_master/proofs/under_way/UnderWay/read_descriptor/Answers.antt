@@ -1,5 +1,3 @@
-use Rattle.board_base.proofs.Common.{nat_tests}
-use Rattle.std.proofs.Common.{arith}
 use Rattle.std.proofs.Common.{◌≡◌, Err, sym, rules}
 use Rattle.bus_master.proofs.StepLemmas.{descriptor_fails_first, descriptor_fails_second, descriptor_stands}
 use Rattle.bus_master.proofs.under_way.UnderWay.read_descriptor.Goals as goal
