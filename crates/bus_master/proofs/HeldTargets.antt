@@ -4,12 +4,10 @@ use Rattle.board_base.specs.declared.target.Area.TheVariants.{Card as CardArea, 
 use Rattle.board_base.specs.declared.target.Area.TheVariants.{Rom as RomArea, Card as CardArea, Rom as RomArea}
 use Rattle.board_base.specs.declared.target.Area.TheVariants.{Card as CardArea}
 use Rattle.board_base.proofs.Common.{nat_tests}
-use Rattle.std.proofs.Common.{◌≡◌, ℕ, ◌+◌, ◌%◌, ◌≤◌, ◌<◌, false, not, ◌&&◌, List, length, sym, refl, arith, is_some}
-use Rattle.std.proofs.Common.{unwrap_or}
-use Rattle.board_prelude.proofs.Common.{bytes_of, Kind, Width, One, Area, Target, Dram, Shadow, Smram, Card, Setup}
-use Rattle.board_prelude.proofs.Common.{wide, lies_in, upper_memory, Bytes, row_of, is_smram_range, is_shadowed}
-use Rattle.board_prelude.proofs.Common.{memory_claim, target_at, Cell, is_in_hole, is_bios_selected}
-use Rattle.board_base.specs.declared.access.Width.TheVariants.{Two, Four}
+use Rattle.std.proofs.Common.{◌≡◌, ℕ, ◌%◌, false, not, ◌&&◌, List, length, sym, refl, arith, is_some, unwrap_or}
+use Rattle.board_prelude.proofs.Common.{bytes_of, Kind, Width, Area, Target, Dram, Shadow, Smram, Card, Setup, lies_in}
+use Rattle.board_prelude.proofs.Common.{upper_memory, Bytes, row_of, is_smram_range, is_shadowed, memory_claim}
+use Rattle.board_prelude.proofs.Common.{target_at, Cell, is_in_hole, is_bios_selected}
 use Rattle.pci_bars.specs.Cards.{AreFitted}
 use Rattle.pci_bars.proofs.WindowLemmas.{IsSized, memory_claim_sized, lies_in_window}
 use Rattle.addr_decode.specs.Master.{master_area}
@@ -55,12 +53,6 @@ module _ {setup : Setup} {bytes : Bytes} {store : Store} (is : IsStoreOf setup b
       (λ dev base card. claimed setup bytes addr kind dev base card))
 
 -- ---- a read looks at bytes that there can be alone
-
-pub wide_same : (f g : ℕ → ℕ) (from : ℕ) (width : Width) →
-    ((at : ℕ) → from ≤ at → at < from + bytes_of width → f at ≡ g at) → wide f from width ≡ wide g from width
-wide_same f g from One same = same from (omega arith) (omega arith)
-wide_same f g from Two same = grind (arith, nat_tests)
-wide_same f g from Four same = grind (arith, nat_tests)
 
 value_same : (setup : Setup) (rom : List ℕ) (contents : List (List ℕ)) (cells other : Cells) (target : Target)
     (addr : ℕ)

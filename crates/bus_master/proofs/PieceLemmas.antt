@@ -58,12 +58,7 @@ module _ (setup : Setup) (bytes : Bytes) (going : Going) (cells : Cells) (medium
 
   ends_so : (end : End) → 1 ≤ going.words → next_moved setup bytes going.direction going.lba now ≡ ended end now →
       IsEnd (outcome setup bytes going cells medium) going cells medium end
-  ends_so end some ends =
-      rw (
-        first_word setup bytes going cells medium some,
-        ends,
-        words_stay setup bytes going.direction going.lba (going.words - 1) (ended end now) end refl,
-      ) (record { kept = refl; disk = refl; place = refl; ends = refl })
+  ends_so end some next = grind (arith, nat_tests, first_word, words_stay)
 
   -- all words were moved
   pub ends_after_all : (end : End) → going.words ≡ 0 →
@@ -139,9 +134,7 @@ module _ (setup : Setup) (bytes : Bytes) (going : Going) (cells : Cells) (medium
 -- ---- words that begin a sector are moved only where it can be read
 
 pub of_any_move : (P : Type 0) (piece : Piece) → P → IfMove piece (λ stretch. P)
-of_any_move P (Descriptor addr) holds = tt
-of_any_move P (Move stretch) holds = holds
-of_any_move P (Ended end) holds = tt
+of_any_move P piece holds = grind (arith, nat_tests)
 
 pub begins_readable : (word : ℕ) (readable : Bool) → (word == 0 && not readable) ≡ false → word ≡ 0 → readable ≡ true
 begins_readable word readable passed first = grind (arith, nat_tests)

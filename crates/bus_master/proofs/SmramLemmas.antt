@@ -1,58 +1,42 @@
 -- A bus master never reaches SMRAM: it changes no byte of it, and does the same whatever stands there.
-use Rattle.std.proofs.Common.{◌≡◌, ℕ, ◌+◌, ◌*◌, ◌%◌, ◌<◌, ◌≤◌, ◌⊎◌, inl, inr, true, false, Option, None, refl, ◌∙◌}
-use Rattle.std.proofs.Common.{arith}
-use Rattle.board_prelude.proofs.Common.{cases_Bool, nat_tests, Width, One, Kind, Read, Write, Area, Target, Smram, Card}
-use Rattle.board_prelude.proofs.Common.{bytes_of, Medium, word_at, Setup, Bytes, is_smram_range, target_at, Cell}
-use Rattle.board_prelude.proofs.Common.{DramCell, CardCell, byte_put}
+use Rattle.std.proofs.Common.{◌≡◌, ℕ, ◌+◌, ◌*◌, ◌%◌, ◌<◌, ◌≤◌, ◌⊎◌, true, false, Option, None, refl, ◌∙◌, arith}
+use Rattle.board_prelude.proofs.Common.{cases_Bool, nat_tests, Width, Write, Area, Target, bytes_of, Medium, word_at}
+use Rattle.board_prelude.proofs.Common.{Setup, Bytes, is_smram_range, target_at, Cell, DramCell, byte_put}
 use Rattle.board_base.specs.declared.access.Width.TheVariants.{Two, Four}
-use Rattle.board_base.specs.declared.target.Area.TheVariants.{Rom as RomArea, Card as CardArea, Abort as AbortArea}
-use Rattle.addr_decode.specs.Master.{master_area}
 use Rattle.bus_master.specs.declared.done.End.{End}
 use Rattle.bus_master.specs.declared.direction.Direction.{Direction}
 use Rattle.bus_master.specs.declared.direction.Direction.TheVariants.{ToMemory, ToDisk}
-use Rattle.bus_master.specs.Common.{Cells, put_in, value_in, Master, Moving, address_after, begun, direction_of, even}
+use Rattle.bus_master.specs.Common.{Cells, put_in, Master, Moving, address_after, begun, direction_of, even}
 use Rattle.bus_master.specs.Common.{master_target, master_value, next_sector, next_word, region_taken, transferred}
 use Rattle.bus_master.specs.Common.{word_moved, is_in_smram}
 use Rattle.board_chipset.proofs.MasterSteps.{IsOffDram, off_dram}
-use Rattle.bus_master.proofs.HeldTargets.{wide_same}
 use Rattle.bus_master.proofs.Relations.{Keeps, with_cells, words_hold}
 
 -- ---- a write leaves SMRAM
-
--- a bus master reaches no DRAM at an address in the range of SMRAM
-off_or_out : (setup : Setup) (bytes : Bytes) (addr : ℕ) (kind : Kind) →
-    IsOffDram (master_area setup bytes addr kind) ⊎ (is_smram_range addr ≡ false)
-off_or_out setup bytes addr kind = elim (cases_Bool (is_smram_range addr)) [
-  | inl here ↦ inl (off_dram setup bytes addr kind here)
-  | inr there ↦ inr there
-]
 
 none_put : (setup : Setup) (target : Target) (addr value s : ℕ) (cells : Cells) →
     byte_put target addr Two value (DramCell s) ≡ None →
     put_in setup target addr Two value cells (DramCell s) ≡ cells (DramCell s)
 none_put setup target addr value s cells none = grind (arith, nat_tests)
 
-card_put : (dev base off addr value s : ℕ) → byte_put (Card dev base off) addr Two value (DramCell s) ≡ None
-card_put dev base off addr value s = grind (arith, nat_tests)
+off_put : (setup : Setup) (area : Area) (addr value s : ℕ) → IsOffDram area →
+    byte_put (target_at setup area addr) addr Two value (DramCell s) ≡ None
+off_put setup area addr value s off = grind (arith, nat_tests)
 
-module _ (setup : Setup) (addr value s : ℕ) (evens : addr % 2 ≡ 0) (inside : is_smram_range s ≡ true) where
-  -- an even address outside lies wholly outside
-  dram_put : is_smram_range addr ≡ false → byte_put Smram addr Two value (DramCell s) ≡ None
-  dram_put outside = grind (arith, nat_tests)
+apart_put : (setup : Setup) (area : Area) (addr value s : ℕ) → (s < addr) ⊎ (addr + 2 ≤ s) →
+    byte_put (target_at setup area addr) addr Two value (DramCell s) ≡ None
+apart_put setup area addr value s apart = grind (arith, nat_tests)
 
-  area_put : (area : Area) → IsOffDram area ⊎ (is_smram_range addr ≡ false) →
-      byte_put (target_at setup area addr) addr Two value (DramCell s) ≡ None
-  area_put RomArea where_to = refl
-  area_put (CardArea dev base) where_to = card_put dev base _ addr value s
-  area_put AbortArea where_to = refl
-  area_put _ (inl off) = absurd off
-  area_put _ (inr out) = dram_put out
+-- an even address outside lies wholly outside
+apart : (addr s : ℕ) → addr % 2 ≡ 0 → is_smram_range addr ≡ false → is_smram_range s ≡ true →
+    (s < addr) ⊎ (addr + 2 ≤ s)
+apart addr s evens outside inside = grind (arith, nat_tests)
 
-  write_keeps : (bytes : Bytes) (cells : Cells) →
-      put_in setup (master_target setup bytes Write addr) addr Two value cells (DramCell s) ≡ cells (DramCell s)
-  write_keeps bytes cells =
-      none_put setup (master_target setup bytes Write addr) addr value s cells
-      (area_put (master_area setup bytes addr Write) (off_or_out setup bytes addr Write))
+write_keeps : (setup : Setup) (bytes : Bytes) (addr value s : ℕ) (cells : Cells) → addr % 2 ≡ 0 →
+    is_smram_range s ≡ true →
+    put_in setup (master_target setup bytes Write addr) addr Two value cells (DramCell s) ≡ cells (DramCell s)
+write_keeps setup bytes addr value s cells evens inside =
+    grind (arith, nat_tests, none_put, cases_Bool, off_put, off_dram, apart_put, apart)
 
 -- ---- a read does not depend on SMRAM
 
@@ -60,30 +44,10 @@ module _ (setup : Setup) (addr value s : ℕ) (evens : addr % 2 ≡ 0) (inside :
 abbrev pub AreAlike : Cells → Cells → Type 0
 AreAlike cells other = (cell : Cell) → is_in_smram cell ≡ false → cells cell ≡ other cell
 
-outside : (addr at : ℕ) (width : Width) → addr % bytes_of width ≡ 0 → is_smram_range addr ≡ false → addr ≤ at →
-    at < addr + bytes_of width → is_smram_range at ≡ false
-outside addr at One aligned out from below = grind (arith, nat_tests)
-outside addr at Two aligned out from below = grind (arith, nat_tests)
-outside addr at Four aligned out from below = grind (arith, nat_tests)
-
-module _ (setup : Setup) (cells other : Cells) (alike : AreAlike cells other) (addr : ℕ) (width : Width)
-    (aligned : addr % bytes_of width ≡ 0) where
-  area_alike : (area : Area) → IsOffDram area ⊎ (is_smram_range addr ≡ false) →
-      value_in setup cells (target_at setup area addr) addr width
-      ≡ value_in setup other (target_at setup area addr) addr width
-  area_alike RomArea where_to = refl
-  area_alike (CardArea dev base) where_to =
-      wide_same (λ at. cells (CardCell dev base at)) (λ at. other (CardCell dev base at)) _ width
-      (λ at from below. alike (CardCell dev base at) refl)
-  area_alike AbortArea where_to = refl
-  area_alike _ (inl off) = absurd off
-  area_alike _ (inr out) =
-      wide_same (λ at. cells (DramCell at)) (λ at. other (DramCell at)) addr width
-      (λ at from below. alike (DramCell at) (outside addr at width aligned out from below))
-
-  value_alike : (bytes : Bytes) →
-      master_value setup bytes cells addr width ≡ master_value setup bytes other addr width
-  value_alike bytes = area_alike (master_area setup bytes addr Read) (off_or_out setup bytes addr Read)
+value_alike : (setup : Setup) (cells other : Cells) → AreAlike cells other → (bytes : Bytes) (addr : ℕ)
+    (width : Width) → addr % bytes_of width ≡ 0 →
+    master_value setup bytes cells addr width ≡ master_value setup bytes other addr width
+value_alike setup cells other alike bytes addr width aligned = grind (arith, nat_tests, cases_Bool, off_dram)
 
 -- ---- step by step: SMRAM is as at the start, and another transfer, whose bytes differ there alone, has come as far
 
@@ -121,8 +85,8 @@ module _ (setup : Setup) (bytes : Bytes) (lba : ℕ) (start : Cells) where
         alike = is.alike;
         same =
             rw (
-              value_alike setup moving.cells cells is.alike table Four is.fours bytes,
-              value_alike setup moving.cells cells is.alike (address_after table 4) Four fours bytes,
+              value_alike setup moving.cells cells is.alike bytes table Four is.fours,
+              value_alike setup moving.cells cells is.alike bytes (address_after table 4) Four fours,
             ) refl;
       }
 
@@ -132,9 +96,9 @@ module _ (setup : Setup) (bytes : Bytes) (lba : ℕ) (start : Cells) where
     evens = even_after moving.place.addr is.evens;
     fours = is.fours;
     kept = λ addr inside.
-        write_keeps setup moving.place.addr
-        (word_at moving.medium (next_sector lba moving.place) (next_word moving.place)) addr is.evens inside bytes
-        moving.cells
+        write_keeps setup bytes moving.place.addr
+        (word_at moving.medium (next_sector lba moving.place) (next_word moving.place)) addr moving.cells is.evens
+        inside
         ∙ is.kept addr inside;
     alike = λ cell out. rw (is.alike cell out) refl;
     same = refl;
@@ -144,7 +108,7 @@ module _ (setup : Setup) (bytes : Bytes) (lba : ℕ) (start : Cells) where
     fours = is.fours;
     kept = is.kept;
     alike = is.alike;
-    same = rw (value_alike setup moving.cells cells is.alike moving.place.addr Two is.evens bytes) refl;
+    same = rw (value_alike setup moving.cells cells is.alike bytes moving.place.addr Two is.evens) refl;
   }
 
 -- ---- the whole

@@ -26,21 +26,14 @@ pub same_store : {setup : Setup} {bytes : Bytes} {old new : Store} → IsStoreOf
     IsStoreOf setup bytes new
 same_store of same = grind (arith, nat_tests)
 
-medium_twice : (disk : Option Disk) (one other : Medium) → with_medium (with_medium disk one) other
-    ≡ with_medium disk other
-medium_twice None one other = refl
-medium_twice (Some disk) one other = refl
-
 pub own_medium : (disk : Option Disk) → disk ≡ with_medium disk (medium_of disk)
-own_medium None = refl
-own_medium (Some disk) = refl
+own_medium disk = grind (arith, nat_tests)
 
 pub same_shape : (store : Store) → HasSameShape store store
-same_shape store = grind (arith, own_medium store.disk)
+same_shape store = grind (arith, nat_tests)
 
 pub shape_after : {old now new : Store} → HasSameShape old now → HasSameShape now new → HasSameShape old new
-shape_after {old} {now} {new} first second =
-    grind (arith, medium_twice old.disk (medium_of now.disk) (medium_of new.disk))
+shape_after {old} {now} {new} first second = grind (arith, nat_tests)
 
 -- ---- one word
 
@@ -64,12 +57,7 @@ pub word_stands : {setup : Setup} {bytes : Bytes} {store : Store} → IsStoreOf 
     StandsAt (word_moved setup bytes direction lba moving) new (moved_on place) None
 unfolding word_moved
 word_stands of {place} {moving} is lba new ToMemory area aligned reached memory disk word cells =
-    rw (sym (moving_is is)) (record {
-      cells = λ cell there. memory refl reached cell there ∙ rw (is.cells cell there) refl;
-      medium = ap medium_of (disk refl);
-      come = refl;
-      ends = refl;
-    })
+    let put = memory refl reached in let kept = disk refl in grind (arith, nat_tests)
 word_stands {store = store} of {place} {moving} is lba new ToDisk area aligned reached memory disk word cells =
     rw (sym (moving_is is)) (record {
       cells = λ cell there. cells refl cell ∙ is.cells cell there;
@@ -204,13 +192,11 @@ module _ (setup : Setup) (bytes : Bytes) (direction : Direction) (lba : ℕ) whe
   word_place : (to : Direction) (moving : Moving) →
       (word_moved setup bytes to lba moving).place ≡ moved_on moving.place
   unfolding word_moved
-  word_place ToMemory moving = refl
-  word_place ToDisk moving = refl
+  word_place to moving = grind (arith, nat_tests)
 
   word_end : (to : Direction) (moving : Moving) → (word_moved setup bytes to lba moving).end ≡ moving.end
   unfolding word_moved
-  word_end ToMemory moving = refl
-  word_end ToDisk moving = refl
+  word_end to moving = grind (arith, nat_tests)
 
   module _ (moving : Moving) where
     abbrev after : ℕ → Moving
