@@ -59,12 +59,6 @@ module _ {setup : Setup} {bytes : Bytes} {store : Store} (is : IsStoreOf setup b
 
 -- ---- a read looks at bytes that there can be alone
 
-pub wide_same : (f g : ℕ → ℕ) (from : ℕ) (width : Width) →
-    ((at : ℕ) → from ≤ at → at < from + bytes_of width → f at ≡ g at) → wide f from width ≡ wide g from width
-wide_same f g from One same = same from (omega arith) (omega arith)
-wide_same f g from Two same = grind (arith, nat_tests)
-wide_same f g from Four same = grind (arith, nat_tests)
-
 value_same : (setup : Setup) (rom : List ℕ) (contents : List (List ℕ)) (cells other : Cells) (target : Target)
     (addr : ℕ)
     (width : Width) →

@@ -131,10 +131,6 @@ module _ (setup : Setup) (bytes : Bytes) (going : Going) (cells : Cells) (medium
   abbrev moves : ℕ → Moving → Moving
   moves words moving = words_moved setup bytes going.direction going.lba words moving
 
-  is_end : (end : End) → outcome setup bytes going cells medium ≡ ended end now →
-      IsEnd (outcome setup bytes going cells medium) going cells medium end
-  is_end end whole = rw whole (record { kept = refl; disk = refl; place = refl; ends = refl })
-
   ends_so : (end : End) → 1 ≤ going.words →
       next_moved setup bytes going.direction going.lba now ≡ ended end now →
       IsEnd (outcome setup bytes going cells medium) going cells medium end
@@ -211,13 +207,6 @@ pub begins_readable : (word : ℕ) (readable : Bool) → (word == 0 && not reada
 begins_readable word readable passed first = grind (arith, nat_tests)
 
 -- ---- words of a stretch
-
-place_is : (table : ℕ) (is_last : Bool) (addr addr' left left' moved moved' : ℕ) → addr ≡ addr' → left ≡ left' →
-    moved ≡ moved' →
-    ◌≡◌ {A = TransferPlace}
-    (record { table = table; addr = addr; left = left; is_last = is_last; moved = moved })
-    (record { table = table; addr = addr'; left = left'; is_last = is_last; moved = moved' })
-place_is table is_last addr addr' left left' moved moved' a l m = rw (a, l, m) refl
 
 went_one : (place : TransferPlace) → moved_on place ≡ went_on 1 place
 went_one place = grind (arith, nat_tests)

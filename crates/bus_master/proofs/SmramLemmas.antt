@@ -22,27 +22,17 @@ use Rattle.bus_master.specs.Common.{master_target, master_value, next_moved, nex
 use Rattle.bus_master.specs.Common.{region_found, region_taken, sector_tested, table_tested, transferred, word_moved}
 use Rattle.bus_master.specs.Common.{words_moved, is_in_smram}
 use Rattle.board_chipset.proofs.MasterSteps.{IsOffDram, off_dram}
-use Rattle.bus_master.proofs.HeldTargets.{wide_same}
 
 -- ---- a write leaves SMRAM
-
-same_where : (c : Bool) (old : ℕ) → (if c then unwrap_or None old else old) ≡ old
-same_where c old = grind (arith, nat_tests)
 
 none_put : (setup : Setup) (target : Target) (addr value s : ℕ) (cells : Cells) →
     byte_put target addr Two value (DramCell s) ≡ None →
     put_in setup target addr Two value cells (DramCell s) ≡ cells (DramCell s)
 none_put setup target addr value s cells none = grind (arith, nat_tests)
 
-card_put : (dev base off addr value s : ℕ) → byte_put (Card dev base off) addr Two value (DramCell s) ≡ None
-card_put dev base off addr value s = elim (cases_Bool (base == rom_base)) [ inl is ↦ rw is refl | inr is ↦ rw is refl ]
-
 off_put : (setup : Setup) (area : Area) (addr value s : ℕ) → IsOffDram area →
     byte_put (target_at setup area addr) addr Two value (DramCell s) ≡ None
 off_put setup area addr value s off = grind (arith, nat_tests)
-
-dram_put : (addr value s : ℕ) → (s < addr) ⊎ (addr + 2 ≤ s) → byte_put Smram addr Two value (DramCell s) ≡ None
-dram_put addr value s h0 = grind (arith, nat_tests)
 
 apart_put : (setup : Setup) (area : Area) (addr value s : ℕ) → (s < addr) ⊎ (addr + 2 ≤ s) →
     byte_put (target_at setup area addr) addr Two value (DramCell s) ≡ None
@@ -70,23 +60,6 @@ outside : (addr at : ℕ) (width : Width) → addr % bytes_of width ≡ 0 → is
 outside addr at width aligned out from below = grind (arith, nat_tests)
 
 module _ (setup : Setup) (cells other : Cells) (alike : AreAlike cells other) where
-  dram_alike : (addr : ℕ) (width : Width) → addr % bytes_of width ≡ 0 → is_smram_range addr ≡ false →
-      wide (λ at. cells (DramCell at)) addr width ≡ wide (λ at. other (DramCell at)) addr width
-  dram_alike addr width aligned out = grind (arith, nat_tests)
-
-  card_alike : (dev base off : ℕ) (width : Width) →
-      wide (λ at. cells (CardCell dev base at)) off width ≡ wide (λ at. other (CardCell dev base at)) off width
-  card_alike dev base off width = grind (arith, nat_tests)
-
-  off_alike : (area : Area) (addr : ℕ) (width : Width) → IsOffDram area →
-      value_in setup cells (target_at setup area addr) addr width
-      ≡ value_in setup other (target_at setup area addr) addr width
-  off_alike area addr width off = grind (arith, nat_tests)
-
-  out_alike : (area : Area) (addr : ℕ) (width : Width) → addr % bytes_of width ≡ 0 → is_smram_range addr ≡ false →
-      value_in setup cells (target_at setup area addr) addr width
-      ≡ value_in setup other (target_at setup area addr) addr width
-  out_alike area addr width aligned out = grind (arith, nat_tests)
 
   value_alike : (bytes : Bytes) (addr : ℕ) (width : Width) → addr % bytes_of width ≡ 0 →
       master_value setup bytes cells addr width ≡ master_value setup bytes other addr width

@@ -17,10 +17,6 @@ use Rattle.bus_master.proofs.HeldTargets.{master_value_same}
 
 -- ---- a step is done unless the transfer has ended
 
-pub skipped : (moving : Moving) (step : Moving → Moving) (end : End) → Some end ≡ moving.end →
-    (moving and_then step) ≡ moving
-skipped moving step end is = rw (sym is) refl
-
 pub taken : (moving : Moving) (step : Moving → Moving) → None ≡ moving.end → (moving and_then step) ≡ step moving
 taken moving step is = rw (sym is) refl
 

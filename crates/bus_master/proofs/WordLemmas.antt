@@ -21,17 +21,13 @@ use Rattle.bus_master.specs.Common.{StandsAt}
 use Rattle.board_chipset.specs.Stores.{IsStoreOf}
 use Rattle.bus_master.specs.Pieces.{is_missing}
 use Rattle.bus_master.proofs.HeldTargets.{master_value_same}
-use Rattle.bus_master.proofs.StepLemmas.{stands_skipped, stands_taken, taken, skipped, answered_stands}
+use Rattle.bus_master.proofs.StepLemmas.{stands_skipped, stands_taken, taken, answered_stands}
 
 -- ---- a store with the same shape is one of the same board
 
 pub same_store : {setup : Setup} {bytes : Bytes} {old new : Store} → IsStoreOf setup bytes old → HasSameShape old new →
     IsStoreOf setup bytes new
 same_store {setup} {bytes} {old} {new} of same = grind (arith, nat_tests)
-
-medium_twice : (disk : Option Disk) (one other : Medium) → with_medium (with_medium disk one) other
-    ≡ with_medium disk other
-medium_twice disk one other = grind (arith, nat_tests)
 
 pub own_medium : (disk : Option Disk) → disk ≡ with_medium disk (medium_of disk)
 own_medium disk = grind (arith, nat_tests)
@@ -51,10 +47,6 @@ moving_is is = rw (is.medium, is.come, is.ends) refl
 module _ {setup : Setup} {bytes : Bytes} {store : Store} (of : IsStoreOf setup bytes store) {place : TransferPlace}
     {moving : Moving}
     (is : StandsAt moving store place None) (lba : ℕ) (new : Store) where
-  put_same : (target : Target) (value : ℕ) (cell : Cell) → IsCell cell →
-      put_in setup target place.addr Width.Two value (cells_of store) cell
-      ≡ put_in setup target place.addr Width.Two value moving.cells cell
-  put_same target value cell there = rw (is.cells cell there) refl
 
   written : ((cell : Cell) → IsCell cell → cells_of new cell
       ≡ put_in setup (master_target setup bytes Kind.Write place.addr) place.addr Width.Two
@@ -276,11 +268,6 @@ module _ (setup : Setup) (bytes : Bytes) (direction : Direction) (lba : ℕ) whe
   unfolding came
   came_words words moving some = grind (arith, nat_tests)
 
--- somebody answers in an area wherever in it the access is
-pub answers_in : (area : Area) (addr other : ℕ) (denial denial' : Option Denial) → None ≡ abort_in area addr denial →
-    None ≡ abort_in area other denial'
-answers_in area addr other denial denial' is = grind (arith, nat_tests)
-
 pub address_on : (addr i : ℕ) → address_after (address_after addr 2) (2 * i) ≡ address_after addr (2 * (i + 1))
 address_on addr i = omega arith
 
@@ -296,5 +283,3 @@ module _ (moved words done : ℕ) (whole : moved % 2 ≡ 0) (within : moved % 51
   pub inside_sector : 1 ≤ done → (moved + 2 * done) % 512 ≢ 0
   inside_sector some = λ e. omega (arith, whole, within, below, some, e)
 
-  pub same_sector : (moved + 2 * done) / 512 ≡ moved / 512
-  same_sector = omega (arith, whole, within, below)
