@@ -4,13 +4,11 @@ use Rattle.std.proofs.Common.{◌∷◌, Some, None, inl, inr, refl, sym, ap, �
 use Rattle.board_prelude.proofs.Common.{cases_Bool, ne_eqb, nat_tests, Kind, Read, Area, Medium, Setup, Bytes}
 use Rattle.board_prelude.proofs.Common.{is_smram_range}
 use Rattle.board_base.specs.declared.access.Width.TheVariants.{Four}
-use Rattle.board_base.specs.declared.target.Area.TheVariants.{Rom, Card, Abort as NobodysArea}
 use Rattle.addr_decode.specs.Common.{master_area}
 use Rattle.board_chipset.proofs.MasterSteps.{IsOffDram, off_dram}
 use Rattle.bus_master.specs.declared.done.End.{End}
 use Rattle.bus_master.specs.declared.done.End.TheVariants.{Exact, Longer, Shorter, Sector}
 use Rattle.bus_master.specs.declared.piece.Piece.{Piece}
-use Rattle.bus_master.specs.declared.piece.Piece.TheVariants.{Descriptor, Move, Ended}
 use Rattle.bus_master.specs.declared.piece.Stretch.{Stretch}
 use Rattle.bus_master.specs.Common.{Cells, Moving, address_after, answered, ended, is_used_up, kind_of, master_value}
 use Rattle.bus_master.specs.Common.{next_moved, next_sector, ready_for, region_found, region_taken, sector_tested}
@@ -19,8 +17,8 @@ use Rattle.bus_master.specs.Transfer.{size_of}
 use Rattle.bus_master.specs.Pieces.{AreNext, ComesToTheTransfer, Going, HasPassed, IfMove, IsDescriptor, IsEnd}
 use Rattle.bus_master.specs.Pieces.{IsMemory, IsMove, IsNext, IsStretch, Point, abort_at, all_done, described}
 use Rattle.bus_master.specs.Pieces.{going_at_start, is_missing, once_done, outcome, standing}
-use Rattle.bus_master.proofs.WordLemmas.{all_copied, copied_is, reached_by, reached_here, ready_here}
-use Rattle.bus_master.proofs.WordLemmas.{words_add, words_stay}
+use Rattle.bus_master.proofs.WordLemmas.{all_copied, copied_is, reached_by, reached_here, ready_here, words_add}
+use Rattle.bus_master.proofs.WordLemmas.{words_stay}
 
 -- a region has bytes
 size_left : (count : ℕ) → (size_of count == 0) ≡ false
@@ -34,11 +32,9 @@ parted : (setup : Setup) (bytes : Bytes) (going : Going) (cells : Cells) (medium
     (words_moved setup bytes going.direction going.lba words (standing going cells medium))
 unfolding outcome
 parted setup bytes going cells medium words some =
-    ap (λ n. words_moved setup bytes going.direction going.lba n (standing going cells medium)) (count some)
+    let count : going.words ≡ going.words - words + words = omega arith in
+    ap (λ n. words_moved setup bytes going.direction going.lba n (standing going cells medium)) count
     ∙ words_add setup bytes going.direction going.lba (going.words - words) words (standing going cells medium)
-  where
-    count : words ≤ going.words → going.words ≡ going.words - words + words
-    count some = omega arith
 
 first_word : (setup : Setup) (bytes : Bytes) (going : Going) (cells : Cells) (medium : Medium) → 1 ≤ going.words →
     outcome setup bytes going cells medium
@@ -173,10 +169,7 @@ module _ (setup : Setup) (bytes : Bytes) (going : Going) (cells : Cells) (medium
 -- ---- SMRAM
 
 not_both : (area : Area) → IsMemory area → IsOffDram area → ⊥
-not_both Rom memory off = memory
-not_both (Card dev base) memory off = memory
-not_both NobodysArea memory off = memory
-not_both _ memory off = off
+not_both area memory off = grind (arith, nat_tests)
 
 odd_outside : (addr i : ℕ) → addr % 2 ≡ 0 → is_smram_range (address_after addr (2 * (i / 2))) ≡ false →
     is_smram_range (address_after addr i) ≡ false
@@ -202,9 +195,7 @@ module _ (setup : Setup) (bytes : Bytes) where
   done_same : (piece : Piece) (point : Point) → IsNext setup bytes point.going point.cells point.medium piece →
       outcome_at point ≡ outcome_at (once_done setup bytes piece point)
   unfolding once_done
-  done_same (Descriptor addr) point next = next.same
-  done_same (Move stretch) point next = next.same
-  done_same (Ended end) point next = refl
+  done_same piece point next = grind (arith, nat_tests)
 
   all_same : (pieces : List Piece) (point : Point) → AreNext setup bytes pieces point →
       outcome_at point ≡ outcome_at (all_done setup bytes pieces point)

@@ -60,18 +60,6 @@ module _ {store : Store} {place : TransferPlace} {moving : Moving} (is : StandsA
     unfolding answered
     answered_stands kind addr end ends = grind (arith, nat_tests)
 
-    -- ---- a region
-
-    pub region_in_use : place.left ≢ 0 → StandsAt (region_found setup bytes moving) store place None
-    unfolding region_found
-    region_in_use left = grind (arith, nat_tests)
-
-    pub region_read : (after : TransferPlace) (end : Option End) → place.left ≡ 0 →
-        StandsAt (descriptor_read setup bytes moving) store after end →
-        StandsAt (region_found setup bytes moving) store after end
-    unfolding region_found
-    region_read after end left next = grind (arith, nat_tests)
-
     -- ---- the two halves of a descriptor
 
     pub descriptor_fails_first : (end : End) → Some end ≡ abort_at setup bytes Read place.table →
@@ -119,16 +107,20 @@ module _ {store : Store} {place : TransferPlace} {moving : Moving} (is : StandsA
             let missed = misses (table_tested moving) goes in
             grind (arith, nat_tests)
 
-        pub ready_at_region :
-            ((tested : Moving) → StandsAt tested store place None →
-            StandsAt (sector_tested lba tested) store place None) →
-            (after : TransferPlace) (end : Option End) →
-            ((tested : Moving) → StandsAt tested store place None →
-            StandsAt (region_found setup bytes tested) store after end) →
-            StandsAt (ready_for setup bytes lba moving) store after end
-        unfolding ready_for
-        ready_at_region there after end region =
-            let goes = table_goes_on over in
-            let found = there (table_tested moving) goes in
-            let next = region (sector_tested lba (table_tested moving)) found in
-            grind (arith, nat_tests)
+        module _ (there : (tested : Moving) → StandsAt tested store place None →
+            StandsAt (sector_tested lba tested) store place None) where
+          pub ready_in_use : place.left ≢ 0 → StandsAt (ready_for setup bytes lba moving) store place None
+          unfolding ready_for region_found
+          ready_in_use left =
+              let goes = table_goes_on over in let found = there (table_tested moving) goes in grind (arith, nat_tests)
+
+          pub ready_read : place.left ≡ 0 → (after : TransferPlace) (end : Option End) →
+              ((tested : Moving) → StandsAt tested store place None →
+              StandsAt (descriptor_read setup bytes tested) store after end) →
+              StandsAt (ready_for setup bytes lba moving) store after end
+          unfolding ready_for region_found
+          ready_read used after end read =
+              let goes = table_goes_on over in
+              let found = there (table_tested moving) goes in
+              let next = read (sector_tested lba (table_tested moving)) found in
+              grind (arith, nat_tests)

@@ -1,6 +1,5 @@
 use Rattle.std.proofs.Common.{◌≡◌, ◌%◌, Option, sym, ap, ◌∙◌}
 use Rattle.board_prelude.proofs.Common.{Disk, Medium, Setup, Bytes, DramCell}
-use Rattle.board_chipset.specs.declared.store.Store.{Store}
 use Rattle.bus_master.specs.Common.{Master, Moving, TransferPlace, done_of, end_of, first_place, medium_of, with_medium}
 use Rattle.bus_master.specs.Common.{cells_of, transfer_of, EndedSo}
 use Rattle.board_chipset.specs.Stores.{IsStoreOf}
@@ -11,9 +10,6 @@ use Rattle.bus_master.proofs.registers.BusMaster.transfer.Goals as goal
 
 abbrev of_store : (c : goal.After-moved) → Setup → Bytes → Moving
 of_store c setup bytes = transfer_of setup bytes c.args.self.now c.args.lba c.args.count c.args.store.now
-
-abbrev of_other : (c : goal.After-moved) → Setup → Bytes → Store → Moving
-of_other c setup bytes other = transfer_of setup bytes c.args.self.now c.args.lba c.args.count other
 
 moved : (c : goal.After-moved) (setup : Setup) (bytes : Bytes) → IsStoreOf setup bytes c.args.store.now →
     EndedSo (of_store c setup bytes) c.transfer-end.new.store c.transfer-end.new.self c.transfer-end.result
@@ -65,17 +61,18 @@ returns-clause-to_disk c = λ way cell there.
 
 pub returns-clause-hidden : goal.returns-clause-hidden
 returns-clause-hidden c = λ setup bytes other of differs.
+    let after = transfer_of setup bytes c.args.self.now c.args.lba c.args.count other in
     let is = moved c setup bytes of in
     let hidden =
     same_transfer setup bytes c.args.self.now c.args.lba c.args.count c.args.store.now (aligned c) differs in
     let medium = ap (λ (moving : Moving). moving.medium) hidden in (
       done_is is c.moved.ensures.moved ∙ sym (ap done_of hidden),
-      c.end_transfer.ensures.ended (of_other c setup bytes other)
+      c.end_transfer.ensures.ended after
           (ap end_of hidden ∙ sym is.ends)
           (ap (λ (moving : Moving). moving.place.table) hidden
           ∙ ap (λ (place : TransferPlace). place.table) (sym is.come)
           ∙ sym c.table.ensures.table),
       disk_is is c.transfer-end.ensures.shape
           ∙ ap (λ (m : Medium). with_medium c.args.store.now.disk m) (sym medium)
-          ∙ ap (λ (disk : Option Disk). with_medium disk (of_other c setup bytes other).medium) (sym differs.disk),
+          ∙ ap (λ (disk : Option Disk). with_medium disk after.medium) (sym differs.disk),
     )
