@@ -76,30 +76,21 @@ module _ (chipset : Running) (bytes : Bytes) (held : HoldsBytes chipset bytes) w
       (piece_said (master_part chipset.setup bytes) (going_in old.transfer) piece)
   unfolding once_done done_as_told
   done_so (Descriptor addr) old here =
-      let table = old.transfer.table in
-      let base = master_value chipset.setup bytes old.cells table Four in
-      let count = master_value chipset.setup bytes old.cells (address_after table 4) Four in
-      let told = recorded (going_in old.transfer) old.transfer.readable in
-      ap
-      (λ (at : ℕ). at_going old.cells old.medium
-      (described (master_value chipset.setup bytes old.cells at Four)
-      (master_value chipset.setup bytes old.cells (address_after at 4) Four) (going_in old.transfer)))
-      here
-      ∙ ap (at_going old.cells old.medium)
-      (ap (described base count) (sym (going_recorded (going_in old.transfer) old.transfer.readable))
-      ∙ sym (going_recorded (described base count (going_in told)) old.transfer.readable))
+      let going = going_in old.transfer in
+      let base = master_value chipset.setup bytes old.cells old.transfer.table Four in
+      let count = master_value chipset.setup bytes old.cells (address_after old.transfer.table 4) Four in
+      let told = recorded going old.transfer.readable in
+      let kept = going_recorded going old.transfer.readable in
+      rw here
+      (ap (at_going old.cells old.medium)
+      (ap (described base count) (sym kept)
+      ∙ sym (going_recorded (described base count (going_in told)) old.transfer.readable)))
   done_so (Move stretch) old here =
       let going = going_in old.transfer in
-      let moved = copied chipset.setup bytes going.direction going.lba (2 * stretch.words / 2)
+      let moved = copied chipset.setup bytes going.direction going.lba stretch.words
       (standing going old.cells old.medium) in
-      ap
-      (λ (n : ℕ). at_going
-      (copied chipset.setup bytes going.direction going.lba n (standing going old.cells old.medium)).cells
-      (copied chipset.setup bytes going.direction going.lba n (standing going old.cells old.medium)).medium
-      (gone_on stretch.words going))
-      (halved stretch.words)
-      ∙ ap (at_going moved.cells moved.medium)
-      (sym (going_recorded (gone_on stretch.words going) old.transfer.readable))
+      rw (← halved stretch.words) (ap (at_going moved.cells moved.medium)
+      (sym (going_recorded (gone_on stretch.words going) old.transfer.readable)))
     where
       halved : (words : ℕ) → words ≡ 2 * words / 2
       halved words = omega arith
@@ -138,8 +129,7 @@ module _ (chipset : Running) (bytes : Bytes) (held : HoldsBytes chipset bytes) w
       all_words : (moved words some : ℕ) → some ≤ words → moved + 2 * some + 2 * (words - some) ≡ moved + 2 * words
       all_words moved words some few = omega (arith, few)
   readable_so (Ended end) old is readable =
-      subst (λ (stage : Stage). AreReadable stage.transfer stage.medium)
-      (sym (ended_done end old.transfer.moved (recorded (going_in old.transfer) old.transfer.readable) old)) readable
+      rw (ended_done end old.transfer.moved (recorded (going_in old.transfer) old.transfer.readable) old) readable
 
   module _ (old new : Stage) (round : IsRound chipset bytes old new) where
     same_round :
@@ -147,13 +137,7 @@ module _ (chipset : Running) (bytes : Bytes) (held : HoldsBytes chipset bytes) w
         (piece_said (master_part chipset.setup bytes) (going_in old.transfer) round.told.piece)
         (recorded (going_past round.told.piece (going_in old.transfer)) old.transfer.readable) old
         ≡ new
-    same_round =
-        ap
-        (λ (said : PieceRecord). done_as_told chipset.setup bytes said
-        (recorded (going_past round.told.piece (going_in old.transfer)) old.transfer.readable) old)
-        (sym (round.told.tells bytes held))
-        ∙ ap (λ (after : TransferRecord). done_as_told chipset.setup bytes round.said after old) (sym round.told.after)
-        ∙ sym round.done
+    same_round = rw (← round.told.tells bytes held, ← round.told.after) (sym round.done)
 
     round_done : AreReadable old.transfer old.medium →
         once_done chipset.setup bytes round.told.piece (point_of old) ≡ point_of new
@@ -165,7 +149,7 @@ module _ (chipset : Running) (bytes : Bytes) (held : HoldsBytes chipset bytes) w
 
     round_readable : AreReadable old.transfer old.medium → AreReadable new.transfer new.medium
     round_readable readable =
-        subst (λ (stage : Stage). AreReadable stage.transfer stage.medium) same_round
+        rw (← same_round)
         (readable_so round.told.piece old round.told.stretch readable)
 
   all_told : (first : Stage) (later : List Stage) → AreReadable first.transfer first.medium →
@@ -180,21 +164,21 @@ module _ (chipset : Running) (bytes : Bytes) (held : HoldsBytes chipset bytes) w
         pieces = round.told.piece ∷ told.pieces;
         next = (
           round.told.next bytes first.cells first.medium held readable,
-          subst (λ (p : Point). AreNext chipset.setup bytes told.pieces p) (sym done) told.next,
+          rw done told.next,
         );
         done = ap (all_done chipset.setup bytes told.pieces) done ∙ told.done;
         readable = told.readable;
       }
 
   -- what is told at the end
+  done_is : (moving : Moving) (place : TransferPlace) (end : End) → end_of moving ≡ end → moving.place ≡ place →
+      ◌≡◌ {A = Done} (record { end = end; moved = place.moved }) (done_of moving)
+  done_is moving place end ends at = rw (sym ends, sym at) refl
+
   end_so : (moving : Moving) (last : Stage) (piece : Piece) (after : TransferRecord) (said : PieceRecord) →
       said ≡ piece_said (master_part chipset.setup bytes) (going_in last.transfer) piece → said.what ≡ ended_piece →
       ((end : End) → piece ≡ Ended end → IsEnd moving (going_in last.transfer) last.cells last.medium end) →
       HasCome moving last said
-  end_so moving last (Descriptor addr) after said is ended ends =
-      absurd (omega (arith, ap (λ (p : PieceRecord). p.what) is, ended))
-  end_so moving last (Move stretch) after said is ended ends =
-      absurd (omega (arith, ap (λ (p : PieceRecord). p.what) is, ended))
   end_so moving last (Ended end) after said is ended ends =
       let how = ends end refl in
       record {
@@ -203,10 +187,7 @@ module _ (chipset : Running) (bytes : Bytes) (held : HoldsBytes chipset bytes) w
         table = ap (λ (p : TransferPlace). p.table) (sym how.place);
         end = is ∙ ap ended_said (done_is moving (going_in last.transfer).place end how.ends how.place);
       }
-    where
-      done_is : (moving : Moving) (place : TransferPlace) (end : End) → end_of moving ≡ end → moving.place ≡ place →
-          ◌≡◌ {A = Done} (record { end = end; moved = place.moved }) (done_of moving)
-      done_is moving place end ends at = rw (sym ends, sym at) refl
+  end_so moving last _ after said is ended ends = absurd (omega (arith, ap (λ (p : PieceRecord). p.what) is, ended))
 
 -- ---- the law
 

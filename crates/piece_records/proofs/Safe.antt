@@ -2,7 +2,6 @@
 use Rattle.std.proofs.Common.{◌≡◌, ℕ, ◌*◌, ◌%◌, ◌<◌, ◌^◌, false, Option, sym, ap, subst, ◌∙◌, arith}
 use Rattle.board_prelude.proofs.Common.{nat_tests, Area, Denial, Kind, Read, Setup, Bytes, is_smram_range, target_at}
 use Rattle.board_base.specs.declared.target.Area.TheVariants.{Dram as DramArea, Shadow as ShadowArea}
-use Rattle.board_base.specs.declared.target.Area.TheVariants.{Card as CardArea}
 use Rattle.addr_decode.specs.Common.{master_area}
 use Rattle.board_chipset.specs.Common.{master_part}
 use Rattle.board_records.specs.Replies.{of_part, part_said}
@@ -39,8 +38,6 @@ memory_area : (setup : Setup) (area : Area) (addr : ℕ) (denial : Option Denial
     IsMemoryTarget (part_said (target_at setup area addr) denial).target → IsMemory area
 memory_area setup (DramArea row) addr denial is = tt
 memory_area setup (ShadowArea row) addr denial is = tt
-memory_area setup (CardArea dev base) addr denial is =
-    absurd (no_memory _ (omega arith) (rw (said_target _ denial) at is))
 memory_area setup _ addr denial is = absurd (no_memory _ (omega arith) (rw (said_target _ denial) at is))
 
 words_safe : (setup : Setup) (bytes : Bytes) (kind : Kind) (stretch : Stretch) →
