@@ -1,14 +1,12 @@
 -- What the numbers of a transfer say, and what a piece changes of it.
-use Rattle.std.proofs.Common.{◌≡◌, ℕ, zero, suc, ◌+◌, ◌-◌, ◌*◌, ◌/◌, ◌==◌, nat_lt, Bool, true, false, refl, ◌∙◌, arith}
-use Rattle.board_prelude.proofs.Common.{Medium, Setup, Bytes}
+use Rattle.board_prelude.proofs.Common.{nat_tests, Medium, Setup, Bytes}
+use Rattle.std.proofs.Common.{◌≡◌, ℕ, zero, suc, ◌+◌, ◌-◌, ◌*◌, ◌==◌, nat_lt, Bool, true, false, refl, ◌∙◌, arith}
 use Rattle.ata_pio.specs.Words.{is_readable}
 use Rattle.bus_master.specs.declared.direction.Direction.{Direction}
 use Rattle.bus_master.specs.declared.direction.Direction.TheVariants.{ToMemory, ToDisk}
-use Rattle.bus_master.specs.Pieces.{Going, IsSaid}
-use Rattle.bus_master.specs.Pieces.{copied}
+use Rattle.bus_master.specs.Pieces.{Going, IsSaid, copied}
 use Rattle.bus_master.specs.States.{direction_to}
-use Rattle.bus_master.specs.Transfer.{Moving, next_sector}
-use Rattle.bus_master.specs.Transfer.{word_moved}
+use Rattle.bus_master.specs.Transfer.{Moving, next_sector, word_moved}
 use Rattle.piece_records.specs.declared.transfer.TransferRecord.{TransferRecord}
 use Rattle.piece_records.specs.Transfers.{AreReadable, IsTransfer, flag, going_in, memory_flag, recorded}
 
@@ -31,12 +29,7 @@ going_recorded going readable = rw (flag_is going.place.is_last, direction_is go
 pub said_by_count : (transfer : TransferRecord) (medium : Medium) → IsTransfer transfer → AreReadable transfer medium →
     IsSaid (going_in transfer) medium
     (nat_lt (next_sector transfer.lba (going_in transfer).place - transfer.lba) transfer.readable)
-said_by_count transfer medium is readable some =
-    rw (count transfer.lba transfer.moved)
-    (readable (transfer.moved / 512) (omega (arith, is.begun)) (omega (arith, some)))
-  where
-    count : (lba moved : ℕ) → lba + moved / 512 - lba ≡ moved / 512
-    count lba moved = omega arith
+said_by_count transfer medium is readable some = grind (arith, nat_tests)
 
 module _ (setup : Setup) (bytes : Bytes) (lba sector : ℕ) where
   word_readable : (direction : Direction) (moving : Moving) →
@@ -56,6 +49,4 @@ pub still_readable : (old new : TransferRecord) (medium later : Medium) → new.
     new.readable ≡ old.readable → new.moved + 2 * new.words ≡ old.moved + 2 * old.words →
     ((sector : ℕ) → is_readable later sector ≡ is_readable medium sector) → AreReadable old medium →
     AreReadable new later
-still_readable old new medium later lba readable whole same are k below within =
-    rw (lba, readable)
-    (same (old.lba + k) ∙ are k (rw readable at below) (rw whole at within))
+still_readable old new medium later lba readable whole same are k below within = grind (arith, nat_tests)

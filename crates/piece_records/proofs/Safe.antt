@@ -1,8 +1,8 @@
 -- No part of a piece is SMRAM, nor memory at A0000h to BFFFFh.
-use Rattle.std.proofs.Common.{◌≡◌, ℕ, ◌*◌, ◌%◌, ◌<◌, ◌^◌, false, Option, sym, ap, subst, ◌∙◌, arith}
-use Rattle.board_prelude.proofs.Common.{nat_tests, Area, Denial, Kind, Read, Setup, Bytes, is_smram_range, target_at}
+use Rattle.board_prelude.proofs.Common.{common_steps, nat_tests, Area, Denial, Kind, Read, Setup, Bytes, is_smram_range}
+use Rattle.board_prelude.proofs.Common.{target_at}
+use Rattle.std.proofs.Common.{◌≡◌, ℕ, ◌*◌, ◌%◌, ◌<◌, ◌^◌, false, Option, sym, ap, ◌∙◌, arith}
 use Rattle.board_base.specs.declared.target.Area.TheVariants.{Dram as DramArea, Shadow as ShadowArea}
-use Rattle.board_base.specs.declared.target.Area.TheVariants.{Card as CardArea}
 use Rattle.addr_decode.specs.Common.{master_area}
 use Rattle.board_chipset.specs.Common.{master_part}
 use Rattle.board_records.specs.Replies.{of_part, part_said}
@@ -39,22 +39,13 @@ memory_area : (setup : Setup) (area : Area) (addr : ℕ) (denial : Option Denial
     IsMemoryTarget (part_said (target_at setup area addr) denial).target → IsMemory area
 memory_area setup (DramArea row) addr denial is = tt
 memory_area setup (ShadowArea row) addr denial is = tt
-memory_area setup (CardArea dev base) addr denial is =
-    absurd (no_memory _ (omega arith) (rw (said_target _ denial) at is))
 memory_area setup _ addr denial is = absurd (no_memory _ (omega arith) (rw (said_target _ denial) at is))
 
 words_safe : (setup : Setup) (bytes : Bytes) (kind : Kind) (stretch : Stretch) →
     master_area setup bytes stretch.addr kind ≡ stretch.area → IsOutsideSmramRange stretch →
     IsSafe (of_part (master_part setup bytes kind stretch.addr)) stretch.addr (2 * stretch.words)
 words_safe setup bytes kind stretch area outside =
-    let part = master_part setup bytes kind stretch.addr in
-    record {
-      no_smram = no_smram_said part.target part.denial (no_smram setup bytes kind stretch.addr);
-      outside = λ memory.
-          outside
-          (subst IsMemory area
-          (memory_area setup (master_area setup bytes stretch.addr kind) stretch.addr part.denial memory));
-    }
+    grind (arith, nat_tests, common_steps, no_smram, no_smram_said, memory_area)
 
 -- ---- a piece
 
@@ -69,11 +60,8 @@ pub safe_so : (setup : Setup) (bytes : Bytes) (going : Going) (piece : Piece) �
     IfMove piece (λ stretch. stretch.addr < 2 ^ 32) → IfMove piece (IsInArea setup bytes going) →
     IfMove piece (IsStretch going) → IfMove piece IsOutsideSmramRange →
     AreSafe piece (piece_said (master_part setup bytes) going piece)
-safe_so setup bytes going (Descriptor addr) low aligned fits area is outside = (
-  doubleword_safe setup bytes going.place.table low aligned,
-  doubleword_safe setup bytes (address_after going.place.table 4) (omega arith)
-      (next_doubleword going.place.table aligned),
-)
+safe_so setup bytes going (Descriptor addr) low aligned fits area is outside =
+    grind (arith, nat_tests, common_steps, doubleword_safe, next_doubleword)
 safe_so setup bytes going (Move stretch) low aligned fits area is outside =
     words_safe setup bytes (kind_of going.direction) stretch
     (ap (λ (at : ℕ). master_area setup bytes at (kind_of going.direction)) (sym (first_word stretch.addr fits))

@@ -1,6 +1,6 @@
 -- Each byte that an aligned read gives is the one that a read of that byte alone gives.
 use Rattle.std.proofs.Common.{◌≡◌, ℕ, zero, suc, ◌+◌, ◌-◌, ◌*◌, ◌/◌, ◌%◌, ◌^◌, ◌<◌, ◌≤◌, List, [], length, inl, inr}
-use Rattle.std.proofs.Common.{refl, ap, ◌∙◌, arith, slice_index}
+use Rattle.std.proofs.Common.{refl, ap, ◌∙◌, arith, slice_index, lit<}
 use Rattle.std.proofs.lemmas.Nat.{mod-pow-add}
 use Rattle.board_prelude.proofs.Common.{get_or_past, Width, One, bytes_of, largest_of, Entry, Setup, IsRomSize, Area}
 use Rattle.board_prelude.proofs.Common.{Target, Dram, Shadow, Smram, Rom, Card, Device, Config, Abort, byte, wide}
@@ -73,59 +73,28 @@ pub reaches_memory : (setup : Setup) (area : Area) (addr : ℕ) →
 reaches_memory setup (CardArea dev base) addr claim = claim dev base refl
 reaches_memory setup _ addr claim = tt
 
-of_one : (a : ℕ) → a < 256 → byte a 0 ≡ a
-of_one a p = omega (arith, p)
-
-of_two : (a b : ℕ) → a < 256 → byte (a + 0x100 * b) 0 ≡ a
-of_two a b p = omega (arith, p)
-
-second_of_two : (a b : ℕ) → a < 256 → b < 256 → byte (a + 0x100 * b) 1 ≡ b
-second_of_two a b p q = omega (arith, p, q)
-
-of_four : (a b c d : ℕ) → a < 256 → b < 256 → c < 256 → d < 256 →
-    let n : ℕ = a + 0x100 * b + 0x1_0000 * c + 0x100_0000 * d in
-    (byte n 0 ≡ a) × ((byte n 1 ≡ b) × ((byte n 2 ≡ c) × (byte n 3 ≡ d)))
-of_four a b c d p q r t =
-    (omega (arith, p, q, r, t), (omega (arith, p, q, r, t), (omega (arith, p, q, r, t), omega (arith, p, q, r, t))))
-
 start : (from : ℕ) → from ≡ from + 0
 start from = omega arith
 
 wide_byte : (byte_at : ℕ → ℕ) (from i : ℕ) (width : Width) → ((at : ℕ) → byte_at at < 256) → i < bytes_of width →
     byte (wide byte_at from width) i ≡ byte_at (from + i)
-wide_byte byte_at from zero One below within = of_one (byte_at from) (below from) ∙ ap byte_at (start from)
-wide_byte byte_at from zero Two below within =
-    of_two (byte_at from) (byte_at (from + 1)) (below from) ∙ ap byte_at (start from)
-wide_byte byte_at from (suc zero) Two below within =
-    second_of_two (byte_at from) (byte_at (from + 1)) (below from) (below (from + 1))
-wide_byte byte_at from zero Four below within =
-    (of_four (byte_at from) (byte_at (from + 1)) (byte_at (from + 2)) (byte_at (from + 3)) (below from)
-    (below (from + 1)) (below (from + 2)) (below (from + 3))).0
-    ∙ ap byte_at (start from)
-wide_byte byte_at from (suc zero) Four below within =
-    (of_four (byte_at from) (byte_at (from + 1)) (byte_at (from + 2)) (byte_at (from + 3)) (below from)
-    (below (from + 1)) (below (from + 2)) (below (from + 3))).1.0
+wide_byte byte_at from zero One below within = omega (arith, below from, ap byte_at (start from))
+wide_byte byte_at from zero Two below within = omega (arith, below from, ap byte_at (start from))
+wide_byte byte_at from (suc zero) Two below within = omega (arith, below from, below (from + 1))
+wide_byte byte_at from zero Four below within = omega (arith, below from, ap byte_at (start from))
+wide_byte byte_at from (suc zero) Four below within = omega (arith, below from, below (from + 1))
 wide_byte byte_at from (suc (suc zero)) Four below within =
-    (of_four (byte_at from) (byte_at (from + 1)) (byte_at (from + 2)) (byte_at (from + 3)) (below from)
-    (below (from + 1)) (below (from + 2)) (below (from + 3))).1.1.0
+    omega (arith, below from, below (from + 1), below (from + 2))
 wide_byte byte_at from (suc (suc (suc zero))) Four below within =
-    (of_four (byte_at from) (byte_at (from + 1)) (byte_at (from + 2)) (byte_at (from + 3)) (below from)
-    (below (from + 1)) (below (from + 2)) (below (from + 3))).1.1.1
+    omega (arith, below from, below (from + 1), below (from + 2), below (from + 3))
 wide_byte byte_at from (suc i) One below within = absurd (omega arith)
 wide_byte byte_at from (suc (suc i)) Two below within = absurd (omega arith)
 wide_byte byte_at from (suc (suc (suc (suc i)))) Four below within = absurd (omega arith)
 
-ones_byte : (i : ℕ) (width : Width) → i < bytes_of width → byte (largest_of width) i ≡ 255
-ones_byte zero One within = refl
-ones_byte zero Two within = refl
-ones_byte (suc zero) Two within = refl
-ones_byte zero Four within = refl
-ones_byte (suc zero) Four within = refl
-ones_byte (suc (suc zero)) Four within = refl
-ones_byte (suc (suc (suc zero))) Four within = refl
-ones_byte (suc i) One within = absurd (omega arith)
-ones_byte (suc (suc i)) Two within = absurd (omega arith)
-ones_byte (suc (suc (suc (suc i)))) Four within = absurd (omega arith)
+all_ones : (width : Width) → largest_of width ≡ wide (λ at. 255) 0 width
+all_ones One = refl
+all_ones Two = refl
+all_ones Four = refl
 
 module _ (setup : Setup) (before : List Entry) (rom : (at : ℕ) → slice_index setup.rom at < 256) where
   dram_below : (at : ℕ) → dram_byte setup before at < 256
@@ -143,9 +112,7 @@ module _ (setup : Setup) (before : List Entry) (rom : (at : ℕ) → slice_index
       wide_below (λ at. card_byte setup before dev base at) off width (card_below dev base is.number)
   value_fits (Device dev) place width is = absurd is
   value_fits (Config reg) place width is = absurd is
-  value_fits Abort place One is = omega arith
-  value_fits Abort place Two is = omega arith
-  value_fits Abort place Four is = omega arith
+  value_fits Abort place width is = rw (all_ones width) (wide_below (λ at. 255) 0 width (λ at. lit< tt))
   value_fits _ place width is = wide_below (dram_byte setup before) place width dram_below
 
   pub byte_alone : (target : Target) (place i : ℕ) (width : Width) → InMemory setup target → i < bytes_of width →
@@ -155,5 +122,6 @@ module _ (setup : Setup) (before : List Entry) (rom : (at : ℕ) → slice_index
       wide_byte (λ at. card_byte setup before dev base at) off i width (card_below dev base is.number) within
   byte_alone (Device dev) place i width is within = absurd is
   byte_alone (Config reg) place i width is within = absurd is
-  byte_alone Abort place i width is within = ones_byte i width within
+  byte_alone Abort place i width is within =
+      rw (all_ones width) (wide_byte (λ at. 255) 0 i width (λ at. lit< tt) within)
   byte_alone _ place i width is within = wide_byte (dram_byte setup before) place i width dram_below within

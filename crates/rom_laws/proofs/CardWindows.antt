@@ -42,22 +42,23 @@ base_window setup card k base is below at =
       least = rw (not_vga, not_rom, is.1, at) (least_bits base (is_base card.bases k base is.0.each at));
     }
 
+-- the window of a base, where it has one
+window_at : (setup : Setup) (bytes : Bytes) (card : FittedCard) (k : ℕ) (base : Base) → IsFound setup card → k < 6 →
+    slice_get card.bases k ≡ Some base → All (OfCard setup) (memory_window bytes card.dev k base)
+window_at setup bytes card k (MemoryBase bits) is below at =
+    All-cons (OfCard setup) _ [] (base_window setup card k (MemoryBase bits) is below at) (All-nil (OfCard setup))
+window_at setup bytes card k (IoBase bits) is below at = All-nil (OfCard setup)
+window_at setup bytes card k (OutsideBase bits) is below at =
+    All-cons (OfCard setup) _ [] (base_window setup card k (OutsideBase bits) is below at) (All-nil (OfCard setup))
+
 base_windows : (setup : Setup) (bytes : Bytes) (card : FittedCard) → IsFound setup card → (k : ℕ) (bases : List Base) →
     k + length bases ≤ 6 → ((i : ℕ) → slice_get card.bases (k + i) ≡ slice_get bases i) →
     All (OfCard setup)
     (flat_map (λ numbered. memory_window bytes card.dev numbered.0 numbered.1) (enumerate_from k bases))
 base_windows setup bytes card is k [] few same = All-nil (OfCard setup)
-base_windows setup bytes card is k (MemoryBase bits ∷ later) few same =
-    All-cons (OfCard setup) _ _
-    (base_window setup card k (MemoryBase bits) is (omega arith) (ap (slice_get card.bases) (omega arith) ∙ same 0))
-    (base_windows setup bytes card is (k + 1) later (omega arith)
-    (λ i. ap (slice_get card.bases) (omega arith) ∙ same (i + 1) ∙ grind arith))
-base_windows setup bytes card is k (IoBase bits ∷ later) few same =
-    base_windows setup bytes card is (k + 1) later (omega arith)
-    (λ i. ap (slice_get card.bases) (omega arith) ∙ same (i + 1) ∙ grind arith)
-base_windows setup bytes card is k (OutsideBase bits ∷ later) few same =
-    All-cons (OfCard setup) _ _
-    (base_window setup card k (OutsideBase bits) is (omega arith) (ap (slice_get card.bases) (omega arith) ∙ same 0))
+base_windows setup bytes card is k (base ∷ later) few same =
+    All-append (OfCard setup) (memory_window bytes card.dev k base) _
+    (window_at setup bytes card k base is (omega arith) (ap (slice_get card.bases) (omega arith) ∙ same 0))
     (base_windows setup bytes card is (k + 1) later (omega arith)
     (λ i. ap (slice_get card.bases) (omega arith) ∙ same (i + 1) ∙ grind arith))
 

@@ -1,6 +1,6 @@
 -- Which part of a read moves a byte of it, and that this byte is one of that part's value.
 use Rattle.std.proofs.Common.{◌≡◌, ℕ, zero, suc, ◌+◌, ◌-◌, ◌*◌, ◌/◌, ◌%◌, ◌^◌, ◌<◌, ◌≤◌, false, List, [], ◌∷◌, ◌++◌}
-use Rattle.std.proofs.Common.{Some, inl, inr, ap, subst, ◌∙◌, arith, ◌==◌, nat_lt, All, map}
+use Rattle.std.proofs.Common.{Some, inl, inr, ap, ◌∙◌, arith, ◌==◌, nat_lt, All, map}
 use Rattle.board_prelude.proofs.Common.{cases_lt, cond-true, cond-false, ne_eqb, lt-ltb, le-ltb, All-head, All-tail}
 use Rattle.board_prelude.proofs.Common.{further, Width, One, WideAccess, bytes_of, byte, longest_at, part_at, joined}
 use Rattle.board_prelude.proofs.Common.{Covers}
@@ -64,10 +64,7 @@ module _ (access : WideAccess) (said : Access → PartRecord) (value : Access �
       let left : ℕ = access.bytes - before in
       let width : Width = longest_at (access.addr + before) left in
       let some : (left == 0) ≡ false = ne_eqb left 0 (omega arith) in
-      let both : part ∷ later
-      ≡ part_at access (access.addr + before) width
-      ∷ parts_from access most (access.addr + before + bytes_of width) (left - bytes_of width) =
-      are ∙ cond-false (left == 0) [] _ some in
+      let both = rw some at are in
       let first : part ≡ part_at access (access.addr + before) width = cc in
       let others : later ≡ parts_from access most (access.addr + before + bytes_of width) (left - bytes_of width) =
       cc in
@@ -90,14 +87,12 @@ module _ (access : WideAccess) (said : Access → PartRecord) (value : Access �
             let left' : left - bytes_of width ≡ access.bytes - (before + bytes_of width) = omega arith in
             let rest_is : later ≡ parts_from access most (access.addr + (before + bytes_of width))
             (access.bytes - (before + bytes_of width)) =
-            others
-            ∙ ap (λ n. parts_from access most n (left - bytes_of width)) from'
-            ∙ ap (λ n. parts_from access most (access.addr + (before + bytes_of width)) n) left' in
+            rw (← from', ← left') others in
             let end' : access.addr + before + bytes_of part.width ≡ access.addr + (before + bytes_of width) =
             omega arith in
             let next : Moves access said value rest P later (before + bytes_of width) k =
             moves most (before + bytes_of width) k later rest_is (All-tail P part later each)
-            (subst (λ (n : ℕ). Covers n (access.addr + access.bytes) later) end' covers.1) past below in
+            (rw end' at covers.1) past below in
             let further_on : k - before ≡ bytes_of part.width + (k - (before + bytes_of width)) = omega arith in
             record {
               part = next.part;

@@ -1,16 +1,14 @@
 -- Each byte of a read is the one that a read of that byte alone gives.
-use Rattle.std.proofs.Common.{◌≡◌, ◌≢◌, ℕ, ◌+◌, ◌-◌, ◌%◌, ◌^◌, ◌<◌, ◌⊎◌, Bool, true, false, ◌&&◌, not, List, [], ◌∷◌}
-use Rattle.std.proofs.Common.{◌++◌, length, Option, Some, None, inl, inr, refl, sym, ap, subst, ◌∙◌, arith, ◌==◌}
-use Rattle.std.proofs.Common.{nat_lt, map}
-use Rattle.board_prelude.proofs.Common.{and_parts, and_right, eqb-true, cases_Bool, cond-true, cond-false, eq-eqb}
-use Rattle.board_prelude.proofs.Common.{le-ltb, lt-ltb, Width, One, Kind, WideAccess, bytes_of, Area, Target}
-use Rattle.board_prelude.proofs.Common.{Card, Device, Config, Denial, Register}
-use Rattle.board_prelude.proofs.Common.{Entry, Setup, IsSetup, IsInRange, Memory, Wide, Part, Parts, Reply, Bus, Saw}
-use Rattle.board_prelude.proofs.Common.{Bytes, byte}
-use Rattle.board_prelude.proofs.Common.{is_write, memory_target, memory_denial, parts_of, parts_list, joined, value_at}
-use Rattle.board_prelude.proofs.Common.{target_at, longest_at, address_count, expansion_byte, IsPart, AreParts, Covers}
-use Rattle.board_prelude.proofs.Common.{IsAnswer, IsWideAnswer}
-use Rattle.board_spec.specs.Common.{area_of, memory_answer, part_answer, parts_from, wide_value}
+use Rattle.std.proofs.Common.{◌≡◌, ℕ, ◌+◌, ◌-◌, ◌%◌, ◌^◌, ◌<◌, Bool, true, false, List, [], ◌∷◌, ◌++◌, length, Option}
+use Rattle.std.proofs.Common.{Some, None, inl, inr, refl, sym, ap, ◌∙◌, arith, ◌==◌, map, if◌then◌else◌}
+use Rattle.std.proofs.lemmas.Simd.{map-map}
+use Rattle.board_prelude.proofs.Common.{nat_tests, and_right, cases_Bool, cond-false, eq-eqb, lt-ltb, Width, One}
+use Rattle.board_prelude.proofs.Common.{WideAccess, bytes_of, Area, Target, Card, Device, Config, Denial, Register}
+use Rattle.board_prelude.proofs.Common.{Entry, Setup, IsSetup, IsInRange, Memory, Wide, Parts, Reply, Bus, Saw, Bytes}
+use Rattle.board_prelude.proofs.Common.{byte, is_write, memory_target, memory_denial, parts_of, parts_list, joined}
+use Rattle.board_prelude.proofs.Common.{value_at, target_at, longest_at, address_count, expansion_byte, IsPart}
+use Rattle.board_prelude.proofs.Common.{AreParts, IsAnswer, IsWideAnswer}
+use Rattle.board_spec.specs.Common.{area_of, memory_answer, part_answer, wide_value}
 use Rattle.board_spec.specs.Registers.{byte_of as register_byte}
 use Rattle.board_spec.specs.declared.event.Parts.TheVariants as parts
 use Rattle.board_spec.specs.declared.event.Reply.TheVariants as replies
@@ -43,23 +41,13 @@ by_denied roms part _ i old = refl
 
 none_left : (roms : List (List ℕ)) (dev off : ℕ) → (length (given roms dev) == 0) ≡ true →
     rom_byte roms dev off ≡ expansion_byte dev off
-none_left roms dev off none =
-    let short : length (given roms dev) ≡ 0 = eqb-true (length (given roms dev)) 0 none in
-    cond-false (nat_lt off (length (given roms dev))) _ _ (le-ltb off (length (given roms dev)) (omega (arith, short)))
+none_left roms dev off none = grind (arith, nat_tests)
 
 by_target : (roms : List (List ℕ)) (setup : Setup) (before : List Entry) (target : Target) (i place old : ℕ) →
     InMemory setup target → old ≡ value_at setup before (moved target i) place One →
     byte_by roms (Some (target_said target, i)) old ≡ byte_of roms setup before (moved target i) place
 by_target roms setup before (Card dev base off) i place old is alone =
-    elim (cases_Bool (base == 6)) [
-      | inl rom ↦
-          let fixed : old ≡ expansion_byte dev (off + i) = rw rom at alone in
-          elim (cases_Bool (length (given roms dev) == 0)) [
-            | inl none ↦ rw (rom, none, fixed) (sym (none_left roms dev (off + i) none))
-            | inr some ↦ rw (rom, some, fixed) refl
-          ]
-      | inr other ↦ rw other (rw other at alone)
-    ]
+    grind (arith, nat_tests, none_left roms dev (off + i))
 by_target roms setup before (Device dev) i place old is alone = absurd is
 by_target roms setup before (Config reg) i place old is alone = absurd is
 by_target roms setup before _ i place old is alone = alone
@@ -118,14 +106,8 @@ module _ (setup : Setup) (before : List Entry) (roms : List (List ℕ)) (fits : 
   moved_by_one addr width rest said k aligned within =
       let start : addr + 0 ≡ addr = omega arith in
       let all : bytes_of width - 0 ≡ bytes_of width = omega arith in
-      let cycle : longest_at (addr + 0) (bytes_of width - 0) ≡ width =
-      ap (λ n. longest_at n (bytes_of width - 0)) start ∙ ap (λ n. longest_at addr n) all
-      ∙ one_cycle width addr aligned in
-      let count : bytes_of (longest_at (addr + 0) (bytes_of width - 0)) ≡ bytes_of width = ap bytes_of cycle in
       let place : k - 0 ≡ k = omega arith in
-      cond-true (nat_lt k (0 + bytes_of (longest_at (addr + 0) (bytes_of width - 0)))) _ _
-      (lt-ltb k (0 + bytes_of (longest_at (addr + 0) (bytes_of width - 0))) (omega (arith, count, within)))
-      ∙ ap (λ (n : ℕ). Some (said, n)) place
+      rw (start, all, place, one_cycle width addr aligned, lt-ltb k (0 + bytes_of width) (omega (arith, within))) refl
 
   read_whole : (said : EventRecord) (access : Access) (after : AfterStep) (k : ℕ) → is_write access.kind ≡ false →
       said.addr ≡ access.addr → said.bytes ≡ bytes_of access.width → access.addr % bytes_of access.width ≡ 0 →
@@ -143,13 +125,12 @@ module _ (setup : Setup) (before : List Entry) (roms : List (List ℕ)) (fits : 
       let found : part_of (parts_said told) said.addr said.bytes 0 k ≡ Some (of_access access, k) =
       rw (addr, count)
       (moved_by_one access.addr access.width (no_part ∷ no_part ∷ no_part ∷ []) (of_access access) k aligned within) in
-      let by_part : byte_told roms said told k ≡ byte_by roms (Some (of_access access, k)) (byte (value_of access) k) =
-      ap (λ (by : Option (PartRecord × ℕ)). byte_by roms by (byte (value_of access) k)) found in
       let last : access.addr + k < address_count = ends access.width access.addr k aligned address within in
-      ap (λ (it : ReplyRecord). byte (with_roms roms said it).value k) reply
-      ∙ value_told roms bytes.given said told k refl (few access.width k within)
-      ∙ by_part
+      rw reply (
+      value_told roms bytes.given said told k refl (few access.width k within)
+      ∙ ap (λ (by : Option (PartRecord × ℕ)). byte_by roms by (byte (value_of access) k)) found
       ∙ byte_of_part access k (byte (value_of access) k) aligned within last refl
+      )
     where
       few : (width : Width) (k : ℕ) → k < bytes_of width → k < 8
       few One k within = omega arith
@@ -170,34 +151,18 @@ module _ (setup : Setup) (before : List Entry) (roms : List (List ℕ)) (fits : 
   others_of (parts.Three a b c) = no_part ∷ []
   others_of (parts.Four a b c d) = []
 
-  parts_listed : (they : Parts) (value : ℕ) (after : AfterStep) →
-      parts_said (wide_said they (Some value) after) ≡ map of_part (parts_list they) ++ others_of they
+  wide_is : (they : Parts) (value : ℕ) (after : AfterStep) →
+      let told = wide_said they (Some value) after in
+      (parts_said told ≡ map of_part (parts_list they) ++ others_of they) × (told.has_value ≡ 1) × (told.value ≡ value)
   unfolding wide_said blank
-  parts_listed (parts.Two a b) value after = refl
-  parts_listed (parts.Three a b c) value after = refl
-  parts_listed (parts.Four a b c d) value after = refl
+  wide_is (parts.Two a b) value after = (refl, refl, refl)
+  wide_is (parts.Three a b c) value after = (refl, refl, refl)
+  wide_is (parts.Four a b c d) value after = (refl, refl, refl)
 
   map_map : (accesses : List Access) →
       map of_part (map (part_answer setup before) accesses) ≡ map of_access accesses
   unfolding part_said
-  map_map [] = refl
-  map_map (first ∷ later) = ap (λ (they : List PartRecord). of_access first ∷ they) (map_map later)
-
-  valued : (they : Parts) (value : ℕ) (after : AfterStep) →
-      ((wide_said they (Some value) after).has_value ≡ 1) × ((wide_said they (Some value) after).value ≡ value)
-  unfolding wide_said blank
-  valued (parts.Two a b) value after = (refl, refl)
-  valued (parts.Three a b c) value after = (refl, refl)
-  valued (parts.Four a b c d) value after = (refl, refl)
-
-  same_byte : (kind kind' : Kind) (smm smm' : Bool) (addr addr' : ℕ) → kind ≡ kind' → smm ≡ smm' → addr ≡ addr' →
-      byte_read roms setup before kind smm addr ≡ byte_read roms setup before kind' smm' addr'
-  same_byte kind kind' smm smm' addr addr' p q r = rw (p, q, r) refl
-
-  few_bytes : (bytes k : ℕ) → (bytes ≡ 2) ⊎ (bytes ≡ 4) ⊎ (bytes ≡ 8) → k < bytes → k < 8
-  few_bytes bytes k (inl two) within = omega arith
-  few_bytes bytes k (inr (inl four)) within = omega arith
-  few_bytes bytes k (inr (inr eight)) within = omega arith
+  map_map accesses = map-map of_part (part_answer setup before) accesses
 
   read_by_part : (said : EventRecord) (access : WideAccess) (they : Parts) (after : AfterStep) (k : ℕ) →
       said.addr ≡ access.addr → said.bytes ≡ access.bytes → access.addr + k < address_count → k < 8 →
@@ -209,39 +174,29 @@ module _ (setup : Setup) (before : List Entry) (roms : List (List ℕ)) (fits : 
   read_by_part said access they after k addr count last few each by =
       let whole : ℕ = joined value_of (parts_of access) in
       let told : ReplyRecord = wide_said they (Some whole) after in
-      let listed : parts_said told ≡ map of_access (parts_of access) ++ others_of they =
-      parts_listed they whole after ∙ ap (λ (list : List PartRecord). list ++ others_of they) each in
+      let is = wide_is they whole after in
       let start : k ≡ k - 0 = omega arith in
       let old : byte told.value k ≡ byte (value_of by.part) by.place =
-      ap (λ (n : ℕ). byte n k) (valued they whole after).1 ∙ ap (λ (i : ℕ). byte whole i) start ∙ by.value_is in
+      ap (λ (n : ℕ). byte n k) is.2 ∙ ap (λ (i : ℕ). byte whole i) start ∙ by.value_is in
       let found : part_of (parts_said told) said.addr said.bytes 0 k ≡ Some (of_access by.part, by.place) =
-      ap (λ (n : ℕ). part_of (parts_said told) n said.bytes 0 k) addr
-      ∙ ap (λ (n : ℕ). part_of (parts_said told) access.addr n 0 k) count
-      ∙ ap (λ (list : List PartRecord). part_of list access.addr access.bytes 0 k) listed
-      ∙ by.found in
-      let by_part : byte_told roms said told k ≡ byte_by roms (Some (of_access by.part, by.place)) (byte told.value k) =
-      ap (λ (it : Option (PartRecord × ℕ)). byte_by roms it (byte told.value k)) found in
+      rw (addr, count, is.0, each) by.found in
       let there : by.part.addr + by.place < address_count = omega (arith, by.address, last) in
-      value_told roms bytes.given said told k (valued they whole after).0 few
-      ∙ by_part
+      value_told roms bytes.given said told k is.1 few
+      ∙ ap (λ (it : Option (PartRecord × ℕ)). byte_by roms it (byte told.value k)) found
       ∙ byte_of_part by.part by.place (byte told.value k) by.is.legal.aligned by.within there old
-      ∙ same_byte by.part.kind access.kind by.part.smm access.smm (by.part.addr + by.place) (access.addr + k) by.is.kind
-      by.is.smm by.address
+      ∙ rw (by.is.kind, by.is.smm, by.address) refl
 
   moved_by : (access : WideAccess) (rest : List PartRecord) (k : ℕ) → AreParts access (parts_of access) →
       k < access.bytes →
       Moves access of_access value_of rest (IsPart access) (parts_of access) 0 k
   moved_by access rest k cut within =
-      let start : access.addr ≡ access.addr + 0 = omega arith in
-      let all : access.bytes ≡ access.bytes - 0 = omega arith in
+      let start : access.addr + 0 ≡ access.addr = omega arith in
+      let all : access.bytes - 0 ≡ access.bytes = omega arith in
       let fit : (part : Access) → IsPart access part → value_of part < 256 ^ bytes_of part.width =
       λ part it.
       value_fits setup before bytes.rom (memory_target setup before part) part.addr part.width (in_memory part) in
-      moves access of_access value_of rest (IsPart access) fit 4 0 k (parts_of access)
-      (ap (λ n. parts_from access 4 n access.bytes) start ∙ ap (λ n. parts_from access 4 (access.addr + 0) n) all)
-      cut.each (subst (λ (n : ℕ). Covers n (access.addr + access.bytes) (parts_of access)) start cut.covers)
-      (omega arith)
-      within
+      moves access of_access value_of rest (IsPart access) fit 4 0 k (parts_of access) (rw (start, all) refl) cut.each
+      (rw start cut.covers) (omega arith) within
 
   read_in_parts : (said : EventRecord) (access : WideAccess) (value : Option ℕ) (they : Parts) (after : AfterStep)
       (k : ℕ) →
@@ -254,69 +209,43 @@ module _ (setup : Setup) (before : List Entry) (roms : List (List ℕ)) (fits : 
       let whole : ℕ = joined value_of (parts_of access) in
       let is : value ≡ Some whole = answer.value_is ∙ cond-false (is_write access.kind) None (Some whole) reads in
       let each : map of_part (parts_list they) ≡ map of_access (parts_of access) =
-      ap (λ (list : List Part). map of_part list) answer.each ∙ map_map (parts_of access) in
+      rw answer.each (map_map (parts_of access)) in
       let last : access.addr + k < address_count = omega (arith, legal.ends, within) in
-      ap (λ (it : Option ℕ). byte (with_roms roms said (wide_said they it after)).value k) is
-      ∙ read_by_part said access they after k addr count last (few_bytes access.bytes k legal.bytes within) each
-      (moved_by access (others_of they) k (cut_into_parts access legal) within)
+      rw is
+      (read_by_part said access they after k addr count last (omega (arith, legal.bytes, within)) each
+      (moved_by access (others_of they) k (cut_into_parts access legal) within))
+
+  read_in_wide : (said : EventRecord) (access : WideAccess) (reply : Reply) (after : AfterStep) (k : ℕ) →
+      is_write access.kind ≡ false → said.addr ≡ access.addr → said.bytes ≡ access.bytes →
+      IsInRange setup (Wide access) → IsAnswer setup before (Wide access) reply → k < access.bytes →
+      byte (with_roms roms said (record_said reply after)).value k
+      ≡ byte_read roms setup before access.kind access.smm (access.addr + k)
+  read_in_wide said access (Bus value target denial) after k reads addr count legal answer within = absurd answer
+  read_in_wide said access (Saw look) after k reads addr count legal answer within = absurd answer
+  read_in_wide said access (replies.Parts they value) after k reads addr count legal answer within =
+      read_in_parts said access value they after k reads addr count legal answer within
 
 -- ---- the laws
 
-read_in_wide :
-    (setup : Setup) (before : List Entry) (roms : List (List ℕ)) (fits : IsSetup setup) (bytes : AreBytes setup roms)
-    (said : EventRecord) (access : WideAccess) (reply : Reply) (after : AfterStep) (k : ℕ) →
-    is_write access.kind ≡ false → said.addr ≡ access.addr → said.bytes ≡ access.bytes →
-    IsInRange setup (Wide access) → IsAnswer setup before (Wide access) reply → k < access.bytes →
-    byte (with_roms roms said (record_said reply after)).value k
-    ≡ byte_read roms setup before access.kind access.smm (access.addr + k)
-read_in_wide setup before roms fits bytes said access (Bus value target denial) after k reads addr count legal answer
-    within =
-    absurd answer
-read_in_wide setup before roms fits bytes said access (Saw look) after k reads addr count legal answer within =
-    absurd answer
-read_in_wide setup before roms fits bytes said access (replies.Parts they value) after k reads addr count legal answer
-    within =
-    read_in_parts setup before roms fits bytes said access value they after k reads addr count legal answer within
-
--- the bytes that are read are those that the record says
-abbrev Reads : (read : WideAccess) → EventRecord → Setup → List Entry → List (List ℕ) → ReplyRecord → (k : ℕ) → Type 0
-Reads read said setup before roms reply k =
-    said.addr ≡ read.addr → said.bytes ≡ read.bytes → read.addr < address_count → k < read.bytes →
-    byte (with_roms roms said reply).value k ≡ byte_read roms setup before read.kind read.smm (read.addr + k)
+-- what an access reads where it reads any
+read_is : (writes : Bool) (whole read : WideAccess) → (if writes then None else Some whole) ≡ Some read →
+    (writes ≡ false) × (whole ≡ read)
+read_is true whole read is = absurd (cc)
+read_is false whole read is = (refl, cc)
 
 pub reads_byte_by_byte : ReadsByteByByte
 reads_byte_by_byte setup before roms said (Memory access) read reply after k fits bytes says answer within =
-    elim (cases_Bool (is_write access.kind)) [
-      | inl writes ↦ let none : ◌≡◌ {A = Option WideAccess} None (Some read) = rw writes at says.reads in absurd (cc)
-      | inr reads ↦
-          let whole : WideAccess =
-          record {
-            kind = access.kind;
-            bytes = bytes_of access.width;
-            smm = access.smm;
-            addr = access.addr;
-            value = 0;
-          } in
-          let some : Some whole ≡ Some read = rw reads at says.reads in
-          let same : whole ≡ read = cc in
-          subst (λ (it : WideAccess). Reads it said setup before roms (record_said reply after) k) same
-          (λ addr count address below.
-          ap (λ (it : Reply). byte (with_roms roms said (record_said it after)).value k) answer
-          ∙ read_whole setup before roms fits bytes said access after k reads addr count says.range.aligned address
-          below)
-          says.addr says.bytes says.address within
-    ]
+    let whole : WideAccess =
+    record { kind = access.kind; bytes = bytes_of access.width; smm = access.smm; addr = access.addr; value = 0 } in
+    let is : (is_write access.kind ≡ false) × (whole ≡ read) = read_is _ whole read says.reads in
+    rw (answer, ← is.1)
+    (read_whole setup before roms fits bytes said access after k is.0 (rw (← is.1) at says.addr)
+    (rw (← is.1) at says.bytes) says.range.aligned (rw (← is.1) at says.address) (rw (← is.1) at within))
 reads_byte_by_byte setup before roms said (Wide access) read reply after k fits bytes says answer within =
-    elim (cases_Bool (is_write access.kind)) [
-      | inl writes ↦ let none : ◌≡◌ {A = Option WideAccess} None (Some read) = rw writes at says.reads in absurd (cc)
-      | inr reads ↦
-          let some : Some access ≡ Some read = rw reads at says.reads in
-          let same : access ≡ read = cc in
-          subst (λ (it : WideAccess). Reads it said setup before roms (record_said reply after) k) same
-          (λ addr count address below.
-          read_in_wide setup before roms fits bytes said access reply after k reads addr count says.range answer below)
-          says.addr says.bytes says.address within
-    ]
+    let is : (is_write access.kind ≡ false) × (access ≡ read) = read_is _ access read says.reads in
+    rw (← is.1)
+    (read_in_wide setup before roms fits bytes said access reply after k is.0 (rw (← is.1) at says.addr)
+    (rw (← is.1) at says.bytes) says.range answer (rw (← is.1) at within))
 reads_byte_by_byte setup before roms said _ read reply after k fits bytes says answer within =
     let none : ◌≡◌ {A = Option WideAccess} None (Some read) = says.reads in absurd (cc)
 
@@ -329,17 +258,11 @@ not_given roms part apart =
   where
     of_given : (roms : List (List ℕ)) (part : PartRecord) → is_given roms part ≡ true → IsOfGivenRom roms part
     of_given roms part it =
-        let both = and_parts ((part.target == 5) && (part.base == 6)) (not (length (given roms part.unit) == 0)) it in
-        let place = and_parts (part.target == 5) (part.base == 6) both.0 in
         record {
-          card = eqb-true part.target 5 place.0;
-          base = eqb-true part.base 6 place.1;
-          given = λ none. some_bytes (given roms part.unit) both.1 none;
+          card = grind (arith, nat_tests);
+          base = grind (arith, nat_tests);
+          given = λ none. let never = rw none at it in grind (arith, nat_tests);
         }
-      where
-        some_bytes : (bytes : List ℕ) → not (length bytes == 0) ≡ true → bytes ≢ []
-        some_bytes [] some none = absurd (cc)
-        some_bytes (first ∷ later) some none = cc
 
 pub others_stay : OtherRepliesStay
 others_stay roms event reply none =

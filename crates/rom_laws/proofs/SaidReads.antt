@@ -1,14 +1,13 @@
 -- The bytes of memory that a record asks for are those at its address, as many as it says.
-use Rattle.std.proofs.Common.{◌≡◌, ℕ, ◌%◌, ◌^◌, ◌==◌, Bool, true, false, ◌&&◌, nat_lt, if◌then◌else◌, ◌/◌, Option, Some}
-use Rattle.std.proofs.Common.{None, option_map, option_and_then, inl, inr, refl, sym, ap, ◌∙◌}
-use Rattle.board_prelude.proofs.Common.{cases_Bool, eqb-true, Kind, Width, One, WideAccess, bytes_of, is_write, Event}
+use Rattle.std.proofs.Common.{◌≡◌, ℕ, ◌%◌, ◌^◌, ◌==◌, Bool, true, false, nat_lt, if◌then◌else◌, ◌/◌, Option, Some, None}
+use Rattle.std.proofs.Common.{option_map, option_and_then, inl, inr, refl, sym, ap, ◌∙◌, arith}
+use Rattle.board_prelude.proofs.Common.{cases_Bool, nat_tests, Kind, Width, One, WideAccess, bytes_of, is_write, Event}
 use Rattle.board_prelude.proofs.Common.{Memory, Wide, Ack, Stimulus, stimulus_form, stimulus_of_code, event_applied}
 use Rattle.board_spec.specs.declared.event.Event.TheVariants.{Look as LookAt}
 use Rattle.board_spec.specs.declared.stimulus.Stimulus.TheVariants.{Pulses}
 use Rattle.board_base.specs.declared.access.Width.TheVariants.{Two, Four}
 use Rattle.board_base.specs.declared.access.Access.{Access}
-use Rattle.uart_16550.specs.declared.com1.Happening.{Happening}
-use Rattle.uart_16550.specs.declared.com1.Happening.TheVariants.{Comes, Happens}
+use Rattle.uart_16550.specs.declared.com1.Happening.TheVariants.{Happens}
 use Rattle.board_records.specs.declared.event.EventRecord.{EventRecord}
 use Rattle.board_records.specs.Events.{access_said, applied_said, asked_by, asked_said, byte_said, cycle_said}
 use Rattle.board_records.specs.Events.{digits_said, direction_said, event_said, is_plain, kind_said, moment_said}
@@ -59,10 +58,7 @@ module _ (said : EventRecord) where
       let it : event ≡ other = cc in
       let both : Some access ≡ Some read = sym some ∙ ap read_by it ∙ reads in
       let whole : access ≡ read = cc in
-      record {
-        addr = is.addr ∙ ap (λ (w : WideAccess). w.addr) whole;
-        bytes = is.bytes ∙ ap (λ (w : WideAccess). w.bytes) whole;
-      }
+      rw (← whole) is
 
   abbrev whole_access : Kind → WideAccess
   whole_access kind =
@@ -86,30 +82,9 @@ module _ (said : EventRecord) where
 
   width_is : (bytes : ℕ) (width : Width) → width_said bytes ≡ Some width → bytes_of width ≡ bytes
   unfolding width_said
-  width_is bytes width says =
-      elim (cases_Bool (bytes == 1)) [
-        | inl one ↦
-            let some : Some One ≡ Some width = rw one at says in
-            let same : One ≡ width = cc in
-            ap bytes_of (sym same) ∙ sym (eqb-true bytes 1 one)
-        | inr one ↦
-            elim (cases_Bool (bytes == 2)) [
-              | inl two ↦
-                  let some : Some Two ≡ Some width = rw (one, two) at says in
-                  let same : Two ≡ width = cc in
-                  ap bytes_of (sym same) ∙ sym (eqb-true bytes 2 two)
-              | inr two ↦
-                  elim (cases_Bool (bytes == 4)) [
-                    | inl four ↦
-                        let some : Some Four ≡ Some width = rw (one, two, four) at says in
-                        let same : Four ≡ width = cc in
-                        ap bytes_of (sym same) ∙ sym (eqb-true bytes 4 four)
-                    | inr four ↦
-                        let none : ◌≡◌ {A = Option Width} None (Some width) = rw (one, two, four) at says in
-                        absurd (cc)
-                  ]
-            ]
-      ]
+  width_is bytes One says = grind (arith, nat_tests)
+  width_is bytes Two says = grind (arith, nat_tests)
+  width_is bytes Four says = grind (arith, nat_tests)
 
   by_width : (kind : Kind) (width : Option Width) → width_said said.bytes ≡ width →
       ReadsSaid said (option_and_then (cycle_said said kind) width)
@@ -172,11 +147,7 @@ module _ (said : EventRecord) where
 
   comes : (event : Event) → byte_said said ≡ Some (Happens event) → ⊥
   unfolding byte_said
-  comes event is =
-      elim (cases_Bool (is_plain said && nat_lt said.value 256)) [
-        | inl fits ↦ let some : Some (Comes said.value) ≡ Some (Happens event) = rw fits at is in absurd (cc)
-        | inr other ↦ let none : ◌≡◌ {A = Option Happening} None (Some (Happens event)) = rw other at is in absurd (cc)
-      ]
+  comes event is = grind (arith, nat_tests)
 
   happens : (it : Option Event) (event : Event) → option_map (λ e. Happens e) it ≡ Some (Happens event) →
       it ≡ Some event

@@ -1,8 +1,7 @@
 -- Each byte that a step reads of memory is the one that a read of that byte alone gives.
 use Rattle.std.proofs.Common.{◌≡◌, ℕ, ◌+◌, ◌<◌, ◌==◌, false, List, Option, Some, None, refl, sym, ap, subst, ◌∙◌, arith}
-use Rattle.board_prelude.proofs.Common.{WideAccess, Target, Device, Config}
-use Rattle.board_prelude.proofs.Common.{Denial, Register, Entry, Setup, IsSetup, IsAnswer, Event}
-use Rattle.board_prelude.proofs.Common.{Memory, Wide, Parts, Reply, Bus, Saw, byte, memory_target, memory_denial}
+use Rattle.board_prelude.proofs.Common.{WideAccess, Target, Device, Config, Denial, Entry, Setup, IsSetup, IsAnswer}
+use Rattle.board_prelude.proofs.Common.{Event, Memory, Wide, Parts, Reply, Bus, Saw, byte, memory_target, memory_denial}
 use Rattle.board_base.specs.declared.access.Access.{Access}
 use Rattle.board_spec.specs.Common.{memory_answer}
 use Rattle.board_spec.specs.declared.event.Parts.TheVariants as parts
@@ -17,9 +16,8 @@ use Rattle.board_records.specs.declared.event.EventRecord.{EventRecord}
 use Rattle.board_records.specs.declared.reply.AfterStep.{AfterStep}
 use Rattle.board_records.specs.declared.reply.ReplyRecord.{ReplyRecord}
 use Rattle.board_records.specs.Identified.{fitted_record, identified_record, is_config_read}
-use Rattle.board_records.specs.RomReplies.{with_roms}
 use Rattle.board_records.specs.Replies.{blank, bus_said, part_said, record_said, serial_said, target_said, wide_said}
-use Rattle.board_records.specs.Replies.{with_denial}
+use Rattle.board_records.proofs.Masters.{said_target}
 use Rattle.board_records.specs.Steps.{IsEventReply, after_step, reset_by}
 use Rattle.rom_laws.specs.RomReads.{AreBytes, SaysRead, byte_read, read_by}
 use Rattle.rom_laws.specs.StepReads.{StepReadsByteByByte}
@@ -29,11 +27,6 @@ use Rattle.rom_laws.proofs.SaidReads.{IsReadSaid, read_said}
 
 -- ---- a reply to a read of memory is no reply to one of configuration data
 
-same_target : (target : Target) (denial : Option Denial) →
-    (with_denial (target_said target) denial).target ≡ (target_said target).target
-same_target target (Some (Register reg)) = refl
-same_target target _ = refl
-
 no_config : (setup : Setup) (target : Target) → InMemory setup target → ((target_said target).target == 7) ≡ false
 no_config setup (Device dev) is = absurd is
 no_config setup (Config reg) is = absurd is
@@ -41,8 +34,7 @@ no_config setup _ is = refl
 
 no_config_part : (setup : Setup) (target : Target) (denial : Option Denial) → InMemory setup target →
     ((part_said target denial).target == 7) ≡ false
-unfolding part_said
-no_config_part setup target denial is = ap (λ n. n == 7) (same_target target denial) ∙ no_config setup target is
+no_config_part setup target denial is = rw (said_target target denial) (no_config setup target is)
 
 of_cycle : (setup : Setup) (value : Option ℕ) (target : Target) (denial : Option Denial) (after : AfterStep) →
     InMemory setup target → is_config_read (bus_said value target denial after) ≡ false
@@ -78,9 +70,8 @@ module _ (setup : Setup) (before : List Entry) (roms : List (List ℕ)) (fits : 
   by_chipset : (event : Event) (reply : Reply) → SaysRead setup said event read → IsAnswer setup before event reply →
       is_config_read (record_said reply after) ≡ false → IsTold (record_said reply after)
   by_chipset event reply says answer none =
-      ap (λ (it : ReplyRecord). byte (with_roms roms said it).value k)
-      (unidentified identities said (record_said reply after) none)
-      ∙ reads_byte_by_byte setup before roms said event read reply after k fits bytes says answer within
+      rw (unidentified identities said (record_said reply after) none)
+      (reads_byte_by_byte setup before roms said event read reply after k fits bytes says answer within)
 
   by_parts : (access : WideAccess) (reply : Reply) → SaysRead setup said (Wide access) read →
       IsAnswer setup before (Wide access) reply → IsTold (record_said reply after)
@@ -131,8 +122,6 @@ step_reads old new said reply event read history k asks step left within =
     } in
     let after : AfterStep =
     after_step serial.board.setup answered.goes_on.after (reset_by history (Happens event)) new.behind.serial.com1 in
-    ap (λ (it : ReplyRecord). byte it.value k) fitted.told
-    ∙ ap (λ (it : ReplyRecord). byte (fitted_record old.behind.identities old.roms said it).value k) answered.told
-    ∙ by_reply serial.board.setup history old.roms asks.fits asks.bytes old.behind.identities said read after k within
-    serial refl
-    event fitted.step.reply says answered.answer
+    rw (fitted.told, answered.told)
+    (by_reply serial.board.setup history old.roms asks.fits asks.bytes old.behind.identities said read after k within
+    serial refl event fitted.step.reply says answered.answer)
