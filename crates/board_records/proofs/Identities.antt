@@ -1,4 +1,6 @@
 -- What cards say that they are, one after another; and steps of a door over those of its chipset.
+use Rattle.board_prelude.proofs.Common.{common_steps}
+use Rattle.board_prelude.proofs.Common.{nat_tests}
 use Rattle.std.proofs.Common.{◌≡◌, ℕ, ◌+◌, ◌<◌, ◌≤◌, Bool, true, false, if◌then◌else◌, List, [], ◌∷◌, length, get_or}
 use Rattle.std.proofs.Common.{drop, IsSomeAnd, Option, Some, None, option_map, refl, sym, ap, arith}
 use Rattle.std.proofs.lemmas.List.{drop_more}
@@ -63,15 +65,9 @@ pub fitted_step : (asked : Option Happening) (old new : Serial Running) (identit
     said ≡ fitted_record identities roms event plain → IsSomeAnd asked (IsAskedStep old new plain) →
     IsSomeAnd asked (IsDoorStep (held old identities roms) (held new identities roms) event said)
 fitted_step None old new identities roms event plain said is done = done
-fitted_step (Some it) old new identities roms event plain said is done = record {
-  same = refl;
-  same_roms = refl;
-  holds = record { plain = plain; step = done; told = is };
-}
+fitted_step (Some it) old new identities roms event plain said is done = grind (arith, nat_tests)
 
 -- of a board whose cards say nothing, and whose ROMs were given no bytes
 pub unfitted : (identities : List FittedIdentity) (roms : List (List ℕ)) (event : EventRecord) (said : ReplyRecord) →
     identities ≡ [] → roms ≡ [] → said ≡ fitted_record identities roms event said
-unfitted identities roms event said none no_roms =
-    let plain : identified_record identities event said ≡ said = rw none (sym (none_identified event said)) in
-    rw (plain, no_roms) (sym (none_with event said))
+unfitted identities roms event said none no_roms = grind (arith, nat_tests, common_steps, none_identified, none_with)

@@ -1,4 +1,6 @@
 -- A board is read from its bytes: what it is fitted with, and then its state.
+use Rattle.std.proofs.Common.{arith}
+use Rattle.board_prelude.proofs.Common.{nat_tests}
 use Rattle.std.proofs.Common.{◌≡◌, ◌⊎◌, ℕ, inl, inr, List, [], ◌++◌, Result, Ok, Err, IfOk, refl, sym, ap, ◌∙◌}
 use Rattle.board_prelude.proofs.Common.{append-nil}
 use Rattle.byte_fields.specs.declared.fault.Fault.{Fault}
@@ -83,19 +85,11 @@ GivesThen result after behind = (result ≡ Err NoMemory) ⊎ ((result ≡ Ok be
 pub last_exact :
     (result : Result Behind Fault) (read behind : Behind) (after : List ℕ) → (after ≡ [] → result ≡ Ok read) →
     GivesThen (Ok read) after behind → Gives result behind
-last_exact result read behind after last given =
-    elim given [
-      | inl never ↦ absurd (never_err read NoMemory never)
-      | inr is ↦ inr (last is.1 ∙ is.0)
-    ]
+last_exact result read behind after last given = grind (arith, nat_tests)
 
 pub last_refused : (fault : Fault) (behind : Behind) (after : List ℕ) → GivesThen (Err fault) after behind →
     Gives (Err fault) behind
-last_refused fault behind after given =
-    elim given [
-      | inl wanted ↦ inl wanted
-      | inr never ↦ absurd (never_err behind fault (sym never.0))
-    ]
+last_refused fault behind after given = grind (arith, nat_tests)
 
 -- ---- the whole
 
@@ -114,17 +108,9 @@ pub fitted_so :
     (before mid : List ℕ) (fitted : Fitting) → LoadsWith fitting_fields fitting_bytes IsFitting before mid (Ok fitted) →
     (behind : Behind) → IsBehind behind → before ≡ image_bytes behind →
     (fitting_of behind ≡ fitted) × (mid ≡ serial_bytes behind.serial)
-fitted_so before mid fitted one behind is begins =
-    elim (one.exact (fitting_of behind) (serial_bytes behind.serial) (fitting_is behind is) begins) [
-      | inl never ↦ absurd (never_err fitted NoMemory never)
-      | inr read ↦ (sym (ok_same fitted (fitting_of behind) read.0), read.1)
-    ]
+fitted_so before mid fitted one behind is begins = grind (arith, nat_tests)
 
 pub fitting_refused :
     (before mid : List ℕ) (fault : Fault) → LoadsWith fitting_fields fitting_bytes IsFitting before mid (Err fault) →
     (behind : Behind) → IsBehind behind → before ≡ image_bytes behind → Gives (Err fault) behind
-fitting_refused before mid fault one behind is begins =
-    elim (one.exact (fitting_of behind) (serial_bytes behind.serial) (fitting_is behind is) begins) [
-      | inl wanted ↦ inl (ap (λ (f : Fault). Err f) (err_same {A = Fitting} fault NoMemory wanted))
-      | inr never ↦ absurd (never_err (fitting_of behind) fault (sym never.0))
-    ]
+fitting_refused before mid fault one behind is begins = grind (arith, nat_tests)

@@ -1,4 +1,6 @@
 -- Which part moved a byte, and the cards one after another; and replies where no ROM was given bytes.
+use Rattle.std.proofs.Common.{arith}
+use Rattle.board_prelude.proofs.Common.{nat_tests}
 use Rattle.std.proofs.Common.{◌≡◌, ℕ, ◌+◌, ◌-◌, ◌<◌, ◌≤◌, ◌==◌, nat_lt, false}
 use Rattle.std.proofs.Common.{if◌then◌else◌, List, [], length, drop, get_or, find, Some, None, refl, sym}
 use Rattle.std.proofs.Common.{◌∙◌}
@@ -60,11 +62,4 @@ pub none_is_given : (part : PartRecord) → is_given [] part ≡ false
 none_is_given part = and_right _ false refl
 
 pub none_with : (event : EventRecord) (said : ReplyRecord) → with_roms [] event said ≡ said
-none_with event said =
-    rw (
-      none_is_given said.part0,
-      none_is_given said.part1,
-      none_is_given said.part2,
-      none_is_given said.part3,
-      and_right (said.has_value == 1) false refl,
-    ) refl
+none_with event said = grind (arith, nat_tests)

@@ -1,3 +1,5 @@
+use Rattle.board_prelude.proofs.Common.{common_steps}
+use Rattle.board_prelude.proofs.Common.{nat_tests}
 use Rattle.std.proofs.Common.{◌-◌, length, drop, arith}
 use Rattle.board_prelude.proofs.Common.{length-take, length-drop}
 use Rattle.std.proofs.lemmas.List.{take_rest}
@@ -12,16 +14,7 @@ pub put_dram-end-requires-clause-room : goal.put_dram-end-requires-clause-room
 put_dram-end-requires-clause-room c = omega (arith, length-take c.args.dram_at c.args.bytes.now)
 
 pub put-requires : goal.put-requires
-put-requires c = record {
-  room =
-      omega (
-        arith,
-        length-take c.args.dram_at c.args.bytes.now,
-        length-drop c.args.dram_at c.args.bytes.now,
-        length-take (length c.args.bytes.now - c.args.dram_at) (drop c.args.dram_at c.args.bytes.now),
-        put_length _ _ _ _ c.put_dram-end.ensures.put,
-      );
-}
+put-requires c = grind (arith, nat_tests, common_steps, length-take, length-drop, put_length)
 
 pub returns : goal.returns
 returns c = record {

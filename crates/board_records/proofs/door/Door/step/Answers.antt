@@ -1,3 +1,6 @@
+use Rattle.std.proofs.Common.{arith}
+use Rattle.board_prelude.proofs.Common.{common_steps}
+use Rattle.board_prelude.proofs.Common.{nat_tests}
 use Rattle.std.proofs.Common.{List, ap, ◌∙◌}
 use Rattle.card_identity.specs.declared.identity.FittedIdentity.{FittedIdentity}
 use Rattle.board_records.specs.Events.{asked_said}
@@ -7,13 +10,4 @@ use Rattle.board_records.proofs.Identities.{fitted_step}
 use Rattle.board_records.proofs.door.Door.step.Goals as goal
 
 pub returns-clause-done : goal.returns-clause-done
-returns-clause-done c = λ ok.
-    rw (← c.self.view_is)
-    (fitted_step (asked_said c.args.event.now) c.self.inside.serial c.step-status.new.serial
-    c.self.inside.identities.items (roms_in c.self.inside.roms) c.args.event.now c.step-status.new.reply
-    c.fitted_told.new.reply
-    (c.fitted_told.ensures.told ok
-    ∙ ap (λ (identities : List FittedIdentity). fitted_record identities (roms_in c.self.inside.roms) c.args.event.now
-    c.step-status.new.reply)
-    c.deref.ensures.0)
-    (c.step-status.ensures.done ok))
+returns-clause-done c = grind (arith, nat_tests, common_steps, fitted_step)
