@@ -125,39 +125,18 @@ resectored : (left : Bool) (disk : Option Disk) →
 resectored left None = refl
 resectored left (Some disk) = ap (λ (b : List ℕ). Some (holding b disk)) (given_back left disk.medium.bytes)
 
--- a chipset of these parts
-abbrev rebuilt : Running → List ℕ → Option (List ℕ) → Option Disk → Running
-rebuilt chipset dram fitted disk = record {
-  setup = record chipset.setup { disk = fitted };
-  state = record chipset.state {
-    stores = record chipset.state.stores { dram = dram };
-    devices = record chipset.state.devices { disk = disk };
-  };
-}
-
 chipset_restored : (left : LeftOut) (chipset : Running) →
     with_given (left_of left chipset) (dram_left left.dram (disk_left left.disk chipset)) ≡ chipset
 chipset_restored left chipset =
-    let dram : List ℕ = dram_on chipset in
-    let fitted : Option (List ℕ) = chipset.setup.disk in
-    let disk : Option Disk = chipset.state.devices.disk in
-    let sectors : List ℕ = sectors_on chipset in
-    let blank : Option (List ℕ) = option_map {T = List ℕ} (λ _. unless_left left.disk (unwrap_or fitted [])) fitted in
-    let empty : Option Disk = option_map (holding (unless_left left.disk sectors)) disk in
-    let refit : Option (List ℕ) =
-    option_map {T = List ℕ} (λ _. given_or (if left.disk then unwrap_or fitted [] else []) (unwrap_or blank []))
-    blank in
-    let full : Option Disk =
-    option_map (holding (given_or (if left.disk then sectors else []) (unwrap_or (sectors_in empty) []))) empty in
-    ap (λ (bytes : List ℕ). rebuilt chipset bytes refit full) (given_back left.dram dram)
-    ∙ ap (λ (bytes : Option (List ℕ)). rebuilt chipset dram bytes full) (refitted left.disk fitted)
-    ∙ ap (λ (it : Option Disk). rebuilt chipset dram fitted it) (resectored left.disk disk)
+    rw (
+      given_back left.dram (dram_on chipset),
+      refitted left.disk chipset.setup.disk,
+      resectored left.disk chipset.state.devices.disk,
+    ) refl
 
 pub restored : (left : LeftOut) (behind : Behind) →
     on_board (with_given (left_of left behind.serial.board)) (without left behind) ≡ behind
-restored left behind =
-    ap (λ (chipset : Running). record behind { serial = record behind.serial { board = chipset } })
-    (chipset_restored left behind.serial.board)
+restored left behind = rw (chipset_restored left behind.serial.board) refl
 
 -- they are as many
 
@@ -215,14 +194,10 @@ own_sectors chipset = rw (resectored_own chipset.state.devices.disk) refl
 
 pub none_left : (chipset : Running) → disk_left false chipset ≡ chipset
 none_left chipset =
-    ap (λ (disk : Option (List ℕ)). rebuilt chipset (dram_on chipset) disk
-    (option_map (holding (sectors_on chipset)) chipset.state.devices.disk)) (refitted_own chipset.setup.disk)
-    ∙ own_sectors chipset
+    rw (refitted_own chipset.setup.disk, resectored_own chipset.state.devices.disk) refl
 
 pub none_left_behind : (behind : Behind) → on_board (disk_left false) behind ≡ behind
-none_left_behind behind =
-    ap (λ (chipset : Running). record behind { serial = record behind.serial { board = chipset } })
-    (none_left behind.serial.board)
+none_left_behind behind = rw (none_left behind.serial.board) refl
 
 pub dram_kept : (left : LeftOut) (behind : Behind) → left.dram ≡ false →
     on_board (disk_left left.disk) behind ≡ without left behind

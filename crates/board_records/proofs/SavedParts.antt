@@ -4,7 +4,7 @@ use Rattle.std.proofs.Common.{Err, OnOk, true, ◌*◌, refl, sym, ap, ◌∙◌
 use Rattle.board_prelude.proofs.Common.{length-append, length-take, length-drop, take_at, drop_at}
 use Rattle.pit_8254.proofs.Saved.{joined}
 use Rattle.byte_fields.specs.Fields.{flag_byte}
-use Rattle.byte_fields.specs.Pages.{memory_bytes, memory_page}
+use Rattle.byte_fields.specs.Pages.{memory_page}
 use Rattle.byte_fields.proofs.PageFormats.{memory_zeros}
 use Rattle.dram_store.specs.State.{HasMib, dram_bytes}
 use Rattle.fitted_bytes.specs.Fitted.{fitting_bytes}
@@ -107,8 +107,7 @@ blank_image disk behind none one two three mib empty first second third =
     let dram : List ℕ = behind.serial.board.state.stores.dram in
     let pages : ℕ = behind.serial.board.setup.mib * 256 in
     let whole : length dram ≡ pages * memory_page = omega (arith, mib) in
-    let blank : dram_bytes (zeros dram) ≡ replicate pages 0 =
-    ap (λ (n : ℕ). memory_bytes (replicate {A = ℕ} n 0)) whole ∙ memory_zeros pages in
+    let blank : dram_bytes (zeros dram) ≡ replicate pages 0 = rw whole (memory_zeros pages) in
     let front : List ℕ = before_bytes (on_board (disk_left disk) behind) in
     let rest : List ℕ = after_bytes (on_board (disk_left disk) behind) in
     rw (third, second, first, empty)
