@@ -1,8 +1,7 @@
 -- The digits of a moment, read back.
-use Rattle.board_prelude.proofs.Common.{nat_tests}
-use Rattle.std.proofs.Common.{◌≡◌, ℕ, ◌+◌, ◌*◌, ◌/◌, ◌%◌, ◌<◌, Some, option_map, refl, ap, sym, ◌∙◌, arith}
-use Rattle.board_base.proofs.CalendarLemmas.{moments_decided, days_in_month_bound}
-use Rattle.board_prelude.proofs.Common.{Moment, IsMoment, Time}
+use Rattle.board_prelude.proofs.Common.{nat_tests, Moment, IsMoment, Time}
+use Rattle.std.proofs.Common.{◌≡◌, ℕ, ◌+◌, ◌*◌, ◌/◌, ◌%◌, ◌<◌, Some, option_map, refl, ap, ◌∙◌, arith}
+use Rattle.board_base.proofs.CalendarLemmas.{days_in_month_bound}
 use Rattle.uart_16550.specs.declared.com1.Happening.TheVariants.{Happens}
 use Rattle.board_records.specs.declared.event.EventRecord.{EventRecord}
 use Rattle.board_records.specs.Events.{asked_by, asked_said, digits_said, event_said, moment_said}

@@ -1,8 +1,6 @@
 -- Lists that are filled from the front.
-use Rattle.board_prelude.proofs.Common.{common_steps}
-use Rattle.board_prelude.proofs.Common.{nat_tests}
-use Rattle.std.proofs.Common.{◌≡◌, ℕ, ◌+◌, ◌<◌, ◌≤◌, List, ◌++◌, length, map, set, get_or, ap, sym, ◌∙◌, arith, take}
-use Rattle.std.proofs.Common.{drop}
+use Rattle.board_prelude.proofs.Common.{common_steps, nat_tests}
+use Rattle.std.proofs.Common.{◌≡◌, ℕ, ◌+◌, ◌<◌, ◌≤◌, List, length, map, set, get_or, sym, ◌∙◌, arith, take, drop}
 use Rattle.std.proofs.lemmas.Grind.{drop_more_same}
 use Rattle.board_records.specs.Maps.{filled}
 use Rattle.std.proofs.lemmas.List.{take-append-drop, take_all, take_more_same, length-set, length-map, take-set}

@@ -1,12 +1,10 @@
 -- A board that was loaded, with the bytes that are given.
-use Rattle.std.proofs.Common.{arith}
+use Rattle.std.proofs.Common.{arith, ◌≡◌, ℕ, ◌⊎◌, inr, List, Result, Ok, Err, IfOk, IfErr}
 use Rattle.board_prelude.proofs.Common.{nat_tests}
-use Rattle.std.proofs.Common.{◌≡◌, ℕ, ◌⊎◌, inl, inr, List, Result, Ok, Err, IfOk, IfErr, refl, sym}
 use Rattle.board_records.specs.Doors.{Behind}
 use Rattle.board_records.specs.Given.{AreAsMany, Given, IsGivenBoard, IsGivenRefusal, on_board, with_given}
 use Rattle.board_records.specs.Images.{IsBehind, image_bytes}
 use Rattle.board_records.specs.Statuses.{bad_length, no_memory}
-use Rattle.board_records.proofs.Images.{never_err, ok_same}
 use Rattle.board_records.proofs.LeftSteps.{sound_with}
 
 -- what a call says that puts them in

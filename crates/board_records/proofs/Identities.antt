@@ -1,10 +1,8 @@
 -- What cards say that they are, one after another; and steps of a door over those of its chipset.
-use Rattle.board_prelude.proofs.Common.{common_steps}
-use Rattle.board_prelude.proofs.Common.{nat_tests}
+use Rattle.board_prelude.proofs.Common.{common_steps, nat_tests, Width}
 use Rattle.std.proofs.Common.{◌≡◌, ℕ, ◌+◌, ◌<◌, ◌≤◌, Bool, true, false, if◌then◌else◌, List, [], ◌∷◌, length, get_or}
-use Rattle.std.proofs.Common.{drop, IsSomeAnd, Option, Some, None, option_map, refl, sym, ap, arith}
+use Rattle.std.proofs.Common.{drop, IsSomeAnd, Option, Some, None, option_map, refl, ap, arith}
 use Rattle.std.proofs.lemmas.List.{drop_more}
-use Rattle.board_prelude.proofs.Common.{Width}
 use Rattle.board_spec.specs.Setup.{FittedCard, Setup}
 use Rattle.board_chipset.specs.Common.{Running}
 use Rattle.uart_16550.specs.declared.com1.Happening.{Happening}

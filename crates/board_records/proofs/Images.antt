@@ -1,8 +1,6 @@
 -- A board is read from its bytes: what it is fitted with, and then its state.
-use Rattle.std.proofs.Common.{arith}
-use Rattle.board_prelude.proofs.Common.{nat_tests}
-use Rattle.std.proofs.Common.{◌≡◌, ◌⊎◌, ℕ, inl, inr, List, [], ◌++◌, Result, Ok, Err, IfOk, refl, sym, ap, ◌∙◌}
-use Rattle.board_prelude.proofs.Common.{append-nil}
+use Rattle.std.proofs.Common.{arith, ◌≡◌, ◌⊎◌, ℕ, inl, inr, List, [], ◌++◌, Result, Ok, Err, IfOk, refl, ap, ◌∙◌}
+use Rattle.board_prelude.proofs.Common.{nat_tests, append-nil}
 use Rattle.byte_fields.specs.declared.fault.Fault.{Fault}
 use Rattle.byte_fields.specs.declared.fault.Fault.TheVariants.{NoMemory}
 use Rattle.byte_fields.specs.Fields.{ended}
@@ -17,15 +15,6 @@ use Rattle.board_records.specs.Doors.{Behind}
 use Rattle.board_records.specs.Images.{IsBehind, fitting_of, image_bytes}
 
 -- ---- results
-
-pub never_err : {A E : Type 0} (x : A) (y : E) → ◌≡◌ {A = Result A E} (Ok x) (Err y) → ⊥
-never_err x y is = absurd cc
-
-pub ok_same : {A E : Type 0} (x y : A) → ◌≡◌ {A = Result A E} (Ok x) (Ok y) → x ≡ y
-ok_same x y is = cc
-
-err_same : {A E : Type 0} (x y : E) → ◌≡◌ {A = Result A E} (Err x) (Err y) → x ≡ y
-err_same x y is = cc
 
 abbrev pub ok_of : Behind → Result Behind ℕ
 ok_of behind = Ok behind
@@ -48,11 +37,10 @@ pub state_exact :
     (◌≡◌ {A = Result Behind Fault} (Ok read) (Err NoMemory)) ⊎
     ((◌≡◌ {A = Result Behind Fault} (Ok read) (Ok behind)) × (after ≡ rest))
 state_exact before after serial identities loads behind rest is same begins =
+    let say : behind.identities ≡ identities = ap (λ (fitting : Fitting). fitting.identities) same in
     elim (loads.exact behind.serial rest (ap (λ (fitting : Fitting). fitting.setup) same) is.state begins) [
-      | inl never ↦ absurd (never_err serial NoMemory never)
-      | inr given ↦
-          let say = ap (λ (fitting : Fitting). fitting.identities) same in
-          inr (rw (ok_same serial behind.serial given.0, say) refl, given.1)
+      | inl never ↦ absurd cc
+      | inr given ↦ let read : serial ≡ behind.serial = cc (given.0) in inr (rw (read, ← say) refl, given.1)
     ]
 
 pub state_refused :
@@ -62,10 +50,7 @@ pub state_refused :
     (◌≡◌ {A = Result Behind Fault} (Err fault) (Err NoMemory)) ⊎
     ((◌≡◌ {A = Result Behind Fault} (Err fault) (Ok behind)) × (after ≡ rest))
 state_refused before after fault loads behind rest is same begins =
-    elim (loads.exact behind.serial rest same is.state begins) [
-      | inl wanted ↦ inl (ap (λ (f : Fault). Err f) (err_same {A = Serial Running} fault NoMemory wanted))
-      | inr never ↦ absurd (never_err behind.serial fault (sym never.0))
-    ]
+    grind (arith, nat_tests, loads.exact behind.serial rest same is.state begins)
 
 -- ---- the state, after which nothing follows
 

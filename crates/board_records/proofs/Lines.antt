@@ -1,12 +1,10 @@
 -- The number of the levels from a line on.
-use Rattle.board_prelude.proofs.Common.{common_steps}
-use Rattle.board_prelude.proofs.Common.{nat_tests}
+use Rattle.board_prelude.proofs.Common.{common_steps, nat_tests, byte_of_levels, Entry, Setup, levels_of, levels_with}
 use mir.Val.{bool_byte}
-use Rattle.std.proofs.Common.{◌≡◌, ℕ, suc, ◌+◌, ◌*◌, ◌-◌, ◌<◌, ◌≤◌, ◌^◌, Bool, true, false, if◌then◌else◌, List, length}
+use Rattle.std.proofs.Common.{◌≡◌, ℕ, ◌+◌, ◌*◌, ◌-◌, ◌<◌, ◌≤◌, ◌^◌, Bool, true, false, if◌then◌else◌, List, length}
 use Rattle.std.proofs.Common.{get_or, drop, refl, ap, arith}
 use Rattle.std.proofs.lemmas.List.{drop_all, drop_more}
 use Rattle.std.proofs.Math.Nat.{pow-succ'}
-use Rattle.board_prelude.proofs.Common.{byte_of_levels, Entry, Setup, levels_of, levels_with}
 
 pub bits_from : (levels : List Bool) (line next : ℕ) → line < length levels → next ≡ line + 1 →
     byte_of_levels (drop line levels) ≡ (if get_or levels line false then 1 else 0) + 2 * byte_of_levels

@@ -1,6 +1,5 @@
 use Rattle.std.proofs.Common.{arith}
 use Rattle.board_prelude.proofs.Common.{nat_tests}
-use Rattle.std.proofs.Common.{refl, sym, ◌∙◌}
 use Rattle.board_records.specs.RomReplies.{byte_told}
 use Rattle.board_records.proofs.card_roms.byte_told.Goals as goal
 

@@ -1,6 +1,5 @@
-use Rattle.board_prelude.proofs.Common.{common_steps}
-use Rattle.board_prelude.proofs.Common.{nat_tests}
-use Rattle.std.proofs.Common.{sym, ◌∙◌, arith}
+use Rattle.board_prelude.proofs.Common.{common_steps, nat_tests}
+use Rattle.std.proofs.Common.{arith}
 use Rattle.board_records.proofs.RomParts.{no_part_left, part_here, part_later}
 use Rattle.board_records.proofs.card_roms.part_of.Goals as goal
 

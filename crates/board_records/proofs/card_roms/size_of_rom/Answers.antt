@@ -1,7 +1,5 @@
-use Rattle.board_prelude.proofs.Common.{common_steps}
-use Rattle.board_prelude.proofs.Common.{nat_tests}
-use Rattle.std.proofs.Common.{Some, arith}
-use Rattle.board_prelude.proofs.Common.{IsExpansionRom}
+use Rattle.board_prelude.proofs.Common.{common_steps, nat_tests}
+use Rattle.std.proofs.Common.{arith}
 use Rattle.pci_bars.proofs.BaseLemmas.{rom_size}
 use Rattle.board_records.proofs.card_roms.size_of_rom.Goals as goal
 

@@ -1,6 +1,6 @@
 use Rattle.std.proofs.Common.{arith}
 use Rattle.board_prelude.proofs.Common.{nat_tests}
-use Rattle.board_records.proofs.Images.{fitted_so, fitting_refused, whole_loaded}
+use Rattle.board_records.proofs.Images.{fitting_refused}
 use Rattle.board_records.proofs.image.read.Goals as goal
 
 pub returns-in-Ok : goal.returns-in-Ok

@@ -1,11 +1,7 @@
-use Rattle.std.proofs.Common.{arith}
-use Rattle.board_prelude.proofs.Common.{common_steps}
-use Rattle.board_prelude.proofs.Common.{nat_tests}
-use Rattle.std.proofs.Common.{◌∙◌, ap, refl, length}
+use Rattle.std.proofs.Common.{arith, ◌∙◌}
+use Rattle.board_prelude.proofs.Common.{common_steps, nat_tests}
 use Rattle.std.proofs.lemmas.List.{length-map}
 use Rattle.std.proofs.lemmas.Simd.{map-map}
-use Rattle.map_builder.specs.Map.{range_of}
-use Rattle.board_records.specs.Maps.{range_said}
 use Rattle.board_records.proofs.map.tell_map.Goals as goal
 
 pub returns-clause-version : goal.returns-clause-version

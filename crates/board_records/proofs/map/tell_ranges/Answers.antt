@@ -1,9 +1,6 @@
-use Rattle.board_prelude.proofs.Common.{common_steps}
-use Rattle.board_prelude.proofs.Common.{nat_tests}
-use Rattle.std.proofs.Common.{◌∙◌, arith}
+use Rattle.board_prelude.proofs.Common.{common_steps, nat_tests}
+use Rattle.std.proofs.Common.{arith}
 use Rattle.std.proofs.lemmas.List.{length-set}
-use Rattle.map_builder.specs.Map.{range_of}
-use Rattle.board_records.specs.Maps.{range_said}
 use Rattle.board_records.proofs.Filled.{filled_more, rest_more}
 use Rattle.board_records.proofs.map.tell_ranges.Goals as goal
 

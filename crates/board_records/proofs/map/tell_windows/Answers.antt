@@ -1,8 +1,6 @@
-use Rattle.board_prelude.proofs.Common.{common_steps}
-use Rattle.board_prelude.proofs.Common.{nat_tests}
-use Rattle.std.proofs.Common.{◌∙◌, arith}
+use Rattle.board_prelude.proofs.Common.{common_steps, nat_tests}
+use Rattle.std.proofs.Common.{arith}
 use Rattle.std.proofs.lemmas.List.{length-set}
-use Rattle.board_records.specs.Maps.{window_said}
 use Rattle.board_records.proofs.Filled.{filled_more, rest_more}
 use Rattle.board_records.proofs.map.tell_windows.Goals as goal
 

@@ -1,7 +1,5 @@
 use Rattle.std.proofs.Common.{arith}
-use Rattle.board_prelude.proofs.Common.{common_steps}
-use Rattle.board_prelude.proofs.Common.{nat_tests}
-use Rattle.std.proofs.Common.{◌∙◌, sym}
+use Rattle.board_prelude.proofs.Common.{common_steps, nat_tests}
 use Rattle.board_records.proofs.Openings.{many_cards}
 use Rattle.board_records.proofs.opening.too_many.Goals as goal
 

@@ -1,6 +1,5 @@
-use Rattle.board_prelude.proofs.Common.{common_steps}
-use Rattle.board_prelude.proofs.Common.{nat_tests}
-use Rattle.std.proofs.Common.{refl, arith}
+use Rattle.board_prelude.proofs.Common.{common_steps, nat_tests}
+use Rattle.std.proofs.Common.{arith}
 use Rattle.board_records.proofs.Digits.{time_said}
 use Rattle.board_records.proofs.second.time_record.Goals as goal
 

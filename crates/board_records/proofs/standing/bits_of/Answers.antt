@@ -1,6 +1,5 @@
-use Rattle.board_prelude.proofs.Common.{common_steps}
-use Rattle.board_prelude.proofs.Common.{nat_tests}
-use Rattle.std.proofs.Common.{◌∙◌, refl, arith}
+use Rattle.board_prelude.proofs.Common.{common_steps, nat_tests}
+use Rattle.std.proofs.Common.{arith}
 use Rattle.board_records.proofs.Lines.{fits, level_number, none_left, one_more_line}
 use Rattle.board_records.proofs.standing.bits_of.Goals as goal
 

@@ -1,8 +1,5 @@
 use Rattle.std.proofs.Common.{arith}
-use Rattle.board_prelude.proofs.Common.{common_steps}
-use Rattle.board_prelude.proofs.Common.{nat_tests}
-use Rattle.std.proofs.Common.{◌∙◌, ap, length}
-use Rattle.board_prelude.proofs.Common.{byte_of_levels}
+use Rattle.board_prelude.proofs.Common.{common_steps, nat_tests, byte_of_levels}
 use Rattle.board_records.proofs.Lines.{sixteen_levels}
 use Rattle.board_records.proofs.standing.tell_lines.Goals as goal
 
