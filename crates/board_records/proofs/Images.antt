@@ -16,9 +16,6 @@ use Rattle.board_records.specs.Images.{IsBehind, fitting_of, image_bytes}
 
 -- ---- results
 
-abbrev pub ok_of : Behind → Result Behind ℕ
-ok_of behind = Ok behind
-
 -- a value is given, or there was no memory
 abbrev pub Gives : Result Behind Fault → Behind → Type 0
 Gives result behind = (result ≡ Err NoMemory) ⊎ (result ≡ Ok behind)
