@@ -1,5 +1,5 @@
 -- A board is read from its bytes: what it is fitted with, and then its state.
-use Rattle.std.proofs.Common.{arith, ◌≡◌, ◌⊎◌, ℕ, inl, inr, List, [], ◌++◌, Result, Ok, Err, IfOk, refl, ap, ◌∙◌}
+use Rattle.std.proofs.Common.{arith, ◌≡◌, ◌⊎◌, ℕ, inl, inr, List, [], ◌++◌, Result, Ok, Err, IfOk, refl, ap}
 use Rattle.board_prelude.proofs.Common.{nat_tests, append-nil}
 use Rattle.byte_fields.specs.declared.fault.Fault.{Fault}
 use Rattle.byte_fields.specs.declared.fault.Fault.TheVariants.{NoMemory}
@@ -74,23 +74,6 @@ pub last_refused : (fault : Fault) (behind : Behind) (after : List ℕ) → Give
 last_refused fault behind after given = grind (arith, nat_tests)
 
 -- ---- the whole
-
-fitting_is : (behind : Behind) → IsBehind behind → IsFitting (fitting_of behind)
-fitting_is behind is = record { fits = is.state.chipset.fits; say = is.say }
-
-pub whole_loaded :
-    (result : Result Behind Fault) (fitted : Fitting) (before mid : List ℕ) → before ≡ fitting_bytes fitted ++ mid →
-    IfOk result (λ given. IsBehind given × (fitting_of given ≡ fitted) × (mid ≡ serial_bytes given.serial)) →
-    IfOk result (λ given. IsBehind given × (before ≡ image_bytes given))
-whole_loaded (Ok given) fitted before mid begins told = (told.0, begins ∙ rw (told.2, ← told.1) refl)
-whole_loaded (Err fault) fitted before mid begins told = tt
-
--- what the bytes of a board say of what was read first
-pub fitted_so :
-    (before mid : List ℕ) (fitted : Fitting) → LoadsWith fitting_fields fitting_bytes IsFitting before mid (Ok fitted) →
-    (behind : Behind) → IsBehind behind → before ≡ image_bytes behind →
-    (fitting_of behind ≡ fitted) × (mid ≡ serial_bytes behind.serial)
-fitted_so before mid fitted one behind is begins = grind (arith, nat_tests)
 
 pub fitting_refused :
     (before mid : List ℕ) (fault : Fault) → LoadsWith fitting_fields fitting_bytes IsFitting before mid (Err fault) →

@@ -157,34 +157,3 @@ loaded_back result bytes given left behind exact is image own =
     let fits : AreAsMany given (without left behind).serial.board.setup = rw own (own_as_many left behind is) in
     let same : on_board (with_given given) (without left behind) ≡ behind = rw own (restored left behind) in
     grind (arith, nat_tests, exact (without left behind) (sound_without left behind is) image fits)
-
--- ---- nothing is left out
-
-refitted_own : (disk : Option (List ℕ)) → option_map {T = List ℕ} (λ _. unwrap_or disk []) disk ≡ disk
-refitted_own None = refl
-refitted_own (Some bytes) = refl
-
-resectored_own : (disk : Option Disk) → option_map (holding (unwrap_or (sectors_in disk) [])) disk ≡ disk
-resectored_own None = refl
-resectored_own (Some disk) = refl
-
-pub own_fitted : (chipset : Running) → with_fitted (fitted_on chipset) chipset ≡ chipset
-own_fitted chipset = rw (refitted_own chipset.setup.disk) refl
-
-pub own_sectors : (chipset : Running) → with_sectors (sectors_on chipset) chipset ≡ chipset
-own_sectors chipset = rw (resectored_own chipset.state.devices.disk) refl
-
-pub none_left : (chipset : Running) → disk_left false chipset ≡ chipset
-none_left chipset =
-    rw (refitted_own chipset.setup.disk, resectored_own chipset.state.devices.disk) refl
-
-pub none_left_behind : (behind : Behind) → on_board (disk_left false) behind ≡ behind
-none_left_behind behind = rw (none_left behind.serial.board) refl
-
-pub dram_kept : (left : LeftOut) (behind : Behind) → left.dram ≡ false →
-    on_board (disk_left left.disk) behind ≡ without left behind
-dram_kept left behind kept = rw kept refl
-
-pub dram_gone : (left : LeftOut) (behind : Behind) → left.dram ≡ true →
-    without (record { dram = true; disk = left.disk }) behind ≡ without left behind
-dram_gone left behind gone = rw gone refl

@@ -1,7 +1,7 @@
 -- The bytes of a board in three: those before the DRAM's, these, and those after them.
-use Rattle.std.proofs.Common.{◌≡◌, ℕ, ◌+◌, ◌≤◌, Bool, List, [], ◌∷◌, ◌++◌, length, take, drop, replicate, Result, Ok}
-use Rattle.std.proofs.Common.{Err, OnOk, true, ◌*◌, refl, sym, ap, ◌∙◌, append_assoc, arith}
-use Rattle.board_prelude.proofs.Common.{length-append, length-take, length-drop, take_at, drop_at}
+use Rattle.std.proofs.Common.{◌≡◌, ℕ, ◌+◌, Bool, List, [], ◌∷◌, ◌++◌, length, take, drop, replicate, Result, Ok, Err}
+use Rattle.std.proofs.Common.{OnOk, true, ◌*◌, refl, sym, ap, ◌∙◌, append_assoc, arith}
+use Rattle.board_prelude.proofs.Common.{take_at, drop_at}
 use Rattle.pit_8254.proofs.Saved.{joined}
 use Rattle.byte_fields.specs.Fields.{flag_byte}
 use Rattle.byte_fields.specs.Pages.{memory_page}
@@ -93,16 +93,6 @@ blank_image disk behind none one two three mib empty first second third =
     let all : Behind = without (record { dram = true; disk = disk }) behind in
     rw (third, second, first, empty, image_split all, blank)
     (append_assoc (before_bytes all) (replicate pages 0) (after_bytes all))
-
--- the bytes of a board, by what holds them
-pub same_image : (bytes held dram store image : List ℕ) (at : ℕ) → bytes ≡ held → dram ≡ store →
-    with_dram held at store ≡ image → with_dram bytes at dram ≡ image
-same_image bytes held dram store image at of_bytes of_dram is = rw (of_bytes, of_dram) is
-
--- how many bytes they are together
-pub with_length : (bytes dram : List ℕ) (at : ℕ) → at ≤ length bytes →
-    length (with_dram bytes at dram) ≡ length bytes + length (dram_bytes dram)
-with_length bytes dram at within = simp (length-append, length-take, length-drop) (omega arith)
 
 -- those before, the DRAM's, and those after, one behind another from the front of the room on
 pub written_in_three :

@@ -9,6 +9,3 @@ returns-clause-version c = λ history left. c.version.ensures.version ∙ c.map-
 
 pub returns-clause-ranges : goal.returns-clause-ranges
 returns-clause-ranges c = grind (arith, nat_tests, common_steps, map-map, length-map)
-
-pub returns-clause-windows : goal.returns-clause-windows
-returns-clause-windows c = grind (arith, nat_tests)
