@@ -104,7 +104,9 @@ module _ (setup : Setup) (version : ℕ) (phases : List (List Statement)) where
               one_line_more first.lines this,
               append_assoc (text_of_lines first.lines) (this ++ line_feed ∷ []) begun.later,
               first.text,
-            ) (ap (λ (text : List ℕ). log_text version history ++ text) (append_assoc this (line_feed ∷ []) begun.later))
+            )
+            (ap (λ (text : List ℕ). log_text version history ++ text)
+            (append_assoc this (line_feed ∷ []) begun.later))
             in
             let ext = goes_on _ (this ++ line_feed ∷ begun.later) begun.text log in
             no_more history begun.text.history begun.later this after ext.more
@@ -132,7 +134,8 @@ module _ (setup : Setup) (version : ℕ) (phases : List (List Statement)) where
         ∙ ap (λ (text : List ℕ). text ++ begun.later) (sym (append-nil (this ++ line_feed ∷ [])))
         ∙ begun.text.text in
         let cut =
-        cut_line this (heading version) begun.later (lines_text begun.text.history) single (heading_whole version) log in
+        cut_line this (heading version) begun.later (lines_text begun.text.history) single (heading_whole version) log
+        in
         none after
         (is ∙ ap (λ (first : List ℕ). first ++ line_feed ∷ after) cut.0
         ∙ sym (append_assoc (heading version) (line_feed ∷ []) after)

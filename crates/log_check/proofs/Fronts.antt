@@ -1,5 +1,5 @@
 -- The next statement of a processor in a phase.
-use Rattle.std.proofs.Common.{ℕ, suc, ◌≡◌, ◌+◌, ◌<◌, List, ◌∷◌, length, drop, get_or, sym, ap, ◌∙◌, add-one}
+use Rattle.std.proofs.Common.{ℕ, suc, ◌≡◌, ◌<◌, List, length, drop, get_or, ◌∙◌, add-one}
 use Rattle.board_prelude.proofs.Common.{drop-cons, Statement, events_by}
 use Rattle.log_check.proofs.NextStatements.{events-own}
 use Rattle.std.proofs.lemmas.Option.{slice_get-get_or}

@@ -1,6 +1,6 @@
 -- A history that begins with the lines of another goes on from it, and a begun history can be completed.
 use Rattle.std.proofs.Common.{ℕ, zero, suc, ◌≡◌, ◌+◌, ◌-◌, ◌<◌, List, [], ◌∷◌, ◌++◌, length, reverse, All, refl, sym}
-use Rattle.std.proofs.Common.{ap, ◌∙◌, subst, inl, append-nil, add-one, arith, decimal}
+use Rattle.std.proofs.Common.{ap, ◌∙◌, inl, append-nil, add-one, arith, decimal}
 use Rattle.board_spec.proofs.ReplayLaws.{legal_before}
 use Rattle.board_prelude.proofs.Common.{reverse-reverse, Entry, Statement, Setup, IsLegal, IsBegunFor, IsCompleteFor}
 use Rattle.board_prelude.proofs.Common.{in_file_order, IsAddressed, OneReplay, space, line_feed, line_text, lines_text}

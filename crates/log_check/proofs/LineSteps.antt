@@ -1,14 +1,13 @@
 -- A line of a log: past it, or where the walk stops.
-use Rattle.std.proofs.Common.{ℕ, ◌≡◌, ◌≢◌, ◌+◌, ◌<◌, List, [], ◌∷◌, ◌++◌, length, All, refl, sym, ap, ◌∙◌, subst, inl}
-use Rattle.std.proofs.Common.{inr, append_assoc, arith, Option, Some, None, Result, Ok, Err, MatchResult}
+use Rattle.std.proofs.Common.{ℕ, ◌≡◌, ◌≢◌, ◌+◌, ◌<◌, List, [], ◌∷◌, ◌++◌, length, All, refl, sym, ap, ◌∙◌, inl, inr}
+use Rattle.std.proofs.Common.{append_assoc, arith, Option, Some, None, Result, Ok, Err, MatchResult}
 use Rattle.std.specs.Borrow.{Bor}
 use Rattle.std.specs.Result.{IsErrAnd}
 use Rattle.board_prelude.proofs.Common.{Event, Entry, Statement, Setup, IsNext, IsLegal, IsBegunFor, OneReplay}
 use Rattle.board_prelude.proofs.Common.{line_feed, line_text, log_text}
 use Rattle.log_check.specs.declared.fault.CheckFault.{CheckFault}
 use Rattle.log_check.specs.declared.fault.CheckFault.TheVariants.{Differs, NoMemory}
-use Rattle.log_check.specs.Common.{IsTyped, IsAtMostNext, IsAtLine, WalkPlace, IsWithin, IsPast, GoesOnWithNone}
-use Rattle.log_check.specs.Common.{StoppedCheck}
+use Rattle.log_check.specs.Common.{IsTyped, IsAtMostNext, WalkPlace, IsWithin, IsPast, GoesOnWithNone, StoppedCheck}
 use Rattle.script_spec.proofs.Common.{same_some}
 use Rattle.log_check.proofs.NextStatements.{same_next}
 use Rattle.log_check.proofs.LogLines.{log-newest}

@@ -1,11 +1,10 @@
 -- A whole check: passed, or where it fails.
-use Rattle.std.proofs.Common.{ℕ, ◌≡◌, ◌≢◌, ◌+◌, ◌≤◌, ◌⊎◌, List, [], ◌∷◌, ◌++◌, length, All, refl, sym, ap, ◌∙◌, subst}
-use Rattle.std.proofs.Common.{inl, inr, append-nil, arith, ◌==◌, true, false, Result, Ok, Err, MatchResult}
+use Rattle.std.proofs.Common.{ℕ, ◌≡◌, ◌≢◌, ◌+◌, ◌⊎◌, List, [], ◌∷◌, ◌++◌, length, All, refl, sym, ap, ◌∙◌, inl, inr}
+use Rattle.std.proofs.Common.{append-nil, arith, ◌==◌, true, false, Result, Ok, Err, MatchResult}
 use Rattle.board_prelude.proofs.Common.{eq-eqb, eqb-true, true≢false, All-nil, All-cons, All-head, All-tail, Event}
-use Rattle.board_prelude.proofs.Common.{Wide, Entry, Statement}
-use Rattle.board_prelude.proofs.Common.{Setup, IsInRange, IsLegal, IsBegunFor, IsCompleteFor, in_file_order}
-use Rattle.board_prelude.proofs.Common.{IsAddressed, OneReplay, log_text, complete_is_begun, begun_is_bounded}
-use Rattle.board_prelude.proofs.Common.{complete_is_whole, none_so_far}
+use Rattle.board_prelude.proofs.Common.{Wide, Entry, Statement, Setup, IsInRange, IsLegal, IsBegunFor, IsCompleteFor}
+use Rattle.board_prelude.proofs.Common.{in_file_order, IsAddressed, OneReplay, log_text, complete_is_begun}
+use Rattle.board_prelude.proofs.Common.{begun_is_bounded, complete_is_whole, none_so_far}
 use Rattle.board_spec.specs.declared.event.Event.TheVariants.{Look as LookAt}
 use Rattle.board_core.specs.Steps.{AreInRange}
 use Rattle.script_spec.specs.Checks.{IsLogOf}

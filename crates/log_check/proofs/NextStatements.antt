@@ -2,10 +2,10 @@
 use Rattle.std.proofs.Common.{ℕ, ◌≡◌, ◌≢◌, ◌+◌, ◌<◌, ◌≤◌, List, [], ◌∷◌, ◌++◌, length, drop, All, refl, sym, ap, ◌∙◌}
 use Rattle.std.proofs.Common.{subst, inl, inr, append_assoc, length-append, add-one, arith, ◌==◌}
 use Rattle.board_prelude.proofs.Common.{take-append_seam, drop-append_seam, cases_lt, cond-true, eq-eqb, ne_eqb}
-use Rattle.board_prelude.proofs.Common.{append_cancel_left, append-nil, All-head}
-use Rattle.board_prelude.proofs.Common.{All-tail, All-drop, Event, Entry, Statement, Setup, IsNext, IsLegal}
-use Rattle.board_prelude.proofs.Common.{statement_of, statements_of, entries_by, events_by, BeginsWith, IsFrontOfPhase}
-use Rattle.board_prelude.proofs.Common.{HasPhasesSoFar, IsBegunFor, in_file_order, OneReplay, statements-newest}
+use Rattle.board_prelude.proofs.Common.{append_cancel_left, append-nil, All-head, All-tail, All-drop, Event, Entry}
+use Rattle.board_prelude.proofs.Common.{Statement, Setup, IsNext, IsLegal, statement_of, statements_of, entries_by}
+use Rattle.board_prelude.proofs.Common.{events_by, IsFrontOfPhase, HasPhasesSoFar, IsBegunFor, in_file_order, OneReplay}
+use Rattle.board_prelude.proofs.Common.{statements-newest}
 use Rattle.std.proofs.lemmas.List.Elements.{All-take}
 use Rattle.board_spec.proofs.OrderLawProofs.{events-append}
 use Rattle.log_check.specs.Phases.{IsTyped}

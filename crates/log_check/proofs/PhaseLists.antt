@@ -1,5 +1,5 @@
 -- The phases of a script as lists.
-use Rattle.std.proofs.Common.{ℕ, suc, ◌≡◌, ◌+◌, ◌<◌, ◌≤◌, List, [], ◌∷◌, ◌++◌, length, take, drop, get_or, All, refl, ap}
+use Rattle.std.proofs.Common.{ℕ, ◌≡◌, ◌+◌, ◌<◌, ◌≤◌, List, [], ◌∷◌, ◌++◌, length, take, drop, get_or, All, refl, ap}
 use Rattle.std.proofs.Common.{sym, ◌∙◌, length-append, add-one, arith}
 use Rattle.board_prelude.proofs.Common.{Vec, Global, drop-cons, flat_map-append, map-append, take-append-drop}
 use Rattle.board_prelude.proofs.Common.{take_more, Statement, in_file_order}

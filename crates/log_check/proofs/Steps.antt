@@ -1,9 +1,9 @@
 -- The steps of a walk within a phase.
-use Rattle.std.proofs.Common.{ℕ, ◌≡◌, ◌≢◌, ◌+◌, ◌<◌, ◌≤◌, List, [], ◌∷◌, ◌++◌, length, All, refl, sym, ap, ◌∙◌, inl}
-use Rattle.std.proofs.Common.{inr, append_assoc, append-nil, length-append, arith}
+use Rattle.std.proofs.Common.{ℕ, ◌≡◌, ◌≢◌, ◌+◌, ◌<◌, ◌≤◌, List, [], ◌∷◌, ◌++◌, length, All, refl, sym, ◌∙◌, inl, inr}
+use Rattle.std.proofs.Common.{append_assoc, append-nil, length-append, arith}
 use Rattle.board_prelude.proofs.Common.{cases_eq, append_cancel_left, Event, Entry, Statement, statement_of}
-use Rattle.board_prelude.proofs.Common.{statements_of, events_by, IsFrontOfPhase, HasPhases, HasPhasesSoFar, IsBegunFor}
-use Rattle.board_prelude.proofs.Common.{IsCompleteFor, statements-newest}
+use Rattle.board_prelude.proofs.Common.{statements_of, events_by, IsFrontOfPhase, HasPhases, IsBegunFor, IsCompleteFor}
+use Rattle.board_prelude.proofs.Common.{statements-newest}
 use Rattle.log_check.specs.Common.{IsTyped, WalkPlace, IsWithin}
 use Rattle.log_check.proofs.PhaseCuts.{begun_joined, whole_joined, whole_left, begun_left, in_first_phase, full_phase}
 use Rattle.log_check.proofs.PhaseCuts.{phase_fits}
@@ -72,8 +72,8 @@ module _ (place : WalkPlace) (phase : List Statement) (left : ℕ → List Event
         (omega (arith, size)) (rw said at begun)))
 
     pub small_actor :
-        place.count < length phase → All IsTyped phase → IsBegunFor (place.done ++ phase ∷ place.later) (entry ∷ history)
-        → entry.actor < 256
+        place.count < length phase → All IsTyped phase →
+        IsBegunFor (place.done ++ phase ∷ place.later) (entry ∷ history) → entry.actor < 256
     small_actor short typed begun = known_first phase within.part last typed (next_first short begun)
 
     -- a processor that has nothing left has no entry that may come next

@@ -1,10 +1,9 @@
-use Rattle.std.proofs.Common.{ℕ, ◌≡◌, ◌+◌, ◌-◌, List, [], ◌∷◌, ◌++◌, length, refl, sym, ap, ◌∙◌}
-use Rattle.std.proofs.Common.{arith}
-use Rattle.board_prelude.proofs.Common.{All-head, Entry, line_feed, line_text, Statement, IsInRange, entries_by}
-use Rattle.board_prelude.proofs.Common.{next_entry}
+use Rattle.std.proofs.Common.{◌≡◌, ◌+◌, ◌-◌, [], ◌∷◌, length, refl, sym, ap, ◌∙◌, arith}
+use Rattle.board_prelude.proofs.Common.{All-head, Entry, Statement, IsInRange, next_entry}
 use Rattle.log_check.specs.Common.{left_of}
 use Rattle.log_check.proofs.NextStatements.{last_number}
-use Rattle.log_check.proofs.LineSteps.{Walk, Made, stops_unnamed, stops_idle, stops_without_memory, past_line, handed_on}
+use Rattle.log_check.proofs.LineSteps.{Walk, Made, stops_unnamed, stops_idle, stops_without_memory, past_line}
+use Rattle.log_check.proofs.LineSteps.{handed_on}
 use Rattle.log_check.specs.declared.fault.CheckFault.TheVariants.{NoMemory}
 use Rattle.log_check.proofs.check.check_line.Goals as goal
 
