@@ -83,7 +83,7 @@ claim-none :
     (setup : Setup) (bytes : Bytes) (addr : ℕ) → NoneClaims bytes addr (memory_windows_of setup bytes) →
     memory_claim setup bytes addr ≡ None
 unfolding memory_claim
-claim-none setup bytes addr none = find-none (claims bytes addr) (memory_windows_of setup bytes) none
+claim-none setup bytes addr none = find-none (claims bytes addr) _ none
 
 -- ---- the map
 

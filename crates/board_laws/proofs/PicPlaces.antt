@@ -62,8 +62,8 @@ found (suc d) i chip level h can at_place =
       | inl here ↦ rw (scan-found chip order i inside here) refl
       | inr none ↦ elim (cases_Bool (is_blocking chip other)) [
         | inl blocks ↦
-            let apart : other ≢ level = λ e. (let e' = ap (place_of chip.lowest) e in omega (arith, e', place)) in
-            absurd (let late = can.first other small apart blocks in omega (arith, late, place))
+            let late = can.first other small (λ e. omega (arith, ap (place_of chip.lowest) e, place)) blocks in
+            absurd (omega (arith, late, place))
         | inr idle ↦ rw (scan-past chip order i inside none idle) (found d (i + 1) chip level h can (omega arith))
       ]
     ]
@@ -123,13 +123,11 @@ interrupt_selected chip level h e =
         asks = grind (arith, nat_tests, first.asks);
         unmasked = interrupt_unmasked chip level e;
         free = first.free;
-        first = λ other inside apart blocks. elim (cases_lt (place_of chip.lowest level) (place_of chip.lowest other)) [
-          | inl after ↦ after
-          | inr not_after ↦ elim (cases_lt (place_of chip.lowest other) (place_of chip.lowest level)) [
-            | inl early ↦ absurd (false≢true (sym (quiet other inside early).idle ∙ blocks))
-            | inr late ↦ let same : other ≡ level = omega arith in absurd (apart same)
-          ]
-        ];
+        first = λ other inside apart blocks.
+            elim (cases_lt (place_of chip.lowest other) (place_of chip.lowest level)) [
+              | inl early ↦ absurd (false≢true (sym (quiet other inside early).idle ∙ blocks))
+              | inr late ↦ omega arith
+            ];
       };
       first = λ other can. elim (cases_lt (place_of chip.lowest other) (place_of chip.lowest level)) [
         | inl early ↦ absurd (let q = (quiet other can.inside early).silent in
@@ -158,9 +156,9 @@ served (suc d) i chip level h first at_place =
     let place : place_of chip.lowest other ≡ i = place_at chip.lowest i h before in
     elim (cases_Bool (is_blocking chip other)) [
       | inl blocks ↦
-          let apart : other ≢ level = λ e. (let e' = ap (place_of chip.lowest) e in omega (arith, e', place)) in
-          absurd (let late = first.first other (priority_order-small chip.lowest i h before) apart blocks in
-          omega (arith, late, place))
+          let small = priority_order-small chip.lowest i h before in
+          let late = first.first other small (λ e. omega (arith, ap (place_of chip.lowest) e, place)) blocks in
+          absurd (omega (arith, late, place))
       | inr idle ↦ find-past (is_blocking chip) order i inside idle ∙ served d (i + 1) chip level h first (omega arith)
     ]
 

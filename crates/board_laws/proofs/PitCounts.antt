@@ -59,28 +59,27 @@ element_is : (mode : Mode) (n : ℕ) (level : Bool) (c : CounterState) → is_pe
 element_is mode n level c p s = grind (arith, nat_tests)
 
 -- a counter that counts down from its load
-runs_down : (mode : Mode) (gate : Bool) (n : ℕ) (c : CounterState) → is_periodic mode ≡ false → IsOn mode gate c →
-    IsAtLoad mode n (level_of mode) c → (k : ℕ) → k < n → pulses_of gate k c ≡ phase c (n - k) (level_of mode)
-unfolding pulses_of
-runs_down mode gate n c p on s zero h =
-    sym (phase-self c (n - 0) (level_of mode) (element_is mode n _ c p s ∙ omega arith) s.out)
-runs_down mode gate n c p on s (suc k) h =
-    ap (pulse gate) (runs_down mode gate n c p on s k (omega arith))
-    ∙ counts mode gate n (n - k) c p on s (omega arith) ∙ ap (λ e. phase c e (level_of mode)) (omega arith)
+module _ (mode : Mode) (gate : Bool) (n : ℕ) (c : CounterState) (p : is_periodic mode ≡ false)
+    (on : IsOn mode gate c) (s : IsAtLoad mode (suc n) (level_of mode) c) where
+  runs_down : (k : ℕ) → k < suc n → pulses_of gate k c ≡ phase c (suc n - k) (level_of mode)
+  unfolding pulses_of
+  runs_down zero h =
+      sym (phase-self c (suc n - 0) (level_of mode) (element_is mode (suc n) _ c p s ∙ omega arith) s.out)
+  runs_down (suc k) h =
+      ap (pulse gate) (runs_down k (omega arith))
+      ∙ counts mode gate (suc n) (suc n - k) c p on s (omega arith) ∙ ap (λ e. phase c e (level_of mode)) (omega arith)
 
--- at the n-th pulse, and at each one after it
-at_end : (mode : Mode) (gate : Bool) (n : ℕ) (c : CounterState) → is_periodic mode ≡ false → IsOn mode gate c →
-    IsAtLoad mode (suc n) (level_of mode) c → HasEnded mode (not (level_of mode)) (pulses_of gate (suc n) c)
-unfolding pulses_of
-at_end mode gate n c p on s =
-    let last : suc n - n ≡ 1 = omega arith in
-    rw (runs_down mode gate (suc n) c p on s n (omega arith), last) (ends mode gate (suc n) c p on s)
+  -- at the last pulse, and at each one after it
+  at_end : HasEnded mode (not (level_of mode)) (pulses_of gate (suc n) c)
+  unfolding pulses_of
+  at_end =
+      let last : suc n - n ≡ 1 = omega arith in
+      rw (runs_down n (omega arith), last) (ends mode gate (suc n) c p on s)
 
-past_end : (mode : Mode) (gate : Bool) (n : ℕ) (c : CounterState) → is_periodic mode ≡ false → IsOn mode gate c →
-    IsAtLoad mode (suc n) (level_of mode) c → (k : ℕ) → HasEnded mode true (pulses_of gate (suc (suc (n + k))) c)
-unfolding pulses_of
-past_end mode gate n c p on s zero = rw (add-zero n) (stays mode gate _ _ p (at_end mode gate n c p on s))
-past_end mode gate n c p on s (suc k) = rw (add-suc n k) (stays mode gate _ _ p (past_end mode gate n c p on s k))
+  past_end : (k : ℕ) → HasEnded mode true (pulses_of gate (suc (suc (n + k))) c)
+  unfolding pulses_of
+  past_end zero = rw (add-zero n) (stays mode gate _ _ p at_end)
+  past_end (suc k) = rw (add-suc n k) (stays mode gate _ _ p (past_end k))
 
 record OneEnd (gate level : Bool) (n : ℕ) (c : CounterState) : Type 0 where
   before : (k : ℕ) → k < n → (pulses_of gate k c).out ≡ level
@@ -91,11 +90,11 @@ one_end : (mode : Mode) (gate : Bool) (n : ℕ) (c : CounterState) → is_period
     1 ≤ n → IsAtLoad mode n (level_of mode) c → OneEnd gate (level_of mode) n c
 one_end mode gate zero c p on least s = absurd (omega arith)
 one_end mode gate (suc n) c p on least s = record {
-  before = λ k below. ap (λ d. d.out) (runs_down mode gate (suc n) c p on s k below);
+  before = λ k below. ap (λ d. d.out) (runs_down mode gate n c p on s k below);
   now = (at_end mode gate n c p on s).out;
   after = λ k above.
       let is : k ≡ suc (suc (n + (k - suc (suc n)))) = omega arith in
-      ap (λ i. (pulses_of gate i c).out) is ∙ (past_end mode gate n c p on s (k - suc (suc n))).out;
+      rw is ((past_end mode gate n c p on s (k - suc (suc n))).out);
 }
 
 ends_once : (gate : Bool) (n : ℕ) (c : CounterState) → OneEnd gate false n c → EndsOnce gate n c

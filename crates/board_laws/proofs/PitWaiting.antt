@@ -1,7 +1,6 @@
 -- In modes 2 and 3 a count that is written waits for the next load.
-use Rattle.std.proofs.Common.{◌≡◌, ℕ, zero, suc, Bool, true, false, ◌⊎◌, inl, inr, Option, Some, unwrap_or, refl, ap}
-use Rattle.std.proofs.Common.{sym, ◌∙◌, arith}
-use Rattle.board_prelude.proofs.Common.{nat_tests, false≢true, Mode, RateGenerator, Access, CounterState, is_periodic}
+use Rattle.std.proofs.Common.{◌≡◌, ℕ, zero, suc, Bool, true, false, ◌⊎◌, inl, inr, Option, Some, unwrap_or, refl, arith}
+use Rattle.board_prelude.proofs.Common.{nat_tests, Mode, RateGenerator, Access, CounterState, is_periodic}
 use Rattle.board_prelude.proofs.Common.{is_terminal_count, asks_for_load, complete, take_low, take_byte, write, load}
 use Rattle.board_prelude.proofs.Common.{count_down, count_to_reload, half_end, count_half, pulse_by_mode, pulse}
 use Rattle.board_prelude.proofs.Common.{pulses_of}
@@ -100,18 +99,8 @@ after_write gate byte n k c p started count =
 
 pub count_waits : CountWaits
 count_waits c gate byte n k p started count waits =
-    elim ((after_write gate byte n k c p started count).1) [
-      | inl e ↦ record {
-        element = sym (ap (λ d. d.element) e);
-        in_use = sym (ap (λ d. d.in_use) e);
-        out = sym (ap (λ d. d.out) e);
-      }
-      | inr taken ↦ absurd (false≢true (sym taken.null ∙ waits))
-    ]
+    let now = (after_write gate byte n k c p started count).1 in grind (arith, nat_tests)
 
 pub count_is_taken : CountIsTaken
 count_is_taken c gate byte n m k p started count null is taken =
-    elim ((after_write gate byte n k c p started count).1) [
-      | inl e ↦ absurd (false≢true (sym taken ∙ ap (λ d. d.null_count) e ∙ null))
-      | inr loaded ↦ loaded.in_use ∙ ap (λ o. unwrap_or o 0) is
-    ]
+    let now = (after_write gate byte n k c p started count).1 in grind (arith, nat_tests)

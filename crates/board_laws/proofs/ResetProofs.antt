@@ -1,14 +1,14 @@
 -- A hard reset puts registers and devices in their reset state, and keeps what is stored.
-use Rattle.std.proofs.Common.{◌≡◌, ℕ, ◌+◌, ◌*◌, Bool, true, false, List, ◌∷◌, Option, None, is_some, arith, take, drop}
-use Rattle.std.proofs.Common.{refl, ◌∙◌, ap, unwrap_or}
+use Rattle.std.proofs.Common.{◌≡◌, ℕ, Bool, true, false, List, ◌∷◌, Option, None, is_some, arith, take, drop, refl, ap}
+use Rattle.std.proofs.Common.{unwrap_or}
 use Rattle.board_prelude.proofs.Common.{cond-true, nat_tests, false≢true, Width, PortAccess, Target, Device, bytes_of}
-use Rattle.board_prelude.proofs.Common.{Triggers, triggers_at_reset, Levels, no_levels, levels_where, Chip}
-use Rattle.board_prelude.proofs.Common.{chip_at_reset, chip_after_inputs, latches_after, Pair, pair_at_reset}
-use Rattle.board_prelude.proofs.Common.{master_inputs, pair_after_lines, levels_where-same, has-levels_where, Event}
-use Rattle.board_prelude.proofs.Common.{Port, Reply, Entry, Setup, reset_control_port, control_written, resets_hard}
-use Rattle.board_prelude.proofs.Common.{control_after, is_hard_reset, reset_control, config_address, byte_with, byte_of}
-use Rattle.board_prelude.proofs.Common.{Cell, port_put, entry_put, Bytes, Decoded, device, port_target_of, wire_set}
-use Rattle.board_prelude.proofs.Common.{line_set, wire_of, irq_of, triggers_of, plain_of, timer_of, clock_of, disk_with}
+use Rattle.board_prelude.proofs.Common.{triggers_at_reset, Levels, no_levels, levels_where, chip_at_reset}
+use Rattle.board_prelude.proofs.Common.{chip_after_inputs, latches_after, Pair, pair_at_reset, master_inputs}
+use Rattle.board_prelude.proofs.Common.{pair_after_lines, levels_where-same, has-levels_where, Event, Port, Reply}
+use Rattle.board_prelude.proofs.Common.{Entry, Setup, reset_control_port, control_written, resets_hard, control_after}
+use Rattle.board_prelude.proofs.Common.{is_hard_reset, reset_control, config_address, byte_with, byte_of, Cell}
+use Rattle.board_prelude.proofs.Common.{port_put, entry_put, Bytes, Decoded, device, port_target_of, wire_set, line_set}
+use Rattle.board_prelude.proofs.Common.{wire_of, irq_of, triggers_of, plain_of, timer_of, clock_of, disk_with}
 use Rattle.board_prelude.proofs.Common.{levels_of, elcr_of, pair_stepped, pair_reset_or_after, pair_of, port_answer}
 use Rattle.board_prelude.proofs.Common.{IsAnswer}
 use Rattle.board_base.specs.declared.target.Dev.TheVariants.{Reset as ResetPort}
@@ -31,17 +31,10 @@ chip-reset :
     chip_after_inputs (chip_at_reset has_slave inputs) inputs no_levels ≡ chip_at_reset has_slave inputs
 chip-reset has_slave inputs = grind (arith, nat_tests, chip_at_reset, no_levels, no_latches)
 
-pair_made : Chip → Chip → Pair
-pair_made master slave = record { master = master; slave = slave }
-
 -- no chip is ready after a reset, so that the slave's INT is 0
 pair-reset : (levels : List Bool) → pair_after_lines (pair_at_reset levels) levels 0 ≡ pair_at_reset levels
-unfolding levels_where pair_made
-pair-reset levels =
-    ap (λ (master : Chip). pair_made master
-    (chip_after_inputs (chip_at_reset false (drop 8 levels)) (drop 8 levels) no_levels))
-    (chip-reset true (master_inputs (take 8 levels)))
-    ∙ ap (pair_made (chip_at_reset true (master_inputs (take 8 levels)))) (chip-reset false (drop 8 levels))
+unfolding levels_where
+pair-reset levels = rw (chip-reset true (master_inputs (take 8 levels)), chip-reset false (drop 8 levels)) refl
 
 -- a hard reset is no event of pulses
 stepped-hard :
@@ -63,13 +56,11 @@ pair-hard :
     pair_of setup (entry ∷ before) ≡ pair_at_reset (levels_of setup (entry ∷ before))
 unfolding pair_of
 pair-hard setup before entry hard =
-    let levels : List Bool = levels_of setup (entry ∷ before) in
-    stepped-hard setup before entry entry.event (pair_of setup before) hard
-    ∙ ap (λ (pair : Pair). pair_after_lines pair levels (elcr_of (entry ∷ before)))
-    (cond-true (is_hard_reset before entry.event) (pair_at_reset levels) _ hard)
-    ∙ ap (λ (triggers : Triggers). pair_after_lines (pair_at_reset levels) levels
-    (triggers.low + 0x100 * triggers.high)) (triggers-reset before entry hard)
-    ∙ pair-reset levels
+    rw (
+      stepped-hard setup before entry entry.event (pair_of setup before) hard,
+      hard,
+      triggers-reset before entry hard,
+    ) (pair-reset (levels_of setup (entry ∷ before)))
 
 pub hard_reset_resets : HardResetResets
 unfolding byte_of config_address reset_control plain_of timer_of clock_of disk_with
@@ -118,11 +109,8 @@ nothing_put :
 unfolding port_answer
 nothing_put setup before (Port access) reply cell answer hard =
     let is = writes_control before access hard in
-    ap (λ (r : Reply). entry_put (Port access) r cell) answer
-    ∙ no_put access _ cell
-    (ap (λ (decoded : Decoded). decoded.target)
-    (decoded-reset setup (byte_of setup before) (config_address before)
-    (is_some setup.disk) access.port access.width is.port is.size))
+    rw answer (no_put access _ cell (ap (λ (decoded : Decoded). decoded.target)
+    (decoded-reset setup _ (config_address before) (is_some setup.disk) access.port access.width is.port is.size)))
 nothing_put setup before event reply cell answer hard = absurd (false≢true hard)
 
 wire-hard :

@@ -1,6 +1,6 @@
 -- A card's INTA# and the line to which it is routed.
-use Rattle.std.proofs.Common.{◌≡◌, ℕ, ◌≤◌, ◌<◌, inl, inr, Bool, true, false, ◌||◌, ◌&&◌, List, get_or, Option, Some}
-use Rattle.std.proofs.Common.{refl, sym, ◌∙◌, ap, subst, arith, ◌==◌}
+use Rattle.std.proofs.Common.{◌≡◌, ℕ, ◌≤◌, ◌<◌, inl, inr, Bool, true, false, ◌&&◌, List, get_or, Option, Some, refl}
+use Rattle.std.proofs.Common.{sym, ◌∙◌, subst, arith, ◌==◌}
 use Rattle.board_prelude.proofs.Common.{nat_tests, cases_Bool, and_parts, eq-eqb, eqb-true, drives, or_right}
 use Rattle.board_prelude.proofs.Common.{line_of_route, is_line_driven, Entry, Setup, pirq, byte_of, wire_of, timer_of}
 use Rattle.board_prelude.proofs.Common.{pirq_of_card, own_level, level_with, levels_with, levels_of, pirq_level}
@@ -35,22 +35,16 @@ abbrev pin_drives : Setup → List Entry → ℕ → ℕ → Bool
 pin_drives setup history line pin =
     drives (line_of_route (get_or (routes_of setup history) pin 0)) (get_or (pirq_levels history) pin false) line
 
-route-at :
-    (setup : Setup) (history : List Entry) (pin : ℕ) → pin < 4 →
-    get_or (routes_of setup history) pin 0 ≡ byte_of setup history (pirq pin)
-unfolding numbers_from
-route-at setup history pin below = map-number (λ k. byte_of setup history (pirq k)) 0 4 pin pin 0 below (omega arith)
-
-pirq-at : (history : List Entry) (pin : ℕ) → pin < 4 → get_or (pirq_levels history) pin false ≡ pirq_level history pin
-unfolding numbers_from
-pirq-at history pin below = map-number (pirq_level history) 0 4 pin pin false below (omega arith)
-
 pin-is :
     (setup : Setup) (history : List Entry) (line pin : ℕ) → pin < 4 →
     pin_drives setup history line pin
     ≡ drives (line_of_route (byte_of setup history (pirq pin))) (pirq_level history pin) line
+unfolding numbers_from
 pin-is setup history line pin below =
-    grind (arith, nat_tests, drives, line_of_route, get_or, pirq_levels, route-at, byte_of, pirq, pirq-at)
+    rw (
+      map-number (λ k. byte_of setup history (pirq k)) 0 4 pin pin 0 below (omega arith),
+      map-number (pirq_level history) 0 4 pin pin false below (omega arith),
+    ) refl
 
 record Driven (route : Option ℕ) (level : Bool) (line : ℕ) : Type 0 where
   pub routed : route ≡ Some line
@@ -68,9 +62,8 @@ wire_reaches_line setup history line dev below wire =
     let here : pin_drives setup history line pin ≡ true =
     pin-is setup history line pin (omega arith)
     ∙ rw (wire.routed, wire-pirq history dev wire.first wire.last wire.high) (eq-eqb line line refl) in
-    let driven : is_line_driven (routes_of setup history) (pirq_levels history) line ≡ true =
-    any-number (pin_drives setup history line) 0 4 pin (omega arith) (omega arith) here in
-    level-at setup history line below ∙ or_right (own_level setup history (timer_of history) line) _ driven
+    level-at setup history line below ∙ or_right (own_level setup history (timer_of history) line) _
+    (any-number (pin_drives setup history line) 0 4 pin (omega arith) (omega arith) here)
 
 some_wire :
     (setup : Setup) (history : List Entry) (line : ℕ) →
@@ -97,13 +90,8 @@ some_wire setup history line driven =
 
 pub line_has_driver : LineHasDriver
 line_has_driver setup history line below high =
-    let level : (own_level setup history (timer_of history) line || is_line_driven (routes_of setup history)
-    (pirq_levels history) line) ≡ true =
-    sym (level-at setup history line below) ∙ high in
+    let level = rw (level-at setup history line below) at high in
     elim (cases_Bool (own_level setup history (timer_of history) line)) [
       | inl own ↦ inl own
-      | inr not_own ↦
-          inr (some_wire setup history line
-          (sym (ap (λ (b : Bool). b || is_line_driven (routes_of setup history) (pirq_levels history) line) not_own)
-          ∙ level))
+      | inr not_own ↦ inr (some_wire setup history line (rw not_own at level))
     ]
