@@ -3,10 +3,10 @@ use Rattle.board_prelude.proofs.Common.{nat_tests, cases_Bool, All-nil, All-cons
 use Rattle.board_prelude.proofs.Common.{Dev, Target, Device, Denial, bytes_of, device_at, Memory, Wide, Port, Part}
 use Rattle.board_prelude.proofs.Common.{Reply, Bus, Entry, Setup, is_config_port, config_address, config_register}
 use Rattle.board_prelude.proofs.Common.{byte_of, Bytes, denial_in, denial_of, Decoded, config_port, device_port}
-use Rattle.board_prelude.proofs.Common.{port_target_of, is_write, longest_at, part_at, parts_from, target_at}
-use Rattle.board_prelude.proofs.Common.{memory_target, memory_denial, memory_answer, part_answer, port_answer}
-use Rattle.std.proofs.Common.{arith, ◌≡◌, ℕ, zero, suc, ◌+◌, ◌-◌, Bool, false, List, Option, None, is_some, sym, subst}
-use Rattle.std.proofs.Common.{inl, inr, ◌==◌, if◌then◌else◌, map, All}
+use Rattle.board_prelude.proofs.Common.{port_target_of, is_write, part_at, parts_from, target_at, memory_target}
+use Rattle.board_prelude.proofs.Common.{memory_denial, memory_answer, part_answer, port_answer}
+use Rattle.std.proofs.Common.{arith, ◌≡◌, ℕ, zero, suc, ◌-◌, Bool, false, List, Option, None, is_some, sym, subst, inl}
+use Rattle.std.proofs.Common.{inr, ◌==◌, if◌then◌else◌, map, All}
 use Rattle.board_base.specs.declared.access.Access.{Access}
 use Rattle.board_spec.specs.declared.event.Event.TheVariants.{Look as LookAt}
 use Rattle.board_laws.specs.DenialLaws.{IsDeniedExactly, DeniedOnBus, DeniedInParts}
@@ -96,15 +96,11 @@ denied_from :
 unfolding parts_from
 denied_from setup before access zero addr left = All-nil (IsRightPart (is_write access.kind))
 denied_from setup before access (suc most) addr left =
-    let width : Width = longest_at addr left in
-    let part : Access = part_at access addr width in
-    let later : List Access = parts_from access most (addr + bytes_of width) (left - bytes_of width) in
     elim (cases_Bool (left == 0)) [
       | inl none ↦ rw none (All-nil (IsRightPart (is_write access.kind)))
       | inr some ↦
-          rw some (All-cons (IsRightPart (is_write access.kind)) (part_answer setup before part)
-          (map (part_answer setup before) later) (denied_part setup before part)
-          (denied_from setup before access most (addr + bytes_of width) (left - bytes_of width)))
+          rw some (All-cons (IsRightPart (is_write access.kind)) _ _ (denied_part setup before (part_at access addr _))
+          (denied_from setup before access most _ _))
     ]
 
 pub denied_in_parts : DeniedInParts

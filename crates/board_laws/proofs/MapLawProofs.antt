@@ -1,7 +1,6 @@
 -- Histories with the same map writes have the same map.
-use Rattle.board_prelude.proofs.Common.{nat_tests, Kind, Area, MapChange, Setup, byte_of, registers_after, Bytes}
-use Rattle.board_prelude.proofs.Common.{area_of, MapRange, IsFlatMapOf, IsSpan, SameMapBytes, map_writes_decide}
-use Rattle.board_prelude.proofs.Common.{map_bytes_decide}
+use Rattle.board_prelude.proofs.Common.{nat_tests, Kind, MapChange, Setup, byte_of, registers_after, Bytes, area_of}
+use Rattle.board_prelude.proofs.Common.{SameMapBytes, map_writes_decide, map_bytes_decide}
 use Rattle.std.proofs.Common.{arith, ◌≡◌, ℕ, ◌∙◌, Bool, List, sym, ap}
 use Rattle.board_laws.specs.MapLaws.{MapWritesDecideMap}
 
@@ -9,17 +8,6 @@ use Rattle.board_laws.specs.MapLaws.{MapWritesDecideMap}
 abbrev SameAreas : Setup → (bytes other : Bytes) → Type 0
 SameAreas setup bytes other =
     (addr : ℕ) (kind : Kind) (smm : Bool) → area_of setup bytes addr kind smm ≡ area_of setup other addr kind smm
-
-same_span :
-    (setup : Setup) (bytes other : Bytes) → SameAreas setup bytes other →
-    (addr : ℕ) (kind : Kind) (smm : Bool) (lo hi : ℕ) (area : Area) →
-    IsSpan setup bytes addr kind smm lo hi area → IsSpan setup other addr kind smm lo hi area
-same_span setup bytes other same addr kind smm lo hi area span = grind (arith, nat_tests)
-
-same_flat_map :
-    (setup : Setup) (bytes other : Bytes) → SameAreas setup bytes other → (ranges : List MapRange) →
-    IsFlatMapOf setup bytes ranges → IsFlatMapOf setup other ranges
-same_flat_map setup bytes other same ranges map = grind (arith, nat_tests)
 
 pub map_writes_decide_map : MapWritesDecideMap
 map_writes_decide_map setup history other cards writes =
@@ -33,7 +21,6 @@ map_writes_decide_map setup history other cards writes =
     (map_bytes_decide setup (byte_of setup history) (byte_of setup other) cards bytes addr kind smm).0 in
     record {
       map_bytes = bytes;
-      spans = λ addr kind smm lo hi area span.
-          same_span setup (byte_of setup history) (byte_of setup other) areas addr kind smm lo hi area span;
-      flat_map = λ ranges map. same_flat_map setup (byte_of setup history) (byte_of setup other) areas ranges map;
+      spans = λ addr kind smm lo hi area span. grind (arith, nat_tests);
+      flat_map = λ ranges map. grind (arith, nat_tests);
     }

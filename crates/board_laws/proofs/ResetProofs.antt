@@ -1,16 +1,15 @@
 -- A hard reset puts registers and devices in their reset state, and keeps what is stored.
-use Rattle.std.proofs.Common.{◌≡◌, ℕ, Bool, true, false, List, ◌∷◌, Option, None, is_some, arith, take, drop, refl, ap}
+use Rattle.std.proofs.Common.{◌≡◌, ℕ, Bool, true, false, List, ◌∷◌, Option, None, is_some, arith, take, drop, refl}
 use Rattle.std.proofs.Common.{unwrap_or}
-use Rattle.board_prelude.proofs.Common.{cond-true, nat_tests, false≢true, Width, PortAccess, Target, Device, bytes_of}
+use Rattle.board_prelude.proofs.Common.{cond-true, nat_tests, false≢true, PortAccess, Device, bytes_of}
 use Rattle.board_prelude.proofs.Common.{triggers_at_reset, Levels, no_levels, levels_where, chip_at_reset}
 use Rattle.board_prelude.proofs.Common.{chip_after_inputs, latches_after, Pair, pair_at_reset, master_inputs}
 use Rattle.board_prelude.proofs.Common.{pair_after_lines, levels_where-same, has-levels_where, Event, Port, Reply}
 use Rattle.board_prelude.proofs.Common.{Entry, Setup, reset_control_port, control_written, resets_hard, control_after}
 use Rattle.board_prelude.proofs.Common.{is_hard_reset, reset_control, config_address, byte_with, byte_of, Cell}
-use Rattle.board_prelude.proofs.Common.{port_put, entry_put, Bytes, Decoded, device, port_target_of, wire_set, line_set}
-use Rattle.board_prelude.proofs.Common.{wire_of, irq_of, triggers_of, plain_of, timer_of, clock_of, disk_with}
-use Rattle.board_prelude.proofs.Common.{levels_of, elcr_of, pair_stepped, pair_reset_or_after, pair_of, port_answer}
-use Rattle.board_prelude.proofs.Common.{IsAnswer}
+use Rattle.board_prelude.proofs.Common.{port_put, entry_put, Bytes, device, port_target_of, wire_set, line_set, wire_of}
+use Rattle.board_prelude.proofs.Common.{irq_of, triggers_of, plain_of, timer_of, clock_of, disk_with, levels_of}
+use Rattle.board_prelude.proofs.Common.{elcr_of, pair_stepped, pair_reset_or_after, pair_of, port_answer, IsAnswer}
 use Rattle.board_base.specs.declared.target.Dev.TheVariants.{Reset as ResetPort}
 use Rattle.board_laws.specs.ResetLaws.{HardResetResets, HardResetKeeps}
 use Rattle.board_laws.proofs.StoredLaws.{stored-left}
@@ -81,26 +80,19 @@ hard_reset_resets setup before entry hard =
 
 -- ---- what stays
 
--- an event that writes the reset control register
-record WritesControl (access : PortAccess) : Type 0 where
-  pub port : access.port ≡ reset_control_port
-  pub size : bytes_of access.width ≡ 1
-
-writes_control :
-    (before : List Entry) (access : PortAccess) → is_hard_reset before (Port access) ≡ true → WritesControl access
-writes_control before access hard = grind (arith, nat_tests)
-
+-- such an event writes the reset control register
 decoded-reset :
-    (setup : Setup) (bytes : Bytes) (address : ℕ) (disk : Bool) (port : ℕ) (width : Width) →
-    port ≡ reset_control_port → bytes_of width ≡ 1 →
-    port_target_of setup bytes address disk port width ≡ device ResetPort
+    (setup : Setup) (before : List Entry) (access : PortAccess) (bytes : Bytes) (address : ℕ) (disk : Bool) →
+    is_hard_reset before (Port access) ≡ true →
+    port_target_of setup bytes address disk access.port access.width ≡ device ResetPort
 unfolding port_target_of
-decoded-reset setup bytes address disk port width is size = rw (is, size) refl
+decoded-reset setup before access bytes address disk hard =
+    let port : access.port ≡ reset_control_port = grind (arith, nat_tests) in
+    let size : bytes_of access.width ≡ 1 = grind (arith, nat_tests) in
+    rw (port, size) refl
 
-no_put :
-    (access : PortAccess) (target : Target) (cell : Cell) → target ≡ Device ResetPort →
-    port_put access target cell ≡ None
-no_put access target cell is = rw is (grind (arith, nat_tests))
+no_put : (access : PortAccess) (cell : Cell) → port_put access (Device ResetPort) cell ≡ None
+no_put access cell = grind (arith, nat_tests)
 
 nothing_put :
     (setup : Setup) (before : List Entry) (event : Event) (reply : Reply) (cell : Cell) →
@@ -108,9 +100,8 @@ nothing_put :
     is_hard_reset before event ≡ true → entry_put event reply cell ≡ None
 unfolding port_answer
 nothing_put setup before (Port access) reply cell answer hard =
-    let is = writes_control before access hard in
-    rw answer (no_put access _ cell (ap (λ (decoded : Decoded). decoded.target)
-    (decoded-reset setup _ (config_address before) (is_some setup.disk) access.port access.width is.port is.size)))
+    rw (answer, decoded-reset setup before access (byte_of setup before) (config_address before) (is_some setup.disk) hard)
+    (no_put access cell)
 nothing_put setup before event reply cell answer hard = absurd (false≢true hard)
 
 wire-hard :

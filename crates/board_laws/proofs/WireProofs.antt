@@ -1,6 +1,6 @@
 -- A card's INTA# and the line to which it is routed.
 use Rattle.std.proofs.Common.{◌≡◌, ℕ, ◌≤◌, ◌<◌, inl, inr, Bool, true, false, ◌&&◌, List, get_or, Option, Some, refl}
-use Rattle.std.proofs.Common.{sym, ◌∙◌, subst, arith, ◌==◌}
+use Rattle.std.proofs.Common.{◌∙◌, arith, ◌==◌}
 use Rattle.board_prelude.proofs.Common.{nat_tests, cases_Bool, and_parts, eq-eqb, eqb-true, drives, or_right}
 use Rattle.board_prelude.proofs.Common.{line_of_route, is_line_driven, Entry, Setup, pirq, byte_of, wire_of, timer_of}
 use Rattle.board_prelude.proofs.Common.{pirq_of_card, own_level, level_with, levels_with, levels_of, pirq_level}
@@ -71,12 +71,10 @@ some_wire :
 unfolding is_line_driven numbers_from
 some_wire setup history line driven =
     let pin = passing (pin_drives setup history line) 0 4 driven in
-    let pin_below : pin.number < 4 = let b = pin.below in omega arith in
-    let by = driven-by (line_of_route (byte_of setup history (pirq pin.number))) (pirq_level history pin.number) line
-    (sym (pin-is setup history line pin.number pin_below) ∙ pin.passes) in
+    let by = driven-by _ _ line (rw (pin-is setup history line pin.number pin.below) at pin.passes) in
     let wire = pirq-wire history pin.number by.high in
     let parts = and_parts (pirq_of_card wire.number == pin.number) (wire_of history wire.number) wire.passes in
-    let pirq_is : pirq_of_card wire.number ≡ pin.number = eqb-true (pirq_of_card wire.number) pin.number parts.0 in
+    let pirq_is = eqb-true (pirq_of_card wire.number) pin.number parts.0 in
     let last : wire.number < 10 = wire.below in
     record {
       dev = wire.number;
@@ -84,7 +82,7 @@ some_wire setup history line driven =
         first = wire.above;
         last = omega arith;
         high = parts.1;
-        routed = subst (λ (k : ℕ). line_of_route (byte_of setup history (pirq k)) ≡ Some line) (sym pirq_is) by.routed;
+        routed = rw pirq_is by.routed;
       };
     }
 
