@@ -1,11 +1,9 @@
 -- Cards: how much memory their bases decode, and where a card is put among the others.
-use Rattle.board_prelude.proofs.Common.{common_steps}
-use Rattle.board_prelude.proofs.Common.{nat_tests}
-use Rattle.std.proofs.Common.{◌≡◌, ℕ, ◌+◌, ◌<◌, ◌≤◌, not, List, length, map, take, get_or, sum_by, All, refl, subst}
-use Rattle.std.proofs.Common.{arith, lit<, lit≤, inl, inr, nat_lt, position, unwrap_or}
-use Rattle.board_prelude.proofs.Common.{position_or_len, cases_Bool, ltb-false, All-get_or, get_or-map, length-map}
-use Rattle.board_prelude.proofs.Common.{pow-le-pow_right, Base, MemoryBase, IoBase, OutsideBase, FittedCard, IsBase}
-use Rattle.board_prelude.proofs.Common.{IsCard, memory_size}
+use Rattle.board_prelude.proofs.Common.{common_steps, nat_tests, position_or_len, cases_Bool, ltb-false, All-get_or}
+use Rattle.board_prelude.proofs.Common.{get_or-map, length-map, pow-le-pow_right, Base, MemoryBase, IoBase, OutsideBase}
+use Rattle.board_prelude.proofs.Common.{FittedCard, IsBase, IsCard, memory_size}
+use Rattle.std.proofs.Common.{◌≡◌, ℕ, ◌+◌, ◌<◌, ◌≤◌, List, length, map, take, get_or, sum_by, All, subst, arith, lit<}
+use Rattle.std.proofs.Common.{lit≤, nat_lt, position, unwrap_or}
 use Rattle.std.proofs.lemmas.List.Sums.{sum_by-le, sum_by-take-le, sum_by_more, prefix_len-le-length}
 use Rattle.pci_bars.specs.declared.spec.BaseSpec.{BaseSpec}
 use Rattle.pci_bars.specs.Bases.{base_of}

@@ -1,10 +1,6 @@
 use Rattle.std.proofs.Common.{arith}
-use Rattle.board_prelude.proofs.Common.{common_steps}
-use Rattle.board_prelude.proofs.Common.{nat_tests}
-use Rattle.std.proofs.Common.{subst, Option, ℕ, IfSome}
-use Rattle.board_prelude.specs.Common.{Event}
-use Rattle.script_text.specs.Straight.{IsStraight}
-use Rattle.script_text.proofs.StraightLine.{line_taken, line_refused}
+use Rattle.board_prelude.proofs.Common.{common_steps, nat_tests}
+use Rattle.script_text.proofs.StraightLine.{line_taken}
 use Rattle.script_text.proofs.read.read_next.Goals as goal
 
 pub returns-in-Some-clause-read : goal.returns-in-Some-clause-read

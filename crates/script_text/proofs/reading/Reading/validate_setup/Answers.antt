@@ -1,7 +1,5 @@
 use Rattle.std.proofs.Common.{arith}
-use Rattle.board_prelude.proofs.Common.{common_steps}
-use Rattle.board_prelude.proofs.Common.{nat_tests}
-use Rattle.std.proofs.Common.{◌∙◌, true, false, sym}
+use Rattle.board_prelude.proofs.Common.{common_steps, nat_tests}
 use Rattle.script_text.proofs.Reasons.{misplaced, repeated, setup_place}
 use Rattle.script_text.proofs.reading.Reading.validate_setup.Goals as goal
 
