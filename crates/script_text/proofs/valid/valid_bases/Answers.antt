@@ -1,5 +1,4 @@
-use Rattle.board_prelude.proofs.Common.{common_steps}
-use Rattle.board_prelude.proofs.Common.{nat_tests}
+use Rattle.board_prelude.proofs.Common.{common_steps, nat_tests}
 use Rattle.std.proofs.Common.{arith}
 use Rattle.script_text.proofs.BaseRuns.{base_read, base_added, base_refused}
 use Rattle.script_text.proofs.valid.valid_bases.Goals as goal

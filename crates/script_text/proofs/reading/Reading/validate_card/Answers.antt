@@ -1,6 +1,5 @@
 use Rattle.std.proofs.Common.{◌+◌, ◌∙◌, length, sum_by, refl, sym, ap, arith}
-use Rattle.board_spec.specs.Setup.{memory_size}
-use Rattle.board_spec.specs.Setup.{FittedCard}
+use Rattle.board_spec.specs.Setup.{memory_size, FittedCard}
 use Rattle.script_spec.specs.Common.{FitCard, is_card_in_range}
 use Rattle.script_lines.specs.Items.{card_said}
 use Rattle.script_text.proofs.Reasons.{out_of_range, past_limit, no_reason, none_in_case, some_in_case, limits_with}
