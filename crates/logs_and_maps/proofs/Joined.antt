@@ -1,9 +1,8 @@
 -- What two calls in a row append. In the second lemma the last call may still fail.
-use Rattle.board_prelude.specs.Common.{Event, value_bytes}
+use Rattle.board_prelude.specs.Common.{Event, value_bytes, Entry, Wide, WideAccess, event_text, hex_long, is_write}
+use Rattle.board_prelude.specs.Common.{kind_text, line_text, reply_text, size_text, smm_text, space, written_text}
 use Rattle.std.proofs.Common.{◌∷◌, ◌≡◌, ℕ, ◌++◌, List, Result, Ok, Err, OnOk, ap, sym, ◌∙◌, append_assoc, codes}
 use Rattle.std.proofs.Common.{decimal, OnErr}
-use Rattle.board_prelude.specs.Common.{Entry, Wide, WideAccess, event_text, hex_long, is_write, kind_text, line_text}
-use Rattle.board_prelude.specs.Common.{reply_text, size_text, smm_text, space, written_text}
 use Rattle.logs_and_maps.specs.Adds.{IsFront}
 
 pub appended_more :
