@@ -1,6 +1,6 @@
 -- What the record of a part names is this part.
 use Rattle.std.proofs.Common.{◌≡◌, zero, suc, Option, Some, None, refl, arith}
-use Rattle.board_prelude.proofs.Common.{lt-ltb, Dev, Area, Target, Denial, Register, Confadd, NoRegister, Reg, Part}
+use Rattle.board_prelude.proofs.Common.{lt-ltb, Dev, Area, Target, Denial, Register, Confadd, NoRegister, Part}
 use Rattle.board_base.specs.declared.target.Dev.TheVariants as devices
 use Rattle.board_base.specs.declared.target.Area.TheVariants as areas
 use Rattle.board_base.specs.declared.target.Target.TheVariants as targets
@@ -18,15 +18,10 @@ device_back (devices.Spurious (suc zero)) fits = refl
 device_back (devices.Spurious (suc (suc chip))) fits = absurd (omega (arith, fits))
 device_back _ fits = refl
 
-register_back : (reg : Reg) → FitsTarget (targets.Config reg)
-    → target_recorded (target_said (targets.Config reg)) ≡ Some (targets.Config reg)
-unfolding target_recorded config_recorded
-register_back reg fits = rw (lt-ltb reg.off 256 fits.2) refl
-
 target_back : (target : Target) → FitsTarget target → target_recorded (target_said target) ≡ Some target
-unfolding target_recorded
+unfolding target_recorded config_recorded
 target_back (targets.Device dev) fits = rw (device_back dev fits) refl
-target_back (targets.Config reg) fits = register_back reg fits
+target_back (targets.Config reg) fits = rw (lt-ltb reg.off 256 fits.2) refl
 target_back _ fits = refl
 
 -- a denial leaves what answered as it is
