@@ -1,6 +1,6 @@
 -- What the record of a part names is this part.
-use Rattle.std.proofs.Common.{◌≡◌, zero, suc, Option, Some, None, refl, arith}
-use Rattle.board_prelude.proofs.Common.{lt-ltb, Dev, Area, Target, Denial, Register, Confadd, NoRegister, Part}
+use Rattle.std.proofs.Common.{◌≡◌, zero, suc, Option, Some, refl, arith}
+use Rattle.board_prelude.proofs.Common.{lt-ltb, nat_tests, Dev, Area, Target, Denial, Register, Part}
 use Rattle.board_base.specs.declared.target.Dev.TheVariants as devices
 use Rattle.board_base.specs.declared.target.Area.TheVariants as areas
 use Rattle.board_base.specs.declared.target.Target.TheVariants as targets
@@ -40,15 +40,11 @@ unreserved (targets.Dram row) = refl
 unreserved _ = refl
 
 not_reserved : (target : Target) (denial : Option Denial) → (with_denial (target_said target) denial).reserved ≡ 0
-not_reserved target (Some (Register reg)) = unreserved target
-not_reserved target _ = unreserved target
+not_reserved target denial = grind (arith, nat_tests, unreserved target)
 
 denial_back : (target : Target) (denial : Option Denial) → denial_recorded (part_said target denial) ≡ Some denial
 unfolding denial_recorded part_said
-denial_back target None = rw (not_denied target) refl
-denial_back target (Some (Register reg)) = refl
-denial_back target (Some Confadd) = refl
-denial_back target (Some NoRegister) = refl
+denial_back target denial = grind (arith, nat_tests, not_denied target)
 
 pub part_back : (part : Part) → FitsPart part → part_recorded (of_part part) ≡ Some part
 unfolding part_recorded part_said

@@ -1,8 +1,8 @@
 -- What the record of a reply says is this reply.
 use Rattle.std.proofs.Common.{◌≡◌, ℕ, ◌<◌, ◌≤◌, ◌^◌, Bool, false, Option, Some, None, length, All, refl, arith, lit<}
 use Rattle.std.proofs.Common.{IfSome}
-use Rattle.board_prelude.proofs.Common.{lt-ltb, Dev, Target, Device, Denial, bytes_of, Event, Memory, Wide, Port, Ack}
-use Rattle.board_prelude.proofs.Common.{Parts, Two, Three, Four, Look, Reply, Bus, Saw, is_write, outside_answer}
+use Rattle.board_prelude.proofs.Common.{nat_tests, Dev, Target, Device, Denial, bytes_of, Event, Memory, Wide, Port}
+use Rattle.board_prelude.proofs.Common.{Ack, Parts, Two, Three, Four, Look, Reply, Bus, Saw, is_write, outside_answer}
 use Rattle.board_prelude.proofs.Common.{answers_outside, parts_list, parts_of as cut_of, bytes_few}
 use Rattle.board_spec.specs.declared.event.Event.TheVariants.{Look as LookAt}
 use Rattle.board_spec.specs.declared.event.Reply.TheVariants.{Parts as InParts}
@@ -21,9 +21,8 @@ cycle_back : (value : Option ℕ) (target : Target) (denial : Option Denial) (af
     IfSome value (λ v. v < 2 ^ 32) → FitsPart (record { target = target; denial = denial }) →
     reply_recorded (bus_said value target denial after) ≡ Some (Bus value target denial)
 unfolding reply_recorded form_recorded bus_recorded cycle_value_recorded bus_said blank
-cycle_back None target denial after small fits = rw (part_back (record { target = target; denial = denial }) fits) refl
-cycle_back (Some value) target denial after small fits =
-    rw (lt-ltb value (2 ^ 32) small, part_back (record { target = target; denial = denial }) fits) refl
+cycle_back value target denial after small fits =
+    grind (arith, nat_tests, part_back (record { target = target; denial = denial }) fits)
 
 area_seen : (look : Look) (after : AfterStep) → reply_recorded (look_said look after) ≡ Some (Saw look)
 unfolding reply_recorded form_recorded look_recorded look_said blank
@@ -33,28 +32,25 @@ wide_back : (parts : Parts) (value : Option ℕ) (after : AfterStep) → All Fit
     reply_recorded (wide_said parts value after) ≡ Some (InParts parts value)
 unfolding reply_recorded form_recorded wide_recorded parts_recorded two_parts_recorded three_parts_recorded
     four_parts_recorded wide_said blank
-wide_back (Two a b) None after fits =
-    rw (part_back a (fits 0 a (lit< tt)), part_back b (fits 1 a (lit< tt))) refl
-wide_back (Two a b) (Some value) after fits =
-    rw (part_back a (fits 0 a (lit< tt)), part_back b (fits 1 a (lit< tt))) refl
-wide_back (Three a b c) None after fits =
-    rw (part_back a (fits 0 a (lit< tt)), part_back b (fits 1 a (lit< tt)), part_back c (fits 2 a (lit< tt))) refl
-wide_back (Three a b c) (Some value) after fits =
-    rw (part_back a (fits 0 a (lit< tt)), part_back b (fits 1 a (lit< tt)), part_back c (fits 2 a (lit< tt))) refl
-wide_back (Four a b c d) None after fits =
-    rw (
+wide_back (Two a b) value after fits =
+    grind (arith, nat_tests, part_back a (fits 0 a (lit< tt)), part_back b (fits 1 a (lit< tt)))
+wide_back (Three a b c) value after fits =
+    grind (
+      arith,
+      nat_tests,
+      part_back a (fits 0 a (lit< tt)),
+      part_back b (fits 1 a (lit< tt)),
+      part_back c (fits 2 a (lit< tt)),
+    )
+wide_back (Four a b c d) value after fits =
+    grind (
+      arith,
+      nat_tests,
       part_back a (fits 0 a (lit< tt)),
       part_back b (fits 1 a (lit< tt)),
       part_back c (fits 2 a (lit< tt)),
       part_back d (fits 3 a (lit< tt)),
-    ) refl
-wide_back (Four a b c d) (Some value) after fits =
-    rw (
-      part_back a (fits 0 a (lit< tt)),
-      part_back b (fits 1 a (lit< tt)),
-      part_back c (fits 2 a (lit< tt)),
-      part_back d (fits 3 a (lit< tt)),
-    ) refl
+    )
 
 -- ---- by the event
 
