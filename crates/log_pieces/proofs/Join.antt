@@ -1,6 +1,6 @@
 -- Pieces that are joined in their order.
-use Rattle.std.proofs.Common.{◌≡◌, ℕ, ◌+◌, ◌*◌, ◌-◌, ◌<◌, ◌≤◌, ◌++◌, List, [], ◌∷◌, length, get_or, take, drop, refl}
-use Rattle.std.proofs.Common.{sym, ap, ◌∙◌, subst, append_assoc, append-nil, arith, inl, inr, Result, Ok, Err, IfOk}
+use Rattle.std.proofs.Common.{sym, ap, ◌≡◌, ℕ, ◌+◌, ◌*◌, ◌-◌, ◌<◌, ◌≤◌, ◌++◌, List, [], ◌∷◌, length, get_or, take, drop}
+use Rattle.std.proofs.Common.{refl, ◌∙◌, subst, append_assoc, append-nil, arith, inl, inr, Result, Ok, Err, IfOk}
 use Rattle.std.proofs.Common.{string_bytes, String, reverse}
 use Rattle.board_prelude.proofs.Common.{Global, cases_lt, drop_all, take_all, length-take-le, length-append}
 use Rattle.board_prelude.proofs.Common.{length-drop, get_or-drop, get_or-append_seam, Entry, line_feed, line_text}
@@ -17,12 +17,9 @@ lines_after :
     (take size (drop n entries))
 unfolding lines_from
 lines_after n size entries = elim (cases_lt (length entries) n) [
-  | inl past ↦
-      let none : take size (drop n entries) ≡ [] =
-      ap (take size) (drop_all n entries (omega (arith, past))) ∙ take_all size [] (omega arith) in
-      rw none refl
-  | inr inside ↦ ap (λ (first : ℕ). lines_from first (take size (drop n entries)))
-      (ap (λ (k : ℕ). 1 + k) (length-take-le n entries inside) ∙ omega arith)
+  | inl past ↦ rw (drop_all n entries (omega (arith, past)), take_all {A = Entry} size [] (omega arith)) refl
+  | inr inside ↦ rw (length-take-le n entries inside)
+      (ap (λ (first : ℕ). lines_from first (take size (drop n entries))) (omega arith))
 ]
 
 lines_more :
@@ -30,15 +27,15 @@ lines_more :
     → lines_from 1 (take (n + size) entries)
     ≡ lines_from 1 (take n entries) ++ lines_from (n + 1) (take size (drop n entries))
 lines_more n size entries =
-    ap (lines_from 1) (take-add n size entries)
-    ∙ lines_of_parts 1 (take n entries) (take size (drop n entries))
-    ∙ ap (λ (lines : List ℕ). lines_from 1 (take n entries) ++ lines) (lines_after n size entries)
+    rw (
+      take-add n size entries,
+      lines_of_parts 1 (take n entries) (take size (drop n entries)),
+      lines_after n size entries,
+    ) refl
 
 pub no_lines : (text : List ℕ) (size : ℕ) (entries : List Entry) → text ≡ text ++ lines_from 1 (take (0 * size) entries)
 unfolding lines_from
-no_lines text size entries =
-    let none : 0 ≡ 0 * size = omega arith in
-    sym (append-nil text) ∙ ap (λ (n : ℕ). text ++ lines_from 1 (take n entries)) none
+no_lines text size entries = let none : 0 * size ≡ 0 = omega arith in rw (none, append-nil text) refl
 
 piece_at :
     (size : ℕ) (entries : List Entry) (done rest : List Piece) (lines : String Global) (piece : Piece)
@@ -73,9 +70,7 @@ pub log_of_lines :
     → before ≡ [] → heading ≡ before ++ log_text version [] → text ≡ heading ++ lines_from 1 entries
     → text ≡ log_text version (reverse entries)
 log_of_lines version entries before heading text none first lines =
-    lines
-    ∙ ap (λ (t : List ℕ). t ++ lines_from 1 entries) (first ∙ ap (λ (t : List ℕ). t ++ log_text version []) none)
-    ∙ sym (log_text-lines version entries)
+    rw (lines, first, none, log_text-lines version entries) refl
 
 pub whole_of_lines :
     {E : Type 0} (version : ℕ) (entries : List Entry) (before heading text : List ℕ) (result : Result (List ℕ) E)
@@ -89,9 +84,7 @@ whole_of_lines version entries before heading text (Err fault) none first lines 
 pub no_lines_between : (start : ℕ) (entries : List Entry) (text : List ℕ) →
     text ≡ text ++ lines_from (start + 1) (take (start - start) (drop start entries))
 unfolding lines_from
-no_lines_between start entries text =
-    let none : 0 ≡ start - start = omega arith in
-    sym (append-nil text) ∙ ap (λ (n : ℕ). text ++ lines_from (start + 1) (take n (drop start entries))) none
+no_lines_between start entries text = let none : start - start ≡ 0 = omega arith in rw (none, append-nil text) refl
 
 -- the line of the entry at i makes the lines from a place on one entry longer
 pub line_added : (start i : ℕ) (entries : List Entry) (line : Entry) → start ≤ i → i < length entries
@@ -100,13 +93,9 @@ pub line_added : (start i : ℕ) (entries : List Entry) (line : Entry) → start
     → new ≡ lines ++ (line_text (i + 1) line ++ line_feed ∷ [])
     → new ≡ old ++ lines_from (start + 1) (take (i + 1 - start) (drop start entries))
 line_added start i entries line later inside own old lines new so_far added =
-    let rest : List Entry = drop start entries in
     let place : start + (i - start) ≡ i = omega (arith, later) in
-    let within : i - start < length rest = omega (arith, length-drop start entries, inside, later) in
-    let own_is : get_or rest (i - start) line ≡ line =
-    get_or-drop start entries (i - start) line ∙ ap (λ (n : ℕ). get_or entries n line) place ∙ own in
     let number : start + 1 + (i - start) ≡ i + 1 = omega (arith, later) in
-    let size : i - start + 1 ≡ i + 1 - start = omega (arith, later) in
-    appended_line (start + 1) rest (i - start) line within old lines new so_far
-    (added ∙ (λ t. lines ++ (line_text (sym number t) (sym own_is t) ++ line_feed ∷ [])))
-    ∙ ap (λ (n : ℕ). old ++ lines_from (start + 1) (take n rest)) size
+    let size : i + 1 - start ≡ i - start + 1 = omega (arith, later) in
+    rw size (appended_line (start + 1) (drop start entries) (i - start) line
+    (omega (arith, length-drop start entries, inside, later)) old lines new so_far
+    (rw (number, get_or-drop start entries (i - start) line, place, own) added))

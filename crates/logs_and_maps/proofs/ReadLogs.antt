@@ -108,7 +108,10 @@ bad_heading bytes none = record {
   rest = bytes;
   cut = refl;
   place = refl;
-  begun = record { later = log_text 1 []; text = some_log 1 [] (log_text 1 []) (inl refl) (All-nil (IsWellFormed 1)) refl };
+  begun = record {
+    later = log_text 1 [];
+    text = some_log 1 [] (log_text 1 []) (inl refl) (All-nil (IsWellFormed 1)) refl;
+  };
   leaves = λ this after one is begun.
       let log = begun.text.log in
       let on = begins (this ∷ []) begun.later begun.text.version begun.text.entries

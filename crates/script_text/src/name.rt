@@ -20,6 +20,7 @@ impl Model for Name {
 
 impl Name {
     /// The name with these bytes, which are all ASCII.
+    #[tactic(auto, using(crate::proofs::NameLemmas::name_is_text))]
     pub fn new(alloc: Global, bytes: &[u8]) -> Result<Name, AllocError>
         requires { IsName bytes.now }
         ensures name { IfOk result (λ name. name ≡ bytes.now) }

@@ -43,6 +43,7 @@ fn push_statement(phases: &mut Vec<Vec<Statement>>, statement: Statement) -> Res
 }
 
 impl Reading {
+    #[tactic(auto, using(crate::proofs::TakenSetup::cpus_taken))]
     fn take_cpus(&mut self, count: u8)
         ensures taken { Takes self.old (SetCpus count) self.new }
     {
