@@ -1,12 +1,12 @@
 -- Each line of the memory map, and what follows where the lines before it do not hold.
-use Rattle.std.proofs.Common.{◌≡◌, ℕ, ◌<◌, Bool, true, false, List, [], ◌∷◌, ◌++◌, Option, Some, None, option_map}
-use Rattle.std.proofs.Common.{is_some, refl, ◌∙◌, ap, find, unwrap_or, All, arith, ◌&&◌, not}
+use Rattle.std.proofs.Common.{◌≡◌, ℕ, ◌<◌, Bool, true, false, List, [], ◌∷◌, ◌++◌, Some, None, option_map, is_some}
+use Rattle.std.proofs.Common.{refl, ◌∙◌, ap, find, All, arith, ◌&&◌, not}
 use Rattle.board_prelude.proofs.Common.{nat_tests, All-head, All-tail, Kind, Setup, Bytes, top_of, row_of, Window}
 use Rattle.board_prelude.proofs.Common.{memory_claim, area_of, first_of, line_where, card_area, is_bios_selected}
 use Rattle.board_prelude.proofs.Common.{is_smram_range, upper_memory, is_smram_open, is_shadowed, lies_in, is_in_hole}
 use Rattle.board_base.specs.declared.target.Area.TheVariants.{Rom, Abort}
 use Rattle.std.proofs.lemmas.Bool.{false_from_ne_true}
-use Rattle.board_laws.specs.AreaLaws.{IsRow, IsInSmram, IsInShadow, IsInDram, IsPastDram, claims, memory_windows_of}
+use Rattle.board_laws.specs.AreaLaws.{IsInSmram, IsInShadow, IsInDram, IsPastDram, claims, memory_windows_of}
 use Rattle.board_laws.specs.AreaLaws.{NoneClaims, WhoAnswers}
 use Rattle.board_laws.proofs.AreaProofs.{row-is, row_below_top, is_some-row}
 
@@ -23,47 +23,31 @@ abbrev dram_line : Bytes → ℕ → Bool
 dram_line bytes addr =
     not (lies_in upper_memory addr) && is_some (row_of bytes addr) && not (is_in_hole bytes addr)
 
--- ---- the lines that hold
+module _ (bytes : Bytes) (addr : ℕ) where
+  below_some : addr < top_of bytes → is_some (row_of bytes addr) ≡ true
+  below_some below = let has = row_below_top bytes addr below in ap is_some (row-is bytes addr has.row has.is)
 
-below_some : (bytes : Bytes) (addr : ℕ) → addr < top_of bytes → is_some (row_of bytes addr) ≡ true
-below_some bytes addr below = let has = row_below_top bytes addr below in ap is_some (row-is bytes addr has.row has.is)
+  -- ---- the lines that hold
 
-smram_holds :
-    (bytes : Bytes) (addr : ℕ) (kind : Kind) (smm : Bool) → IsInSmram bytes addr kind smm →
-    smram_line bytes addr kind smm ≡ true
-smram_holds bytes addr kind smm is = rw (is.range, below_some bytes addr is.below_top) is.opened
+  smram_holds : (kind : Kind) (smm : Bool) → IsInSmram bytes addr kind smm → smram_line bytes addr kind smm ≡ true
+  smram_holds kind smm is = rw (is.range, below_some is.below_top) is.opened
 
-shadow_holds :
-    (bytes : Bytes) (addr : ℕ) (kind : Kind) → IsInShadow bytes addr kind → shadow_line bytes addr kind ≡ true
-shadow_holds bytes addr kind is = rw (below_some bytes addr is.below_top) is.opened
+  shadow_holds : (kind : Kind) → IsInShadow bytes addr kind → shadow_line bytes addr kind ≡ true
+  shadow_holds kind is = rw (below_some is.below_top) is.opened
 
-dram_holds : (bytes : Bytes) (addr : ℕ) → IsInDram bytes addr → dram_line bytes addr ≡ true
-dram_holds bytes addr is = rw (is.range, below_some bytes addr is.below_top, is.outside_hole) refl
+  dram_holds : IsInDram bytes addr → dram_line bytes addr ≡ true
+  dram_holds is = rw (is.range, below_some is.below_top, is.outside_hole) refl
 
--- ---- the lines that do not
+  -- ---- the lines that do not
 
-no_smram_line :
-    (bytes : Bytes) (addr : ℕ) (kind : Kind) (smm : Bool) → ¬ IsInSmram bytes addr kind smm →
-    smram_line bytes addr kind smm ≡ false
-no_smram_line bytes addr kind smm never = false_from_ne_true _ (λ holds. never (record {
-  range = grind (arith, nat_tests);
-  below_top = is_some-row bytes addr (grind (arith, nat_tests));
-  opened = grind (arith, nat_tests);
-}))
+  no_smram_line : (kind : Kind) (smm : Bool) → ¬ IsInSmram bytes addr kind smm → smram_line bytes addr kind smm ≡ false
+  no_smram_line kind smm never = grind (arith, nat_tests, false_from_ne_true, is_some-row)
 
-no_shadow_line :
-    (bytes : Bytes) (addr : ℕ) (kind : Kind) → ¬ IsInShadow bytes addr kind → shadow_line bytes addr kind ≡ false
-no_shadow_line bytes addr kind never = false_from_ne_true _ (λ holds. never (record {
-  below_top = is_some-row bytes addr (grind (arith, nat_tests));
-  opened = grind (arith, nat_tests);
-}))
+  no_shadow_line : (kind : Kind) → ¬ IsInShadow bytes addr kind → shadow_line bytes addr kind ≡ false
+  no_shadow_line kind never = grind (arith, nat_tests, false_from_ne_true, is_some-row)
 
-no_dram_line : (bytes : Bytes) (addr : ℕ) → ¬ IsInDram bytes addr → dram_line bytes addr ≡ false
-no_dram_line bytes addr never = false_from_ne_true _ (λ holds. never (record {
-  below_top = is_some-row bytes addr (grind (arith, nat_tests));
-  range = grind (arith, nat_tests);
-  outside_hole = grind (arith, nat_tests);
-}))
+  no_dram_line : ¬ IsInDram bytes addr → dram_line bytes addr ≡ false
+  no_dram_line never = grind (arith, nat_tests, false_from_ne_true, is_some-row)
 
 -- ---- the cards
 
@@ -84,23 +68,18 @@ find-none test (other ∷ later) fail =
 
 claim-first :
     (setup : Setup) (bytes : Bytes) (addr : ℕ) (earlier later : List Window) (window : Window) →
-    memory_windows_of setup bytes ≡ earlier ++ window ∷ later → NoneClaims bytes addr earlier → claims bytes addr window
-    ≡ true →
-    memory_claim setup bytes addr ≡ Some window
+    memory_windows_of setup bytes ≡ earlier ++ window ∷ later → NoneClaims bytes addr earlier →
+    claims bytes addr window ≡ true → memory_claim setup bytes addr ≡ Some window
 unfolding memory_claim
-claim-first setup bytes addr earlier later window are none here =
-    ap (find (claims bytes addr)) are ∙ find-first (claims bytes addr) earlier later window none here
+claim-first setup bytes addr earlier later window are none here = grind (arith, nat_tests, find, find-first)
 
 claim-none :
     (setup : Setup) (bytes : Bytes) (addr : ℕ) → NoneClaims bytes addr (memory_windows_of setup bytes) →
     memory_claim setup bytes addr ≡ None
 unfolding memory_claim
-claim-none setup bytes addr none = find-none (claims bytes addr) (memory_windows_of setup bytes) none
+claim-none setup bytes addr none = find-none (claims bytes addr) _ none
 
 -- ---- the map
-
-row_read : (bytes : Bytes) (addr row : ℕ) → IsRow bytes addr row → unwrap_or (row_of bytes addr) 0 ≡ row
-row_read bytes addr row is = ap (λ (r : Option ℕ). unwrap_or r 0) (row-is bytes addr row is)
 
 past_dram :
     (setup : Setup) (bytes : Bytes) (addr : ℕ) (kind : Kind) (smm : Bool) → IsPastDram bytes addr kind smm →
@@ -122,12 +101,12 @@ who_answers setup bytes addr kind smm = record {
   in_shadow = λ row here is.
       let opened = is.opened in
       let outside : smram_line bytes addr kind smm ≡ false = grind (arith, nat_tests) in
-      rw (outside, shadow_holds bytes addr kind is, row_read bytes addr row here) refl;
+      rw (outside, shadow_holds bytes addr kind is, row-is bytes addr row here) refl;
   in_dram = λ row here is.
       let range = is.range in
       let outside : smram_line bytes addr kind smm ≡ false = grind (arith, nat_tests) in
       let closed : shadow_line bytes addr kind ≡ false = grind (arith, nat_tests) in
-      rw (outside, closed, dram_holds bytes addr is, row_read bytes addr row here) refl;
+      rw (outside, closed, dram_holds bytes addr is, row-is bytes addr row here) refl;
   in_rom = λ past selected. past_dram setup bytes addr kind smm past ∙ rw selected refl;
   in_card = λ earlier later window past are none here.
       past_dram setup bytes addr kind smm past.past

@@ -1,20 +1,15 @@
 -- Who answers at an address of memory.
-use Rattle.std.proofs.Common.{◌≡◌, ℕ, zero, suc, ◌+◌, ◌≤◌, ◌<◌, true, Some, None, is_some, refl, ◌∙◌, inl, inr, arith}
-use Rattle.std.proofs.Common.{nat_lt}
-use Rattle.board_prelude.proofs.Common.{cases_lt, cond-true, lt-ltb, le-ltb, nat_tests, Bytes, boundary, top_of, row_of}
+use Rattle.std.proofs.Common.{◌≡◌, ℕ, zero, suc, ◌+◌, ◌≤◌, ◌<◌, true, Some, is_some, refl, inl, inr, arith}
+use Rattle.board_prelude.proofs.Common.{cases_lt, nat_tests, Bytes, boundary, top_of, row_of}
 use borrow.Author.Count.{below_more}
-use Rattle.board_laws.proofs.Numbers.{numbers_from, find-number}
+use Rattle.board_laws.proofs.Numbers.{numbers_from}
 use Rattle.board_laws.specs.AreaLaws.{IsRow, HasRow, RowBelowTop}
 
 -- ---- the row of an address
 
 pub row-is : (bytes : Bytes) (addr row : ℕ) → IsRow bytes addr row → row_of bytes addr ≡ Some row
 unfolding row_of numbers_from
-row-is bytes addr row is =
-    cond-true (nat_lt addr (top_of bytes)) _ None (lt-ltb _ _ is.below_top)
-    ∙ find-number (λ k. nat_lt addr (boundary bytes k)) 0 8 row (omega arith)
-    (let last : row ≤ 7 = is.last in omega arith) (lt-ltb _ _ is.ends)
-    (λ k below. le-ltb _ _ (is.first k below))
+row-is bytes addr row is = grind (arith, nat_tests)
 
 row_above :
     (bytes : Bytes) (addr row left : ℕ) → addr < top_of bytes → row + left ≡ 7 →

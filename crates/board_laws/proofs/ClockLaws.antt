@@ -1,24 +1,15 @@
 -- The laws of the clock's machine.
-use Rattle.std.proofs.Common.{◌≡◌, ℕ, ◌%◌, ◌<◌, ◌≤◌, inl, inr, Bool, true, false, ◌&&◌, ◌||◌, List, nat_le, ◌==◌}
-use Rattle.std.proofs.Common.{if◌then◌else◌, suc, length, get_or, set, refl, ap, ◌∙◌, arith, get_or-set_other}
-use Rattle.std.proofs.Common.{get_or-set_same}
-use Rattle.board_prelude.proofs.Common.{cases_Bool, cases_eq, ne_eqb, nat_tests, get_or-set_at, length-set, CivilTime}
-use Rattle.board_prelude.proofs.Common.{Clock, number_byte, hour_byte, control_of, holds_time, time_bytes, put, tell}
-use Rattle.board_prelude.proofs.Common.{byte_at, alarm_fits, alarm_rings, control_reset, written, data_byte}
-use Rattle.board_prelude.proofs.Common.{update_interrupts, after_write, after_reset, after_moment, register_c}
-use Rattle.board_prelude.proofs.Common.{after_read, clock_index_port, clock_data_port}
+use Rattle.std.proofs.Common.{◌≡◌, ℕ, ◌%◌, ◌<◌, ◌≤◌, true, false, ◌&&◌, List, nat_le, ◌==◌, if◌then◌else◌, suc, length}
+use Rattle.std.proofs.Common.{get_or, set, refl, ◌∙◌, arith, get_or-set_other, get_or-set_same}
+use Rattle.board_prelude.proofs.Common.{cases_eq, nat_tests, get_or-set_at, length-set, CivilTime, Clock, number_byte}
+use Rattle.board_prelude.proofs.Common.{hour_byte, control_of, holds_time, time_bytes, put, tell, byte_at, alarm_fits}
+use Rattle.board_prelude.proofs.Common.{alarm_rings, control_reset, written, data_byte, update_interrupts, after_write}
+use Rattle.board_prelude.proofs.Common.{after_reset, after_moment}
 use Rattle.board_base.specs.Bits.{is_bit}
 use Rattle.device_spec.specs.Clock.{control_written, power_on}
 use Rattle.board_laws.specs.ClockLaws.{number_read, hour_read, Shows, IsShowable, ShowsTheMoment, HasAlarm}
 use Rattle.board_laws.specs.ClockLaws.{same_time_of_day, RingsAtItsTime, ReadingQuiets, ResetKeepsTheTime, MemoryKeeps}
 use Rattle.board_laws.specs.ClockLaws.{IsSound, StaysSound}
-
--- numbers and hours are read as they were written
-number_back : (control n : ℕ) → n < 100 → number_read control (number_byte control n) ≡ n
-number_back control n h = grind (arith, nat_tests)
-
-hour_back : (control hour : ℕ) → hour < 24 → hour_read control (hour_byte control hour) ≡ hour
-hour_back control hour h = grind (arith, nat_tests)
 
 -- bytes with others at the seven places of the time and the calendar, and what stays
 record Timed (bytes after : List ℕ) (second minute hour weekday day month year : ℕ) : Type 0 where
@@ -55,10 +46,10 @@ reading_quiets clock is_c = rw is_c (record { flags = refl; line = refl })
 
 -- a number, or an hour, that is read by the control under which it was written
 read_as : (control byte c n : ℕ) → control ≡ c → byte ≡ number_byte c n → n < 100 → number_read control byte ≡ n
-read_as control byte c n e f h = rw (e, f) (number_back c n h)
+read_as control byte c n e f h = grind (arith, nat_tests)
 
 hour_read_as : (control byte c n : ℕ) → control ≡ c → byte ≡ hour_byte c n → n < 24 → hour_read control byte ≡ n
-hour_read_as control byte c n e f h = rw (e, f) (hour_back c n h)
+hour_read_as control byte c n e f h = grind (arith, nat_tests)
 
 shows : (clock : Clock) (time : CivilTime) → length clock.bytes ≡ 128 → IsShowable time →
     Shows (tell clock (put (time_bytes (control_of clock) time) clock.bytes)) time
@@ -78,19 +69,22 @@ shows clock time size showable =
 pub shows_the_moment : ShowsTheMoment
 shows_the_moment clock time size let_in showable = rw let_in (shows clock time size showable)
 
--- an alarm byte below C0h fits the bytes of its own time, where what is read back is as it was written
-fits_its_own : (f g : ℕ → ℕ) (a n alarm time : ℕ) → alarm ≡ f a → time ≡ f n → f a < 192 → g (f a) ≡ a → g (f n) ≡ n →
+-- an alarm byte fits the bytes of its own time
+number_fits : (c a n alarm time : ℕ) → a < 100 → n < 100 → alarm ≡ number_byte c a → time ≡ number_byte c n →
     alarm_fits alarm time ≡ (a == n)
-fits_its_own f g a n alarm time is_alarm is_time low back_a back_n = grind (arith, nat_tests)
+number_fits c a n alarm time low_a low_n is_alarm is_time =
+    let back_a = read_as c alarm c a refl is_alarm low_a in
+    let back_n = read_as c time c n refl is_time low_n in
+    let low : alarm < 192 = grind (arith, nat_tests) in
+    grind (arith, nat_tests)
 
-number_byte_low : (control n : ℕ) → n < 100 → number_byte control n < 192
-number_byte_low control n h = grind (arith, nat_tests)
-
-hour_byte_low : (control hour : ℕ) → hour < 24 → hour_byte control hour < 192
-hour_byte_low control hour h = grind (arith, nat_tests)
-
-all_three : (p q r p' q' r' : Bool) → p ≡ p' → q ≡ q' → r ≡ r' → (p && q && r) ≡ (p' && q' && r')
-all_three p q r p' q' r' e f h = rw (e, f, h) refl
+hour_fits : (c a n alarm time : ℕ) → a < 24 → n < 24 → alarm ≡ hour_byte c a → time ≡ hour_byte c n →
+    alarm_fits alarm time ≡ (a == n)
+hour_fits c a n alarm time low_a low_n is_alarm is_time =
+    let back_a = hour_read_as c alarm c a refl is_alarm low_a in
+    let back_n = hour_read_as c time c n refl is_time low_n in
+    let low : alarm < 192 = grind (arith, nat_tests) in
+    grind (arith, nat_tests)
 
 rings : (clock : Clock) (time alarm : CivilTime) → length clock.bytes ≡ 128 → IsShowable time → IsShowable alarm →
     HasAlarm clock alarm → alarm_rings (put (time_bytes (control_of clock) time) clock.bytes)
@@ -98,21 +92,16 @@ rings : (clock : Clock) (time alarm : CivilTime) → length clock.bytes ≡ 128 
 rings clock time alarm size now due set_to =
     let c = control_of clock in
     let is = told clock time size in
-    all_three _ _ _ _ _ _
-    (fits_its_own (number_byte c) (number_read c) alarm.second time.second _ _ (is.second_alarm ∙ set_to.seconds)
-    is.seconds (number_byte_low c alarm.second (omega (arith, due.seconds)))
-    (number_back c alarm.second (omega (arith, due.seconds)))
-    (number_back c time.second (omega (arith, now.seconds))))
-    (fits_its_own (number_byte c) (number_read c) alarm.minute time.minute _ _ (is.minute_alarm ∙ set_to.minutes)
-    is.minutes (number_byte_low c alarm.minute (omega (arith, due.minutes)))
-    (number_back c alarm.minute (omega (arith, due.minutes)))
-    (number_back c time.minute (omega (arith, now.minutes))))
-    (fits_its_own (hour_byte c) (hour_read c) alarm.hour time.hour _ _ (is.hour_alarm ∙ set_to.hours) is.hours
-    (hour_byte_low c alarm.hour due.hours) (hour_back c alarm.hour due.hours) (hour_back c time.hour now.hours))
+    rw (
+      number_fits c alarm.second time.second _ _ (omega (arith, due.seconds)) (omega (arith, now.seconds))
+          (is.second_alarm ∙ set_to.seconds) is.seconds,
+      number_fits c alarm.minute time.minute _ _ (omega (arith, due.minutes)) (omega (arith, now.minutes))
+          (is.minute_alarm ∙ set_to.minutes) is.minutes,
+      hour_fits c alarm.hour time.hour _ _ due.hours now.hours (is.hour_alarm ∙ set_to.hours) is.hours,
+    ) refl
 
 pub rings_at_its_time : RingsAtItsTime
-rings_at_its_time clock time alarm size let_in now due set_to =
-    rw let_in (ap (λ ringing. clock.alarm_flag || ringing) (rings clock time alarm size now due set_to))
+rings_at_its_time clock time alarm size let_in now due set_to = grind (arith, nat_tests, rings)
 
 reset_bit : (b k : ℕ) → k < 8 → is_bit (control_reset b) k ≡ (if nat_le 3 k && nat_le k 6 then false else is_bit b k)
 reset_bit b (suc (suc (suc (suc (suc (suc (suc (suc k)))))))) h = absurd (omega arith)
@@ -120,119 +109,54 @@ reset_bit b _ h = grind (arith, nat_tests)
 
 pub reset_keeps_the_time : ResetKeepsTheTime
 reset_keeps_the_time clock size =
-    let there : 11 < length clock.bytes = omega arith in
-    let b = control_of clock in
-    record {
-      bytes = λ address other. get_or-set_other clock.bytes 11 address _ 0 other;
-      switches = λ k h. ap (λ byte. is_bit byte k) (get_or-set_same clock.bytes 11 (control_reset b) 0 there)
-          ∙ reset_bit b k h;
-      index = refl;
-      line = refl;
-    }
+    grind (arith, nat_tests, length, control_of, get_or-set_other, get_or-set_same, control_reset, reset_bit)
 
 plain_written : (address old byte : ℕ) → 14 ≤ address → written address old byte ≡ byte
 plain_written address old byte h = grind (arith, nat_tests)
 
 plain_data : (clock : Clock) → 14 ≤ clock.index → data_byte clock ≡ byte_at clock clock.index
-plain_data clock h =
-    let not_c = ne_eqb clock.index 12 (omega arith) in
-    let not_d = ne_eqb clock.index 13 (omega arith) in
-    rw (not_c, not_d) refl
+plain_data clock h = grind (arith, nat_tests)
 
 pub memory_keeps : MemoryKeeps
 memory_keeps clock address byte size past_registers within =
-    let back : address % 128 ≡ address = omega arith in
-    let plain = plain_written address (get_or clock.bytes address 0) byte past_registers in
-    let there : address < length clock.bytes = omega arith in
-    let after : Clock = record clock { index = address; bytes = set clock.bytes address byte } in
-    rw (back, plain) (record {
-      read = plain_data after past_registers ∙ get_or-set_same clock.bytes address byte 0 there;
-      others = λ other apart. get_or-set_other clock.bytes address other _ 0 apart;
-    })
+    grind (arith, nat_tests, plain_written, get_or, length, set, plain_data, get_or-set_same, get_or-set_other)
 
 written_stopped : (byte : ℕ) → holds_time (control_written byte) ≡ true →
     update_interrupts (control_written byte) ≡ false
 written_stopped byte set_now = grind (arith, nat_tests)
 
-size_kept : (bytes : List ℕ) (k byte : ℕ) → length bytes ≡ 128 → length (set bytes k byte) ≡ 128
-size_kept bytes k byte size = simp length-set size
-
 sound_power_on : IsSound power_on
 unfolding power_on
 sound_power_on = record { size = refl; within = omega arith; no_update = omega arith; stopped = λ never. refl }
 
-abbrev stops : ℕ → Type 0
-stops control = holds_time control ≡ true → update_interrupts control ≡ false
-
--- what holds of a byte of a register as written, and held of it before, holds after a write of any byte
-holds_after : (P : ℕ → Type 0) (register : ℕ) (bytes : List ℕ) (k byte : ℕ) → register < length bytes →
-    P (written register (get_or bytes register 0) byte) → P (get_or bytes register 0) →
-    P (get_or (set bytes k (written k (get_or bytes k 0) byte)) register 0)
-holds_after P register bytes k byte inside now was =
-    elim (cases_eq register k) [
-      | inl e ↦ rw (← e, get_or-set_same bytes register (written register (get_or bytes register 0) byte) 0 inside) now
-      | inr e ↦ rw (get_or-set_other bytes k register (written k (get_or bytes k 0) byte) 0 e) was
-    ]
-
-sound_read : (clock : Clock) (port : ℕ) → IsSound clock → IsSound (after_read clock port)
-sound_read clock port was =
-    elim (cases_Bool ((port == clock_data_port) && (clock.index == register_c))) [
-      | inl e ↦ rw e (record { size = was.size; within = was.within; no_update = was.no_update; stopped = was.stopped })
-      | inr e ↦ rw e was
-    ]
+-- the byte of a register after a write of any byte
+register_after : (bytes : List ℕ) (register k byte : ℕ) → register < length bytes →
+    get_or (set bytes k (written k (get_or bytes k 0) byte)) register 0
+    ≡ (if k == register then written register (get_or bytes register 0) byte else get_or bytes register 0)
+register_after bytes register k byte inside =
+    grind (arith, nat_tests, cases_eq, get_or-set_same, written, get_or, get_or-set_other)
 
 sound_write : (clock : Clock) (port byte : ℕ) → IsSound clock → IsSound (after_write clock port byte)
 sound_write clock port byte was =
-    elim (cases_Bool (port == clock_index_port)) [
-      | inl e ↦ rw e (record {
-        size = was.size;
-        within = omega arith;
-        no_update = was.no_update;
-        stopped = was.stopped;
-      })
-      | inr e ↦ elim (cases_Bool (port == clock_data_port)) [
-        | inl f ↦ rw (e, f) (record {
-          size = size_kept clock.bytes clock.index _ was.size;
-          within = was.within;
-          no_update = holds_after (λ a. a < 128) 10 clock.bytes clock.index byte (omega (arith, was.size)) (omega arith)
-              was.no_update;
-          stopped = holds_after stops 11 clock.bytes clock.index byte (omega (arith, was.size)) (written_stopped byte)
-              was.stopped;
-        })
-        | inr f ↦ rw (e, f) was
-      ]
-    ]
+    let a = register_after clock.bytes 10 clock.index byte (omega (arith, was.size)) in
+    let b = register_after clock.bytes 11 clock.index byte (omega (arith, was.size)) in
+    grind (arith, nat_tests, length-set, written_stopped)
 
 sound_moment : (clock : Clock) (time : CivilTime) → IsSound clock → IsSound (after_moment clock time)
-sound_moment clock time was =
-    let is = told clock time was.size in
-    elim (cases_Bool (holds_time (control_of clock))) [
-      | inl e ↦ rw e was
-      | inr e ↦ rw e (record {
-        size = is.size;
-        within = was.within;
-        no_update = rw (is.register_a) was.no_update;
-        stopped = rw (is.control) was.stopped;
-      })
-    ]
+sound_moment clock time was = let is = told clock time was.size in grind (arith, nat_tests)
 
 sound_reset : (clock : Clock) → IsSound clock → IsSound (after_reset clock)
 sound_reset clock was =
     let b = control_of clock in
     let there = get_or-set_same clock.bytes 11 (control_reset b) 0 (omega (arith, was.size)) in
     let a_same = get_or-set_other clock.bytes 11 10 (control_reset b) 0 (omega arith) in
-    record {
-      size = size_kept clock.bytes 11 (control_reset b) was.size;
-      within = omega arith;
-      no_update = rw a_same was.no_update;
-      stopped = λ set_now. ap update_interrupts there ∙ reset_bit b 4 (omega arith);
-    }
+    grind (arith, nat_tests, length-set, reset_bit b 4 (omega arith))
 
 pub stays_sound : StaysSound
 stays_sound =
     record {
       at_power_on = sound_power_on;
-      at_read = sound_read;
+      at_read = λ clock port was. grind (arith, nat_tests);
       at_write = sound_write;
       at_moment = sound_moment;
       at_reset = sound_reset;

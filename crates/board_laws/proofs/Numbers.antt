@@ -1,25 +1,12 @@
 -- Lists of numbers that follow one another, and tests on them.
-use Rattle.std.proofs.Common.{◌≡◌, ℕ, zero, suc, ◌+◌, ◌≤◌, ◌<◌, Bool, true, false, List, [], ◌∷◌, get_or, Some, refl}
-use Rattle.std.proofs.Common.{ap, inl, inr, arith, find, map}
+use Rattle.std.proofs.Common.{◌≡◌, ℕ, zero, suc, ◌+◌, ◌≤◌, ◌<◌, Bool, true, false, List, [], ◌∷◌, get_or, refl, ap, inl}
+use Rattle.std.proofs.Common.{inr, arith, map}
 use Rattle.board_prelude.proofs.Common.{list_any, cases_Bool, cases_eq, false≢true, or_right}
 
 -- this many numbers from one on
 unfoldable pub numbers_from : (from count : ℕ) → List ℕ
 numbers_from from zero = []
 numbers_from from (suc count) = from ∷ numbers_from (from + 1) count
-
--- the first that passes
-pub find-number :
-    (test : ℕ → Bool) (from count n : ℕ) → from ≤ n → n < from + count → test n ≡ true →
-    ((k : ℕ) → k < n → test k ≡ false) → find test (numbers_from from count) ≡ Some n
-unfolding numbers_from
-find-number test from zero n above below here before = absurd (omega arith)
-find-number test from (suc count) n above below here before =
-    elim (cases_eq from n) [
-      | inl first ↦ rw (first, here) refl
-      | inr apart ↦
-          rw (before from (omega arith)) (find-number test (from + 1) count n (omega arith) (omega arith) here before)
-    ]
 
 -- what a function gives at a place
 pub map-number :

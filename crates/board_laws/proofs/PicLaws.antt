@@ -1,13 +1,12 @@
 -- The laws of specs/Laws.antt.
-use Rattle.std.proofs.Common.{lit<, ◌≡◌, ℕ, ◌+◌, ◌/◌, ◌%◌, ◌<◌, Bool, true, false, not, eqb, ◌||◌, ◌&&◌, Option, Some}
-use Rattle.std.proofs.Common.{None, List, [], ◌∷◌, get_or, refl, sym, ap, ◌∙◌, inl, inr, arith, is_some}
-use Rattle.board_prelude.proofs.Common.{cases_Bool, cases_lt, agree_below_at, eqb-true, eq-eqb, and_parts, nat_tests}
-use Rattle.board_prelude.proofs.Common.{not-true, both_ways, false≢true, Levels, has, levels_where, with_level}
-use Rattle.board_prelude.proofs.Common.{without_level, Chip, pending, priority_order, is_blocking, blocks_itself}
-use Rattle.board_prelude.proofs.Common.{is_requested, request, interrupt, acknowledged, acknowledged_if}
-use Rattle.board_prelude.proofs.Common.{chip_after_write, get_or_past, Pair, answer_of, pair_after_acknowledge, settled}
-use Rattle.board_prelude.proofs.Common.{pair_written, pair_read, pair_acknowledged, answer_at, pair_acknowledged_at}
-use Rattle.board_prelude.proofs.Common.{has-levels_where, scan, request-is}
+use Rattle.std.proofs.Common.{lit<, ◌≡◌, ℕ, ◌+◌, ◌/◌, ◌%◌, ◌<◌, Bool, true, false, not, eqb, ◌&&◌, Option, Some, None}
+use Rattle.std.proofs.Common.{List, [], ◌∷◌, get_or, refl, ap, ◌∙◌, inl, inr, arith, is_some}
+use Rattle.board_prelude.proofs.Common.{cases_Bool, agree_below_at, eqb-true, eq-eqb, and_parts, nat_tests, not-true}
+use Rattle.board_prelude.proofs.Common.{false≢true, Levels, has, levels_where, with_level, without_level, Chip, pending}
+use Rattle.board_prelude.proofs.Common.{priority_order, is_blocking, blocks_itself, is_requested, request, interrupt}
+use Rattle.board_prelude.proofs.Common.{acknowledged, acknowledged_if, chip_after_write, Pair, answer_of}
+use Rattle.board_prelude.proofs.Common.{pair_after_acknowledge, settled, pair_written, pair_read, pair_acknowledged}
+use Rattle.board_prelude.proofs.Common.{answer_at, pair_acknowledged_at, has-levels_where, scan, request-is}
 use Rattle.std.proofs.lemmas.Bool.{agree_below}
 use Rattle.board_base.specs.Bits.{is_bit}
 use Rattle.board_laws.specs.PicLaws.{IsFirstInOrder, EndsOne, IsSpuriousAt, SlaveIsLatched, StaysLatched}
@@ -69,9 +68,7 @@ interrupt-request chip level e = grind (arith, nat_tests)
 
 pub interrupt_first : (chip : Chip) (level : ℕ) → interrupt chip ≡ Some level →
     IsFirstInOrder chip (priority_order chip.lowest) level
-interrupt_first chip level e =
-    found-first chip (priority_order chip.lowest) level (sym (request-is chip (priority_order chip.lowest) refl)
-    ∙ interrupt-request chip level e)
+interrupt_first chip level e = grind (arith, nat_tests, found-first, priority_order, request-is, interrupt-request)
 
 pub interrupt_unmasked : (chip : Chip) (level : ℕ) → interrupt chip ≡ Some level → has chip.masked level ≡ false
 interrupt_unmasked chip level e =
@@ -81,12 +78,7 @@ interrupt_unmasked chip level e =
 -- a requested level is one of the eight
 requested-small : (chip : Chip) (level : ℕ) → is_requested chip level ≡ true → level < 8
 unfolding pending levels_where
-requested-small chip level asks =
-    elim (cases_lt level 8) [
-      | inl small ↦ small
-      | inr past ↦ absurd (both_ways (has (pending chip) level) (get_or_past (pending chip) level false past)
-          (and_parts (has (pending chip) level) (not (has chip.masked level)) asks).0)
-    ]
+requested-small chip level asks = grind (arith, nat_tests)
 
 pub interrupt-small : (chip : Chip) (level : ℕ) → interrupt chip ≡ Some level → level < 8
 interrupt-small chip level e = let first = interrupt_first chip level e in requested-small chip level first.asks
@@ -95,8 +87,7 @@ interrupt-small chip level e = let first = interrupt_first chip level e in reque
 
 -- a level joins the set that it is put into
 with_level-has : (set : Levels) (level : ℕ) → level < 8 → has (with_level set level) level ≡ true
-with_level-has set level small = has-levels_where (λ l. eqb l level || has set l) level small
-    ∙ ap (λ b. b || has set level) (eq-eqb level level refl)
+with_level-has set level small = grind (arith, nat_tests, has-levels_where, eqb, has, eq-eqb)
 
 in_service-acknowledged : (chip : Chip) (level : ℕ) → level < 8 → chip.auto_eoi ≡ false →
     has (acknowledged chip level).in_service level ≡ true
@@ -170,11 +161,7 @@ specific_end_one chip byte b4 b3 command = rw (specific-end chip byte b4 b3 comm
 
 slave-latched : (pair : Pair) → SlaveIsLatched (settled pair)
 slave-latched pair asks =
-    elim (cases_Bool (is_some (interrupt pair.slave))) [
-      | inl now ↦ rw now (with_level-has pair.master.latches 2 (lit< tt))
-      | inr quiet ↦
-          absurd (false≢true (sym quiet ∙ ap (λ (c : Chip). is_some (interrupt c)) (sym (settled-slave pair)) ∙ asks))
-    ]
+    grind (arith, nat_tests, cases_Bool, is_some, interrupt, with_level-has, lit<, false≢true, settled-slave)
 
 acknowledged-latched : (pair : Pair) (o : Option ℕ) → interrupt pair.master ≡ o → SlaveIsLatched pair →
     SlaveIsLatched (pair_after_acknowledge pair)

@@ -1,7 +1,7 @@
 -- What INT stands for, and what a non-specific end of interrupt ends, by places in the order of priorities.
 use Rattle.std.proofs.Common.{◌≡◌, ◌≢◌, ℕ, zero, suc, ◌+◌, ◌/◌, ◌<◌, ◌≤◌, Bool, true, false, not, cond, eqb, ◌&&◌, Some}
-use Rattle.std.proofs.Common.{None, List, [], ◌∷◌, length, get_or, drop, refl, sym, ap, subst, ◌∙◌, inl, inr, arith}
-use Rattle.std.proofs.Common.{is_some, length-append}
+use Rattle.std.proofs.Common.{None, List, [], ◌∷◌, length, get_or, drop, refl, sym, ap, ◌∙◌, inl, inr, arith, is_some}
+use Rattle.std.proofs.Common.{length-append}
 use Rattle.board_prelude.proofs.Common.{find, list_all, cases_Bool, cases_lt, agree_below_at, eqb-true, nat_tests}
 use Rattle.board_prelude.proofs.Common.{and_parts, false≢true, drop_of_length-le, get_or-append_seam}
 use Rattle.board_prelude.proofs.Common.{get_or_append_left, without_level, Chip, priority_order, is_blocking}
@@ -46,8 +46,7 @@ found : (d i : ℕ) (chip : Chip) (level : ℕ) → chip.lowest < 8 → CanBeSel
     → is_some (scan chip (drop i (priority_order chip.lowest))) ≡ true
 found zero i chip level h can at_place =
     let here : i ≡ place_of chip.lowest level = omega arith in
-    let is : get_or (priority_order chip.lowest) i 0 ≡ level = ap (λ k. get_or (priority_order chip.lowest) k 0) here
-    ∙ level_at chip.lowest level h can.inside in
+    let is : get_or (priority_order chip.lowest) i 0 ≡ level = rw here (level_at chip.lowest level h can.inside) in
     let inside : i < length (priority_order chip.lowest) =
     rw (eight chip.lowest h) (omega (arith, place-small chip.lowest level)) in
     rw (scan-found chip (priority_order chip.lowest) i inside (rw is (can-asks chip level can))) refl
@@ -62,8 +61,8 @@ found (suc d) i chip level h can at_place =
       | inl here ↦ rw (scan-found chip order i inside here) refl
       | inr none ↦ elim (cases_Bool (is_blocking chip other)) [
         | inl blocks ↦
-            let apart : other ≢ level = λ e. (let e' = ap (place_of chip.lowest) e in omega (arith, e', place)) in
-            absurd (let late = can.first other small apart blocks in omega (arith, late, place))
+            let late = can.first other small (λ e. omega (arith, ap (place_of chip.lowest) e, place)) blocks in
+            absurd (omega (arith, late, place))
         | inr idle ↦ rw (scan-past chip order i inside none idle) (found d (i + 1) chip level h can (omega arith))
       ]
     ]
@@ -92,22 +91,18 @@ earlier-quiet : (chip : Chip) (level other : ℕ) (first : IsFirstInOrder chip (
     chip.lowest < 8 → other < 8 → place_of chip.lowest other < length first.higher → IsQuiet chip other
 earlier-quiet chip level other first h inside early =
     let at_place : get_or first.higher (place_of chip.lowest other) 0 ≡ other =
-    sym (get_or_append_left first.higher (level ∷ first.lower) 0 (place_of chip.lowest other) early)
-    ∙ (sym (ap (λ order. get_or order (place_of chip.lowest other) 0) first.place)
-    ∙ level_at chip.lowest other h inside) in
-    let quiet = quiet-before chip first.higher (place_of chip.lowest other) first.first early in
-    subst (IsQuiet chip) at_place quiet
+    rw (← get_or_append_left first.higher (level ∷ first.lower) 0 (place_of chip.lowest other) early, ← first.place)
+    (level_at chip.lowest other h inside) in
+    rw at_place at (quiet-before chip first.higher (place_of chip.lowest other) first.first early)
 
 first-place : (chip : Chip) (level : ℕ) (first : IsFirstInOrder chip (priority_order chip.lowest) level) →
     chip.lowest < 8 → place_of chip.lowest level ≡ length first.higher
 first-place chip level first h =
     let here : length first.higher < length (priority_order chip.lowest) =
-    rw (first.place) (rw (length-append first.higher (level ∷ first.lower)) (omega arith)) in
-    let before : length first.higher < 8 = (let e = eight chip.lowest h in omega (arith, e, here)) in
+    rw (first.place, length-append first.higher (level ∷ first.lower)) (omega arith) in
     let is : get_or (priority_order chip.lowest) (length first.higher) 0 ≡ level =
-    ap (λ order. get_or order (length first.higher) 0) first.place
-    ∙ get_or-append_seam first.higher level first.lower 0 in
-    ap (place_of chip.lowest) (sym is) ∙ place_at chip.lowest (length first.higher) h before
+    rw first.place (get_or-append_seam first.higher level first.lower 0) in
+    rw is at (place_at chip.lowest (length first.higher) h (omega (arith, eight chip.lowest h, here)))
 
 pub interrupt_selected : InterruptIsSelected
 interrupt_selected chip level h e =
@@ -123,13 +118,11 @@ interrupt_selected chip level h e =
         asks = grind (arith, nat_tests, first.asks);
         unmasked = interrupt_unmasked chip level e;
         free = first.free;
-        first = λ other inside apart blocks. elim (cases_lt (place_of chip.lowest level) (place_of chip.lowest other)) [
-          | inl after ↦ after
-          | inr not_after ↦ elim (cases_lt (place_of chip.lowest other) (place_of chip.lowest level)) [
-            | inl early ↦ absurd (false≢true (sym (quiet other inside early).idle ∙ blocks))
-            | inr late ↦ let same : other ≡ level = omega arith in absurd (apart same)
-          ]
-        ];
+        first = λ other inside apart blocks.
+            elim (cases_lt (place_of chip.lowest other) (place_of chip.lowest level)) [
+              | inl early ↦ absurd (false≢true (sym (quiet other inside early).idle ∙ blocks))
+              | inr late ↦ omega arith
+            ];
       };
       first = λ other can. elim (cases_lt (place_of chip.lowest other) (place_of chip.lowest level)) [
         | inl early ↦ absurd (let q = (quiet other can.inside early).silent in
@@ -158,9 +151,9 @@ served (suc d) i chip level h first at_place =
     let place : place_of chip.lowest other ≡ i = place_at chip.lowest i h before in
     elim (cases_Bool (is_blocking chip other)) [
       | inl blocks ↦
-          let apart : other ≢ level = λ e. (let e' = ap (place_of chip.lowest) e in omega (arith, e', place)) in
-          absurd (let late = first.first other (priority_order-small chip.lowest i h before) apart blocks in
-          omega (arith, late, place))
+          let small = priority_order-small chip.lowest i h before in
+          let late = first.first other small (λ e. omega (arith, ap (place_of chip.lowest) e, place)) blocks in
+          absurd (omega (arith, late, place))
       | inr idle ↦ find-past (is_blocking chip) order i inside idle ∙ served d (i + 1) chip level h first (omega arith)
     ]
 

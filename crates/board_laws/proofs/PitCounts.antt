@@ -1,18 +1,17 @@
 -- Whole counts of modes 0, 1, 4 and 5, and the pulse that loads.
 use Rattle.std.proofs.Common.{◌≡◌, ℕ, zero, suc, ◌+◌, ◌-◌, ◌<◌, ◌≤◌, not, Bool, true, false, inl, inr, refl, ap, sym}
 use Rattle.std.proofs.Common.{◌∙◌, arith, add-zero, add-suc}
-use Rattle.board_prelude.proofs.Common.{cases_lt, nat_tests, Mode, TerminalCount, OneShot, SquareWave, SoftwareStrobe}
+use Rattle.board_prelude.proofs.Common.{cases_lt, nat_tests, Mode, TerminalCount, OneShot, SoftwareStrobe}
 use Rattle.board_prelude.proofs.Common.{HardwareStrobe, CounterState, load, count_down, count_to_end, count_to_strobe}
 use Rattle.board_prelude.proofs.Common.{pulse_by_mode, pulse, pulses_of, IsAtLoad, phase, phase-self, is_periodic}
-use Rattle.board_prelude.proofs.Common.{false≢true, cases_eq}
+use Rattle.board_prelude.proofs.Common.{cases_eq}
 use Rattle.board_laws.specs.PitCounts.{PulseLoads, EndsOnce, CountsEndOnce, StrobesOnce, CountsStrobeOnce, out_at_load}
 
 -- THE PULSE THAT LOADS
 
 pub pulse_loads : PulseLoads
 unfolding pulse pulse_by_mode load
-pulse_loads TerminalCount gate n c m e h = rw (m, e) (grind (arith, nat_tests))
-pulse_loads _ gate n c m e h = rw (m, e) (grind (arith, nat_tests))
+pulse_loads mode gate n c m e h = grind (arith, nat_tests)
 
 -- ONE END
 
@@ -30,8 +29,7 @@ counts : (mode : Mode) (gate : Bool) (n e : ℕ) (c : CounterState) → is_perio
     IsAtLoad mode n (level_of mode) c → 2 ≤ e →
     pulse gate (phase c e (level_of mode)) ≡ phase c (e - 1) (level_of mode)
 unfolding pulse pulse_by_mode count_to_end count_to_strobe count_down
-counts TerminalCount gate n e c p on s h = rw (s.mode, s.load_asked, s.trigger) (grind (arith, nat_tests))
-counts _ gate n e c p on s h = rw (s.mode, s.load_asked, s.trigger) (grind (arith, nat_tests))
+counts mode gate n e c p on s h = grind (arith, nat_tests)
 
 -- the count came to its end: OUT rose, or the strobe was given
 abbrev is_ended : Mode → CounterState → Bool
@@ -49,43 +47,39 @@ record HasEnded (of_mode : Mode) (level : Bool) (c : CounterState) : Type 0 wher
 ends : (mode : Mode) (gate : Bool) (n : ℕ) (c : CounterState) → is_periodic mode ≡ false → IsOn mode gate c →
     IsAtLoad mode n (level_of mode) c → HasEnded mode (not (level_of mode)) (pulse gate (phase c 1 (level_of mode)))
 unfolding pulse pulse_by_mode count_to_end count_to_strobe count_down
-ends TerminalCount gate n c p on s = rw (s.mode, s.load_asked, on.0) (grind (arith, nat_tests))
-ends _ gate n c p on s = rw (s.mode, s.load_asked) (grind (arith, nat_tests))
+ends mode gate n c p on s = grind (arith, nat_tests)
 
 stays : (mode : Mode) (gate level : Bool) (c : CounterState) → is_periodic mode ≡ false → HasEnded mode level c →
     HasEnded mode true (pulse gate c)
 unfolding pulse pulse_by_mode count_to_end count_to_strobe count_down
-stays TerminalCount gate level c p s = rw (s.mode, s.load_asked) (grind (arith, nat_tests))
-stays _ gate level c p s = rw (s.mode, s.load_asked) (grind (arith, nat_tests))
+stays mode gate level c p s = grind (arith, nat_tests)
 
 element_is : (mode : Mode) (n : ℕ) (level : Bool) (c : CounterState) → is_periodic mode ≡ false →
     IsAtLoad mode n level c → c.element ≡ n
-element_is SquareWave n level c p s = absurd (false≢true (sym p))
-element_is _ n level c p s = s.element
+element_is mode n level c p s = grind (arith, nat_tests)
 
 -- a counter that counts down from its load
-runs_down : (mode : Mode) (gate : Bool) (n : ℕ) (c : CounterState) → is_periodic mode ≡ false → IsOn mode gate c →
-    IsAtLoad mode n (level_of mode) c → (k : ℕ) → k < n → pulses_of gate k c ≡ phase c (n - k) (level_of mode)
-unfolding pulses_of
-runs_down mode gate n c p on s zero h =
-    sym (phase-self c (n - 0) (level_of mode) (element_is mode n _ c p s ∙ omega arith) s.out)
-runs_down mode gate n c p on s (suc k) h =
-    ap (pulse gate) (runs_down mode gate n c p on s k (omega arith))
-    ∙ counts mode gate n (n - k) c p on s (omega arith) ∙ ap (λ e. phase c e (level_of mode)) (omega arith)
+module _ (mode : Mode) (gate : Bool) (n : ℕ) (c : CounterState) (p : is_periodic mode ≡ false)
+    (on : IsOn mode gate c) (s : IsAtLoad mode (suc n) (level_of mode) c) where
+  runs_down : (k : ℕ) → k < suc n → pulses_of gate k c ≡ phase c (suc n - k) (level_of mode)
+  unfolding pulses_of
+  runs_down zero h =
+      sym (phase-self c (suc n - 0) (level_of mode) (element_is mode (suc n) _ c p s ∙ omega arith) s.out)
+  runs_down (suc k) h =
+      ap (pulse gate) (runs_down k (omega arith))
+      ∙ counts mode gate (suc n) (suc n - k) c p on s (omega arith) ∙ ap (λ e. phase c e (level_of mode)) (omega arith)
 
--- at the n-th pulse, and at each one after it
-at_end : (mode : Mode) (gate : Bool) (n : ℕ) (c : CounterState) → is_periodic mode ≡ false → IsOn mode gate c →
-    IsAtLoad mode (suc n) (level_of mode) c → HasEnded mode (not (level_of mode)) (pulses_of gate (suc n) c)
-unfolding pulses_of
-at_end mode gate n c p on s =
-    let last : suc n - n ≡ 1 = omega arith in
-    rw (runs_down mode gate (suc n) c p on s n (omega arith), last) (ends mode gate (suc n) c p on s)
+  -- at the last pulse, and at each one after it
+  at_end : HasEnded mode (not (level_of mode)) (pulses_of gate (suc n) c)
+  unfolding pulses_of
+  at_end =
+      let last : suc n - n ≡ 1 = omega arith in
+      rw (runs_down n (omega arith), last) (ends mode gate (suc n) c p on s)
 
-past_end : (mode : Mode) (gate : Bool) (n : ℕ) (c : CounterState) → is_periodic mode ≡ false → IsOn mode gate c →
-    IsAtLoad mode (suc n) (level_of mode) c → (k : ℕ) → HasEnded mode true (pulses_of gate (suc (suc (n + k))) c)
-unfolding pulses_of
-past_end mode gate n c p on s zero = rw (add-zero n) (stays mode gate _ _ p (at_end mode gate n c p on s))
-past_end mode gate n c p on s (suc k) = rw (add-suc n k) (stays mode gate _ _ p (past_end mode gate n c p on s k))
+  past_end : (k : ℕ) → HasEnded mode true (pulses_of gate (suc (suc (n + k))) c)
+  unfolding pulses_of
+  past_end zero = rw (add-zero n) (stays mode gate _ _ p at_end)
+  past_end (suc k) = rw (add-suc n k) (stays mode gate _ _ p (past_end k))
 
 record OneEnd (gate level : Bool) (n : ℕ) (c : CounterState) : Type 0 where
   before : (k : ℕ) → k < n → (pulses_of gate k c).out ≡ level
@@ -96,11 +90,11 @@ one_end : (mode : Mode) (gate : Bool) (n : ℕ) (c : CounterState) → is_period
     1 ≤ n → IsAtLoad mode n (level_of mode) c → OneEnd gate (level_of mode) n c
 one_end mode gate zero c p on least s = absurd (omega arith)
 one_end mode gate (suc n) c p on least s = record {
-  before = λ k below. ap (λ d. d.out) (runs_down mode gate (suc n) c p on s k below);
+  before = λ k below. ap (λ d. d.out) (runs_down mode gate n c p on s k below);
   now = (at_end mode gate n c p on s).out;
   after = λ k above.
       let is : k ≡ suc (suc (n + (k - suc (suc n)))) = omega arith in
-      ap (λ i. (pulses_of gate i c).out) is ∙ (past_end mode gate n c p on s (k - suc (suc n))).out;
+      rw is ((past_end mode gate n c p on s (k - suc (suc n))).out);
 }
 
 ends_once : (gate : Bool) (n : ℕ) (c : CounterState) → OneEnd gate false n c → EndsOnce gate n c

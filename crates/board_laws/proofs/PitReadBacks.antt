@@ -1,5 +1,5 @@
 -- A read-back is one latch after another.
-use Rattle.std.proofs.Common.{◌≡◌, ℕ, Bool, true, false, List, [], Option, None, refl, arith}
+use Rattle.std.proofs.Common.{◌≡◌, ℕ, Bool, true, false, List, Option, refl, arith}
 use Rattle.board_prelude.proofs.Common.{nat_tests}
 use Rattle.device_spec.specs.Pit.{CounterState, PitState, access_numbered, element_bytes, status_byte, latch_count}
 use Rattle.device_spec.specs.Pit.{latch_status, control, read_back, read_back_chosen, write_control}
@@ -22,9 +22,7 @@ is_latch = record { of_0 = λ p. refl; of_1 = λ p. refl; of_2 = λ p. refl }
 latches-commute : (l : List ℕ) (o : Option ℕ) (c : CounterState) → c.count_latch ≡ l → c.status_latch ≡ o →
     latch_status (latch_count c) ≡ latch_count (latch_status c)
 unfolding latch_count latch_status element_bytes status_byte
-latches-commute [] None c h s = rw (h, s) (grind (arith, nat_tests))
-latches-commute [] _ c h s = rw (h, s) (grind (arith, nat_tests))
-latches-commute _ _ c h s = rw (h, s) (grind (arith, nat_tests))
+latches-commute x0 x1 c h s = grind (arith, nat_tests)
 
 commute : (c : CounterState) → latch_status (latch_count c) ≡ latch_count (latch_status c)
 commute c = latches-commute c.count_latch c.status_latch c refl refl

@@ -1,17 +1,15 @@
 -- A hard reset puts registers and devices in their reset state, and keeps what is stored.
-use Rattle.std.proofs.Common.{◌≡◌, ℕ, ◌+◌, ◌*◌, Bool, true, false, List, ◌∷◌, Option, Some, None, is_some, arith, take}
-use Rattle.std.proofs.Common.{drop, refl, ◌∙◌, ap, unwrap_or}
-use Rattle.board_prelude.proofs.Common.{cond-true, nat_tests, false≢true, Width, PortAccess, Target, Device, bytes_of}
-use Rattle.board_prelude.proofs.Common.{Triggers, triggers_at_reset, Levels, no_levels, levels_where, Chip}
-use Rattle.board_prelude.proofs.Common.{chip_at_reset, chip_after_inputs, latches_after, Pair, pair_at_reset}
-use Rattle.board_prelude.proofs.Common.{master_inputs, pair_after_lines, levels_where-same, has-levels_where, Event}
-use Rattle.board_prelude.proofs.Common.{Port, Wire, Line, Pulses, Reply, Entry, MapChange, Reset, Setup}
-use Rattle.board_prelude.proofs.Common.{reset_control_port, control_written, is_hard_value, resets_hard, control_after}
+use Rattle.std.proofs.Common.{◌≡◌, ℕ, Bool, true, false, List, ◌∷◌, Option, None, is_some, arith, take, drop, refl}
+use Rattle.std.proofs.Common.{unwrap_or}
+use Rattle.board_prelude.proofs.Common.{cond-true, nat_tests, false≢true, PortAccess, Device, bytes_of}
+use Rattle.board_prelude.proofs.Common.{triggers_at_reset, Levels, no_levels, levels_where, chip_at_reset}
+use Rattle.board_prelude.proofs.Common.{chip_after_inputs, latches_after, Pair, pair_at_reset, master_inputs}
+use Rattle.board_prelude.proofs.Common.{pair_after_lines, levels_where-same, has-levels_where, Event, Port, Reply}
+use Rattle.board_prelude.proofs.Common.{Entry, Setup, reset_control_port, control_written, resets_hard, control_after}
 use Rattle.board_prelude.proofs.Common.{is_hard_reset, reset_control, config_address, byte_with, byte_of, Cell}
-use Rattle.board_prelude.proofs.Common.{port_put, entry_put, Bytes, Decoded, device, port_target_of, wire_set, line_set}
-use Rattle.board_prelude.proofs.Common.{wire_of, irq_of, triggers_of, plain_of, timer_of, clock_of, disk_with}
-use Rattle.board_prelude.proofs.Common.{levels_of, elcr_of, pair_stepped, pair_reset_or_after, pair_of, port_answer}
-use Rattle.board_prelude.proofs.Common.{IsAnswer}
+use Rattle.board_prelude.proofs.Common.{port_put, entry_put, Bytes, device, port_target_of, wire_set, line_set, wire_of}
+use Rattle.board_prelude.proofs.Common.{irq_of, triggers_of, plain_of, timer_of, clock_of, disk_with, levels_of}
+use Rattle.board_prelude.proofs.Common.{elcr_of, pair_stepped, pair_reset_or_after, pair_of, port_answer, IsAnswer}
 use Rattle.board_base.specs.declared.target.Dev.TheVariants.{Reset as ResetPort}
 use Rattle.board_laws.specs.ResetLaws.{HardResetResets, HardResetKeeps}
 use Rattle.board_laws.proofs.StoredLaws.{stored-left}
@@ -20,8 +18,7 @@ use Rattle.board_laws.proofs.StoredLaws.{stored-left}
 
 reset_value :
     (control : ℕ) (written : Option ℕ) → resets_hard control written ≡ true → control_after control written ≡ 0
-reset_value control None hard = absurd (false≢true hard)
-reset_value control (Some value) hard = cond-true (is_hard_value control value) 0 _ hard
+reset_value control x1 hard = grind (arith, nat_tests)
 
 -- ---- the pair
 
@@ -31,21 +28,12 @@ no_latches inputs = levels_where-same _ (λ level. false) (λ level small. grind
 chip-reset :
     (has_slave : Bool) (inputs : Levels) →
     chip_after_inputs (chip_at_reset has_slave inputs) inputs no_levels ≡ chip_at_reset has_slave inputs
-chip-reset has_slave inputs =
-    ap (λ (l : Levels). record
-    (chip_at_reset has_slave inputs) { latches = l; inputs = inputs; triggers = no_levels }) (no_latches inputs)
-
-pair_made : Chip → Chip → Pair
-pair_made master slave = record { master = master; slave = slave }
+chip-reset has_slave inputs = grind (arith, nat_tests, chip_at_reset, no_levels, no_latches)
 
 -- no chip is ready after a reset, so that the slave's INT is 0
 pair-reset : (levels : List Bool) → pair_after_lines (pair_at_reset levels) levels 0 ≡ pair_at_reset levels
-unfolding levels_where pair_made
-pair-reset levels =
-    ap (λ (master : Chip). pair_made master
-    (chip_after_inputs (chip_at_reset false (drop 8 levels)) (drop 8 levels) no_levels))
-    (chip-reset true (master_inputs (take 8 levels)))
-    ∙ ap (pair_made (chip_at_reset true (master_inputs (take 8 levels)))) (chip-reset false (drop 8 levels))
+unfolding levels_where
+pair-reset levels = rw (chip-reset true (master_inputs (take 8 levels)), chip-reset false (drop 8 levels)) refl
 
 -- a hard reset is no event of pulses
 stepped-hard :
@@ -54,8 +42,7 @@ stepped-hard :
     pair_stepped setup entry before event pair
     ≡ pair_after_lines (pair_reset_or_after setup entry before pair) (levels_of setup (entry ∷ before))
     (elcr_of (entry ∷ before))
-stepped-hard setup before entry (Pulses count) pair hard = absurd (false≢true hard)
-stepped-hard setup before entry event pair hard = refl
+stepped-hard setup before entry event pair hard = grind (arith, nat_tests)
 
 triggers-reset :
     (before : List Entry) (entry : Entry) → is_hard_reset before entry.event ≡ true →
@@ -68,52 +55,44 @@ pair-hard :
     pair_of setup (entry ∷ before) ≡ pair_at_reset (levels_of setup (entry ∷ before))
 unfolding pair_of
 pair-hard setup before entry hard =
-    let levels : List Bool = levels_of setup (entry ∷ before) in
-    stepped-hard setup before entry entry.event (pair_of setup before) hard
-    ∙ ap (λ (pair : Pair). pair_after_lines pair levels (elcr_of (entry ∷ before)))
-    (cond-true (is_hard_reset before entry.event) (pair_at_reset levels) _ hard)
-    ∙ ap (λ (triggers : Triggers). pair_after_lines (pair_at_reset levels) levels
-    (triggers.low + 0x100 * triggers.high)) (triggers-reset before entry hard)
-    ∙ pair-reset levels
+    rw (
+      stepped-hard setup before entry entry.event (pair_of setup before) hard,
+      hard,
+      triggers-reset before entry hard,
+    ) (pair-reset (levels_of setup (entry ∷ before)))
 
 pub hard_reset_resets : HardResetResets
 unfolding byte_of config_address reset_control plain_of timer_of clock_of disk_with
-hard_reset_resets setup before entry hard = record {
-  registers = λ reg.
-      ap (λ (change : Option MapChange). byte_with setup change reg (byte_of setup before reg))
-      (cond-true (is_hard_reset before entry.event) (Some Reset) _ hard);
-  address = cond-true (is_hard_reset before entry.event) 0 _ hard;
-  control = reset_value (reset_control before) (control_written entry.event) hard;
-  triggers = triggers-reset before entry hard;
-  plain = cond-true (is_hard_reset before entry.event) _ _ hard;
-  timer = cond-true (is_hard_reset before entry.event) _ _ hard;
-  clock = cond-true (is_hard_reset before entry.event) _ _ hard;
-  disk = λ bytes. cond-true (is_hard_reset before entry.event) _ _ hard;
-  pair = pair-hard setup before entry hard;
-}
+hard_reset_resets setup before entry hard =
+    grind (
+      arith,
+      nat_tests,
+      byte_with,
+      byte_of,
+      cond-true,
+      is_hard_reset,
+      reset_value,
+      reset_control,
+      control_written,
+      triggers-reset,
+      pair-hard,
+    )
 
 -- ---- what stays
 
--- an event that writes the reset control register
-record WritesControl (access : PortAccess) : Type 0 where
-  pub port : access.port ≡ reset_control_port
-  pub size : bytes_of access.width ≡ 1
-
-writes_control :
-    (before : List Entry) (access : PortAccess) → is_hard_reset before (Port access) ≡ true → WritesControl access
-writes_control before access hard = grind (arith, nat_tests)
-
+-- such an event writes the reset control register
 decoded-reset :
-    (setup : Setup) (bytes : Bytes) (address : ℕ) (disk : Bool) (port : ℕ) (width : Width) →
-    port ≡ reset_control_port → bytes_of width ≡ 1 →
-    port_target_of setup bytes address disk port width ≡ device ResetPort
+    (setup : Setup) (before : List Entry) (access : PortAccess) (bytes : Bytes) (address : ℕ) (disk : Bool) →
+    is_hard_reset before (Port access) ≡ true →
+    port_target_of setup bytes address disk access.port access.width ≡ device ResetPort
 unfolding port_target_of
-decoded-reset setup bytes address disk port width is size = rw (is, size) refl
+decoded-reset setup before access bytes address disk hard =
+    let port : access.port ≡ reset_control_port = grind (arith, nat_tests) in
+    let size : bytes_of access.width ≡ 1 = grind (arith, nat_tests) in
+    rw (port, size) refl
 
-no_put :
-    (access : PortAccess) (target : Target) (cell : Cell) → target ≡ Device ResetPort →
-    port_put access target cell ≡ None
-no_put access target cell is = rw is (grind (arith, nat_tests))
+no_put : (access : PortAccess) (cell : Cell) → port_put access (Device ResetPort) cell ≡ None
+no_put access cell = grind (arith, nat_tests)
 
 nothing_put :
     (setup : Setup) (before : List Entry) (event : Event) (reply : Reply) (cell : Cell) →
@@ -121,31 +100,20 @@ nothing_put :
     is_hard_reset before event ≡ true → entry_put event reply cell ≡ None
 unfolding port_answer
 nothing_put setup before (Port access) reply cell answer hard =
-    let is = writes_control before access hard in
-    ap (λ (r : Reply). entry_put (Port access) r cell) answer
-    ∙ no_put access _ cell
-    (ap (λ (decoded : Decoded). decoded.target)
-    (decoded-reset setup (byte_of setup before) (config_address before)
-    (is_some setup.disk) access.port access.width is.port is.size))
+    rw (answer, decoded-reset setup before access (byte_of setup before) (config_address before) (is_some setup.disk) hard)
+    (no_put access cell)
 nothing_put setup before event reply cell answer hard = absurd (false≢true hard)
 
 wire-hard :
     (before : List Entry) (event : Event) (dev : ℕ) → is_hard_reset before event ≡ true → wire_set dev event ≡ None
-wire-hard before (Wire at on) dev hard = absurd (false≢true hard)
-wire-hard before event dev hard = refl
+wire-hard before event dev hard = grind (arith, nat_tests)
 
 line-hard :
     (before : List Entry) (event : Event) (line : ℕ) → is_hard_reset before event ≡ true →
     line_set line event ≡ None
-line-hard before (Line at on) line hard = absurd (false≢true hard)
-line-hard before event line hard = refl
+line-hard before event line hard = grind (arith, nat_tests)
 
 pub hard_reset_keeps : HardResetKeeps
 unfolding wire_of irq_of
-hard_reset_keeps setup before entry next hard = record {
-  cells = λ cell.
-      stored-left entry before cell (nothing_put setup before entry.event entry.reply cell next.answer hard);
-  wires = λ dev. ap (λ (set : Option Bool). unwrap_or set (wire_of before dev)) (wire-hard before entry.event dev hard);
-  lines = λ line.
-      ap (λ (set : Option Bool). unwrap_or set (irq_of before line)) (line-hard before entry.event line hard);
-}
+hard_reset_keeps setup before entry next hard =
+    grind (arith, nat_tests, stored-left, nothing_put, unwrap_or, wire_of, wire-hard, irq_of, line-hard)

@@ -1,16 +1,14 @@
 -- A wide access to DRAM reads and writes the bytes from its address on.
 use Rattle.std.proofs.Common.{◌≡◌, ℕ, suc, ◌+◌, ◌-◌, ◌*◌, ◌/◌, ◌%◌, ◌^◌, ◌≤◌, ◌<◌, ◌⊎◌, inl, inr, true, List, [], ◌∷◌}
-use Rattle.std.proofs.Common.{Option, Some, None, refl, sym, ◌∙◌, ap, subst, arith, All, map}
-use Rattle.board_prelude.proofs.Common.{stored_of, cases_lt, cond-false, nat_tests, All-head, All-tail, Width, One}
-use Rattle.board_prelude.proofs.Common.{WideAccess, Target, Dram, Shadow, Smram, Card, bytes_of, Event, Wide, Part}
-use Rattle.board_prelude.proofs.Common.{Reply, Bus, Saw, Entry, Setup, byte, wide, part_at, parts_of, joined, Cell}
+use Rattle.std.proofs.Common.{Option, Some, None, refl, sym, ◌∙◌, ap, arith, All, map}
+use Rattle.board_prelude.proofs.Common.{cases_lt, nat_tests, All-head, All-tail, Width, One, WideAccess, Target}
+use Rattle.board_prelude.proofs.Common.{bytes_of, Wide, Entry, Setup, byte, wide, part_at, parts_of, joined, Cell}
 use Rattle.board_prelude.proofs.Common.{DramCell, CardCell, first_cell, memory_put, parts_put, entry_put, is_write}
 use Rattle.board_prelude.proofs.Common.{dram_byte, memory_target, part_answer, value_at, wide_value, IsAnswer, made}
 use Rattle.board_prelude.proofs.Common.{total, is_cut, further}
 use native.Mathlib.Numerals.{unary_clauses}
 use Rattle.board_base.specs.declared.access.Width.TheVariants.{Two, Four}
 use Rattle.board_base.specs.declared.access.Access.{Access}
-use Rattle.board_spec.specs.declared.event.Reply.TheVariants.{Parts}
 use Rattle.board_laws.specs.StoreLaws.{WideStored, low_first, WideReads}
 use Rattle.board_laws.proofs.StoredLaws.{stored-put, stored-left}
 
@@ -20,18 +18,7 @@ value_at-dram :
     (setup : Setup) (before : List Entry) (target : Target) (addr : ℕ) (width : Width) → first_cell target addr
     ≡ Some (DramCell addr) →
     value_at setup before target addr width ≡ wide (dram_byte setup before) addr width
-value_at-dram setup before (Card dev base off) addr width lands = grind (arith, nat_tests)
-value_at-dram setup before (Dram row) addr width lands = refl
-value_at-dram setup before (Shadow row) addr width lands = refl
-value_at-dram setup before Smram addr width lands = refl
-value_at-dram setup before _ addr width lands = cc
-
-joined-same :
-    (f g : Access → ℕ) (parts : List Access) → All (λ part. f part ≡ g part) parts → joined f parts ≡ joined g parts
-joined-same f g [] same = refl
-joined-same f g (part ∷ later) same =
-    let here = All-head (λ part. f part ≡ g part) part later same in
-    rw (here, joined-same f g later (All-tail (λ part. f part ≡ g part) part later same)) refl
+value_at-dram setup before x2 addr width lands = grind (arith, nat_tests)
 
 low-part :
     (byte_at : ℕ → ℕ) (from : ℕ) (width : Width) (count : ℕ) →
@@ -41,33 +28,30 @@ low-part byte_at from One count = simp (unary_clauses) (grind (arith))
 low-part byte_at from Two count = simp (unary_clauses) (grind (arith))
 low-part byte_at from Four count = simp (unary_clauses) (grind (arith))
 
+abbrev Lands : Setup → List Entry → Access → Type 0
+Lands setup before part = first_cell (memory_target setup before part) part.addr ≡ Some (DramCell part.addr)
+
 joined-wide :
-    (byte_at : ℕ → ℕ) (access : WideAccess) (from : ℕ) (widths : List Width) →
-    joined (λ part. wide byte_at part.addr part.width) (made access from widths) ≡ low_first byte_at from (total widths)
+    (setup : Setup) (before : List Entry) (access : WideAccess) (from : ℕ) (widths : List Width) →
+    All (Lands setup before) (made access from widths) →
+    joined (λ part. value_at setup before (memory_target setup before part) part.addr part.width)
+    (made access from widths)
+    ≡ low_first (dram_byte setup before) from (total widths)
 unfolding made
-joined-wide byte_at access from [] = refl
-joined-wide byte_at access from (width ∷ later) =
-    ap (λ (n : ℕ). wide byte_at from width + 256 ^ bytes_of width * n)
-    (joined-wide byte_at access (from + bytes_of width) later)
-    ∙ low-part byte_at from width (total later)
+joined-wide setup before access from [] lands = refl
+joined-wide setup before access from (width ∷ later) lands =
+    rw (
+      value_at-dram setup before _ from width (All-head (Lands setup before) _ _ lands),
+      joined-wide setup before access (from + bytes_of width) later (All-tail (Lands setup before) _ _ lands),
+    )
+    (low-part (dram_byte setup before) from width (total later))
 
 pub wide_reads : WideReads
 unfolding wide_value
 wide_reads setup before access legal reads lands =
     let cut = is_cut access legal in
-    let each : joined (λ part. value_at setup before (memory_target setup before part) part.addr part.width)
-    (parts_of access)
-    ≡ joined (λ part. wide (dram_byte setup before) part.addr part.width) (parts_of access) =
-    joined-same
-    (λ part. value_at setup before (memory_target setup before part) part.addr part.width)
-    (λ part. wide (dram_byte setup before) part.addr part.width) (parts_of access)
-    (λ k d below. value_at-dram setup before _ _ _ (lands k d below)) in
-    cond-false (is_write access.kind) None _ reads
-    ∙ ap (λ (n : ℕ). Some n)
-    (each
-    ∙ ap (joined (λ part. wide (dram_byte setup before) part.addr part.width)) cut.parts
-    ∙ joined-wide (dram_byte setup before) access access.addr cut.widths
-    ∙ ap (low_first (dram_byte setup before) access.addr) cut.total_is)
+    rw (reads, cut.parts, joined-wide setup before access access.addr cut.widths (rw cut.parts at lands), cut.total_is)
+    refl
 
 -- ---- writes
 
@@ -86,17 +70,13 @@ IsApart from to _ = Unit {0}
 apart-parts :
     (cell : Cell) (from near far : ℕ) → IsApart from (from + (near + far)) cell →
     IsApart from (from + near) cell × IsApart (from + near) (from + near + far) cell
-apart-parts (DramCell addr) from near far (inl below) = (inl below, inl (omega arith))
-apart-parts (DramCell addr) from near far (inr past) = (inr (omega arith), inr (omega arith))
-apart-parts (CardCell dev base off) from near far apart = (tt, tt)
+apart-parts x0 from near far apart = grind (arith, nat_tests)
 
 memory_put-apart :
     (access : Access) (target : Target) (cell : Cell) → is_write access.kind ≡ true → first_cell target access.addr
     ≡ Some (DramCell access.addr) →
     IsApart access.addr (access.addr + bytes_of access.width) cell → memory_put access target cell ≡ None
-memory_put-apart access target (DramCell addr) writes lands (inl below) = rw (writes, lands) (grind (arith, nat_tests))
-memory_put-apart access target (DramCell addr) writes lands (inr past) = rw (writes, lands) (grind (arith, nat_tests))
-memory_put-apart access target (CardCell dev base off) writes lands apart = rw (writes, lands) refl
+memory_put-apart access target x2 writes lands apart = grind (arith, nat_tests)
 
 -- byte k of the low bytes of a number is its own byte k
 byte-low : (width : Width) (n k : ℕ) → k < bytes_of width → byte (n % 256 ^ bytes_of width) k ≡ byte n k
@@ -116,9 +96,6 @@ byte-part access from addr width start above below =
     ∙ sym (ap (λ (n : ℕ). n % 256) (further access.value (from - access.addr) (addr - from)))
     ∙ sym (ap (byte access.value) place)
 
-abbrev Lands : Setup → List Entry → Access → Type 0
-Lands setup before part = first_cell (memory_target setup before part) part.addr ≡ Some (DramCell part.addr)
-
 -- what the parts put in a cell, each by its answer
 abbrev put_by_parts : Setup → List Entry → List Access → Cell → Option ℕ
 put_by_parts setup before parts cell = parts_put parts (map (part_answer setup before) parts) cell
@@ -131,13 +108,13 @@ put-apart :
 unfolding made parts_put part_answer
 put-apart setup before access from cell [] writes lands apart = refl
 put-apart setup before access from cell (width ∷ later) writes lands apart =
-    let part : Access = part_at access from width in
-    let rest : List Access = made access (from + bytes_of width) later in
+    let part = part_at access from width in
+    let others : All (Lands setup before) (made access (from + bytes_of width) later) =
+    All-tail (Lands setup before) part _ lands in
     let both = apart-parts cell from (bytes_of width) (total later) apart in
-    rw (put-apart setup before access (from + bytes_of width) cell later writes
-    (All-tail (Lands setup before) part rest lands) both.1)
+    rw (put-apart setup before access (from + bytes_of width) cell later writes others both.1)
     (memory_put-apart part (memory_target setup before part) cell writes
-    (All-head (Lands setup before) part rest lands) both.0)
+    (All-head (Lands setup before) part _ lands) both.0)
 
 put-within :
     (setup : Setup) (before : List Entry) (access : WideAccess) (from addr : ℕ) (widths : List Width) →
@@ -148,14 +125,14 @@ put-within :
 unfolding made parts_put part_answer
 put-within setup before access from addr [] writes lands start above below = absurd (omega arith)
 put-within setup before access from addr (width ∷ later) writes lands start above below =
-    let part : Access = part_at access from width in
-    let rest : List Access = made access (from + bytes_of width) later in
-    let others : All (Lands setup before) rest = All-tail (Lands setup before) part rest lands in
+    let part = part_at access from width in
+    let others : All (Lands setup before) (made access (from + bytes_of width) later) =
+    All-tail (Lands setup before) part _ lands in
     elim (cases_lt addr (from + bytes_of width)) [
       | inl here ↦
           rw (put-apart setup before access (from + bytes_of width) (DramCell addr) later writes others (inl here))
           (memory_put-within part (memory_target setup before part) addr writes
-          (All-head (Lands setup before) part rest lands) above here
+          (All-head (Lands setup before) part _ lands) above here
           ∙ ap (λ (n : ℕ). Some n) (byte-part access from addr width start above here))
       | inr past ↦
           rw (put-within setup before access (from + bytes_of width) addr later writes others (omega arith) past
@@ -164,31 +141,18 @@ put-within setup before access from addr (width ∷ later) writes lands start ab
 
 -- what the reply to a wide access puts in a cell
 put-answered :
-    (setup : Setup) (before : List Entry) (access : WideAccess) (reply : Reply) (cell : Cell) →
-    IsAnswer setup before (Wide access) reply →
-    entry_put (Wide access) reply cell ≡ put_by_parts setup before (parts_of access) cell
-put-answered setup before access (Bus value target denial) cell answer = absurd answer
-put-answered setup before access (Saw look) cell answer = absurd answer
-put-answered setup before access (Parts parts value) cell answer =
-    ap (λ (replies : List Part). parts_put (parts_of access) replies cell) answer.each
+    (setup : Setup) (before : List Entry) (access : WideAccess) (entry : Entry) (cell : Cell) →
+    entry.event ≡ Wide access → IsAnswer setup before (Wide access) entry.reply →
+    entry_put entry.event entry.reply cell ≡ put_by_parts setup before (parts_of access) cell
+put-answered setup before access entry cell is answer = grind (arith, nat_tests)
 
 pub wide_stored : WideStored
 wide_stored setup before entry access next is legal writes lands =
     let cut = is_cut access legal in
-    let answer : IsAnswer setup before (Wide access) entry.reply =
-    subst (λ (event : Event). IsAnswer setup before event entry.reply) is next.answer in
-    let landed : All (Lands setup before) (made access access.addr cut.widths) =
-    subst (All (Lands setup before)) cut.parts lands in
-    let put : (cell : Cell) → entry_put entry.event entry.reply cell
-    ≡ put_by_parts setup before (made access access.addr cut.widths) cell =
-    λ cell.
-    ap (λ (event : Event). entry_put event entry.reply cell) is
-    ∙ put-answered setup before access entry.reply cell answer
-    ∙ ap (λ (parts : List Access). put_by_parts setup before parts cell) cut.parts in
-    let size : total cut.widths ≡ access.bytes = cut.total_is in
-    let left : (cell : Cell) → IsApart access.addr (access.addr + total cut.widths) cell →
-    stored_of (entry ∷ before) cell ≡ stored_of before cell =
-    λ cell apart.
+    let answer = rw is at next.answer in
+    let landed = rw cut.parts at lands in
+    let put = λ (cell : Cell). rw cut.parts at (put-answered setup before access entry cell is answer) in
+    let left = λ (cell : Cell) (apart : IsApart access.addr (access.addr + total cut.widths) cell).
     stored-left entry before cell
     (put cell ∙ put-apart setup before access access.addr cell cut.widths writes landed apart) in
     record {
@@ -197,8 +161,8 @@ wide_stored setup before entry access next is legal writes lands =
           stored-put entry before (DramCell (access.addr + k)) (byte access.value k)
           (put (DramCell (access.addr + k))
           ∙ put-within setup before access access.addr (access.addr + k) cut.widths writes landed (omega arith)
-          (omega arith) (omega arith)
+          (omega arith) (omega (arith, cut.total_is))
           ∙ ap (λ (j : ℕ). Some (byte access.value j)) place);
-      outside = λ addr apart. left (DramCell addr) (rw size apart);
+      outside = λ addr apart. left (DramCell addr) (rw cut.total_is apart);
       cards = λ dev base off. left (CardCell dev base off) tt;
     }

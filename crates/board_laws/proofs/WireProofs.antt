@@ -1,10 +1,10 @@
 -- A card's INTA# and the line to which it is routed.
-use Rattle.std.proofs.Common.{◌≡◌, ℕ, ◌≤◌, ◌<◌, inl, inr, Bool, true, false, ◌||◌, ◌&&◌, List, get_or, Option, Some}
-use Rattle.std.proofs.Common.{None, refl, sym, ◌∙◌, ap, subst, arith, ◌==◌}
-use Rattle.board_prelude.proofs.Common.{nat_tests, cases_Bool, and_from, and_parts, eq-eqb, eqb-true, false≢true}
-use Rattle.board_prelude.proofs.Common.{drives, or_right, line_of_route, is_line_driven, Entry, Setup, pirq, byte_of}
-use Rattle.board_prelude.proofs.Common.{wire_of, timer_of, pirq_of_card, own_level, level_with, levels_with, levels_of}
-use Rattle.board_prelude.proofs.Common.{pirq_level, pirq_levels, routes_of}
+use Rattle.std.proofs.Common.{◌≡◌, ℕ, ◌≤◌, ◌<◌, inl, inr, Bool, true, false, ◌&&◌, List, get_or, Option, Some, refl}
+use Rattle.std.proofs.Common.{◌∙◌, arith, ◌==◌}
+use Rattle.board_prelude.proofs.Common.{nat_tests, cases_Bool, and_parts, eq-eqb, eqb-true, drives, or_right}
+use Rattle.board_prelude.proofs.Common.{line_of_route, is_line_driven, Entry, Setup, pirq, byte_of, wire_of, timer_of}
+use Rattle.board_prelude.proofs.Common.{pirq_of_card, own_level, level_with, levels_with, levels_of, pirq_level}
+use Rattle.board_prelude.proofs.Common.{pirq_levels, routes_of}
 use Rattle.board_laws.specs.DeviceLaws.{SomeWire, WireReachesLine, LineHasDriver}
 use Rattle.board_laws.proofs.Numbers.{numbers_from, map-number, any-number, Passes, passing}
 
@@ -13,8 +13,7 @@ level-at :
     (setup : Setup) (history : List Entry) (line : ℕ) → line < 16 →
     get_or (levels_of setup history) line false ≡ level_with setup history (timer_of history) line
 unfolding levels_with numbers_from
-level-at setup history line below =
-    map-number (level_with setup history (timer_of history)) 0 16 line line false below (omega arith)
+level-at setup history line below = grind (arith, nat_tests)
 
 -- ---- a card's wire and its PIRQ
 
@@ -22,9 +21,7 @@ wire-pirq :
     (history : List Entry) (dev : ℕ) → 2 ≤ dev → dev ≤ 9 → wire_of history dev ≡ true →
     pirq_level history (pirq_of_card dev) ≡ true
 unfolding numbers_from
-wire-pirq history dev first last high =
-    any-number (λ d. pirq_of_card d == pirq_of_card dev && wire_of history d) 2 8 dev first (omega arith)
-    (and_from _ _ (eq-eqb (pirq_of_card dev) (pirq_of_card dev) refl) high)
+wire-pirq history dev first last high = grind (arith, nat_tests)
 
 pirq-wire :
     (history : List Entry) (pin : ℕ) → pirq_level history pin ≡ true →
@@ -38,33 +35,23 @@ abbrev pin_drives : Setup → List Entry → ℕ → ℕ → Bool
 pin_drives setup history line pin =
     drives (line_of_route (get_or (routes_of setup history) pin 0)) (get_or (pirq_levels history) pin false) line
 
-route-at :
-    (setup : Setup) (history : List Entry) (pin : ℕ) → pin < 4 →
-    get_or (routes_of setup history) pin 0 ≡ byte_of setup history (pirq pin)
-unfolding numbers_from
-route-at setup history pin below = map-number (λ k. byte_of setup history (pirq k)) 0 4 pin pin 0 below (omega arith)
-
-pirq-at : (history : List Entry) (pin : ℕ) → pin < 4 → get_or (pirq_levels history) pin false ≡ pirq_level history pin
-unfolding numbers_from
-pirq-at history pin below = map-number (pirq_level history) 0 4 pin pin false below (omega arith)
-
 pin-is :
     (setup : Setup) (history : List Entry) (line pin : ℕ) → pin < 4 →
     pin_drives setup history line pin
     ≡ drives (line_of_route (byte_of setup history (pirq pin))) (pirq_level history pin) line
+unfolding numbers_from
 pin-is setup history line pin below =
-    ap (λ (route : ℕ). drives (line_of_route route) (get_or (pirq_levels history) pin false) line)
-    (route-at setup history pin below)
-    ∙ ap (λ (level : Bool). drives (line_of_route (byte_of setup history (pirq pin))) level line)
-    (pirq-at history pin below)
+    rw (
+      map-number (λ k. byte_of setup history (pirq k)) 0 4 pin pin 0 below (omega arith),
+      map-number (pirq_level history) 0 4 pin pin false below (omega arith),
+    ) refl
 
 record Driven (route : Option ℕ) (level : Bool) (line : ℕ) : Type 0 where
   pub routed : route ≡ Some line
   pub high : level ≡ true
 
 driven-by : (route : Option ℕ) (level : Bool) (line : ℕ) → drives route level line ≡ true → Driven route level line
-driven-by None level line is = absurd (false≢true is)
-driven-by (Some routed) level line is = grind (arith, nat_tests)
+driven-by x0 level line is = grind (arith, nat_tests)
 
 -- ---- both ways
 
@@ -75,9 +62,8 @@ wire_reaches_line setup history line dev below wire =
     let here : pin_drives setup history line pin ≡ true =
     pin-is setup history line pin (omega arith)
     ∙ rw (wire.routed, wire-pirq history dev wire.first wire.last wire.high) (eq-eqb line line refl) in
-    let driven : is_line_driven (routes_of setup history) (pirq_levels history) line ≡ true =
-    any-number (pin_drives setup history line) 0 4 pin (omega arith) (omega arith) here in
-    level-at setup history line below ∙ or_right (own_level setup history (timer_of history) line) _ driven
+    level-at setup history line below ∙ or_right (own_level setup history (timer_of history) line) _
+    (any-number (pin_drives setup history line) 0 4 pin (omega arith) (omega arith) here)
 
 some_wire :
     (setup : Setup) (history : List Entry) (line : ℕ) →
@@ -85,12 +71,10 @@ some_wire :
 unfolding is_line_driven numbers_from
 some_wire setup history line driven =
     let pin = passing (pin_drives setup history line) 0 4 driven in
-    let pin_below : pin.number < 4 = let b = pin.below in omega arith in
-    let by = driven-by (line_of_route (byte_of setup history (pirq pin.number))) (pirq_level history pin.number) line
-    (sym (pin-is setup history line pin.number pin_below) ∙ pin.passes) in
+    let by = driven-by _ _ line (rw (pin-is setup history line pin.number pin.below) at pin.passes) in
     let wire = pirq-wire history pin.number by.high in
     let parts = and_parts (pirq_of_card wire.number == pin.number) (wire_of history wire.number) wire.passes in
-    let pirq_is : pirq_of_card wire.number ≡ pin.number = eqb-true (pirq_of_card wire.number) pin.number parts.0 in
+    let pirq_is = eqb-true (pirq_of_card wire.number) pin.number parts.0 in
     let last : wire.number < 10 = wire.below in
     record {
       dev = wire.number;
@@ -98,19 +82,14 @@ some_wire setup history line driven =
         first = wire.above;
         last = omega arith;
         high = parts.1;
-        routed = subst (λ (k : ℕ). line_of_route (byte_of setup history (pirq k)) ≡ Some line) (sym pirq_is) by.routed;
+        routed = rw pirq_is by.routed;
       };
     }
 
 pub line_has_driver : LineHasDriver
 line_has_driver setup history line below high =
-    let level : (own_level setup history (timer_of history) line || is_line_driven (routes_of setup history)
-    (pirq_levels history) line) ≡ true =
-    sym (level-at setup history line below) ∙ high in
+    let level = rw (level-at setup history line below) at high in
     elim (cases_Bool (own_level setup history (timer_of history) line)) [
       | inl own ↦ inl own
-      | inr not_own ↦
-          inr (some_wire setup history line
-          (sym (ap (λ (b : Bool). b || is_line_driven (routes_of setup history) (pirq_levels history) line) not_own)
-          ∙ level))
+      | inr not_own ↦ inr (some_wire setup history line (rw not_own at level))
     ]

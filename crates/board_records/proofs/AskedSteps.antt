@@ -1,23 +1,15 @@
 -- What an access at a port makes of a chipset with a serial port, in the words of a step that was asked; and the record
--- of each kind of reply as that of a reply of both.
+-- of a bus cycle's reply with what is beside it.
 use Rattle.std.proofs.Common.{◌≡◌, ℕ, true, false, List, ◌∷◌, Option, Some, None, refl}
-use Rattle.board_prelude.proofs.Common.{Target, Denial, PortAccess, Parts, Port, Bus, Look, Saw, Entry, is_hard_reset}
-use Rattle.board_spec.specs.declared.event.Reply.TheVariants as replies
+use Rattle.board_prelude.proofs.Common.{Target, Denial, PortAccess, Port, Entry, is_hard_reset}
 use Rattle.board_chipset.specs.Common.{Running}
 use Rattle.uart_16550.specs.declared.com1.Com1.{Com1}
 use Rattle.uart_16550.specs.declared.com1.Happening.TheVariants.{Happens}
-use Rattle.uart_16550.specs.declared.com1.SerialReply.TheVariants.{Board as OfBoard, Uart as OfUart}
 use Rattle.uart_16550.specs.Common.{change_steps, com1_after, is_for_uart, Serial, sending_after, steps_for}
 use Rattle.board_records.specs.declared.reply.AfterStep.{AfterStep}
 use Rattle.board_records.specs.declared.reply.ReplyRecord.{ReplyRecord}
-use Rattle.board_records.specs.Replies.{bus_said, look_said, uart_said, wide_said, record_said, serial_said, blank}
-use Rattle.board_records.specs.Replies.{with_cycle, without_value, beside_cycle}
+use Rattle.board_records.specs.Replies.{bus_said, blank, with_cycle, without_value, beside_cycle}
 use Rattle.board_records.specs.Steps.{port_of}
-
-pub bus_told : (value : Option ℕ) (target : Target) (denial : Option Denial) (after : AfterStep) →
-    bus_said value target denial after ≡ serial_said (OfBoard (Bus value target denial)) after
-unfolding serial_said record_said
-bus_told value target denial after = refl
 
 -- the reply to one bus cycle, and then what is beside it
 pub cycle_beside : (said : ReplyRecord) (value : Option ℕ) (target : Target) (denial : Option Denial)
@@ -26,20 +18,6 @@ pub cycle_beside : (said : ReplyRecord) (value : Option ℕ) (target : Target) (
 unfolding bus_said blank
 cycle_beside said None target denial after = refl
 cycle_beside said (Some value) target denial after = refl
-
-pub wide_told : (parts : Parts) (value : Option ℕ) (after : AfterStep) →
-    wide_said parts value after ≡ serial_said (OfBoard (replies.Parts parts value)) after
-unfolding serial_said record_said
-wide_told parts value after = refl
-
-pub look_told : (look : Look) (after : AfterStep) → look_said look after ≡ serial_said (OfBoard (Saw look)) after
-unfolding serial_said record_said
-look_told look after = refl
-
-pub uart_told : (value sent : Option ℕ) (after : AfterStep) →
-    uart_said value sent after ≡ serial_said (OfUart value sent) after
-unfolding serial_said
-uart_told value sent after = refl
 
 module _ (old : Serial Running) (next : Com1) (history : List Entry) (access : PortAccess) where
   -- an access that is not for the UART

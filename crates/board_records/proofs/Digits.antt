@@ -1,7 +1,7 @@
 -- The digits of a moment, read back.
-use Rattle.std.proofs.Common.{◌≡◌, ℕ, ◌+◌, ◌*◌, ◌/◌, ◌%◌, ◌<◌, Some, option_map, refl, ap, sym, ◌∙◌, arith}
-use Rattle.board_base.proofs.CalendarLemmas.{moments_decided, days_in_month_bound}
-use Rattle.board_prelude.proofs.Common.{Moment, IsMoment, Time}
+use Rattle.board_prelude.proofs.Common.{nat_tests, Moment, IsMoment, Time}
+use Rattle.std.proofs.Common.{◌≡◌, ℕ, ◌+◌, ◌*◌, ◌/◌, ◌%◌, ◌<◌, Some, option_map, refl, ap, ◌∙◌, arith}
+use Rattle.board_base.proofs.CalendarLemmas.{days_in_month_bound}
 use Rattle.uart_16550.specs.declared.com1.Happening.TheVariants.{Happens}
 use Rattle.board_records.specs.declared.event.EventRecord.{EventRecord}
 use Rattle.board_records.specs.Events.{asked_by, asked_said, digits_said, event_said, moment_said}
@@ -18,14 +18,7 @@ parts_of_digits : (year month day hour minute second : ℕ) → month < 100 → 
     minute < 100 → second < 100 →
     AreParts (((year * 100 + month) * 100 + day) * 1_000_000 + ((hour * 100 + minute) * 100 + second)) year month day
     hour minute second
-parts_of_digits year month day hour minute second mo da ho mi se = record {
-  year_is = omega arith;
-  month_is = omega arith;
-  day_is = omega arith;
-  hour_is = omega arith;
-  minute_is = omega arith;
-  second_is = omega arith;
-}
+parts_of_digits year month day hour minute second mo da ho mi se = grind (arith, nat_tests)
 
 same_said : {digits year month day hour minute second : ℕ} → AreParts digits year month day hour minute second →
     moment_said (digits / 10_000_000_000) (digits / 100_000_000 % 100) (digits / 1_000_000 % 100)
@@ -34,9 +27,7 @@ same_said parts = rw (parts.year_is, parts.month_is, parts.day_is, parts.hour_is
 
 is_said : (m : Moment) → IsMoment m → moment_said m.year m.month m.day m.hour m.minute m.second ≡ Some (Time m)
 unfolding moment_said
-is_said m is =
-    rw ((moments_decided m.year m.month m.day m.hour m.minute m.second).1 (is.date, is.time))
-    (ap (λ weekday. Some (Time (record m { weekday = weekday }))) (sym is.weekday))
+is_said m is = grind (arith, nat_tests)
 
 pub digits_told : (m : Moment) → IsMoment m →
     digits_said (((m.year * 100 + m.month) * 100 + m.day) * 1_000_000 + ((m.hour * 100 + m.minute) * 100 + m.second))

@@ -1,6 +1,6 @@
 -- Lists that are filled from the front.
-use Rattle.std.proofs.Common.{◌≡◌, ℕ, ◌+◌, ◌<◌, ◌≤◌, List, ◌++◌, length, map, set, get_or, ap, sym, ◌∙◌, arith, take}
-use Rattle.std.proofs.Common.{drop}
+use Rattle.board_prelude.proofs.Common.{common_steps, nat_tests}
+use Rattle.std.proofs.Common.{◌≡◌, ℕ, ◌+◌, ◌<◌, ◌≤◌, List, length, map, set, get_or, sym, ◌∙◌, arith, take, drop}
 use Rattle.std.proofs.lemmas.Grind.{drop_more_same}
 use Rattle.board_records.specs.Maps.{filled}
 use Rattle.std.proofs.lemmas.List.{take-append-drop, take_all, take_more_same, length-set, length-map, take-set}
@@ -25,8 +25,4 @@ rest_more now before index next rest =
 pub filled_all : {A : Type 0} (told now before : List A) (index : ℕ) → length told ≤ length before →
     index ≡ length told →
     take index now ≡ take index told → drop index now ≡ drop index before → now ≡ filled told before
-filled_all told now before index room is front rest =
-    rw (take_all (length before) told room, ← is)
-    (sym (take-append-drop index now) ∙ ap (λ list. list ++ drop index now)
-    (front ∙ take_all index told (omega (arith, is)))
-    ∙ ap (λ list. told ++ list) rest)
+filled_all told now before index room is front rest = grind (arith, nat_tests, common_steps, take_all, take-append-drop)

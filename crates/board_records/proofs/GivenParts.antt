@@ -1,10 +1,10 @@
 -- A board that was loaded, with the bytes that are given.
-use Rattle.std.proofs.Common.{◌≡◌, ℕ, ◌⊎◌, inl, inr, List, Result, Ok, Err, IfOk, IfErr, refl, sym}
+use Rattle.std.proofs.Common.{arith, ◌≡◌, ℕ, ◌⊎◌, inr, List, Result, Ok, Err, IfOk, IfErr}
+use Rattle.board_prelude.proofs.Common.{nat_tests}
 use Rattle.board_records.specs.Doors.{Behind}
 use Rattle.board_records.specs.Given.{AreAsMany, Given, IsGivenBoard, IsGivenRefusal, on_board, with_given}
 use Rattle.board_records.specs.Images.{IsBehind, image_bytes}
 use Rattle.board_records.specs.Statuses.{bad_length, no_memory}
-use Rattle.board_records.proofs.Images.{never_err, ok_same}
 use Rattle.board_records.proofs.LeftSteps.{sound_with}
 
 -- what a call says that puts them in
@@ -16,13 +16,7 @@ Puts given loaded result =
 pub given_loaded :
     (result : Result Behind ℕ) (given : Given) (loaded : Behind) (bytes : List ℕ) → Puts given loaded result →
     IsBehind loaded → bytes ≡ image_bytes loaded → IfOk result (IsGivenBoard bytes given)
-given_loaded (Ok it) given loaded bytes puts sound image = record {
-  behind = loaded;
-  sound = sound;
-  image = image;
-  as_many = puts.0.1;
-  same = puts.0.0;
-}
+given_loaded (Ok it) given loaded bytes puts sound image = grind (arith, nat_tests)
 given_loaded (Err status) given loaded bytes puts sound image = tt
 
 -- and steps can go on from it
@@ -45,23 +39,11 @@ pub given_exact :
     let read : Result Behind ℕ = Ok loaded in
     (read ≡ Err no_memory) ⊎ (read ≡ Ok behind) → AreAsMany given behind.serial.board.setup →
     (result ≡ Err no_memory) ⊎ (result ≡ Ok (on_board (with_given given) behind))
-given_exact (Ok it) given loaded behind puts read as_many =
-    elim read [
-      | inl never ↦ absurd (never_err loaded no_memory never)
-      | inr is ↦ inr (rw (puts.0.0, ok_same loaded behind is) refl)
-    ]
-given_exact (Err status) given loaded behind puts read as_many =
-    elim read [
-      | inl never ↦ absurd (never_err loaded no_memory never)
-      | inr is ↦ absurd (puts.1.1 (rw (ok_same loaded behind is) as_many))
-    ]
+given_exact (Ok it) given loaded behind puts read as_many = grind (arith, nat_tests)
+given_exact (Err status) given loaded behind puts read as_many = grind (arith, nat_tests)
 
 -- nothing was loaded
 pub exact_refused : (status : ℕ) (behind other : Behind) →
     let read : Result Behind ℕ = Err status in
     (read ≡ Err no_memory) ⊎ (read ≡ Ok behind) → (read ≡ Err no_memory) ⊎ (read ≡ Ok other)
-exact_refused status behind other read =
-    elim read [
-      | inl wanted ↦ inl wanted
-      | inr never ↦ absurd (never_err behind status (sym never))
-    ]
+exact_refused status behind other read = grind (arith, nat_tests)

@@ -1,8 +1,8 @@
 -- What cards say that they are, one after another; and steps of a door over those of its chipset.
-use Rattle.std.proofs.Common.{◌≡◌, ℕ, ◌+◌, ◌<◌, ◌≤◌, Bool, true, false, if◌then◌else◌, List, [], ◌∷◌, length, get_or}
-use Rattle.std.proofs.Common.{drop, IsSomeAnd, Option, Some, None, option_map, refl, sym, ap, arith}
+use Rattle.board_prelude.proofs.Common.{nat_tests}
+use Rattle.std.proofs.Common.{◌≡◌, ℕ, ◌+◌, ◌<◌, ◌≤◌, if◌then◌else◌, List, ◌∷◌, length, get_or, drop, IsSomeAnd, Option}
+use Rattle.std.proofs.Common.{Some, None, option_map, refl, ap, arith}
 use Rattle.std.proofs.lemmas.List.{drop_more}
-use Rattle.board_prelude.proofs.Common.{Width}
 use Rattle.board_spec.specs.Setup.{FittedCard, Setup}
 use Rattle.board_chipset.specs.Common.{Running}
 use Rattle.uart_16550.specs.declared.com1.Happening.{Happening}
@@ -13,12 +13,10 @@ use Rattle.board_records.specs.declared.card.CardRecord.{CardRecord}
 use Rattle.board_records.specs.declared.event.EventRecord.{EventRecord}
 use Rattle.board_records.specs.declared.reply.ReplyRecord.{ReplyRecord}
 use Rattle.board_records.specs.Cards.{cards_said, identities_said, identity_said}
-use Rattle.board_records.specs.Events.{width_said}
 use Rattle.board_records.specs.Doors.{Held, IsDoorStep, IsOpenedWith, disk_of, setup_said}
-use Rattle.board_records.specs.Identified.{fitted_record, identified_by, identified_record, is_config_read}
+use Rattle.board_records.specs.Identified.{fitted_record}
 use Rattle.board_records.specs.Steps.{IsAskedStep}
 use Rattle.board_records.proofs.Openings.{said_count}
-use Rattle.board_records.proofs.RomParts.{none_with}
 
 pub identities_next : (records : List CardRecord) (index : ℕ) (last : CardRecord) → index < length records →
     identities_said (drop index records)
@@ -43,15 +41,6 @@ pub few_opened : (mib : ℕ) (records : List CardRecord) (rom disk : List ℕ) (
 few_opened mib records rom disk serial opened =
     some_few (length records) mib rom disk serial (cards_said records) (said_count records) opened
 
--- no card that says anything: the reply is as it was
-none_by : (read : Bool) (width : Option Width) (said : ReplyRecord) →
-    said ≡ identified_by (if read then None else None) width said
-none_by true width said = refl
-none_by false width said = refl
-
-pub none_identified : (event : EventRecord) (said : ReplyRecord) → said ≡ identified_record [] event said
-none_identified event said = none_by (is_config_read said) (width_said event.bytes) said
-
 -- ---- steps
 
 abbrev held : Serial Running → List FittedIdentity → List (List ℕ) → Option Held
@@ -63,15 +52,4 @@ pub fitted_step : (asked : Option Happening) (old new : Serial Running) (identit
     said ≡ fitted_record identities roms event plain → IsSomeAnd asked (IsAskedStep old new plain) →
     IsSomeAnd asked (IsDoorStep (held old identities roms) (held new identities roms) event said)
 fitted_step None old new identities roms event plain said is done = done
-fitted_step (Some it) old new identities roms event plain said is done = record {
-  same = refl;
-  same_roms = refl;
-  holds = record { plain = plain; step = done; told = is };
-}
-
--- of a board whose cards say nothing, and whose ROMs were given no bytes
-pub unfitted : (identities : List FittedIdentity) (roms : List (List ℕ)) (event : EventRecord) (said : ReplyRecord) →
-    identities ≡ [] → roms ≡ [] → said ≡ fitted_record identities roms event said
-unfitted identities roms event said none no_roms =
-    let plain : identified_record identities event said ≡ said = rw none (sym (none_identified event said)) in
-    rw (plain, no_roms) (sym (none_with event said))
+fitted_step (Some it) old new identities roms event plain said is done = grind (arith, nat_tests)

@@ -1,6 +1,6 @@
 -- A board is read from its bytes: what it is fitted with, and then its state.
-use Rattle.std.proofs.Common.{◌≡◌, ◌⊎◌, ℕ, inl, inr, List, [], ◌++◌, Result, Ok, Err, IfOk, refl, sym, ap, ◌∙◌}
-use Rattle.board_prelude.proofs.Common.{append-nil}
+use Rattle.std.proofs.Common.{arith, ◌≡◌, ◌⊎◌, ℕ, inl, inr, List, [], ◌++◌, Result, Ok, Err, IfOk, refl, ap}
+use Rattle.board_prelude.proofs.Common.{nat_tests, append-nil}
 use Rattle.byte_fields.specs.declared.fault.Fault.{Fault}
 use Rattle.byte_fields.specs.declared.fault.Fault.TheVariants.{NoMemory}
 use Rattle.byte_fields.specs.Fields.{ended}
@@ -15,18 +15,6 @@ use Rattle.board_records.specs.Doors.{Behind}
 use Rattle.board_records.specs.Images.{IsBehind, fitting_of, image_bytes}
 
 -- ---- results
-
-pub never_err : {A E : Type 0} (x : A) (y : E) → ◌≡◌ {A = Result A E} (Ok x) (Err y) → ⊥
-never_err x y is = absurd cc
-
-pub ok_same : {A E : Type 0} (x y : A) → ◌≡◌ {A = Result A E} (Ok x) (Ok y) → x ≡ y
-ok_same x y is = cc
-
-err_same : {A E : Type 0} (x y : E) → ◌≡◌ {A = Result A E} (Err x) (Err y) → x ≡ y
-err_same x y is = cc
-
-abbrev pub ok_of : Behind → Result Behind ℕ
-ok_of behind = Ok behind
 
 -- a value is given, or there was no memory
 abbrev pub Gives : Result Behind Fault → Behind → Type 0
@@ -46,11 +34,10 @@ pub state_exact :
     (◌≡◌ {A = Result Behind Fault} (Ok read) (Err NoMemory)) ⊎
     ((◌≡◌ {A = Result Behind Fault} (Ok read) (Ok behind)) × (after ≡ rest))
 state_exact before after serial identities loads behind rest is same begins =
+    let say : behind.identities ≡ identities = ap (λ (fitting : Fitting). fitting.identities) same in
     elim (loads.exact behind.serial rest (ap (λ (fitting : Fitting). fitting.setup) same) is.state begins) [
-      | inl never ↦ absurd (never_err serial NoMemory never)
-      | inr given ↦
-          let say = ap (λ (fitting : Fitting). fitting.identities) same in
-          inr (rw (ok_same serial behind.serial given.0, say) refl, given.1)
+      | inl never ↦ absurd cc
+      | inr given ↦ let read : serial ≡ behind.serial = cc (given.0) in inr (rw (read, ← say) refl, given.1)
     ]
 
 pub state_refused :
@@ -60,10 +47,7 @@ pub state_refused :
     (◌≡◌ {A = Result Behind Fault} (Err fault) (Err NoMemory)) ⊎
     ((◌≡◌ {A = Result Behind Fault} (Err fault) (Ok behind)) × (after ≡ rest))
 state_refused before after fault loads behind rest is same begins =
-    elim (loads.exact behind.serial rest same is.state begins) [
-      | inl wanted ↦ inl (ap (λ (f : Fault). Err f) (err_same {A = Serial Running} fault NoMemory wanted))
-      | inr never ↦ absurd (never_err behind.serial fault (sym never.0))
-    ]
+    grind (arith, nat_tests, loads.exact behind.serial rest same is.state begins)
 
 -- ---- the state, after which nothing follows
 
@@ -83,48 +67,15 @@ GivesThen result after behind = (result ≡ Err NoMemory) ⊎ ((result ≡ Ok be
 pub last_exact :
     (result : Result Behind Fault) (read behind : Behind) (after : List ℕ) → (after ≡ [] → result ≡ Ok read) →
     GivesThen (Ok read) after behind → Gives result behind
-last_exact result read behind after last given =
-    elim given [
-      | inl never ↦ absurd (never_err read NoMemory never)
-      | inr is ↦ inr (last is.1 ∙ is.0)
-    ]
+last_exact result read behind after last given = grind (arith, nat_tests)
 
 pub last_refused : (fault : Fault) (behind : Behind) (after : List ℕ) → GivesThen (Err fault) after behind →
     Gives (Err fault) behind
-last_refused fault behind after given =
-    elim given [
-      | inl wanted ↦ inl wanted
-      | inr never ↦ absurd (never_err behind fault (sym never.0))
-    ]
+last_refused fault behind after given = grind (arith, nat_tests)
 
 -- ---- the whole
-
-fitting_is : (behind : Behind) → IsBehind behind → IsFitting (fitting_of behind)
-fitting_is behind is = record { fits = is.state.chipset.fits; say = is.say }
-
-pub whole_loaded :
-    (result : Result Behind Fault) (fitted : Fitting) (before mid : List ℕ) → before ≡ fitting_bytes fitted ++ mid →
-    IfOk result (λ given. IsBehind given × (fitting_of given ≡ fitted) × (mid ≡ serial_bytes given.serial)) →
-    IfOk result (λ given. IsBehind given × (before ≡ image_bytes given))
-whole_loaded (Ok given) fitted before mid begins told = (told.0, begins ∙ rw (told.2, ← told.1) refl)
-whole_loaded (Err fault) fitted before mid begins told = tt
-
--- what the bytes of a board say of what was read first
-pub fitted_so :
-    (before mid : List ℕ) (fitted : Fitting) → LoadsWith fitting_fields fitting_bytes IsFitting before mid (Ok fitted) →
-    (behind : Behind) → IsBehind behind → before ≡ image_bytes behind →
-    (fitting_of behind ≡ fitted) × (mid ≡ serial_bytes behind.serial)
-fitted_so before mid fitted one behind is begins =
-    elim (one.exact (fitting_of behind) (serial_bytes behind.serial) (fitting_is behind is) begins) [
-      | inl never ↦ absurd (never_err fitted NoMemory never)
-      | inr read ↦ (sym (ok_same fitted (fitting_of behind) read.0), read.1)
-    ]
 
 pub fitting_refused :
     (before mid : List ℕ) (fault : Fault) → LoadsWith fitting_fields fitting_bytes IsFitting before mid (Err fault) →
     (behind : Behind) → IsBehind behind → before ≡ image_bytes behind → Gives (Err fault) behind
-fitting_refused before mid fault one behind is begins =
-    elim (one.exact (fitting_of behind) (serial_bytes behind.serial) (fitting_is behind is) begins) [
-      | inl wanted ↦ inl (ap (λ (f : Fault). Err f) (err_same {A = Fitting} fault NoMemory wanted))
-      | inr never ↦ absurd (never_err (fitting_of behind) fault (sym never.0))
-    ]
+fitting_refused before mid fault one behind is begins = grind (arith, nat_tests)

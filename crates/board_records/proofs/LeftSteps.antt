@@ -1,6 +1,6 @@
 -- A board that is saved without bytes of its own, and loaded with them.
 use Rattle.std.proofs.Common.{◌≡◌, ◌≢◌, ℕ, ◌/◌, true, false, Bool, if◌then◌else◌, List, [], ◌∷◌, length, option_map}
-use Rattle.std.proofs.Common.{unwrap_or, Option, Some, None, Result, Ok, Err, ◌⊎◌, inl, inr, refl, sym, ap, subst, ◌∙◌}
+use Rattle.std.proofs.Common.{unwrap_or, Option, Some, None, Result, Ok, Err, ◌⊎◌, refl, sym, ap, arith, subst, ◌∙◌}
 use Rattle.board_prelude.specs.Common.{Disk, IsDisk, IsDiskSize}
 use Rattle.ata_pio.specs.State.{IsDisk as IsDiskOver}
 use Rattle.board_devices.specs.Common.{holding, sectors_in}
@@ -15,7 +15,7 @@ use Rattle.board_records.specs.declared.left.LeftOut.{LeftOut}
 use Rattle.board_records.specs.Doors.{Behind}
 use Rattle.board_records.specs.Given.{AreAsMany, Given, IsAsMany, given_or, left_of, on_board, with_given, without}
 use Rattle.board_records.specs.Images.{IsBehind, image_bytes}
-use Rattle.board_records.proofs.Images.{ok_of}
+use Rattle.board_prelude.proofs.Common.{nat_tests}
 use Rattle.board_records.specs.Statuses.{no_memory}
 
 -- ---- other bytes, as many, in the place of a board's own
@@ -40,10 +40,10 @@ disk_over_other : (fitted sectors : List ℕ) (own : Option (List ℕ)) (disk : 
     length fitted ≡ length (unwrap_or own []) → length sectors ≡ length (unwrap_or (sectors_in disk) []) →
     IsFittedDisk own disk →
     IsFittedDisk (option_map {T = List ℕ} (λ _. fitted) own) (option_map (holding sectors) disk)
-disk_over_other fitted sectors None None fits same is = tt
-disk_over_other fitted sectors None (Some disk) fits same is = is
-disk_over_other fitted sectors (Some own) None fits same is = is
 disk_over_other fitted sectors (Some own) (Some disk) fits same is = over_other fitted sectors own disk fits same is
+disk_over_other fitted sectors (Some own) None fits same is = is
+disk_over_other fitted sectors None None fits same is = is
+disk_over_other fitted sectors None (Some disk) fits same is = is
 
 pub whole_with : (dram fitted sectors : List ℕ) (chipset : Running) → length dram ≡ length (dram_on chipset) →
     length fitted ≡ length (fitted_on chipset) → length sectors ≡ length (sectors_on chipset) → IsChipset chipset →
@@ -57,27 +57,19 @@ whole_with dram fitted sectors chipset of_dram of_fitted of_sectors is =
     )
 
 pub sound_without : (left : LeftOut) (behind : Behind) → IsBehind behind → IsBehind (without left behind)
-sound_without left behind is = record {
-  state = record {
-    chipset =
-        whole_with (unless_left left.dram (dram_on behind.serial.board))
-        (unless_left left.disk (fitted_on behind.serial.board))
-        (unless_left left.disk (sectors_on behind.serial.board)) behind.serial.board
-        (left_length left.dram (dram_on behind.serial.board)) (left_length left.disk (fitted_on behind.serial.board))
-        (left_length left.disk (sectors_on behind.serial.board)) is.state.chipset;
-    port = is.state.port;
-  };
-  say = is.say;
-}
+sound_without left behind is =
+    let board : Running = behind.serial.board in
+    assumption (whole_with (unless_left left.dram (dram_on board)) (unless_left left.disk (fitted_on board))
+    (unless_left left.disk (sectors_on board)) board (left_length left.dram (dram_on board))
+    (left_length left.disk (fitted_on board)) (left_length left.disk (sectors_on board)) is.state.chipset)
 
 -- ---- what is given in their place
 
 sectors_long : (fitted : Option (List ℕ)) (disk : Option Disk) → IsFittedDisk fitted disk →
     length (unwrap_or (sectors_in disk) []) ≡ length (unwrap_or fitted [])
 sectors_long None None is = refl
-sectors_long None (Some disk) is = absurd is
-sectors_long (Some bytes) None is = absurd is
 sectors_long (Some bytes) (Some disk) is = is.medium.bytes
+sectors_long _ _ is = absurd is
 
 given_length : (given own : List ℕ) (size : ℕ) → IsAsMany given size → length own ≡ size →
     length (given_or given own) ≡ length own
@@ -89,21 +81,14 @@ pub sound_with : (given : Given) (behind : Behind) → AreAsMany given behind.se
 sound_with given behind many is =
     let chipset : Running = behind.serial.board in
     let fitted : List ℕ = fitted_on chipset in
-    record {
-      state = record {
-        chipset =
-            whole_with (given_or given.dram (dram_on chipset)) (given_or given.fitted fitted)
-            (given_or given.sectors (sectors_on chipset)) chipset
-            (given_length given.dram (dram_on chipset) (installed chipset.setup) many.dram
-            is.state.chipset.whole.stores.dram)
-            (given_length given.fitted fitted (length fitted) many.fitted refl)
-            (given_length given.sectors (sectors_on chipset) (length fitted) many.sectors
-            (sectors_long chipset.setup.disk chipset.state.devices.disk is.state.chipset.whole.devices.disk))
-            is.state.chipset;
-        port = is.state.port;
-      };
-      say = is.say;
-    }
+    assumption (whole_with (given_or given.dram (dram_on chipset)) (given_or given.fitted fitted)
+    (given_or given.sectors (sectors_on chipset)) chipset
+    (given_length given.dram (dram_on chipset) (installed chipset.setup) many.dram
+    is.state.chipset.whole.stores.dram)
+    (given_length given.fitted fitted (length fitted) many.fitted refl)
+    (given_length given.sectors (sectors_on chipset) (length fitted) many.sectors
+    (sectors_long chipset.setup.disk chipset.state.devices.disk is.state.chipset.whole.devices.disk))
+    is.state.chipset)
 
 -- ---- its own put in again
 
@@ -125,39 +110,18 @@ resectored : (left : Bool) (disk : Option Disk) →
 resectored left None = refl
 resectored left (Some disk) = ap (λ (b : List ℕ). Some (holding b disk)) (given_back left disk.medium.bytes)
 
--- a chipset of these parts
-abbrev rebuilt : Running → List ℕ → Option (List ℕ) → Option Disk → Running
-rebuilt chipset dram fitted disk = record {
-  setup = record chipset.setup { disk = fitted };
-  state = record chipset.state {
-    stores = record chipset.state.stores { dram = dram };
-    devices = record chipset.state.devices { disk = disk };
-  };
-}
-
 chipset_restored : (left : LeftOut) (chipset : Running) →
     with_given (left_of left chipset) (dram_left left.dram (disk_left left.disk chipset)) ≡ chipset
 chipset_restored left chipset =
-    let dram : List ℕ = dram_on chipset in
-    let fitted : Option (List ℕ) = chipset.setup.disk in
-    let disk : Option Disk = chipset.state.devices.disk in
-    let sectors : List ℕ = sectors_on chipset in
-    let blank : Option (List ℕ) = option_map {T = List ℕ} (λ _. unless_left left.disk (unwrap_or fitted [])) fitted in
-    let empty : Option Disk = option_map (holding (unless_left left.disk sectors)) disk in
-    let refit : Option (List ℕ) =
-    option_map {T = List ℕ} (λ _. given_or (if left.disk then unwrap_or fitted [] else []) (unwrap_or blank []))
-    blank in
-    let full : Option Disk =
-    option_map (holding (given_or (if left.disk then sectors else []) (unwrap_or (sectors_in empty) []))) empty in
-    ap (λ (bytes : List ℕ). rebuilt chipset bytes refit full) (given_back left.dram dram)
-    ∙ ap (λ (bytes : Option (List ℕ)). rebuilt chipset dram bytes full) (refitted left.disk fitted)
-    ∙ ap (λ (it : Option Disk). rebuilt chipset dram fitted it) (resectored left.disk disk)
+    rw (
+      given_back left.dram (dram_on chipset),
+      refitted left.disk chipset.setup.disk,
+      resectored left.disk chipset.state.devices.disk,
+    ) refl
 
 pub restored : (left : LeftOut) (behind : Behind) →
     on_board (with_given (left_of left behind.serial.board)) (without left behind) ≡ behind
-restored left behind =
-    ap (λ (chipset : Running). record behind { serial = record behind.serial { board = chipset } })
-    (chipset_restored left behind.serial.board)
+restored left behind = rw (chipset_restored left behind.serial.board) refl
 
 -- they are as many
 
@@ -192,42 +156,4 @@ pub loaded_back :
 loaded_back result bytes given left behind exact is image own =
     let fits : AreAsMany given (without left behind).serial.board.setup = rw own (own_as_many left behind is) in
     let same : on_board (with_given given) (without left behind) ≡ behind = rw own (restored left behind) in
-    elim (exact (without left behind) (sound_without left behind is) image fits) [
-      | inl wanted ↦ inl wanted
-      | inr loaded ↦ inr (loaded ∙ ap ok_of same)
-    ]
-
--- ---- nothing is left out
-
-refitted_own : (disk : Option (List ℕ)) → option_map {T = List ℕ} (λ _. unwrap_or disk []) disk ≡ disk
-refitted_own None = refl
-refitted_own (Some bytes) = refl
-
-resectored_own : (disk : Option Disk) → option_map (holding (unwrap_or (sectors_in disk) [])) disk ≡ disk
-resectored_own None = refl
-resectored_own (Some disk) = refl
-
-pub own_fitted : (chipset : Running) → with_fitted (fitted_on chipset) chipset ≡ chipset
-own_fitted chipset = rw (refitted_own chipset.setup.disk) refl
-
-pub own_sectors : (chipset : Running) → with_sectors (sectors_on chipset) chipset ≡ chipset
-own_sectors chipset = rw (resectored_own chipset.state.devices.disk) refl
-
-pub none_left : (chipset : Running) → disk_left false chipset ≡ chipset
-none_left chipset =
-    ap (λ (disk : Option (List ℕ)). rebuilt chipset (dram_on chipset) disk
-    (option_map (holding (sectors_on chipset)) chipset.state.devices.disk)) (refitted_own chipset.setup.disk)
-    ∙ own_sectors chipset
-
-pub none_left_behind : (behind : Behind) → on_board (disk_left false) behind ≡ behind
-none_left_behind behind =
-    ap (λ (chipset : Running). record behind { serial = record behind.serial { board = chipset } })
-    (none_left behind.serial.board)
-
-pub dram_kept : (left : LeftOut) (behind : Behind) → left.dram ≡ false →
-    on_board (disk_left left.disk) behind ≡ without left behind
-dram_kept left behind kept = rw kept refl
-
-pub dram_gone : (left : LeftOut) (behind : Behind) → left.dram ≡ true →
-    without (record { dram = true; disk = left.disk }) behind ≡ without left behind
-dram_gone left behind gone = rw gone refl
+    grind (arith, nat_tests, exact (without left behind) (sound_without left behind is) image fits)

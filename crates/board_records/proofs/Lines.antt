@@ -1,10 +1,10 @@
 -- The number of the levels from a line on.
+use Rattle.board_prelude.proofs.Common.{common_steps, nat_tests, byte_of_levels, Entry, Setup, levels_of, levels_with}
 use mir.Val.{bool_byte}
-use Rattle.std.proofs.Common.{◌≡◌, ℕ, suc, ◌+◌, ◌*◌, ◌-◌, ◌<◌, ◌≤◌, ◌^◌, Bool, true, false, if◌then◌else◌, List, length}
+use Rattle.std.proofs.Common.{◌≡◌, ℕ, ◌+◌, ◌*◌, ◌-◌, ◌<◌, ◌≤◌, ◌^◌, Bool, true, false, if◌then◌else◌, List, length}
 use Rattle.std.proofs.Common.{get_or, drop, refl, ap, arith}
 use Rattle.std.proofs.lemmas.List.{drop_all, drop_more}
 use Rattle.std.proofs.Math.Nat.{pow-succ'}
-use Rattle.board_prelude.proofs.Common.{byte_of_levels, Entry, Setup, levels_of, levels_with}
 
 pub bits_from : (levels : List Bool) (line next : ℕ) → line < length levels → next ≡ line + 1 →
     byte_of_levels (drop line levels) ≡ (if get_or levels line false then 1 else 0) + 2 * byte_of_levels
@@ -16,10 +16,7 @@ bits_from levels line next within is = rw is (ap byte_of_levels (drop_more level
 pub one_more_line : (levels : List Bool) (k bits more : ℕ) → k < 16 → length levels ≡ 16 →
     more ≡ (if get_or levels (15 - k) false then 1 else 0) → bits ≡ byte_of_levels (drop (16 - k) levels) →
     2 * bits + more ≡ byte_of_levels (drop (16 - (k + 1)) levels)
-one_more_line levels k bits more few size is so_far =
-    let from = bits_from levels (15 - k) (16 - k) (omega (arith, few, size)) (omega (arith, few)) in
-    let same : 16 - (k + 1) ≡ 15 - k = omega (arith, few) in
-    rw (same, from, is, so_far) (omega arith)
+one_more_line levels k bits more few size is so_far = grind (arith, nat_tests, common_steps, bits_from)
 
 pub level_number : (level : Bool) → bool_byte level ≡ (if level then 1 else 0)
 level_number true = refl
@@ -32,10 +29,7 @@ at_most_one false = omega arith
 -- and they fit
 pub fits : (k bits more : ℕ) (level : Bool) → more ≡ bool_byte level → bits + 1 ≤ 2 ^ k →
     2 * bits + more + 1 ≤ 2 ^ (k + 1)
-fits k bits more level is small =
-    let next : k + 1 ≡ suc k = omega arith in
-    let double : 2 ^ (k + 1) ≡ 2 * 2 ^ k = rw next (pow-succ' 2 k) in
-    omega (arith, small, is, at_most_one level, double)
+fits k bits more level is small = grind (arith, nat_tests, common_steps, pow-succ', at_most_one)
 
 pub none_left : (levels : List Bool) → length levels ≡ 16 → 0 ≡ byte_of_levels (drop 16 levels)
 unfolding byte_of_levels

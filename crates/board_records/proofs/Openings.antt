@@ -1,9 +1,9 @@
 -- What an open looks at before it copies: the cards that records say are as many as the records.
+use Rattle.board_prelude.proofs.Common.{common_steps, nat_tests}
 use Rattle.std.proofs.Common.{◌≡◌, ℕ, suc, ◌+◌, ◌<◌, ◌&&◌, true, arith, IsSomeAnd, List, [], ◌∷◌, length, get_or, drop}
 use Rattle.std.proofs.Common.{is_some, Option, Some, None, option_map, option_and_then, refl, ap}
 use Rattle.std.proofs.lemmas.List.{drop_more}
 use Rattle.board_spec.specs.Setup.{FittedCard, IsCardList, IsSetup, Setup}
-use Rattle.board_chipset.specs.declared.check.SetupFault.TheVariants.{Cards}
 use Rattle.board_chipset.specs.Setups.{IsMemory}
 use Rattle.board_records.specs.Doors.{IsSetupRefusal, disk_of, setup_said}
 use Rattle.board_records.specs.Statuses.{bad_cards}
@@ -32,9 +32,7 @@ both_said one others = grind arith
 pub said_next : (records : List CardRecord) (index : ℕ) (last : CardRecord) → index < length records →
     is_some (all_said card_said (drop index records))
     ≡ (is_some (card_said (get_or records index last)) && is_some (all_said card_said (drop (index + 1) records)))
-said_next records index last within =
-    rw (drop_more records index last within)
-    (both_said (card_said (get_or records index last)) (all_said card_said (drop (index + 1) records)))
+said_next records index last within = grind (arith, nat_tests, common_steps, drop_more, both_said)
 
 abbrev setup_of : (mib : ℕ) → List FittedCard → (rom disk : List ℕ) → Setup
 setup_of mib cards rom disk = record { mib = mib; cards = cards; rom = rom; disk = disk_of disk }
@@ -53,9 +51,7 @@ no_list records cards many is list = omega (arith, many, said_count records card
 
 pub many_cards : (mib : ℕ) (records : List CardRecord) (rom disk : List ℕ) → is_some (cards_said records) ≡ true →
     8 < length records → IsMemory mib → IsSetupRefusal (setup_said mib records rom disk) bad_cards
-many_cards mib records rom disk test many memory =
-    some_there mib rom disk bad_cards (cards_said records) test
-    (λ cards is. (Cards, (memory, no_list records cards many is), refl))
+many_cards mib records rom disk test many memory = grind (arith, nat_tests, common_steps, some_there, no_list)
 
 -- ---- at most eight
 

@@ -1,16 +1,14 @@
 -- Which part moved a byte, and the cards one after another; and replies where no ROM was given bytes.
-use Rattle.std.proofs.Common.{◌≡◌, ℕ, ◌+◌, ◌-◌, ◌<◌, ◌≤◌, ◌==◌, nat_lt, false}
-use Rattle.std.proofs.Common.{if◌then◌else◌, List, [], length, drop, get_or, find, Some, None, refl, sym}
-use Rattle.std.proofs.Common.{◌∙◌}
+use Rattle.std.proofs.Common.{arith, ◌≡◌, ℕ, ◌+◌, ◌-◌, ◌<◌, ◌≤◌, ◌==◌, nat_lt, if◌then◌else◌, List, [], length, drop}
+use Rattle.std.proofs.Common.{get_or, find, Some, None, refl, sym, ◌∙◌}
+use Rattle.board_prelude.proofs.Common.{nat_tests, drop_all, le-ltb, lt-ltb, bytes_of, longest_at}
 use Rattle.std.proofs.lemmas.List.{drop_more}
-use Rattle.board_prelude.proofs.Common.{and_right, drop_all, le-ltb, lt-ltb, bytes_of, longest_at}
 use Rattle.board_spec.specs.Setup.{FittedCard}
-use Rattle.expansion_roms.specs.Roms.{given, put_byte, rom_byte}
 use Rattle.board_records.specs.declared.event.EventRecord.{EventRecord}
 use Rattle.board_records.specs.declared.reply.PartRecord.{PartRecord}
 use Rattle.board_records.specs.declared.reply.ReplyRecord.{ReplyRecord}
 use Rattle.board_records.specs.Replies.{no_part}
-use Rattle.board_records.specs.RomReplies.{is_given, part_of, with_roms}
+use Rattle.board_records.specs.RomReplies.{part_of, with_roms}
 
 pub part_next : (parts : List PartRecord) (index addr bytes before place : ℕ) (last : PartRecord) →
     index < length parts →
@@ -51,20 +49,5 @@ card_next cards index dev last within = rw (drop_more cards index last within) r
 
 -- ---- no ROM was given any
 
-pub first_put : (first new : List (List ℕ)) (dev off : ℕ) (bytes : List ℕ) → ((d : ℕ) → given first d ≡ []) →
-    ((d at : ℕ) → rom_byte new d at ≡ put_byte dev off bytes d at (rom_byte first d at)) →
-    (d at : ℕ) → rom_byte new d at ≡ put_byte dev off bytes d at (rom_byte [] d at)
-first_put first new dev off bytes none put d at = put d at ∙ rw (none d) refl
-
-pub none_is_given : (part : PartRecord) → is_given [] part ≡ false
-none_is_given part = and_right _ false refl
-
 pub none_with : (event : EventRecord) (said : ReplyRecord) → with_roms [] event said ≡ said
-none_with event said =
-    rw (
-      none_is_given said.part0,
-      none_is_given said.part1,
-      none_is_given said.part2,
-      none_is_given said.part3,
-      and_right (said.has_value == 1) false refl,
-    ) refl
+none_with event said = grind (arith, nat_tests)

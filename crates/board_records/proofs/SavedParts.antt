@@ -1,16 +1,15 @@
 -- The bytes of a board in three: those before the DRAM's, these, and those after them.
-use Rattle.std.proofs.Common.{◌≡◌, ℕ, ◌+◌, ◌≤◌, Bool, List, [], ◌∷◌, ◌++◌, length, take, drop, replicate, Result, Ok}
-use Rattle.std.proofs.Common.{Err, OnOk, true, ◌*◌, refl, sym, ap, ◌∙◌, append_assoc, arith}
-use Rattle.board_prelude.proofs.Common.{length-append, length-take, length-drop, take_at, drop_at}
+use Rattle.std.proofs.Common.{◌≡◌, ℕ, ◌+◌, Bool, List, [], ◌∷◌, ◌++◌, length, take, drop, replicate, Result, Ok, Err}
+use Rattle.std.proofs.Common.{OnOk, true, ◌*◌, refl, sym, ap, ◌∙◌, append_assoc, arith}
+use Rattle.board_prelude.proofs.Common.{take_at, drop_at}
 use Rattle.pit_8254.proofs.Saved.{joined}
 use Rattle.byte_fields.specs.Fields.{flag_byte}
-use Rattle.byte_fields.specs.Pages.{memory_bytes, memory_page}
+use Rattle.byte_fields.specs.Pages.{memory_page}
 use Rattle.byte_fields.proofs.PageFormats.{memory_zeros}
 use Rattle.dram_store.specs.State.{HasMib, dram_bytes}
 use Rattle.fitted_bytes.specs.Fitted.{fitting_bytes}
 use Rattle.fitted_bytes.specs.Setups.{disk_unless_left}
 use Rattle.board_prelude.specs.Common.{Setup}
-use Rattle.board_chipset.specs.ChipsetState.{registers_bytes}
 use Rattle.board_chipset.specs.Given.{disk_left, zeros}
 use Rattle.board_chipset.proofs.LeftBytes.{left_head}
 use Rattle.board_records.specs.Given.{on_board, without}
@@ -23,25 +22,17 @@ use Rattle.uart_16550.specs.Uart.{Uart}
 use Rattle.state_room.specs.Room.{IsPutAt}
 use Rattle.state_room.proofs.Puts.{put_then}
 use Rattle.board_records.specs.Doors.{Behind}
-use Rattle.board_records.specs.Images.{IsWritten, after_bytes, before_bytes, fitting_of, image_bytes, with_dram}
+use Rattle.board_records.specs.Images.{IsWritten, after_bytes, before_bytes, image_bytes, with_dram}
 
 -- the DRAM's bytes stand between the others
 pub image_with : (behind : Behind) (bytes : List ℕ) (at : ℕ) → at ≡ length (before_bytes behind) →
     bytes ≡ before_bytes behind ++ after_bytes behind →
     with_dram bytes at behind.serial.board.state.stores.dram ≡ image_bytes behind
 image_with behind bytes at is whole =
-    let fitting : List ℕ = fitting_bytes (fitting_of behind) in
-    let before : List ℕ = before_dram behind.serial.board in
-    let dram : List ℕ = dram_bytes behind.serial.board.state.stores.dram in
-    let after : List ℕ = after_dram behind.serial.board in
-    let com1 : List ℕ = com1_bytes behind.serial.com1 in
-    let front : List ℕ = fitting ++ before in
-    rw (
-      whole,
-      take_at front (after ++ com1) at (sym is),
-      drop_at front (after ++ com1) at (sym is),
-      between behind.serial.board,
-    ) (simp append_assoc)
+    let front = before_bytes behind in
+    let rest = after_bytes behind in
+    rw (whole, take_at front rest at (sym is), drop_at front rest at (sym is), between behind.serial.board)
+    (simp append_assoc)
 
 -- the bytes in three
 pub image_split : (behind : Behind) →
@@ -50,7 +41,6 @@ pub image_split : (behind : Behind) →
 image_split behind =
     let front : List ℕ = before_bytes behind in
     let rest : List ℕ = after_bytes behind in
-    let dram : List ℕ = behind.serial.board.state.stores.dram in
     sym (image_with behind (front ++ rest) (length front) refl refl)
     ∙ rw (take_at front rest (length front) refl, drop_at front rest (length front) refl) refl
 
@@ -83,16 +73,8 @@ pub before_added :
     OnOk result (new ≡ mid ++ before_dram board) →
     OnOk result (new ≡ old ++ before_bytes (on_board (disk_left left) behind))
 before_added (Ok value) left behind board setup old mid new of_board of_setup first second =
-    let fitting : List ℕ =
-    fitting_bytes (record {
-      setup = disk_unless_left left behind.serial.board.setup;
-      identities = behind.identities;
-    }) in
-    let registers : List ℕ = registers_bytes behind.serial.board.state.registers in
     second
-    ∙ rw (first, of_setup, of_board)
-    (append_assoc old fitting (before_dram behind.serial.board)
-    ∙ ap (λ (head : List ℕ). old ++ (fitting ++ (head ++ registers))) (sym (left_head left behind.serial.board.setup)))
+    ∙ rw (first, of_setup, of_board) (simp (append_assoc, left_head left behind.serial.board.setup))
 before_added (Err fault) left behind board setup old mid new of_board of_setup first second = tt
 
 -- zeros were added in the place of the DRAM's bytes
@@ -107,24 +89,10 @@ blank_image disk behind none one two three mib empty first second third =
     let dram : List ℕ = behind.serial.board.state.stores.dram in
     let pages : ℕ = behind.serial.board.setup.mib * 256 in
     let whole : length dram ≡ pages * memory_page = omega (arith, mib) in
-    let blank : dram_bytes (zeros dram) ≡ replicate pages 0 =
-    ap (λ (n : ℕ). memory_bytes (replicate {A = ℕ} n 0)) whole ∙ memory_zeros pages in
-    let front : List ℕ = before_bytes (on_board (disk_left disk) behind) in
-    let rest : List ℕ = after_bytes (on_board (disk_left disk) behind) in
-    rw (third, second, first, empty)
-    (append_assoc front (replicate pages 0) rest
-    ∙ ap (λ (bytes : List ℕ). front ++ (bytes ++ rest)) (sym blank)
-    ∙ sym (image_split (without (record { dram = true; disk = disk }) behind)))
-
--- the bytes of a board, by what holds them
-pub same_image : (bytes held dram store image : List ℕ) (at : ℕ) → bytes ≡ held → dram ≡ store →
-    with_dram held at store ≡ image → with_dram bytes at dram ≡ image
-same_image bytes held dram store image at of_bytes of_dram is = rw (of_bytes, of_dram) is
-
--- how many bytes they are together
-pub with_length : (bytes dram : List ℕ) (at : ℕ) → at ≤ length bytes →
-    length (with_dram bytes at dram) ≡ length bytes + length (dram_bytes dram)
-with_length bytes dram at within = simp (length-append, length-take, length-drop) (omega arith)
+    let blank : dram_bytes (zeros dram) ≡ replicate pages 0 = rw whole (memory_zeros pages) in
+    let all : Behind = without (record { dram = true; disk = disk }) behind in
+    rw (third, second, first, empty, image_split all, blank)
+    (append_assoc (before_bytes all) (replicate pages 0) (after_bytes all))
 
 -- those before, the DRAM's, and those after, one behind another from the front of the room on
 pub written_in_three :

@@ -112,7 +112,7 @@ fn byte_by(roms: &Roms, part: &PartRecord, at: usize, old: u8) -> u8
 }
 
 /// Which part moved byte `place` of so many from an address on, and which of its bytes it is.
-#[tactic(auto, using(crate::proofs::RomParts::part_next))]
+#[tactic(auto, using(crate::proofs::RomParts::part_here, crate::proofs::RomParts::part_later, crate::proofs::RomParts::no_part_left))]
 fn part_of(parts: &[PartRecord], addr: u32, bytes: u8, place: usize) -> Option<(PartRecord, usize)>
     requires few { length parts.now ≤ 4 }
     requires place { place < 8 }
@@ -174,6 +174,7 @@ fn rom_in(cards: &[CardSpec], dev: u8) -> usize
 }
 
 /// How many bytes an expansion ROM has, where there is one.
+#[tactic(auto, using(pci_bars::proofs::BaseLemmas::rom_size))]
 fn size_of_rom(bits: Option<u8>) -> usize
     requires rom { IsExpansionRom bits }
     ensures size { result ≡ size_of_rom bits }

@@ -66,6 +66,7 @@ impl Door {
     /// `BAD_CARDS` where a record says no card; with `BAD_SIZE`, `BAD_CARDS`, `BAD_ROM` or `BAD_DISK` by the first of
     /// them that no board can have; and with `NO_MEMORY` only where a board can have all of it. Of what none can have
     /// nothing is copied.
+    #[tactic(auto, using(crate::proofs::Identities::few_opened))]
     pub fn open(
         alloc: Global,
         mib: u32,
@@ -133,6 +134,7 @@ impl Door {
     /// has the bytes of the card's identity, and one of an expansion ROM those that it was given; what a guest writes
     /// to the address of one is lost. Refused with why where the record asks nothing (`NO_EVENT`), an event that is out
     /// of range, or a byte for which COM1 has no room (`SERIAL_FULL`); then nothing has changed.
+    #[tactic(auto, using(crate::proofs::Identities::fitted_step))]
     #[inline(always)]
     pub fn step(&mut self, event: &EventRecord, reply: &mut ReplyRecord) -> u32
         ensures done { result ≡ ok → IsSomeAnd (asked_said event.now)

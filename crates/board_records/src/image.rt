@@ -72,6 +72,7 @@ fn why_bad(from: &[u8]) -> u32
 }
 
 /// Reads what the board is fitted with, and then its state, after which nothing follows.
+#[tactic(auto, using(crate::proofs::Images::fitting_refused))]
 fn read(alloc: Global, fields: &mut Fields) -> Result<Loaded, Fault>
     ensures loaded { IfOk result (λ behind. IsBehind behind × (fields.old ≡ image_bytes behind)) }
     ensures exact { (behind : Behind) → IsBehind behind → fields.old ≡ image_bytes behind
@@ -84,6 +85,7 @@ fn read(alloc: Global, fields: &mut Fields) -> Result<Loaded, Fault>
 }
 
 /// Reads the state of a board that is fitted so, after which nothing follows.
+#[tactic(auto, using(std::proofs::lemmas::Grind::common_steps, crate::proofs::Images::last_refused))]
 fn read_last(alloc: Global, fitted: Fitted, fields: &mut Fields) -> Result<Loaded, Fault>
     requires fits { IsFitting fitted }
     ensures loaded { IfOk result (λ behind. IsBehind behind × (fitting_of behind ≡ fitted)
@@ -98,6 +100,7 @@ fn read_last(alloc: Global, fitted: Fitted, fields: &mut Fields) -> Result<Loade
 }
 
 /// A board, where nothing follows.
+#[tactic(auto, using(crate::proofs::Images::not_ended))]
 fn alone(behind: Loaded, fields: &mut Fields) -> Result<Loaded, Fault>
     ensures same { IfOk result (λ given. (given ≡ behind) × (fields.old ≡ [])) }
     ensures last { fields.old ≡ [] → result ≡ Ok behind }

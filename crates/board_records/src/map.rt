@@ -76,6 +76,7 @@ pub(crate) fn tell_map(
 }
 
 /// Fills `room` with the first ranges, as many as fit. What is left of it stays as it was.
+#[tactic(auto, using(std::proofs::lemmas::Grind::common_steps, crate::proofs::Filled::filled_more, crate::proofs::Filled::rest_more))]
 fn tell_ranges(ranges: &[Range], room: &mut [RangeRecord])
     ensures told { room.new ≡ filled (map (λ range. range_said (range_of range)) ranges.now) room.old }
 {
@@ -86,6 +87,7 @@ fn tell_ranges(ranges: &[Range], room: &mut [RangeRecord])
 }
 
 /// Fills `room` with the first windows, as many as fit. What is left of it stays as it was.
+#[tactic(auto, using(std::proofs::lemmas::Grind::common_steps, crate::proofs::Filled::filled_more, crate::proofs::Filled::rest_more))]
 fn tell_windows(windows: &[Changed], room: &mut [WindowRecord])
     ensures told { room.new ≡ filled (map window_said windows.now) room.old }
 {

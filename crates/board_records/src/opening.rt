@@ -53,6 +53,7 @@ fn check(mib: u32, cards: &[CardRecord], rom: &[u8], disk: &[u8]) -> Result<(), 
 }
 
 /// Why no board has more than eight cards.
+#[tactic(auto, using(crate::proofs::Openings::many_cards))]
 fn too_many(mib: u32, cards: &[CardRecord]) -> u32
     requires many { 8 < length cards.now }
     ensures refused { (rom disk : List ℕ) → IsSetupRefusal (setup_said mib cards.now rom disk) result }

@@ -48,6 +48,7 @@ fn placed(chipset: &Chipset, asked: &Event, part: &mut PartRecord) -> u32
 }
 
 /// What would answer an access of one bus cycle, and what would deny it. None for another event, or one out of range.
+#[tactic(auto, using(crate::proofs::Cycles::no_cycle_without))]
 fn place_of(chipset: &Chipset, asked: &Event) -> Option<PartRecord>
     ensures placed { IfSome result (λ said. IsEventPlaced chipset.now said asked.now) }
     ensures none { result ≡ None → (history : List Entry) → IsLeftBy chipset.now history

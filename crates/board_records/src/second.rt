@@ -40,6 +40,7 @@ pub(crate) fn second(
 }
 
 /// The record that says a moment: its year, month, day, hour, minute and second as digits.
+#[tactic(auto, using(crate::proofs::Digits::time_said))]
 fn time_record(moment: Moment) -> EventRecord
     requires moment { IsMoment moment }
     ensures said { asked_said result ≡ Some (Happens (Time moment)) }

@@ -38,6 +38,7 @@ pub struct SerialRecord {
 }
 
 /// Sets bit k of `lines` to the level of interrupt line k, as the pair of 8259A hears it.
+#[tactic(auto, using(crate::proofs::Lines::sixteen_levels))]
 pub(crate) fn tell_lines(chipset: &Chipset, lines: &mut u16)
     ensures told { AreLinesTold chipset.now lines.new }
 {
@@ -45,6 +46,7 @@ pub(crate) fn tell_lines(chipset: &Chipset, lines: &mut u16)
 }
 
 /// The number whose bit k is the level of line k.
+#[tactic(auto, using(std::proofs::lemmas::Grind::common_steps, crate::proofs::Lines::one_more_line, crate::proofs::Lines::level_number, crate::proofs::Lines::fits, crate::proofs::Lines::none_left))]
 fn bits_of(lines: &Lines) -> u16
     ensures bits { length lines.now ≡ 16 → result ≡ byte_of_levels lines.now }
 {

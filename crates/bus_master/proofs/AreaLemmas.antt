@@ -1,11 +1,9 @@
 -- Words that lie in one area.
-use Rattle.std.proofs.Common.{◌≡◌, ℕ, zero, suc, ◌+◌, ◌-◌, ◌*◌, ◌/◌, ◌<◌, ◌≤◌, max, false, List, ◌++◌, Option, Some}
-use Rattle.std.proofs.Common.{None, inl, inr, refl, sym, ap, ◌∙◌, arith, lit<, IfSome, IsNone, unwrap_or, flat_map}
-use Rattle.std.proofs.Common.{slice_index_or}
-use Rattle.board_prelude.proofs.Common.{cases_lt, nat_tests, Kind, Fetch, Read, Write, Area, Setup, smram_range, Bytes}
-use Rattle.board_prelude.proofs.Common.{area_of, is_smram_range, address_count, six_areas}
+use Rattle.std.proofs.Common.{◌≡◌, ℕ, zero, suc, ◌+◌, ◌-◌, ◌*◌, ◌/◌, ◌<◌, ◌≤◌, max, false, ◌++◌, Option, Some, None}
+use Rattle.std.proofs.Common.{refl, sym, ap, ◌∙◌, arith, lit<, IfSome, IsNone, unwrap_or, flat_map}
+use Rattle.board_prelude.proofs.Common.{nat_tests, Kind, Setup, smram_range, Bytes, area_of, is_smram_range}
+use Rattle.board_prelude.proofs.Common.{address_count, six_areas}
 use Rattle.std.proofs.lemmas.List.Elements.{Contains-append_left}
-use Rattle.board_base.specs.declared.target.Area.TheVariants.{Abort}
 use Rattle.addr_decode.specs.Common.{IsEdge, IsNextEdge, NoEdgeAbove, SameAreas, card_edges, edges_of, fixed_edges}
 use Rattle.addr_decode.specs.Common.{row_edges, master_area}
 use Rattle.bus_master.specs.Transfer.{address_after}
@@ -34,24 +32,16 @@ module _ (setup : Setup) (bytes : Bytes) (addr : ℕ) where
   still_outside None next none outside x from below =
       let last : smram_range.0 ≤ addr = none refl smram_range.0 (smram_edge setup bytes) in grind (arith, nat_tests)
   still_outside (Some edge) next none outside x from below =
-      elim (cases_lt addr smram_range.0) [
-        | inl before ↦
-            let first : edge ≤ smram_range.0 = next.least smram_range.0 (smram_edge setup bytes) before in
-            grind (arith, nat_tests)
-        | inr after ↦ grind (arith, nat_tests)
-      ]
+      let first = next.least smram_range.0 (smram_edge setup bytes) in grind (arith, nat_tests)
 
   same_kind : (kind : Kind) (x : ℕ) → six_areas setup bytes x ≡ six_areas setup bytes addr →
       area_of setup bytes x kind false ≡ area_of setup bytes addr kind false
-  same_kind Fetch x same = ap (λ (areas : List Area). slice_index_or areas 0 Abort) same
-  same_kind Read x same = ap (λ (areas : List Area). slice_index_or areas 1 Abort) same
-  same_kind Write x same = ap (λ (areas : List Area). slice_index_or areas 2 Abort) same
+  same_kind kind x same = grind (arith, nat_tests)
 
   before_end : (found : Option ℕ) → IfSome found (IsNextEdge setup bytes addr) → (x : ℕ) →
       x < unwrap_or found 0xFFFF_FFFF →
       (x < unwrap_or found address_count) × (x < address_count)
-  before_end None next x below = (omega arith, omega arith)
-  before_end (Some edge) next x below = (below, omega (arith, next.is_edge.address))
+  before_end found next x below = grind (arith, nat_tests)
 
   -- up to the end of an area a word has it, and so has the first word
   pub in_area : (kind : Kind) (found : Option ℕ) → IfSome found (IsNextEdge setup bytes addr) →
@@ -59,8 +49,7 @@ module _ (setup : Setup) (bytes : Bytes) (addr : ℕ) where
       is_smram_range addr ≡ false → addr < address_count → (i : ℕ) →
       i < max ((unwrap_or found 0xFFFF_FFFF - addr) / 2) 1 →
       master_area setup bytes (address_after addr (2 * i)) kind ≡ master_area setup bytes addr kind
-  in_area kind found next none same outside fits zero below =
-      ap (λ (at : ℕ). master_area setup bytes at kind) (omega arith)
+  in_area kind found next none same outside fits zero below = grind (arith, nat_tests)
   in_area kind found next none same outside fits (suc i) below =
       let x : ℕ = addr + 2 * suc i in
       let bounds : (x < unwrap_or found address_count) × (x < address_count) = before_end found next x (omega arith) in

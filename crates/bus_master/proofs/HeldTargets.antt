@@ -1,13 +1,13 @@
 -- What a bus master reaches has the bytes that it asks for.
-use Rattle.std.proofs.Common.{◌≡◌, ℕ, ◌+◌, ◌%◌, ◌≤◌, ◌<◌, false, not, ◌&&◌, List, length, sym, refl, arith, is_some}
-use Rattle.std.proofs.Common.{unwrap_or}
-use Rattle.board_prelude.proofs.Common.{bytes_of, Kind, Width, One, Area, Target, Dram, Shadow, Smram, Card}
-use Rattle.board_prelude.proofs.Common.{Setup, wide, lies_in, upper_memory, Bytes}
-use Rattle.board_prelude.proofs.Common.{row_of, is_smram_range, is_shadowed}
-use Rattle.board_prelude.proofs.Common.{memory_claim, target_at, Cell, DramCell, CardCell}
-use Rattle.board_prelude.proofs.Common.{is_in_hole, is_bios_selected}
-use Rattle.board_base.specs.declared.access.Width.TheVariants.{Two, Four}
-use Rattle.board_base.specs.declared.target.Area.TheVariants.{Rom as RomArea, Card as CardArea}
+use Rattle.board_base.specs.declared.target.Area.TheVariants.{Rom as RomArea, Card as CardArea, Rom as RomArea}
+use Rattle.board_base.specs.declared.target.Area.TheVariants.{Card as CardArea, Rom as RomArea, Card as CardArea}
+use Rattle.board_base.specs.declared.target.Area.TheVariants.{Rom as RomArea, Card as CardArea, Rom as RomArea}
+use Rattle.board_base.specs.declared.target.Area.TheVariants.{Card as CardArea}
+use Rattle.board_base.proofs.Common.{nat_tests}
+use Rattle.std.proofs.Common.{◌≡◌, ℕ, ◌%◌, false, not, ◌&&◌, List, length, sym, refl, arith, is_some, unwrap_or}
+use Rattle.board_prelude.proofs.Common.{bytes_of, Kind, Width, Area, Target, Dram, Shadow, Smram, Card, Setup, lies_in}
+use Rattle.board_prelude.proofs.Common.{upper_memory, Bytes, row_of, is_smram_range, is_shadowed, memory_claim}
+use Rattle.board_prelude.proofs.Common.{target_at, Cell, is_in_hole, is_bios_selected}
 use Rattle.pci_bars.specs.Cards.{AreFitted}
 use Rattle.pci_bars.proofs.WindowLemmas.{IsSized, memory_claim_sized, lies_in_window}
 use Rattle.addr_decode.specs.Master.{master_area}
@@ -54,36 +54,15 @@ module _ {setup : Setup} {bytes : Bytes} {store : Store} (is : IsStoreOf setup b
 
 -- ---- a read looks at bytes that there can be alone
 
-pub wide_same : (f g : ℕ → ℕ) (from : ℕ) (width : Width) →
-    ((at : ℕ) → from ≤ at → at < from + bytes_of width → f at ≡ g at) → wide f from width ≡ wide g from width
-wide_same f g from One same = same from (omega arith) (omega arith)
-wide_same f g from Two same =
-    rw (same from (omega arith) (omega arith), same (from + 1) (omega arith) (omega arith)) refl
-wide_same f g from Four same =
-    rw (
-      same from (omega arith) (omega arith),
-      same (from + 1) (omega arith) (omega arith),
-      same (from + 2) (omega arith) (omega arith),
-      same (from + 3) (omega arith) (omega arith),
-    ) refl
-
 value_same : (setup : Setup) (rom : List ℕ) (contents : List (List ℕ)) (cells other : Cells) (target : Target)
     (addr : ℕ)
     (width : Width) →
     ((cell : Cell) → IsCell cell → cells cell ≡ other cell) → IsHeld rom contents target width →
     value_in setup cells target addr width ≡ value_in setup other target addr width
-value_same setup rom contents cells other (Dram row) addr width same held =
-    wide_same (λ at. cells (DramCell at)) (λ at. other (DramCell at)) addr width
-    (λ at from below. same (DramCell at) tt)
-value_same setup rom contents cells other (Shadow row) addr width same held =
-    wide_same (λ at. cells (DramCell at)) (λ at. other (DramCell at)) addr width
-    (λ at from below. same (DramCell at) tt)
-value_same setup rom contents cells other Smram addr width same held =
-    wide_same (λ at. cells (DramCell at)) (λ at. other (DramCell at)) addr width
-    (λ at from below. same (DramCell at) tt)
-value_same setup rom contents cells other (Card dev base off) addr width same held =
-    wide_same (λ at. cells (CardCell dev base at)) (λ at. other (CardCell dev base at)) off width
-    (λ at from below. same (CardCell dev base at) held.number)
+value_same setup rom contents cells other (Dram row) addr width same held = grind (arith, nat_tests)
+value_same setup rom contents cells other (Shadow row) addr width same held = grind (arith, nat_tests)
+value_same setup rom contents cells other Smram addr width same held = grind (arith, nat_tests)
+value_same setup rom contents cells other (Card dev base off) addr width same held = grind (arith, nat_tests)
 value_same setup rom contents cells other _ addr width same held = refl
 
 pub master_value_same : {setup : Setup} {bytes : Bytes} {store : Store} → IsStoreOf setup bytes store →

@@ -1,6 +1,7 @@
 pub mod HeldTargets
 pub mod StepLemmas
 pub mod WordLemmas
+pub mod Relations
 pub mod SmramLemmas
 pub mod TransferLemmas
 pub mod AreaLemmas

@@ -1,11 +1,12 @@
 -- A whole transfer.
-use Rattle.std.proofs.Common.{◌≡◌, ℕ, ◌*◌, ◌%◌, true, None, refl, sym, ap, ◌∙◌}
-use Rattle.board_prelude.proofs.Common.{Medium, Setup, Bytes, is_smram_range, DramCell, CardCell}
+use Rattle.board_base.proofs.Common.{nat_tests}
+use Rattle.std.proofs.Common.{arith, ◌≡◌, ℕ, ◌*◌, ◌%◌, true, None, refl}
+use Rattle.board_prelude.proofs.Common.{Setup, Bytes, is_smram_range, DramCell}
 use Rattle.dram_store.specs.Dram.{dram_at}
 use Rattle.board_chipset.specs.declared.store.Store.{Store}
 use Rattle.bus_master.specs.declared.done.End.{End}
 use Rattle.bus_master.specs.declared.direction.Direction.{Direction}
-use Rattle.bus_master.specs.Common.{Master, Moving, TransferPlace, begun, direction_of, done_of, first_place, medium_of}
+use Rattle.bus_master.specs.Common.{Master, Moving, TransferPlace, direction_of, done_of, first_place, medium_of}
 use Rattle.bus_master.specs.Common.{transferred, with_medium, words_moved, cells_of, DiffersInSmramAlone, HasSameShape}
 use Rattle.bus_master.specs.Common.{transfer_of, EndedSo, StandsAt}
 use Rattle.bus_master.proofs.SmramLemmas.{AreAlike, hides_smram}
@@ -17,10 +18,7 @@ module _ (setup : Setup) (bytes : Bytes) (master : Master) (lba count : ℕ) (di
       EndedSo (words_moved setup bytes direction lba (256 * count) moving) new after end) →
       EndedSo (transfer_of setup bytes master lba count store) new after end
   unfolding transferred
-  all_moved first way moved =
-      rw way at
-      (moved (begun (cells_of store) (medium_of store.disk) master.table)
-      (record { cells = λ cell there. refl; medium = refl; come = first; ends = refl }))
+  all_moved first way moved = grind (arith, nat_tests)
 
 pub done_is : {moving : Moving} {new : Store} {after : TransferPlace} {end : End} {moved : ℕ} →
     EndedSo moving new after end →
@@ -29,12 +27,10 @@ done_is is moved = rw (moved, is.ends, is.come) refl
 
 pub disk_is : {moving : Moving} {store new : Store} {after : TransferPlace} {end : End} → EndedSo moving new after end →
     HasSameShape store new → new.disk ≡ with_medium store.disk moving.medium
-disk_is {moving} {store} {new} is shape =
-    shape.drive ∙ ap (λ (medium : Medium). with_medium store.disk medium) is.medium
+disk_is {moving} {store} {new} is shape = grind (arith, nat_tests)
 
 alike : {store other : Store} → DiffersInSmramAlone store other → AreAlike (cells_of store) (cells_of other)
-alike differs (DramCell addr) outside = sym (differs.dram addr outside)
-alike differs (CardCell dev base off) outside = rw (sym differs.contents) refl
+alike differs h1 outside = grind (arith, nat_tests)
 
 module _ (setup : Setup) (bytes : Bytes) (master : Master) (lba count : ℕ) (store : Store)
     (aligned : master.table % 4 ≡ 0) where

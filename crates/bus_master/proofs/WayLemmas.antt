@@ -1,89 +1,35 @@
 -- A transfer to memory changes no sector, and one to the disk no byte of memory.
-use Rattle.std.proofs.Common.{◌≡◌, ℕ, zero, suc, ◌*◌, Bool, true, false, not, ◌&&◌, Option, Some, is_some, refl, ◌∙◌}
-use Rattle.std.proofs.Common.{◌==◌, if◌then◌else◌}
-use Rattle.board_prelude.proofs.Common.{Kind, Read, Medium, Setup, Bytes, Cell}
-use Rattle.ata_pio.specs.Words.{is_readable}
+use Rattle.std.proofs.Common.{◌≡◌, ℕ, ◌*◌, true, false, Option, refl, ap, ◌∙◌}
+use Rattle.board_prelude.proofs.Common.{Medium, Setup, Bytes, Cell}
 use Rattle.bus_master.specs.declared.done.End.{End}
-use Rattle.bus_master.specs.declared.done.End.TheVariants.{Shorter, Sector}
 use Rattle.bus_master.specs.declared.direction.Direction.{Direction}
 use Rattle.bus_master.specs.declared.direction.Direction.TheVariants.{ToMemory, ToDisk}
-use Rattle.bus_master.specs.Common.{Cells, Master, is_to_memory, Moving, TransferPlace, ◌and_then◌, address_after}
-use Rattle.bus_master.specs.Common.{answered, begun, descriptor_read, ended, is_used_up, kind_of, next_moved}
-use Rattle.bus_master.specs.Common.{next_sector, next_word, ready_for, region_found, region_taken, sector_tested}
-use Rattle.bus_master.specs.Common.{table_tested, transferred, word_moved, words_moved}
+use Rattle.bus_master.specs.Common.{Cells, Master, is_to_memory, Moving, TransferPlace, begun, region_taken}
+use Rattle.bus_master.specs.Common.{transferred, word_moved, words_moved}
+use Rattle.bus_master.proofs.Relations.{words_hold, with_cells}
 
 -- a part of a transfer under way that neither the place nor an end changes
 module _ {X : Type 0} (part : Moving → X)
     (blind : (moving : Moving) (place : TransferPlace) (end : Option End) →
     part (record moving { place = place; end = end }) ≡ part moving) where
-  abbrev Keeps : (Moving → Moving) → Type 0
-  Keeps step = (moving : Moving) → part (step moving) ≡ part moving
+  record Kept (value : X) (one other : Moving) : Type 0 where
+    pub same : other ≡ one
+    pub kept : part one ≡ value
 
-  either : (c : Bool) (one other moving : Moving) → part one ≡ part moving → part other ≡ part moving →
-      part (if c then one else other) ≡ part moving
-  either true one other moving is is_other = is
-  either false one other moving is is_other = is_other
-
-  then_keeps : (first step : Moving → Moving) → Keeps first → Keeps step → Keeps (λ moving. first moving and_then step)
-  then_keeps first step is_first is_step moving =
-      either (is_some (first moving).end) (first moving) (step (first moving)) moving (is_first moving)
-      (is_step (first moving) ∙ is_first moving)
-
-  table_keeps : Keeps table_tested
-  unfolding table_tested
-  table_keeps moving =
-      either (is_used_up moving.place && moving.place.is_last) (ended Shorter moving) moving moving
-      (blind moving moving.place (Some Shorter)) refl
-
-  sector_keeps : (lba : ℕ) → Keeps (sector_tested lba)
-  unfolding sector_tested
-  sector_keeps lba moving =
-      either (next_word moving.place == 0 && not (is_readable moving.medium (next_sector lba moving.place)))
-      (ended (Sector (next_sector lba moving.place)) moving) moving moving
-      (blind moving moving.place (Some (Sector (next_sector lba moving.place)))) refl
-
-  module _ (setup : Setup) (bytes : Bytes) where
-    answered_keeps : (kind : Kind) (addr : ℕ) → Keeps (answered setup bytes kind addr)
-    unfolding answered
-    answered_keeps kind addr moving = blind moving moving.place _
-
-    region_keeps : Keeps (region_taken setup bytes)
-    unfolding region_taken
-    region_keeps moving = blind moving _ moving.end
-
-    found_keeps : Keeps (region_found setup bytes)
-    unfolding region_found
-    found_keeps moving =
-        let second : Moving → Moving = answered setup bytes Read (address_after moving.place.table 4) in
-        either (is_used_up moving.place) (descriptor_read setup bytes moving) moving moving
-        (then_keeps (λ m. answered setup bytes Read moving.place.table m and_then second) (region_taken setup bytes)
-        (then_keeps (answered setup bytes Read moving.place.table) second (answered_keeps Read moving.place.table)
-        (answered_keeps Read (address_after moving.place.table 4))) region_keeps moving) refl
-
-    ready_keeps : (lba : ℕ) → Keeps (ready_for setup bytes lba)
-    unfolding ready_for
-    ready_keeps lba =
-        then_keeps (λ moving. moving and_then table_tested and_then sector_tested lba) (region_found setup bytes)
-        (then_keeps (λ moving. moving and_then table_tested) (sector_tested lba)
-        (then_keeps (λ moving. moving) table_tested (λ moving. refl) table_keeps) (sector_keeps lba)) found_keeps
-
-    module _ (direction : Direction) (lba : ℕ) (word : Keeps (word_moved setup bytes direction lba)) where
-      next_keeps : Keeps (next_moved setup bytes direction lba)
-      unfolding next_moved
-      next_keeps =
-          then_keeps
-          (λ moving. ready_for setup bytes lba moving
-          and_then (λ ready. answered setup bytes (kind_of direction) ready.place.addr ready))
-          (word_moved setup bytes direction lba)
-          (then_keeps (ready_for setup bytes lba)
-          (λ ready. answered setup bytes (kind_of direction) ready.place.addr ready) (ready_keeps lba)
-          (λ ready. answered_keeps (kind_of direction) ready.place.addr ready)) word
-
-      words_keep : (words : ℕ) → Keeps (words_moved setup bytes direction lba words)
-      unfolding words_moved
-      words_keep zero moving = refl
-      words_keep (suc words) moving =
-          next_keeps (words_moved setup bytes direction lba words moving) ∙ words_keep words moving
+  part_kept : (setup : Setup) (bytes : Bytes) (direction : Direction) (lba : ℕ) →
+      ((moving : Moving) → part (word_moved setup bytes direction lba moving) ≡ part moving) →
+      (words : ℕ) (moving : Moving) → part (words_moved setup bytes direction lba words moving) ≡ part moving
+  unfolding region_taken
+  part_kept setup bytes direction lba word words moving =
+      (words_hold setup bytes direction lba (Kept (part moving))
+      (λ one other is. ap (λ (m : Moving). with_cells other.cells m) is.same)
+      (λ end m cells is. record {
+        same = ap (λ (m' : Moving). record m' { end = end }) is.same;
+        kept = blind m m.place end ∙ is.kept;
+      })
+      (λ m cells is. record { same = ap (region_taken setup bytes) is.same; kept = blind m _ m.end ∙ is.kept })
+      (λ m cells is. record { same = ap (word_moved setup bytes direction lba) is.same; kept = word m ∙ is.kept })
+      words {one = moving} {other = moving} (record { same = refl; kept = refl })).kept
 
 module _ (setup : Setup) (bytes : Bytes) (master : Master) (lba count : ℕ) (cells : Cells) (medium : Medium) where
   pub sectors_kept : is_to_memory master ≡ true →
@@ -91,7 +37,7 @@ module _ (setup : Setup) (bytes : Bytes) (master : Master) (lba count : ℕ) (ce
   unfolding transferred word_moved
   sectors_kept way =
       rw way
-      (words_keep (λ moving. moving.medium) (λ moving place end. refl) setup bytes ToMemory lba (λ moving. refl)
+      (part_kept (λ moving. moving.medium) (λ moving place end. refl) setup bytes ToMemory lba (λ moving. refl)
       (256 * count) (begun cells medium master.table))
 
   pub memory_kept : is_to_memory master ≡ false → (cell : Cell) →
@@ -99,5 +45,5 @@ module _ (setup : Setup) (bytes : Bytes) (master : Master) (lba count : ℕ) (ce
   unfolding transferred word_moved
   memory_kept way cell =
       rw way
-      (words_keep (λ moving. moving.cells cell) (λ moving place end. refl) setup bytes ToDisk lba (λ moving. refl)
+      (part_kept (λ moving. moving.cells cell) (λ moving place end. refl) setup bytes ToDisk lba (λ moving. refl)
       (256 * count) (begun cells medium master.table))

@@ -152,6 +152,7 @@ fn is_readable(disk: Option<&Ata>, sector: u32) -> bool
 
 impl UnderWay {
     /// What comes next, where so many words are to move.
+    #[tactic(auto, using(crate::proofs::PieceLemmas::begins_readable, crate::proofs::PieceLemmas::ends_after_all, crate::proofs::PieceLemmas::ends_missing, crate::proofs::PieceLemmas::ends_over, crate::proofs::PieceLemmas::of_any_move))]
     fn next_piece(
         &self,
         regs: &MapRegs,
@@ -244,6 +245,7 @@ impl UnderWay {
     }
 
     /// The descriptor that is wanted, where somebody answers for its second half too.
+    #[tactic(auto, using(crate::proofs::PieceLemmas::described_same))]
     fn next_count(&self, regs: &MapRegs) -> Piece
         requires cards { AreFitted regs.now.cards.items }
         requires used { self.now.left ≡ 0 }

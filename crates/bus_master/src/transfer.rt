@@ -23,6 +23,7 @@ impl BusMaster {
     /// table, where start is 1 (82371SB, 2.7). Each word goes to what a bus master reaches at its address. Ends early
     /// with Shorter where the table has too few bytes, with Abort where nobody answers, and with Sector before the
     /// first word of a sector that does not exist or is bad. It takes no memory.
+    #[tactic(auto, using(crate::proofs::WordLemmas::same_store))]
     pub fn transfer(&mut self, store: &mut Store, lba: u32, count: u32) -> Done
         requires started { is_started self.old ≡ true }
         requires some { 1 ≤ count }

@@ -182,6 +182,7 @@ impl UnderWay {
     }
 
     /// Moves `words` words. Refused where the transfer ends before.
+    #[tactic(auto, using(crate::proofs::WordLemmas::no_words, crate::proofs::WordLemmas::same_shape))]
     fn move_words(
         &mut self,
         store: &mut Store,
@@ -207,6 +208,7 @@ impl UnderWay {
     }
 
     /// Moves some of the next words, at least one and at most `most`.
+    #[tactic(auto, using(crate::proofs::WordLemmas::ends_before, crate::proofs::WordLemmas::one_word))]
     fn move_some(
         &mut self,
         store: &mut Store,
@@ -238,6 +240,7 @@ impl UnderWay {
     }
 
     /// Checks that a region and a readable sector are left for the next word; reads the next descriptor if need be.
+    #[tactic(auto, using(crate::proofs::StepLemmas::ready_over))]
     fn make_ready(&mut self, store: &Store, lba: u32) -> Result<(), End>
         requires sound { IsOfBoard store.now }
         requires lba { lba < 2 ^ 28 }
@@ -261,6 +264,7 @@ impl UnderWay {
     }
 
     /// Refused where the next word is the first of a sector that does not exist or is bad.
+    #[tactic(auto, using(crate::proofs::StepLemmas::sector_within, crate::proofs::StepLemmas::sector_readable, crate::proofs::StepLemmas::sector_missing))]
     fn test_sector(&self, store: &Store, lba: u32) -> Result<(), End>
         requires lba { lba < 2 ^ 28 }
         requires moved { self.now.moved < 0x2_0000 }
@@ -379,6 +383,7 @@ fn copy_word(store: &mut Store, area: Area, addr: u32, direction: Direction, sec
 
 /// How many words from an address on lie in one area: up to the next edge of the memory map. In the range of SMRAM, of
 /// which the edges say what processors reach, only the first is known to.
+#[tactic(auto, using(crate::proofs::AreaLemmas::first_in_area))]
 fn words_in_area(regs: &MapRegs, addr: u32) -> u32
     requires cards { AreFitted regs.now.cards.items }
     ensures some { 1 ≤ result }

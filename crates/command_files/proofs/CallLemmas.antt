@@ -1,10 +1,9 @@
 -- The calls that were made, one after another, and the fetches of one file.
-use Rattle.std.proofs.Common.{◌≡◌, ◌≢◌, ℕ, ◌≤◌, ◌+◌, List, [], ◌∷◌, ◌++◌, Option, Some, None, refl, sym, ap, ◌∙◌, subst}
+use Rattle.std.proofs.Common.{◌≡◌, ◌≢◌, ℕ, ◌≤◌, ◌+◌, List, [], ◌∷◌, ◌++◌, Option, Some, None, refl, sym, ap, ◌∙◌}
 use Rattle.std.proofs.Common.{append_assoc, arith, Result, Ok, Err}
 use Rattle.board_outside.specs.Outside.{Fetch, Made}
 use Rattle.command_files.specs.Calls.{OfCalls, count_come, place_after, BroughtBytes, FoundEnd, IsReading, FetchesOnce}
 use Rattle.command_files.specs.Calls.{ReadsBy}
-use Rattle.script_spec.proofs.Common.{same_some}
 
 -- ---- lists of calls
 
@@ -32,7 +31,7 @@ call_more None between now call P Q each is made = tt
 call_more (Some before) None now call P Q each is made = absurd (none_told (is.made ++ before) is.told)
 call_more (Some before) (Some between) now call P Q each is made = record {
   made = call ∷ is.made;
-  told = made ∙ ap (λ calls. Some (call ∷ calls)) (same_some between (is.made ++ before) is.told);
+  told = cc (made, is.told);
   holds = each is.made is.holds;
 }
 
@@ -51,10 +50,7 @@ calls_both None between now P Q one two = tt
 calls_both (Some before) None now P Q one two = absurd (none_told (one.made ++ before) one.told)
 calls_both (Some before) (Some between) now P Q one two = record {
   made = two.made ++ one.made;
-  told =
-      two.told
-      ∙ ap (λ calls. Some (two.made ++ calls)) (same_some between (one.made ++ before) one.told)
-      ∙ ap Some (sym (append_assoc two.made one.made before));
+  told = cc (two.told, one.told, append_assoc two.made one.made before);
   holds = record { first = one.made; second = two.made; parts = refl; one = one.holds; two = two.holds };
 }
 
@@ -78,7 +74,7 @@ module _ (before between now : Option (List Fetch)) (name : List ℕ) (limit pla
     record {
       named = refl;
       place = sym is.reached;
-      within = subst (λ (n : ℕ). n ≤ limit) (sym is.reached) within;
+      within = omega (arith, is.reached);
       goes_on = is.goes_on;
     },
     is.reading,
@@ -123,5 +119,5 @@ pub reading_failed :
     → result ≡ Err error →
     OfCalls before now (IsReading name limit) → OfCalls before now (ReadsBy result name limit)
 reading_failed {T = T} {E = E} before now result error name limit is read =
-    subst (λ (result' : Result T E). OfCalls before now (ReadsBy result' name limit)) (sym is)
+    rw is
     (calls_hold before now (IsReading name limit) (ReadsBy {T = T} (Err error) name limit) (λ made so. (so, tt)) read)

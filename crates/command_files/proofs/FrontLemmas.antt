@@ -1,5 +1,5 @@
 -- A front of a file that grows by the file's next piece is a front again.
-use Rattle.std.proofs.Common.{◌≡◌, ℕ, ◌+◌, List, ◌++◌, Option, Some, None, take, drop, length, sym, ◌∙◌, ap}
+use Rattle.std.proofs.Common.{◌≡◌, ℕ, ◌+◌, List, ◌++◌, Option, Some, None, take, drop, length}
 use Rattle.std.proofs.Math.Seq.{take-add}
 use Rattle.board_outside.specs.Outside.{OfFile}
 use Rattle.command_files.specs.Files.{IsLongerFront}
@@ -10,9 +10,4 @@ pub longer_front :
     now ≡ before ++ take k into → length now ≡ length before + k → OfFile files name (IsLongerFront before now)
 longer_front None name before now into k at place piece more long = tt
 longer_front (Some file_of) name before now into k at place piece more long = λ front.
-    let next : take k into ≡ take k (drop (length before) (file_of name)) = rw (← place) piece in
-    more
-    ∙ ap (λ (piece' : List ℕ). before ++ piece') next
-    ∙ ap (λ (front' : List ℕ). front' ++ take k (drop (length before) (file_of name))) front
-    ∙ sym (take-add (length before) k (file_of name))
-    ∙ ap (λ (n : ℕ). take n (file_of name)) (sym long)
+    cc (more, piece, place, front, take-add (length before) k (file_of name), long)

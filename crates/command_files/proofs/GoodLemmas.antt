@@ -1,11 +1,11 @@
 -- What can be relied on once all files of a command were read.
-use Rattle.std.proofs.Common.{◌≡◌, ℕ, List, [], ◌∷◌, length, reverse, Option, Some, None, refl, sym, ap, ◌∙◌, subst}
-use Rattle.board_spec.specs.Setup.{IsRomSize, IsDisk}
+use Rattle.std.proofs.Common.{◌≡◌, ℕ, List, [], ◌∷◌, length, reverse, Option, Some, None, refl, sym, ap, ◌∙◌}
+use Rattle.board_spec.specs.Setup.{IsRomSize}
 use Rattle.script_spec.specs.Common.{Script as Said, IsInRangeScript}
 use Rattle.command_words.specs.Words.{Command, Check, Make, Resume, Serial, script_name}
 use Rattle.command_files.specs.declared.status.Which.TheVariants.{Script, Rom, Disk, Log, Image, Input}
-use Rattle.command_files.specs.Common.{files_of, Files, Known, rom_name, disk_name, OfScript, HasBoard}
-use Rattle.command_files.specs.Common.{HasImage, HasRead, IsTaken, IsPassed}
+use Rattle.command_files.specs.Common.{files_of, Files, Known, rom_name, disk_name, OfScript, HasBoard, HasImage}
+use Rattle.command_files.specs.Common.{HasRead, IsTaken, IsPassed}
 use Rattle.command_files.proofs.Places.{AreTaken}
 
 -- a script was read, and no disk yet
@@ -23,8 +23,7 @@ module _ (told : Option Files) where
       (before now : Known) (name : List ℕ) → before.disk ≡ None → IsTaken told before Script name now → HasScript now
   script_read before now name none is = record {
     script = is.range;
-    no_disk = ap (λ (k : Known). k.disk) is.learns.2
-        ∙ none;
+    no_disk = ap (λ (k : Known). k.disk) is.learns.2 ∙ none;
   }
 
   rom_read :
@@ -33,16 +32,15 @@ module _ (told : Option Files) where
   rom_read before now None none has is =
       let same : None ≡ Some has.script.0 = sym none ∙ has.script.1 in absurd cc
   rom_read before now (Some script) some has is =
-      subst HasRom (sym is.learns.1)
+      rw is.learns.1
       (record { before = record { script = has.script; no_disk = has.no_disk }; rom = is.learns.0 })
 
   disk_read :
       (before now : Known) (disk : Option (List ℕ)) → HasRom before → IsPassed told before Disk disk now → HasBoard now
   disk_read before now None has is =
-      subst HasBoard (sym is)
-      (record { script = has.before.script; rom = has.rom; disk = subst IsDisk (sym has.before.no_disk) tt })
+      rw is (record { script = has.before.script; rom = has.rom; disk = rw has.before.no_disk tt })
   disk_read before now (Some name) has is =
-      subst HasBoard (sym is.learns.1)
+      rw is.learns.1
       (record { script = has.before.script; rom = has.rom; disk = is.learns.0 })
 
   board_read :
@@ -51,18 +49,18 @@ module _ (told : Option Files) where
   board_read command name named known (with_rom, (with_script, (nothing, none, script), rom), disk) =
       let first =
       script_read nothing with_script name (ap (λ (k : Known). k.disk) none)
-      (subst (λ (name' : Option (List ℕ)). IsPassed told nothing Script name' with_script) named script) in
+      (rw named at script) in
       let second = rom_read with_script with_rom with_script.script refl first rom in
       disk_read with_rom known (disk_name with_rom.script) second disk
 
   log_read : (before now : Known) (name : List ℕ) → HasBoard before → IsTaken told before Log name now → HasBoard now
   log_read before now name has is =
-      subst HasBoard (sym is.learns) (record { script = has.script; rom = has.rom; disk = has.disk })
+      rw is.learns (record { script = has.script; rom = has.rom; disk = has.disk })
 
   input_read : (before now : Known) (name : List ℕ) → HasBoard before → IsTaken told before Input name now
       → HasBoard now
   input_read before now name has is =
-      subst HasBoard (sym is.learns) (record { script = has.script; rom = has.rom; disk = has.disk })
+      rw is.learns (record { script = has.script; rom = has.rom; disk = has.disk })
 
   -- an image was read, and a script
   image_read :

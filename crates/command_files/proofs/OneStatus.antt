@@ -1,23 +1,23 @@
 -- The words and the files ask for at most one status: what was read before a file is determined, and so is what is said
 -- of it.
 use Rattle.std.proofs.Common.{◌≡◌, ℕ, ◌<◌, ◌≤◌, ◌++◌, ◌⊎◌, inl, inr, List, [], ◌∷◌, length, reverse, Option, Some, None}
-use Rattle.std.proofs.Common.{refl, sym, ap, ◌∙◌, subst, append_assoc, append-nil}
+use Rattle.std.proofs.Common.{refl, sym, ◌∙◌, subst, append_assoc, append-nil}
 use Rattle.std.proofs.Math.Nat.{not-le_of_lt}
 use Rattle.board_prelude.proofs.Common.{reverse-append, reverse-reverse, Statement, Setup}
-use Rattle.script_spec.specs.Common.{Script as Said, IsScriptBad, IsLogOf, DiffersAt}
+use Rattle.script_spec.specs.Common.{Script as Said, IsScriptBad}
 use Rattle.script_spec.proofs.Common.{same_some, not_both, one_refusal, one_script, one_difference}
 use Rattle.board_image.specs.Common.{Saved, OneSpelling}
 use Rattle.script_spec.specs.Boards.{IsForBoard}
 use Rattle.command_words.specs.Words.{Command, Check, Resume}
 use Rattle.command_files.specs.declared.status.Which.{Which}
-use Rattle.command_files.specs.declared.status.Which.TheVariants.{Script, Rom, Disk, Log, Image, Input}
+use Rattle.command_files.specs.declared.status.Which.TheVariants.{Script, Rom, Disk, Image}
 use Rattle.command_files.specs.declared.status.Status.{Status}
-use Rattle.command_files.specs.declared.status.Status.TheVariants.{Done, Usage, ReadFault, WriteFault, TooLong}
-use Rattle.command_files.specs.declared.status.Status.TheVariants.{BadScript, BadImage, Differs, NoMemory, OtherBoard}
+use Rattle.command_files.specs.declared.status.Status.TheVariants.{Done, TooLong, BadScript, BadImage, Differs}
+use Rattle.command_files.specs.declared.status.Status.TheVariants.{OtherBoard}
 use Rattle.command_files.specs.Common.{files_of, limit_of, Files, Known, nothing_known, file_name, Learns, Passes}
-use Rattle.command_files.specs.Common.{AreReadAs, AllRead, ComesTo, board_of, OfScript, OfImage, IsNoImage, LogIsLegal}
-use Rattle.command_files.specs.Common.{LogDiffers, BoardsAgree, BoardsDiffer, CanBeDone, OfCheck, OfResume, EndsWith}
-use Rattle.command_files.specs.Common.{AsksFor, OneStatus}
+use Rattle.command_files.specs.Common.{AreReadAs, AllRead, ComesTo, board_of, IsNoImage, LogIsLegal, LogDiffers}
+use Rattle.command_files.specs.Common.{BoardsAgree, BoardsDiffer, CanBeDone, OfCheck, OfResume, EndsWith, AsksFor}
+use Rattle.command_files.specs.Common.{OfScript, OfImage, OneStatus}
 
 -- at most one status holds
 abbrev IsOne : (Status → Type 0) → Type 0
@@ -31,23 +31,14 @@ IsRefusedAs Script bytes status = (line : ℕ) × (why : ℕ) × IsScriptBad byt
 IsRefusedAs which bytes status = IsNoImage which bytes × (status ≡ BadImage which)
 
 no_image_refused : (which : Which) (bytes : List ℕ) → IsNoImage which bytes → IsRefusedAs which bytes (BadImage which)
-no_image_refused Rom bytes none = (none, refl)
-no_image_refused Disk bytes none = (none, refl)
-no_image_refused Image bytes none = (none, refl)
-no_image_refused _ bytes none = absurd none
+no_image_refused Script bytes none = absurd none
+no_image_refused _ bytes none = (none, refl)
 
 one_refused : (which : Which) (bytes : List ℕ) → IsOne (IsRefusedAs which bytes)
 one_refused Script bytes status other one two =
     let same : (one.0 ≡ two.0) × (one.1 ≡ two.1) = one_refusal bytes one.0 one.1 two.0 two.1 one.2 two.2 in
-    one.3
-    ∙ ap (λ (line : ℕ). BadScript line one.1) same.0
-    ∙ ap (λ (why : ℕ). BadScript two.0 why) same.1
-    ∙ sym two.3
-one_refused Rom bytes status other one two = one.1 ∙ sym two.1
-one_refused Disk bytes status other one two = one.1 ∙ sym two.1
-one_refused Log bytes status other one two = one.1 ∙ sym two.1
-one_refused Image bytes status other one two = one.1 ∙ sym two.1
-one_refused Input bytes status other one two = one.1 ∙ sym two.1
+    cc (one.3, two.3, same.0, same.1)
+one_refused _ bytes status other one two = one.1 ∙ sym two.1
 
 -- a file is not both good and refused
 apart :
@@ -56,34 +47,31 @@ apart :
 apart known Script bytes status now refused good = not_both bytes good.0 refused.0 refused.1 good.1 refused.2
 apart known Rom bytes status now refused good = refused.0 good.0
 apart known Disk bytes status now refused good = refused.0 good.0
-apart known Log bytes status now refused good = absurd refused.0
 apart known Image bytes status now refused good =
     refused.0 (record { setup = good.0.setup; steps = good.0.steps; image = good.1; spelled = good.2 })
-apart known Input bytes status now refused good = absurd refused.0
+apart known _ bytes status now refused good = absurd refused.0
+
+saved : Setup → List Statement → Saved
+saved setup steps = record { setup = setup; steps = steps }
 
 same_image : (image other : Saved) → image.setup ≡ other.setup → image.steps ≡ other.steps → image ≡ other
+unfolding saved
 same_image image other setup steps =
-    ap (λ (setup' : Setup). record { setup = setup'; steps = image.steps }) setup
-    ∙ ap (λ (steps' : List Statement). record { setup = other.setup; steps = steps' }) steps
+    let whole : saved image.setup image.steps ≡ saved other.setup other.steps = cc in whole
 
 -- what a file says is determined
 one_learned :
     OneSpelling → (known : Known) (which : Which) (bytes : List ℕ) (now other : Known) → Learns known which bytes now →
     Learns known which bytes other → now ≡ other
 one_learned spelling known Script bytes now other one two =
-    one.2
-    ∙ ap (λ (script : Said). record known { script = Some script }) (one_script bytes one.0 two.0 one.1 two.1)
-    ∙ sym two.2
+    one.2 ∙ rw (one_script bytes one.0 two.0 one.1 two.1) (sym two.2)
 one_learned spelling known Rom bytes now other one two = one.1 ∙ sym two.1
 one_learned spelling known Disk bytes now other one two = one.1 ∙ sym two.1
-one_learned spelling known Log bytes now other one two = one ∙ sym two
 one_learned spelling known Image bytes now other one two =
     let same =
     spelling one.0.setup two.0.setup one.0.steps two.0.steps one.1 two.1 (sym one.2 ∙ two.2) in
-    one.3
-    ∙ ap (λ (image : Saved). record known { image = Some image }) (same_image one.0 two.0 same.0 same.1)
-    ∙ sym two.3
-one_learned spelling known Input bytes now other one two = one ∙ sym two
+    one.3 ∙ rw (same_image one.0 two.0 same.0 same.1) (sym two.3)
+one_learned spelling known _ bytes now other one two = one ∙ sym two
 
 -- ---- once all files were read
 
@@ -102,17 +90,10 @@ ends_as command known OtherBoard ends = inr (inr (ends, refl))
 ends_as command known _ ends = absurd ends
 
 -- only `check` compares logs, and only `resume` boards
-check_is : (command : Command) (P : Type 0) → OfCheck command P
-    → (script : List ℕ) × (log : List ℕ) × (command ≡ Check script log) × P
-check_is (Check script log) P is = (script, log, refl, is)
-check_is _ P is = absurd is
+log_apart : (known : Known) (line : ℕ) → LogDiffers known line → LogIsLegal known → ⊥
+log_apart known line differs legal =
+    differs.2.other (rw (same_some legal.0 differs.0 (sym legal.1 ∙ differs.1)) at legal.2)
 
-resume_is : (command : Command) (P : Type 0) → OfResume command P
-    → (image : List ℕ) × (script : List ℕ) × (command ≡ Resume image script) × P
-resume_is (Resume image script) P is = (image, script, refl, is)
-resume_is _ P is = absurd is
-
--- of the one script that was read both hold, and of the one image
 both_of_script :
     (known : Known) (P Q : Said → Type 0) → OfScript known P → OfScript known Q → (script : Said) × P script × Q script
 both_of_script known P Q one two =
@@ -122,22 +103,6 @@ both_of_image :
     (known : Known) (P Q : Saved → Type 0) → OfImage known P → OfImage known Q → (image : Saved) × P image × Q image
 both_of_image known P Q one two =
     (one.0, one.2, subst Q (same_some two.0 one.0 (sym two.1 ∙ one.1)) two.2)
-
-log_apart : (known : Known) (line : ℕ) → LogDiffers known line → LogIsLegal known → ⊥
-log_apart known line differs legal =
-    let both =
-    both_of_script known
-    (λ script. DiffersAt (board_of known script) script.version script.phases known.log line)
-    (λ script. IsLogOf (board_of known script) script.version script.phases known.log) differs legal in
-    both.1.other both.2
-
-one_log_line : (known : Known) (line place : ℕ) → LogDiffers known line → LogDiffers known place → line ≡ place
-one_log_line known line place one two =
-    let both =
-    both_of_script known
-    (λ script. DiffersAt (board_of known script) script.version script.phases known.log line)
-    (λ script. DiffersAt (board_of known script) script.version script.phases known.log place) one two in
-    one_difference (board_of known both.0) both.0.version both.0.phases known.log line place both.1 both.2
 
 boards_apart : (known : Known) → BoardsDiffer known → BoardsAgree known → ⊥
 boards_apart known differ agree =
@@ -153,26 +118,25 @@ boards_apart known differ agree =
 done_or_differs :
     (command : Command) (known : Known) (line : ℕ) → CanBeDone command known → OfCheck command (LogDiffers known line)
     → ⊥
-done_or_differs command known line done differs =
-    let check = check_is command (LogDiffers known line) differs in
-    log_apart known line check.3 (subst (λ (command' : Command). CanBeDone command' known) check.2 done)
+done_or_differs (Check script log) known line done differs = log_apart known line differs done
+done_or_differs _ known line done differs = absurd differs
 
 done_or_other :
     (command : Command) (known : Known) → CanBeDone command known → OfResume command (BoardsDiffer known) → ⊥
-done_or_other command known done differ =
-    let resume = resume_is command (BoardsDiffer known) differ in
-    boards_apart known resume.3 (subst (λ (command' : Command). CanBeDone command' known) resume.2 done)
+done_or_other (Resume image script) known done differ = boards_apart known differ done
+done_or_other _ known done differ = absurd differ
 
-differs_or_other :
-    (command : Command) (P Q : Type 0) → OfCheck command P → OfResume command Q → ⊥
-differs_or_other command P Q check resume = absurd (cc ((check_is command P check).2, (resume_is command Q resume).2))
+differs_or_other : (command : Command) (P Q : Type 0) → OfCheck command P → OfResume command Q → ⊥
+differs_or_other (Check script log) P Q check resume = absurd resume
+differs_or_other _ P Q check resume = absurd check
 
 one_line_of_check :
     (command : Command) (known : Known) (line place : ℕ) → OfCheck command (LogDiffers known line) →
     OfCheck command (LogDiffers known place) → line ≡ place
-one_line_of_check command known line place one two =
-    one_log_line known line place (check_is command (LogDiffers known line) one).3
-    (check_is command (LogDiffers known place) two).3
+one_line_of_check (Check script log) known line place one two =
+    one_difference (board_of known one.0) one.0.version one.0.phases known.log line place one.2
+    (rw (same_some two.0 one.0 (sym two.1 ∙ one.1)) at two.2)
+one_line_of_check _ known line place one two = absurd one
 
 one_way : (command : Command) (known : Known) → IsOne (EndsAs command known)
 one_way command known status other (inl one) (inl two) = one.1 ∙ sym two.1
@@ -180,9 +144,7 @@ one_way command known status other (inl one) (inr (inl two)) = absurd (done_or_d
 one_way command known status other (inl one) (inr (inr two)) = absurd (done_or_other command known one.0 two.0)
 one_way command known status other (inr (inl one)) (inl two) = absurd (done_or_differs command known one.0 two.0 one.1)
 one_way command known status other (inr (inl one)) (inr (inl two)) =
-    one.2
-    ∙ ap (λ (line : ℕ). Differs line) (one_line_of_check command known one.0 two.0 one.1 two.1)
-    ∙ sym two.2
+    cc (one.2, two.2, one_line_of_check command known one.0 two.0 one.1 two.1)
 one_way command known status other (inr (inl one)) (inr (inr two)) =
     absurd (differs_or_other command (LogDiffers known one.0) (BoardsDiffer known) one.1 two.0)
 one_way command known status other (inr (inr one)) (inl two) = absurd (done_or_other command known two.0 one.0)
@@ -212,29 +174,28 @@ EndsAt command files known (which ∷ later) status =
     Stage files known which (file_name command known which) (λ now status'. EndsAt command files now later status')
     status
 
+module _ (spelling : OneSpelling) (files : Files) (known : Known) (which : Which) (name : List ℕ)
+    (Later : Known → Status → Type 0) (later : (now : Known) → IsOne (Later now)) where
+  one_named : IsOne (Stage files known which (Some name) Later)
+  one_named status other (inl one) (inl two) = one.1 ∙ sym two.1
+  one_named status other (inl one) (inr (inl two)) = absurd (not-le_of_lt one.0 two.0)
+  one_named status other (inl one) (inr (inr two)) = absurd (not-le_of_lt one.0 two.0)
+  one_named status other (inr (inl one)) (inl two) = absurd (not-le_of_lt two.0 one.0)
+  one_named status other (inr (inl one)) (inr (inl two)) = one_refused which (files name) status other one.1 two.1
+  one_named status other (inr (inl one)) (inr (inr two)) =
+      absurd (apart known which (files name) status two.1.0 one.1 two.1.1)
+  one_named status other (inr (inr one)) (inl two) = absurd (not-le_of_lt two.0 one.0)
+  one_named status other (inr (inr one)) (inr (inl two)) =
+      absurd (apart known which (files name) other one.1.0 two.1 one.1.1)
+  one_named status other (inr (inr one)) (inr (inr two)) =
+      later two.1.0 status other
+      (rw (one_learned spelling known which (files name) one.1.0 two.1.0 one.1.1 two.1.1) at one.1.2) two.1.2
+
 one_stage :
     OneSpelling → (files : Files) (known : Known) (which : Which) (name : Option (List ℕ))
     (Later : Known → Status → Type 0) → ((now : Known) → IsOne (Later now)) → IsOne (Stage files known which name Later)
-one_stage spelling files known which None Later later status other one two = later known status other one two
-one_stage spelling files known which (Some name) Later later status other (inl one) (inl two) = one.1 ∙ sym two.1
-one_stage spelling files known which (Some name) Later later status other (inl one) (inr (inl two)) =
-    absurd (not-le_of_lt one.0 two.0)
-one_stage spelling files known which (Some name) Later later status other (inl one) (inr (inr two)) =
-    absurd (not-le_of_lt one.0 two.0)
-one_stage spelling files known which (Some name) Later later status other (inr (inl one)) (inl two) =
-    absurd (not-le_of_lt two.0 one.0)
-one_stage spelling files known which (Some name) Later later status other (inr (inl one)) (inr (inl two)) =
-    one_refused which (files name) status other one.1 two.1
-one_stage spelling files known which (Some name) Later later status other (inr (inl one)) (inr (inr two)) =
-    absurd (apart known which (files name) status two.1.0 one.1 two.1.1)
-one_stage spelling files known which (Some name) Later later status other (inr (inr one)) (inl two) =
-    absurd (not-le_of_lt two.0 one.0)
-one_stage spelling files known which (Some name) Later later status other (inr (inr one)) (inr (inl two)) =
-    absurd (apart known which (files name) other one.1.0 two.1 one.1.1)
-one_stage spelling files known which (Some name) Later later status other (inr (inr one)) (inr (inr two)) =
-    let same : one.1.0 ≡ two.1.0 =
-    one_learned spelling known which (files name) one.1.0 two.1.0 one.1.1 two.1.1 in
-    later two.1.0 status other (subst (λ (now : Known). Later now status) same one.1.2) two.1.2
+one_stage spelling files known which None Later later = later known
+one_stage spelling files known which (Some name) Later later = one_named spelling files known which name Later later
 
 one_end :
     OneSpelling → (command : Command) (files : Files) (known : Known) (later : List Which) →
@@ -250,14 +211,13 @@ passed :
     (files : Files) (before now : Known) (which : Which) (name : Option (List ℕ)) (Later : Known → Status → Type 0)
     (status : Status) → Passes files before which name now → Later now status
     → Stage files before which name Later status
-passed files before now which None Later status passes ends = subst (λ (known : Known). Later known status) passes ends
+passed files before now which None Later status passes ends = rw passes at ends
 passed files before now which (Some name) Later status passes ends = inr (inr (passes.0, (now, passes.1, ends)))
 
 reverse_on : (before later : List Which) (which : Which)
     → reverse before ++ which ∷ later ≡ reverse (which ∷ before) ++ later
 reverse_on before later which =
-    sym (ap (λ (whiches : List Which). whiches ++ later) (reverse-append (which ∷ []) before)
-    ∙ append_assoc (reverse before) (which ∷ []) later)
+    rw (reverse-append (which ∷ []) before) (sym (append_assoc (reverse before) (which ∷ []) later))
 
 -- where these files were read first, and the later ones end so, all end so
 from_start :
@@ -265,9 +225,9 @@ from_start :
     AreReadAs command files before known → EndsAt command files known later status →
     EndsAt command files nothing_known (reverse before ++ later) status
 from_start command files [] later known status read ends =
-    subst (λ (known' : Known). EndsAt command files known' later status) read ends
+    rw read at ends
 from_start command files (which ∷ before) later known status read ends =
-    subst (λ (whiches : List Which). EndsAt command files nothing_known whiches status) (reverse_on before later which)
+    rw (← reverse_on before later which)
     (from_start command files before (which ∷ later) read.0 status read.1
     (passed files read.0 known which (file_name command read.0 which)
     (λ now status'. EndsAt command files now later status') status read.2 ends))
@@ -279,12 +239,8 @@ at_file :
     Stage files known which (Some name) (λ now status'. EndsAt command files now comes.later status') status →
     EndsAt command files nothing_known (files_of command) status
 at_file command files which known name status comes ends =
-    subst (λ (whiches : List Which). EndsAt command files nothing_known whiches status) (sym comes.place)
-    (from_start command files comes.before (which ∷ comes.later) known status comes.read
-    (subst
-    (λ (named : Option (List ℕ)). Stage files known which named
-    (λ now status'. EndsAt command files now comes.later status')
-    status) (sym comes.named) ends))
+    rw comes.place
+    (from_start command files comes.before (which ∷ comes.later) known status comes.read (rw comes.named ends))
 
 at_end :
     (command : Command) (files : Files) (status : Status) →
@@ -298,10 +254,6 @@ at_end command files status ends =
 at_some :
     (command : Command) (files : Files) (status : Status) → AsksFor command files status →
     EndsAt command files nothing_known (files_of command) status
-at_some command files Done asks = at_end command files Done asks
-at_some command files Usage asks = at_end command files Usage asks
-at_some command files (ReadFault which) asks = at_end command files (ReadFault which) asks
-at_some command files WriteFault asks = at_end command files WriteFault asks
 at_some command files (TooLong which) asks =
     at_file command files which asks.known asks.name (TooLong which) asks.comes (inl (asks.holds, refl))
 at_some command files (BadScript line why) asks =
@@ -310,9 +262,7 @@ at_some command files (BadScript line why) asks =
 at_some command files (BadImage which) asks =
     at_file command files which asks.known asks.name (BadImage which) asks.comes
     (inr (inl (asks.holds.fits, no_image_refused which (files asks.name) asks.holds.holds)))
-at_some command files (Differs line) asks = at_end command files (Differs line) asks
-at_some command files NoMemory asks = at_end command files NoMemory asks
-at_some command files OtherBoard asks = at_end command files OtherBoard asks
+at_some command files status asks = at_end command files status asks
 
 pub one_status : OneSpelling → OneStatus
 one_status spelling = λ command files status other one two.

@@ -3,20 +3,18 @@ use Rattle.std.proofs.Common.{◌≡◌, ◌≢◌, ℕ, suc, ◌+◌, ◌<◌, 
 use Rattle.std.proofs.Common.{reverse, get_or, Option, Some, None, refl, sym, ap, ◌∙◌, subst, append_assoc, Result, Ok}
 use Rattle.std.proofs.Common.{OnOk}
 use Rattle.board_prelude.proofs.Common.{reverse-append, reverse-reverse, append-nil, take_all}
-use Rattle.board_outside.specs.Outside.{Rose, OfFile}
+use Rattle.board_outside.specs.Outside.{Rose, OfFile, Fetch}
 use Rattle.std.proofs.Math.Seq.{split_at}
-use Rattle.board_outside.specs.Outside.{Fetch}
 use Rattle.script_spec.specs.ScriptText.{IsScriptBad}
 use Rattle.command_words.specs.Words.{Command}
 use Rattle.command_files.specs.declared.status.Which.{Which}
-use Rattle.command_files.specs.declared.status.Which.TheVariants.{Script, Rom, Disk, Log, Image, Input}
+use Rattle.command_files.specs.declared.status.Which.TheVariants.{Script}
 use Rattle.command_files.specs.declared.status.Status.{Status}
-use Rattle.command_files.specs.declared.status.Status.TheVariants.{Done, Usage, ReadFault, WriteFault, TooLong}
-use Rattle.command_files.specs.declared.status.Status.TheVariants.{BadScript, BadImage, Differs, OtherBoard, NoMemory}
+use Rattle.command_files.specs.declared.status.Status.TheVariants.{ReadFault, TooLong, BadScript, BadImage, NoMemory}
 use Rattle.command_files.specs.Common.{files_of, name_in_words, limit_of, Files, Known, nothing_known, file_name}
-use Rattle.command_files.specs.Common.{Learns, Passes, AreReadAs, ComesTo, ReadsFile, FitsFile, IsNoImage, ShelfCall}
-use Rattle.command_files.specs.Common.{OfFiles, CanRead, FailsAt, IsNotTaken, IsRefused, OfCalls, FoundEnd, ReachesFile}
-use Rattle.command_files.specs.Common.{Reads, ReadEach, FetchesOf, IsPassed, IsNotPassed, ReadsNamed}
+use Rattle.command_files.specs.Common.{Passes, AreReadAs, ComesTo, ReadsFile, FitsFile, IsNoImage, ShelfCall, OfFiles}
+use Rattle.command_files.specs.Common.{CanRead, FailsAt, IsNotTaken, IsRefused, OfCalls, FoundEnd, ReachesFile, Reads}
+use Rattle.command_files.specs.Common.{ReadEach, FetchesOf, IsPassed, IsNotPassed, ReadsNamed}
 use Rattle.command_files.proofs.CallLemmas.{Both, calls_both, calls_hold}
 use Rattle.command_files.proofs.Refusals.{of_files, at_files, at_file, any_file}
 use Rattle.logs_and_maps.proofs.Lines.{reverse-take_more}
@@ -43,8 +41,7 @@ passed_as :
     IsPassed (Some files) before which name now → Passes files before which name now
 passed_as files before which None now is = is
 passed_as files before which (Some name) now is =
-    subst (λ (file : List ℕ). (length file ≤ limit_of which) × Learns before which file now) is.whole
-    (is.fits, is.learns)
+    rw (← is.whole) (is.fits, is.learns)
 
 taken_as :
     (command : Command) (files : Files) (whiches : List Which) (known : Known)
@@ -72,11 +69,7 @@ in_words :
     → file_name command known which ≡ Some name →
     name_in_words command which ≡ Some other → other ≡ name
 in_words command known Script name other named is = cc
-in_words command known Rom name other named is = absurd cc
-in_words command known Disk name other named is = absurd cc
-in_words command known Log name other named is = cc
-in_words command known Image name other named is = cc
-in_words command known Input name other named is = cc
+in_words command known _ name other named is = cc
 
 -- the fetches of these files, the latest first, read each to its end, whatever is read later
 abbrev pub WholeBefore : Command → Option Files → List Which → List Fetch → Type 0
@@ -92,8 +85,7 @@ not_read command told (other ∷ others) whiches more made is = (
   made,
   refl,
   inl refl,
-  subst (λ (more' : List Fetch). ReadEach command told (others ++ whiches) more' made) (sym (append-nil more))
-      (not_read command told others whiches more made is),
+  rw (append-nil more) (not_read command told others whiches more made is),
 )
 
 module _ (command : Command) (told : Option Files) (which : Which) (before later : List Which) (known : Known)
@@ -145,13 +137,10 @@ module _ (command : Command) (told : Option Files) (which : Which) (before later
     }
 
     not_taken : (status : Status) → IsNotTaken which name Call status → IsRefused command Call status
-    not_taken Done is = is
-    not_taken Usage is = is
-    not_taken WriteFault is = is
     not_taken (ReadFault other) (same, rose, names) =
-        subst (λ (which' : Which). FailsAt which' Call command) (sym same) (fails rose names)
+        rw same (fails rose names)
     not_taken (TooLong other) (same, holds) =
-        subst (λ (which' : Which). IsRefused command Call (TooLong which')) (sym same)
+        rw same
         ((reaches name named).can_read, reads (λ name' bytes. limit_of which < length bytes) holds)
     not_taken (BadScript line why) (same, holds) = (
       subst (CanRead command) same (reaches name named).can_read,
@@ -160,11 +149,10 @@ module _ (command : Command) (told : Option Files) (which : Which) (before later
           (reads (FitsFile Script (λ bytes. IsScriptBad bytes line why)) holds),
     )
     not_taken (BadImage other) (same, kind, holds) =
-        subst (λ (which' : Which). IsRefused command Call (BadImage which')) (sym same)
+        rw same
         (((reaches name named).can_read, kind), reads (FitsFile which (IsNoImage which)) holds)
-    not_taken (Differs line) is = absurd is
-    not_taken OtherBoard is = absurd is
     not_taken NoMemory is = tt
+    not_taken _ is = absurd is
 
   stopped_at :
       (start now : ℕ) (kept : List ℕ) (name : Option (List ℕ)) → file_name command known which ≡ name
@@ -182,8 +170,7 @@ module _ (command : Command) (told : Option Files) (which : Which) (before later
       (record { files = told; faults_before = between; faults_now = now; failed_name = kept }) status →
       IsRefused command (record { files = told; faults_before = start; faults_now = now; failed_name = kept }) status
   stops start between now kept status same is =
-      subst (λ (start' : ℕ). IsRefused command
-      (record { files = told; faults_before = start'; faults_now = now; failed_name = kept }) status) same
+      rw (← same)
       (stopped_at between now kept (file_name command known which) refl status is)
 
   -- ---- the fetches
@@ -226,18 +213,19 @@ module _ (command : Command) (told : Option Files) (which : Which) (before later
   -- the table from its end
   mirrored : reverse (files_of command) ≡ reverse later ++ which ∷ before
   mirrored =
-      ap reverse place
-      ∙ reverse-append (reverse before) (which ∷ later)
-      ∙ ap (λ (front : List Which). front ++ reverse (reverse before)) (reverse-append (which ∷ []) later)
-      ∙ ap (λ (back : List Which). (reverse later ++ which ∷ []) ++ back) (reverse-reverse before)
-      ∙ append_assoc (reverse later) (which ∷ []) before
+      rw (
+        place,
+        reverse-append (reverse before) (which ∷ later),
+        reverse-append (which ∷ []) later,
+        reverse-reverse before,
+      ) (append_assoc (reverse later) (which ∷ []) before)
 
   last_read :
       {T E : Type 0} (result : Result T E) (made : List Fetch) →
       Both (WholeBefore command told before) (ReadsNamed result (file_name command known which) (limit_of which)) made →
       FetchesOf command told made
   last_read result made is =
-      subst (λ (whiches : List Which). ReadEach command told whiches [] made) (sym mirrored)
+      rw mirrored
       (not_read command told (reverse later) (which ∷ before) [] made (
         is.second,
         is.first,
@@ -287,8 +275,7 @@ module _ (command : Command) (told : Option Files) (files : List Which) (index :
       (now : Known) → IsPassed told known here (file_name command known here) now →
       AreTaken command told (reverse (take (index + 1) files)) now
   taken_next now passed =
-      subst (λ (whiches : List Which). AreTaken command told whiches now) (sym (reverse-take_more files index d within))
-      (known, are, passed)
+      rw (reverse-take_more files index d within) (known, are, passed)
 
   pub whole_next :
       (E : Type 0) (value : Unit {0}) (start between now : Option (List Fetch)) →
@@ -296,8 +283,7 @@ module _ (command : Command) (told : Option Files) (files : List Which) (index :
       OfCalls between now (ReadsNamed {E = E} (Ok value) (file_name command known here) (limit_of here)) →
       OfCalls start now (WholeBefore command told (reverse (take (index + 1) files)))
   whole_next E value start between now one two =
-      subst (λ (whiches : List Which). OfCalls start now (WholeBefore command told whiches))
-      (sym (reverse-take_more files index d within))
+      rw (reverse-take_more files index d within)
       (fetches_next command told here passed_by (drop (suc index) files) known at_here are E value start between now one
       two)
 

@@ -1,5 +1,5 @@
 -- What holds where the shelf tells its files, and of a result that is an error.
-use Rattle.std.proofs.Common.{◌≡◌, ℕ, List, Option, Some, None, refl, sym, subst, Result, Err, IfErr}
+use Rattle.std.proofs.Common.{◌≡◌, ℕ, List, Option, Some, None, refl, Result, Err, IfErr}
 use Rattle.board_outside.specs.Outside.{OfFile}
 use Rattle.command_files.specs.Common.{Files, OfFiles}
 
@@ -9,13 +9,12 @@ of_files None P each = tt
 of_files (Some files) P each = each files refl
 
 pub at_files : (told : Option Files) (files : Files) (P : Files → Type 0) → told ≡ Some files → OfFiles told P → P files
-at_files told files P is holds = subst (λ (told' : Option Files). OfFiles told' P) is holds
+at_files told files P is holds = rw is at holds
 
 pub at_file :
-    (told : Option Files) (files : Files) (name : List ℕ) (P : List ℕ → Type 0) → told ≡ Some files → OfFile told name P
-    →
-    P (files name)
-at_file told files name P is holds = subst (λ (told' : Option Files). OfFile told' name P) is holds
+    (told : Option Files) (files : Files) (name : List ℕ) (P : List ℕ → Type 0) → told ≡ Some files →
+    OfFile told name P → P (files name)
+at_file told files name P is holds = rw is at holds
 
 pub any_file : (told : Option Files) (name : List ℕ) (P : Type 0) → P → OfFile told name (λ file. P)
 any_file None name P holds = tt
@@ -24,5 +23,4 @@ any_file (Some files) name P holds = holds
 -- this holds of a result that is this error, where it holds of the error
 pub holds_of_error :
     {T E : Type 0} (P : E → Type 0) (result : Result T E) (error : E) → result ≡ Err error → P error → IfErr result P
-holds_of_error {T = T} {E = E} P result error is holds = subst (λ (result' : Result T E). IfErr result' P)
-    (sym is) holds
+holds_of_error P result error is holds = rw is holds

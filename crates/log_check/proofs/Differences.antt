@@ -2,7 +2,8 @@
 use Rattle.std.proofs.Common.{ℕ, ◌≡◌, ◌≢◌, ◌+◌, List, [], ◌∷◌, ◌++◌, length, reverse, All, refl, sym, ap, ◌∙◌, subst}
 use Rattle.std.proofs.Common.{append_assoc, append-nil, arith}
 use Rattle.board_spec.proofs.ReplayLaws.{legal_before}
-use Rattle.board_prelude.proofs.Common.{All-nil, Entry, Statement, Setup, IsLegal, IsBegunFor, IsCompleteFor}
+use Rattle.board_prelude.proofs.Common.{All-nil, Entry, Statement, Setup, IsNext, IsLegal, IsBegunFor}
+use Rattle.board_prelude.proofs.Common.{IsCompleteFor}
 use Rattle.board_prelude.proofs.Common.{in_file_order, IsAddressed, OneReplay, line_feed, line_text, lines_text}
 use Rattle.board_prelude.proofs.Common.{log_text, complete_is_begun, none_so_far}
 use Rattle.script_spec.specs.Common.{text_of_lines, IsOneLine, AreBegun, IsLogOf, DiffersAt}
@@ -20,121 +21,124 @@ pub record Known (setup : Setup) (phases : List (List Statement)) : Type 0 where
   pub typed : All IsTyped (in_file_order phases)
   pub addressed : All (λ statement. IsAddressed statement.event) (in_file_order phases)
 
--- lines that are the log of a begun history begin a log
-lines_begin :
-    (setup : Setup) (version : ℕ) (phases : List (List Statement)) (history : List Entry) (lines : List (List ℕ)) →
-    Known setup phases → IsLegal setup history → IsBegunFor phases history → (rest : List ℕ) →
-    text_of_lines lines ++ rest ≡ log_text version history →
-    AreBegun (IsLogOf setup version phases) lines
-lines_begin setup version phases history lines known legal begun rest text =
-    let whole = completed setup phases history known.addressed legal begun in
-    let more : List ℕ = lines_from (length history) whole.more in
-    record {
-      later = rest ++ more;
-      text = record {
-        history = reverse whole.more ++ history;
-        legal = whole.legal;
-        complete = whole.complete;
-        text =
-            sym (append_assoc (text_of_lines lines) rest more)
-            ∙ ap (λ (first : List ℕ). first ++ more) text
-            ∙ sym (log_joined version whole.more history);
-      };
-    }
+module _ (setup : Setup) (version : ℕ) (phases : List (List Statement)) where
+  -- lines that are the log of a begun history begin a log
+  lines_begin :
+      (history : List Entry) (lines : List (List ℕ)) → Known setup phases → IsLegal setup history →
+      IsBegunFor phases history → (rest : List ℕ) → text_of_lines lines ++ rest ≡ log_text version history →
+      AreBegun (IsLogOf setup version phases) lines
+  lines_begin history lines known legal begun rest text =
+      let whole = completed setup phases history known.addressed legal begun in
+      let more : List ℕ = lines_from (length history) whole.more in
+      record {
+        later = rest ++ more;
+        text = record {
+          history = reverse whole.more ++ history;
+          legal = whole.legal;
+          complete = whole.complete;
+          text =
+              sym (append_assoc (text_of_lines lines) rest more)
+              ∙ rw text (sym (log_joined version whole.more history));
+        };
+      }
 
--- with none of the entries that may come next can a whole history have a longer log
-no_more :
-    (setup : Setup) (phases : List (List Statement)) (history whole : List Entry) (rest this after : List ℕ)
-    (more : List Entry) → GoesOnWithNone setup phases history (this ++ line_feed ∷ after) → IsOneLine this →
-    IsLegal setup whole → IsBegunFor phases whole → whole ≡ reverse more ++ history →
-    this ++ line_feed ∷ rest ≡ lines_from (length history) more → ⊥
-no_more setup phases history whole rest this after [] none single legal begun is text =
-    absurd (no_line this rest text)
-no_more setup phases history whole rest this after (next ∷ later) none single legal begun is text =
-    let n : ℕ = length history + 1 in
-    let cut : (this ≡ line_text n next) × (rest ≡ lines_from n later) =
-    cut_line this (line_text n next) rest (lines_from n later) single (line_whole n next) text in
-    let longer : whole ≡ reverse later ++ (next ∷ history) = is ∙ newest_last next later history in
-    none next after (legal_before setup (reverse later) (next ∷ history) (subst (IsLegal setup) longer legal)).0
-    (begun_front phases (reverse later) (next ∷ history) (subst (IsBegunFor phases) longer begun))
-    (ap (λ (line : List ℕ). line ++ line_feed ∷ after) cut.0)
+  -- an entry after a history, where a longer history goes on with it
+  entry_may_come :
+      (history whole later : List Entry) (next : Entry) → IsLegal setup whole → IsCompleteFor phases whole →
+      whole ≡ reverse (next ∷ later) ++ history →
+      IsNext setup history next × IsBegunFor phases (next ∷ history)
+  entry_may_come history whole later next legal complete is =
+      let longer : whole ≡ reverse later ++ (next ∷ history) = is ∙ newest_last next later history in (
+        (legal_before setup (reverse later) (next ∷ history) (rw longer at legal)).0,
+        begun_front phases (reverse later) (next ∷ history) (rw longer at (complete_is_begun phases whole complete)),
+      )
 
--- and no whole history has this log
-no_log :
-    (setup : Setup) (phases : List (List Statement)) (history whole : List Entry) (rest : List ℕ)
-    (more : List Entry) → GoesOnWithNone setup phases history rest → (rest ≡ [] → ¬ IsCompleteFor phases history) →
-    IsLegal setup whole → IsCompleteFor phases whole → whole ≡ reverse more ++ history →
-    rest ≡ lines_from (length history) more → ⊥
-no_log setup phases history whole rest [] none unfinished legal complete is text =
-    unfinished text (subst (IsCompleteFor phases) is complete)
-no_log setup phases history whole rest (next ∷ later) none unfinished legal complete is text =
-    let longer : whole ≡ reverse later ++ (next ∷ history) = is ∙ newest_last next later history in
-    none next (lines_from (length history + 1) later)
-    (legal_before setup (reverse later) (next ∷ history) (subst (IsLegal setup) longer legal)).0
-    (begun_front phases (reverse later) (next ∷ history)
-    (subst (IsBegunFor phases) longer (complete_is_begun phases whole complete)))
-    text
+  -- with none of the entries that may come next can a whole history have a longer log
+  no_more :
+      (history whole : List Entry) (rest this after : List ℕ) (more : List Entry) →
+      GoesOnWithNone setup phases history (this ++ line_feed ∷ after) → IsOneLine this →
+      IsLegal setup whole → IsCompleteFor phases whole → whole ≡ reverse more ++ history →
+      this ++ line_feed ∷ rest ≡ lines_from (length history) more → ⊥
+  no_more history whole rest this after [] none single legal complete is text = absurd (no_line this rest text)
+  no_more history whole rest this after (next ∷ later) none single legal complete is text =
+      let n : ℕ = length history + 1 in
+      let may = entry_may_come history whole later next legal complete is in
+      let cut = cut_line this (line_text n next) rest (lines_from n later) single (line_whole n next) text in
+      none next after may.0 may.1 (ap (λ (line : List ℕ). line ++ line_feed ∷ after) cut.0)
 
-pub differs :
-    (setup : Setup) (version : ℕ) (phases : List (List Statement)) (bytes : List ℕ) (entries : List Entry) (line : ℕ) →
-    Known setup phases → StopsAt setup version phases bytes entries line → DiffersAt setup version phases bytes line
-differs setup version phases bytes entries line known stops =
-    let history : List Entry = stops.at_line.before in
-    let rest : List ℕ = stops.at_line.rest in
-    let first = lined version history in
-    let goes_on : (log : List ℕ) (left : List ℕ) (whole : IsLogOf setup version phases log) →
-    log ≡ log_text version history ++ left → Extends history whole.history left =
-    λ log left whole is.
-    extends known.one setup phases history whole.history left known.typed stops.legal stops.begun whole.legal
-    (complete_is_begun phases whole.history whole.complete)
-    (lines_left version whole.history history left (sym whole.text ∙ is)) in
-    record {
-      before = first.lines;
-      each = first.each;
-      rest = rest;
-      cut = stops.at_line.text ∙ ap (λ (text : List ℕ). text ++ rest) (sym first.text);
-      place = omega (arith, stops.at_line.place, first.count);
-      begun = lines_begin setup version phases history first.lines known stops.legal stops.begun []
-          (append-nil (text_of_lines first.lines) ∙ first.text);
-      leaves = λ this after single is begun.
-          let log : text_of_lines (first.lines ++ this ∷ []) ++ begun.later
-          ≡ log_text version history ++ (this ++ line_feed ∷ begun.later) =
-          ap (λ (text : List ℕ). text ++ begun.later) (one_line_more first.lines this)
-          ∙ append_assoc (text_of_lines first.lines) (this ++ line_feed ∷ []) begun.later
-          ∙ ap (λ (text : List ℕ). text ++ (this ++ line_feed ∷ [] ++ begun.later)) first.text
-          ∙ ap (λ (text : List ℕ). log_text version history ++ text) (append_assoc this (line_feed ∷ []) begun.later) in
-          let ext = goes_on (text_of_lines (first.lines ++ this ∷ []) ++ begun.later) (this ++ line_feed ∷ begun.later)
-          begun.text log in
-          no_more setup phases history begun.text.history begun.later this after ext.more
-          (subst (GoesOnWithNone setup phases history) is stops.none) single begun.text.legal
-          (complete_is_begun phases begun.text.history begun.text.complete) ext.is ext.text;
-      other = λ log.
-          let ext = goes_on bytes rest log stops.at_line.text in
-          no_log setup phases history log.history rest ext.more stops.none stops.unfinished log.legal log.complete
-          ext.is ext.text;
-    }
+  -- and no whole history has this log
+  no_log :
+      (history whole : List Entry) (rest : List ℕ) (more : List Entry) → GoesOnWithNone setup phases history rest →
+      (rest ≡ [] → ¬ IsCompleteFor phases history) → IsLegal setup whole → IsCompleteFor phases whole →
+      whole ≡ reverse more ++ history → rest ≡ lines_from (length history) more → ⊥
+  no_log history whole rest [] none unfinished legal complete is text = unfinished text (rw is at complete)
+  no_log history whole rest (next ∷ later) none unfinished legal complete is text =
+      let may = entry_may_come history whole later next legal complete is in
+      none next (lines_from (length history + 1) later) may.0 may.1 text
 
--- bytes that do not begin with the heading leave the logs of the script at once
-pub differs_at_once :
-    (setup : Setup) (version : ℕ) (phases : List (List Statement)) (bytes : List ℕ) → Known setup phases →
-    ((after : List ℕ) → bytes ≢ log_text version [] ++ after) → DiffersAt setup version phases bytes 1
-differs_at_once setup version phases bytes known none = record {
-  before = [];
-  each = All-nil IsOneLine;
-  rest = bytes;
-  cut = refl;
-  place = refl;
-  begun = lines_begin setup version phases [] [] known tt (none_so_far phases) (log_text version []) refl;
-  leaves = λ this after single is begun.
-      let log : this ++ line_feed ∷ begun.later ≡ heading version ++ line_feed ∷ lines_text begun.text.history =
-      sym (append_assoc this (line_feed ∷ []) begun.later)
-      ∙ ap (λ (text : List ℕ). text ++ begun.later) (sym (append-nil (this ++ line_feed ∷ [])))
-      ∙ begun.text.text in
-      let cut : (this ≡ heading version) × (begun.later ≡ lines_text begun.text.history) =
-      cut_line this (heading version) begun.later (lines_text begun.text.history) single (heading_whole version) log in
-      none after
-      (is ∙ ap (λ (first : List ℕ). first ++ line_feed ∷ after) cut.0
-      ∙ sym (append_assoc (heading version) (line_feed ∷ []) after)
-      ∙ ap (λ (first : List ℕ). first ++ after) (sym (heading-log version)));
-  other = λ log. none (lines_text log.history) (log.text ∙ log_parts version log.history);
-}
+  pub differs :
+      (bytes : List ℕ) (entries : List Entry) (line : ℕ) → Known setup phases →
+      StopsAt setup version phases bytes entries line → DiffersAt setup version phases bytes line
+  differs bytes entries line known stops =
+      let history : List Entry = stops.at_line.before in
+      let rest : List ℕ = stops.at_line.rest in
+      let first = lined version history in
+      let goes_on : (log : List ℕ) (left : List ℕ) (whole : IsLogOf setup version phases log) →
+      log ≡ log_text version history ++ left → Extends history whole.history left =
+      λ log left whole is.
+      extends known.one setup phases history whole.history left known.typed stops.legal stops.begun whole.legal
+      (complete_is_begun phases whole.history whole.complete)
+      (lines_left version whole.history history left (sym whole.text ∙ is)) in
+      record {
+        before = first.lines;
+        each = first.each;
+        rest = rest;
+        cut = rw first.text stops.at_line.text;
+        place = omega (arith, stops.at_line.place, first.count);
+        begun = lines_begin history first.lines known stops.legal stops.begun []
+            (append-nil (text_of_lines first.lines) ∙ first.text);
+        leaves = λ this after single is begun.
+            let log : text_of_lines (first.lines ++ this ∷ []) ++ begun.later
+            ≡ log_text version history ++ (this ++ line_feed ∷ begun.later) =
+            rw (
+              one_line_more first.lines this,
+              append_assoc (text_of_lines first.lines) (this ++ line_feed ∷ []) begun.later,
+              first.text,
+            )
+            (ap (λ (text : List ℕ). log_text version history ++ text)
+            (append_assoc this (line_feed ∷ []) begun.later))
+            in
+            let ext = goes_on _ (this ++ line_feed ∷ begun.later) begun.text log in
+            no_more history begun.text.history begun.later this after ext.more
+            (subst (GoesOnWithNone setup phases history) is stops.none) single begun.text.legal
+            begun.text.complete ext.is ext.text;
+        other = λ log.
+            let ext = goes_on bytes rest log stops.at_line.text in
+            no_log history log.history rest ext.more stops.none stops.unfinished log.legal log.complete ext.is ext.text;
+      }
+
+  -- bytes that do not begin with the heading leave the logs of the script at once
+  pub differs_at_once :
+      (bytes : List ℕ) → Known setup phases → ((after : List ℕ) → bytes ≢ log_text version [] ++ after) →
+      DiffersAt setup version phases bytes 1
+  differs_at_once bytes known none = record {
+    before = [];
+    each = All-nil IsOneLine;
+    rest = bytes;
+    cut = refl;
+    place = refl;
+    begun = lines_begin [] [] known tt (none_so_far phases) (log_text version []) refl;
+    leaves = λ this after single is begun.
+        let log : this ++ line_feed ∷ begun.later ≡ heading version ++ line_feed ∷ lines_text begun.text.history =
+        sym (append_assoc this (line_feed ∷ []) begun.later)
+        ∙ ap (λ (text : List ℕ). text ++ begun.later) (sym (append-nil (this ++ line_feed ∷ [])))
+        ∙ begun.text.text in
+        let cut =
+        cut_line this (heading version) begun.later (lines_text begun.text.history) single (heading_whole version) log
+        in
+        none after
+        (is ∙ ap (λ (first : List ℕ). first ++ line_feed ∷ after) cut.0
+        ∙ sym (append_assoc (heading version) (line_feed ∷ []) after)
+        ∙ ap (λ (first : List ℕ). first ++ after) (sym (heading-log version)));
+    other = λ log. none (lines_text log.history) (log.text ∙ log_parts version log.history);
+  }

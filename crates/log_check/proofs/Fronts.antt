@@ -1,7 +1,7 @@
 -- The next statement of a processor in a phase.
-use Rattle.std.proofs.Common.{ℕ, ◌≡◌, ◌+◌, ◌<◌, List, ◌∷◌, length, drop, get_or, sym, ap, ◌∙◌, add-one}
+use Rattle.std.proofs.Common.{ℕ, suc, ◌≡◌, ◌<◌, List, length, drop, get_or, ◌∙◌, add-one}
 use Rattle.board_prelude.proofs.Common.{drop-cons, Statement, events_by}
-use Rattle.board_spec.proofs.GoesOnProofs.{events-own}
+use Rattle.log_check.proofs.NextStatements.{events-own}
 use Rattle.std.proofs.lemmas.Option.{slice_get-get_or}
 use Rattle.log_check.specs.Fronts.{IsNextOf}
 
@@ -11,12 +11,12 @@ pub found :
     events_by actor (drop start phase) ≡ events_by actor (drop place phase) → IsNextOf phase start actor place
 found phase start actor place other within own passed =
     let statement : Statement = get_or phase place other in
-    let rest : drop place phase ≡ statement ∷ drop (place + 1) phase =
-    drop-cons phase place other within ∙ ap (λ (n : ℕ). statement ∷ drop n phase) (sym (add-one place)) in
     record {
       within = within;
       statement = statement;
       here = slice_get-get_or phase place other within;
       own = own;
-      left = passed ∙ ap (events_by actor) rest ∙ events-own actor statement (drop (place + 1) phase) own;
+      left = passed
+          ∙ rw (drop-cons phase place other within, add-one place)
+          (events-own actor statement (drop (suc place) phase) own);
     }

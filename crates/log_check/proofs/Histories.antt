@@ -1,6 +1,6 @@
 -- A history that begins with the lines of another goes on from it, and a begun history can be completed.
 use Rattle.std.proofs.Common.{ℕ, zero, suc, ◌≡◌, ◌+◌, ◌-◌, ◌<◌, List, [], ◌∷◌, ◌++◌, length, reverse, All, refl, sym}
-use Rattle.std.proofs.Common.{ap, ◌∙◌, subst, inl, append-nil, add-one, arith, decimal}
+use Rattle.std.proofs.Common.{ap, ◌∙◌, inl, append-nil, add-one, arith, decimal}
 use Rattle.board_spec.proofs.ReplayLaws.{legal_before}
 use Rattle.board_prelude.proofs.Common.{reverse-reverse, Entry, Statement, Setup, IsLegal, IsBegunFor, IsCompleteFor}
 use Rattle.board_prelude.proofs.Common.{in_file_order, IsAddressed, OneReplay, space, line_feed, line_text, lines_text}
@@ -23,14 +23,13 @@ actor_read n entry small =
     let parts = named n entry [] in
     let is : line_text n entry ≡ decimal n ++ space ∷ (decimal entry.actor ++ 0x2E ∷ parts.later) =
     sym (append-nil (line_text n entry)) ∙ parts.is in
-    ap actor_of is
-    ∙ ap (λ (text : List ℕ). digits_value 10 (front 0x2E text))
-    (back-field space (decimal n) (decimal entry.actor ++ 0x2E ∷ parts.later)
-    (lacks-word space (decimal n) refl (decimal_word n)))
-    ∙ ap (digits_value 10)
-    (front-field 0x2E (decimal entry.actor) parts.later
-    (lacks-decimal 0x2E entry.actor (inl (omega arith)) (omega (arith, small))))
-    ∙ value_of_decimal entry.actor (omega (arith, small))
+    rw (
+      is,
+      back-field space (decimal n) (decimal entry.actor ++ 0x2E ∷ parts.later)
+          (lacks-word space (decimal n) refl (decimal_word n)),
+      front-field 0x2E (decimal entry.actor) parts.later
+          (lacks-decimal 0x2E entry.actor (inl (omega arith)) (omega (arith, small))),
+    ) (value_of_decimal entry.actor (omega (arith, small)))
 
 same_actor :
     (n : ℕ) (left right : Entry) → left.actor < 256 → right.actor < 256 → line_text n left ≡ line_text n right →
@@ -67,14 +66,12 @@ extends_step one setup phases entry before whole rest [] typed legal begun all w
     absurd (no_line (line_text (length before + 1) entry) rest text)
 extends_step one setup phases entry before whole rest (next ∷ later) typed legal begun all wholly is text =
     let n : ℕ = length before + 1 in
-    let cut : (line_text n entry ≡ line_text n next) × (rest ≡ lines_from n later) =
+    let cut =
     cut_line (line_text n entry) (line_text n next) rest (lines_from n later) (line_whole n entry) (line_whole n next)
     text in
     let longer : whole ≡ reverse later ++ (next ∷ before) = is ∙ newest_last next later before in
-    let other : IsLegal setup (next ∷ before) =
-    legal_before setup (reverse later) (next ∷ before) (subst (IsLegal setup) longer all) in
-    let others : IsBegunFor phases (next ∷ before) =
-    begun_front phases (reverse later) (next ∷ before) (subst (IsBegunFor phases) longer wholly) in
+    let other = legal_before setup (reverse later) (next ∷ before) (rw longer at all) in
+    let others = begun_front phases (reverse later) (next ∷ before) (rw longer at wholly) in
     let actor : entry.actor ≡ next.actor =
     same_actor n entry next (known_actor phases before entry typed begun) (known_actor phases before next typed others)
     cut.0 in
@@ -82,7 +79,7 @@ extends_step one setup phases entry before whole rest (next ∷ later) typed leg
     same_next one setup phases before entry next legal.1 legal.0 other.0 begun others actor in
     record {
       more = later;
-      is = longer ∙ ap (λ (e : Entry). reverse later ++ (e ∷ before)) (sym same);
+      is = rw same longer;
       text = cut.1 ∙ ap (λ (m : ℕ). lines_from m later) (add-one (length before));
     }
 
@@ -123,8 +120,8 @@ completed_in (suc left) setup phases history addressed legal begun count =
     (omega (arith, count)) in
     record {
       more = next.entry ∷ rest.more;
-      legal = subst (IsLegal setup) (sym (newest_last next.entry rest.more history)) rest.legal;
-      complete = subst (IsCompleteFor phases) (sym (newest_last next.entry rest.more history)) rest.complete;
+      legal = rw (newest_last next.entry rest.more history) rest.legal;
+      complete = rw (newest_last next.entry rest.more history) rest.complete;
     }
 
 pub completed :

@@ -1,11 +1,10 @@
 -- A whole check: passed, or where it fails.
-use Rattle.std.proofs.Common.{ℕ, ◌≡◌, ◌≢◌, ◌+◌, ◌≤◌, ◌⊎◌, List, [], ◌∷◌, ◌++◌, length, All, refl, sym, ap, ◌∙◌, subst}
-use Rattle.std.proofs.Common.{inl, inr, append-nil, arith, ◌==◌, true, false, Result, Ok, Err, MatchResult}
+use Rattle.std.proofs.Common.{ℕ, ◌≡◌, ◌≢◌, ◌+◌, ◌⊎◌, List, [], ◌∷◌, ◌++◌, length, All, refl, sym, ap, ◌∙◌, inl, inr}
+use Rattle.std.proofs.Common.{append-nil, arith, ◌==◌, true, false, Result, Ok, Err, MatchResult}
 use Rattle.board_prelude.proofs.Common.{eq-eqb, eqb-true, true≢false, All-nil, All-cons, All-head, All-tail, Event}
-use Rattle.board_prelude.proofs.Common.{Wide, Entry, Statement}
-use Rattle.board_prelude.proofs.Common.{Setup, IsInRange, IsLegal, IsBegunFor, IsCompleteFor, in_file_order}
-use Rattle.board_prelude.proofs.Common.{IsAddressed, OneReplay, log_text, complete_is_begun, begun_is_bounded}
-use Rattle.board_prelude.proofs.Common.{complete_is_whole, none_so_far}
+use Rattle.board_prelude.proofs.Common.{Wide, Entry, Statement, Setup, IsInRange, IsLegal, IsBegunFor, IsCompleteFor}
+use Rattle.board_prelude.proofs.Common.{in_file_order, IsAddressed, OneReplay, log_text, complete_is_begun}
+use Rattle.board_prelude.proofs.Common.{begun_is_bounded, complete_is_whole, none_so_far}
 use Rattle.board_spec.specs.declared.event.Event.TheVariants.{Look as LookAt}
 use Rattle.board_core.specs.Steps.{AreInRange}
 use Rattle.script_spec.specs.Checks.{IsLogOf}
@@ -40,131 +39,121 @@ known setup phases one typed range =
 -- ---- before the first line of an entry
 
 pub nothing_begun : (phases : List (List Statement)) (entries : List Entry) → entries ≡ [] → IsBegunFor phases entries
-nothing_begun phases entries fresh =
-    subst (λ (history : List Entry). IsBegunFor phases history) (sym fresh) (none_so_far phases)
+nothing_begun phases entries fresh = rw fresh (none_so_far phases)
 
 nothing_legal : (setup : Setup) (entries : List Entry) → entries ≡ [] → IsLegal setup entries
-nothing_legal setup entries fresh = subst (IsLegal setup) (sym fresh) tt
+nothing_legal setup entries fresh = rw fresh tt
 
-pub failed_first :
-    (setup : Setup) (version : ℕ) (phases : List (List Statement)) (bytes : List ℕ) (entries : List Entry) →
-    entries ≡ [] → FailedCheck setup version phases bytes entries NoMemory
-failed_first setup version phases bytes entries fresh = record {
-  refused = tt;
-  legal = nothing_legal setup entries fresh;
-  begun = nothing_begun phases entries fresh;
-  stands = (1, inl (refl, fresh));
-}
+module _ (setup : Setup) (version : ℕ) (phases : List (List Statement)) (bytes : List ℕ) where
+  pub failed_first : (entries : List Entry) → entries ≡ [] → FailedCheck setup version phases bytes entries NoMemory
+  failed_first entries fresh = record {
+    refused = tt;
+    legal = nothing_legal setup entries fresh;
+    begun = nothing_begun phases entries fresh;
+    stands = (1, inl (refl, fresh));
+  }
 
-pub failed_heading :
-    (setup : Setup) (version : ℕ) (phases : List (List Statement)) (bytes : List ℕ) (entries : List Entry) →
-    Known setup phases → entries ≡ [] → ((after : List ℕ) → bytes ≢ log_text version [] ++ after) →
-    FailedCheck setup version phases bytes entries (Differs 1)
-failed_heading setup version phases bytes entries known fresh none = record {
-  refused = differs_at_once setup version phases bytes known none;
-  legal = nothing_legal setup entries fresh;
-  begun = nothing_begun phases entries fresh;
-  stands = inl (refl, fresh);
-}
+  pub failed_heading :
+      (entries : List Entry) → Known setup phases → entries ≡ [] →
+      ((after : List ℕ) → bytes ≢ log_text version [] ++ after) →
+      FailedCheck setup version phases bytes entries (Differs 1)
+  failed_heading entries known fresh none = record {
+    refused = differs_at_once setup version phases bytes known none;
+    legal = nothing_legal setup entries fresh;
+    begun = nothing_begun phases entries fresh;
+    stands = inl (refl, fresh);
+  }
 
--- ---- at a line
+  -- ---- at a line
 
-pub failed_within :
-    (setup : Setup) (version : ℕ) (phases : List (List Statement)) (bytes : List ℕ) (entries : List Entry)
-    (fault : CheckFault) → Known setup phases → StoppedCheck setup version phases bytes entries fault →
-    FailedCheck setup version phases bytes entries fault
-failed_within setup version phases bytes entries (Differs line) known stopped = record {
-  refused = differs setup version phases bytes entries line known stopped.by;
-  legal = stopped.legal;
-  begun = stopped.begun;
-  stands = inr stopped.by.at_line;
-}
-failed_within setup version phases bytes entries NoMemory known stopped = record {
-  refused = tt;
-  legal = stopped.legal;
-  begun = stopped.begun;
-  stands = (stopped.by.0, inr stopped.by.1);
-}
+  pub failed_within :
+      (entries : List Entry) (fault : CheckFault) → Known setup phases →
+      StoppedCheck setup version phases bytes entries fault → FailedCheck setup version phases bytes entries fault
+  failed_within entries (Differs line) known stopped = record {
+    refused = differs setup version phases bytes entries line known stopped.by;
+    legal = stopped.legal;
+    begun = stopped.begun;
+    stands = inr stopped.by.at_line;
+  }
+  failed_within entries NoMemory known stopped = record {
+    refused = tt;
+    legal = stopped.legal;
+    begun = stopped.begun;
+    stands = (stopped.by.0, inr stopped.by.1);
+  }
 
--- ---- after all lines
+  -- ---- after all lines
 
-pub nothing_left : (rest : List ℕ) → (length rest == 0) ≡ true → rest ≡ []
-nothing_left [] empty = refl
-nothing_left (c ∷ cs) empty = let e : length (c ∷ cs) ≡ 0 = eqb-true (length (c ∷ cs)) 0 empty in absurd (omega arith)
+  pub passed :
+      (history : List Entry) (rest : List ℕ) (count : ℕ) → IsLegal setup history → IsCompleteFor phases history →
+      bytes ≡ log_text version history ++ rest → rest ≡ [] → count ≡ length history →
+      IsCheckedLog setup version phases bytes history count
+  passed history rest count legal complete text nothing is = record {
+    log = record {
+      history = history;
+      legal = legal;
+      complete = complete;
+      text = rw nothing at text ∙ append-nil (log_text version history);
+    };
+    same = refl;
+    count_is = is;
+  }
 
-pub something_left : (rest : List ℕ) → (length rest == 0) ≡ false → rest ≢ []
-something_left rest some nothing =
-    true≢false (sym (eq-eqb (length rest) 0 (ap length nothing)) ∙ some)
-
-pub passed :
-    (setup : Setup) (version : ℕ) (phases : List (List Statement)) (bytes : List ℕ) (history : List Entry)
-    (rest : List ℕ) (count : ℕ) → IsLegal setup history → IsCompleteFor phases history →
-    bytes ≡ log_text version history ++ rest → rest ≡ [] → count ≡ length history →
-    IsCheckedLog setup version phases bytes history count
-passed setup version phases bytes history rest count legal complete text nothing is = record {
-  log = record {
-    history = history;
-    legal = legal;
-    complete = complete;
-    text =
-        text ∙ ap (λ (t : List ℕ). log_text version history ++ t) nothing ∙ append-nil (log_text version history);
-  };
-  same = refl;
-  count_is = is;
-}
-
-pub failed_end :
-    (setup : Setup) (version : ℕ) (phases : List (List Statement)) (bytes : List ℕ) (history : List Entry)
-    (rest : List ℕ) (count : ℕ) → Known setup phases → IsLegal setup history → IsCompleteFor phases history →
-    bytes ≡ log_text version history ++ rest → rest ≢ [] → count ≡ length history →
-    FailedCheck setup version phases bytes history (Differs (count + 2))
-failed_end setup version phases bytes history rest count known legal complete text some is =
-    let begun : IsBegunFor phases history = complete_is_begun phases history complete in
-    failed_within setup version phases bytes history (Differs (count + 2)) known (record {
-      by = record {
-        at_line = record {
-          before = history;
-          rest = rest;
-          text = text;
-          place = ap (λ (n : ℕ). n + 2) is;
-          stepped = inl refl;
+  pub failed_end :
+      (history : List Entry) (rest : List ℕ) (count : ℕ) → Known setup phases → IsLegal setup history →
+      IsCompleteFor phases history → bytes ≡ log_text version history ++ rest → rest ≢ [] → count ≡ length history →
+      FailedCheck setup version phases bytes history (Differs (count + 2))
+  failed_end history rest count known legal complete text some is =
+      let begun : IsBegunFor phases history = complete_is_begun phases history complete in
+      failed_within history (Differs (count + 2)) known (record {
+        by = record {
+          at_line = record {
+            before = history;
+            rest = rest;
+            text = text;
+            place = omega arith;
+            stepped = inl refl;
+          };
+          legal = legal;
+          begun = begun;
+          none = λ entry after next more same.
+              omega (
+                arith,
+                complete_is_whole phases history complete,
+                begun_is_bounded phases (entry ∷ history) more,
+              );
+          unfinished = λ nothing whole. some nothing;
         };
         legal = legal;
         begun = begun;
-        none = λ entry after next more same.
-            let whole : length history ≡ length (in_file_order phases) = complete_is_whole phases history complete in
-            let bounded : length (entry ∷ history) ≤ length (in_file_order phases) =
-            begun_is_bounded phases (entry ∷ history) more in
-            omega arith;
-        unfinished = λ nothing whole. some nothing;
-      };
-      legal = legal;
-      begun = begun;
-    })
+      })
 
--- ---- what a caller hears
+  -- ---- what a caller hears
 
-pub begun_after :
-    (setup : Setup) (version : ℕ) (phases : List (List Statement)) (bytes : List ℕ) (entries : List Entry)
-    (result : Result ℕ CheckFault) →
-    MatchResult result (IsCheckedLog setup version phases bytes entries)
-    (FailedCheck setup version phases bytes entries) →
-    IsBegunFor phases entries
-begun_after setup version phases bytes entries (Ok count) checked =
-    complete_is_begun phases entries (subst (IsCompleteFor phases) checked.same checked.log.complete)
-begun_after setup version phases bytes entries (Err fault) checked = checked.begun
+  pub begun_after :
+      (entries : List Entry) (result : Result ℕ CheckFault) →
+      MatchResult result (IsCheckedLog setup version phases bytes entries)
+      (FailedCheck setup version phases bytes entries) → IsBegunFor phases entries
+  begun_after entries (Ok count) checked =
+      complete_is_begun phases entries (rw checked.same at checked.log.complete)
+  begun_after entries (Err fault) checked = checked.begun
 
-pub exactly :
-    (setup : Setup) (version : ℕ) (phases : List (List Statement)) (bytes : List ℕ) (entries : List Entry)
-    (result : Result ℕ CheckFault) →
-    MatchResult result (IsCheckedLog setup version phases bytes entries)
-    (FailedCheck setup version phases bytes entries) →
-    (log : IsLogOf setup version phases bytes) → (result ≡ Ok (length log.history)) ⊎ (result ≡ Err NoMemory)
-exactly setup version phases bytes entries (Ok count) checked log =
-    let own : length checked.log.history ≡ length (in_file_order phases) =
-    complete_is_whole phases checked.log.history checked.log.complete in
-    let other : length log.history ≡ length (in_file_order phases) =
-    complete_is_whole phases log.history log.complete in
-    inl (ap Ok (checked.count_is ∙ own ∙ sym other))
-exactly setup version phases bytes entries (Err (Differs line)) checked log = absurd (checked.refused.other log)
-exactly setup version phases bytes entries (Err NoMemory) checked log = inr refl
+  pub exactly :
+      (entries : List Entry) (result : Result ℕ CheckFault) →
+      MatchResult result (IsCheckedLog setup version phases bytes entries)
+      (FailedCheck setup version phases bytes entries) →
+      (log : IsLogOf setup version phases bytes) → (result ≡ Ok (length log.history)) ⊎ (result ≡ Err NoMemory)
+  exactly entries (Ok count) checked log =
+      let own = complete_is_whole phases checked.log.history checked.log.complete in
+      let other = complete_is_whole phases log.history log.complete in
+      inl (ap Ok (checked.count_is ∙ own ∙ sym other))
+  exactly entries (Err (Differs line)) checked log = absurd (checked.refused.other log)
+  exactly entries (Err NoMemory) checked log = inr refl
+
+-- whether a text is at its end
+pub nothing_left : (rest : List ℕ) → (length rest == 0) ≡ true → rest ≡ []
+nothing_left [] empty = refl
+nothing_left (c ∷ cs) empty = absurd (omega (arith, eqb-true (length (c ∷ cs)) 0 empty))
+
+pub something_left : (rest : List ℕ) → (length rest == 0) ≡ false → rest ≢ []
+something_left rest some nothing = true≢false (sym (eq-eqb (length rest) 0 (ap length nothing)) ∙ some)

@@ -1,6 +1,6 @@
 -- The lines of a log: those of a history, and those of the entries that follow it.
 use Rattle.std.proofs.Common.{ℕ, ◌≡◌, ◌+◌, List, [], ◌∷◌, ◌++◌, length, reverse, All, refl, sym, ap, ◌∙◌, append_assoc}
-use Rattle.std.proofs.Common.{append-nil, length-append, add-one, codes, decimal}
+use Rattle.std.proofs.Common.{append-nil, length-append, add-one, arith, codes, decimal}
 use Rattle.board_prelude.proofs.Common.{flat_map-append, reverse-append, reverse-reverse, append_cancel_left, All-nil}
 use Rattle.board_prelude.proofs.Common.{All-cons, All-push, Entry, line_feed, line_text, lines_text, log_text}
 use Rattle.script_spec.specs.Lines.{text_of_lines, IsOneLine}
@@ -33,8 +33,7 @@ pub newest_last :
     (entry : Entry) (later history : List Entry) →
     reverse (entry ∷ later) ++ history ≡ reverse later ++ (entry ∷ history)
 newest_last entry later history =
-    ap (λ (entries : List Entry). entries ++ history) (reverse-append (entry ∷ []) later)
-    ∙ append_assoc (reverse later) (entry ∷ []) history
+    rw (reverse-append (entry ∷ []) later) (append_assoc (reverse later) (entry ∷ []) history)
 
 pub lines-newest :
     (entry : Entry) (history : List Entry) (rest : List ℕ) →
@@ -68,17 +67,22 @@ pub lines_left :
     log_text version whole ≡ log_text version history ++ rest → lines_text whole ≡ lines_text history ++ rest
 lines_left version whole history rest same =
     append_cancel_left (log_text version []) (lines_text whole) (lines_text history ++ rest)
-    (sym (log_parts version whole) ∙ same ∙ ap (λ (text : List ℕ). text ++ rest) (log_parts version history)
-    ∙ append_assoc (log_text version []) (lines_text history) rest)
+    (cc (
+      log_parts version whole,
+      log_parts version history,
+      append_assoc (log_text version []) (lines_text history) rest,
+    ))
 
 pub log_joined :
     (version : ℕ) (more history : List Entry) →
     log_text version (reverse more ++ history) ≡ log_text version history ++ lines_from (length history) more
 log_joined version more history =
-    log_parts version (reverse more ++ history)
-    ∙ ap (λ (text : List ℕ). log_text version [] ++ text) (lines-joined more history)
-    ∙ sym (append_assoc (log_text version []) (lines_text history) (lines_from (length history) more))
-    ∙ ap (λ (text : List ℕ). text ++ lines_from (length history) more) (sym (log_parts version history))
+    cc (
+      log_parts version (reverse more ++ history),
+      lines-joined more history,
+      append_assoc (log_text version []) (lines_text history) (lines_from (length history) more),
+      log_parts version history,
+    )
 
 pub log-newest :
     (version : ℕ) (entry : Entry) (history : List Entry) (rest : List ℕ) →
@@ -86,11 +90,13 @@ pub log-newest :
     ≡ log_text version history ++ (line_text (length history + 1) entry ++ line_feed ∷ rest)
 log-newest version entry history rest =
     let line : List ℕ = line_text (length history + 1) entry ++ line_feed ∷ rest in
-    ap (λ (text : List ℕ). text ++ rest) (log_parts version (entry ∷ history))
-    ∙ append_assoc (log_text version []) (lines_text (entry ∷ history)) rest
-    ∙ ap (λ (text : List ℕ). log_text version [] ++ text) (lines-newest entry history rest)
-    ∙ sym (append_assoc (log_text version []) (lines_text history) line)
-    ∙ ap (λ (text : List ℕ). text ++ line) (sym (log_parts version history))
+    cc (
+      log_parts version (entry ∷ history),
+      append_assoc (log_text version []) (lines_text (entry ∷ history)) rest,
+      lines-newest entry history rest,
+      append_assoc (log_text version []) (lines_text history) line,
+      log_parts version history,
+    )
 
 -- ---- a log as a list of lines
 
@@ -121,10 +127,8 @@ lined version (entry ∷ before) =
     record {
       lines = first.lines ++ line ∷ [];
       each = All-push IsOneLine first.lines line first.each (line_whole (length before + 1) entry);
-      count = length-append first.lines (line ∷ []) ∙ ap (λ (n : ℕ). n + 1) (first.count ∙ add-one (length before));
+      count = omega (arith, length-append first.lines (line ∷ []), first.count);
       text =
-          one_line_more first.lines line
-          ∙ ap (λ (text : List ℕ). text ++ (line ++ line_feed ∷ [])) first.text
-          ∙ sym (log-newest version entry before [])
-          ∙ append-nil (log_text version (entry ∷ before));
+          rw (one_line_more first.lines line, first.text)
+          (sym (log-newest version entry before []) ∙ append-nil (log_text version (entry ∷ before)));
     }

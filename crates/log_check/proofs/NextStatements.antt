@@ -1,33 +1,39 @@
 -- A processor has one statement that may come next.
 use Rattle.std.proofs.Common.{ℕ, ◌≡◌, ◌≢◌, ◌+◌, ◌<◌, ◌≤◌, List, [], ◌∷◌, ◌++◌, length, drop, All, refl, sym, ap, ◌∙◌}
 use Rattle.std.proofs.Common.{subst, inl, inr, append_assoc, length-append, add-one, arith, ◌==◌}
-use Rattle.board_prelude.proofs.Common.{take-append_seam, drop-append_seam, cases_lt, cond-true, eq-eqb}
-use Rattle.board_prelude.proofs.Common.{append_cancel_left, append-nil, All-head}
-use Rattle.board_prelude.proofs.Common.{All-tail, All-drop, Event, Entry, Statement, Setup, IsNext, IsLegal}
-use Rattle.board_prelude.proofs.Common.{statement_of, statements_of, entries_by, events_by, BeginsWith, IsFrontOfPhase}
-use Rattle.board_prelude.proofs.Common.{HasPhasesSoFar, IsBegunFor, in_file_order, OneReplay, statements-newest}
+use Rattle.board_prelude.proofs.Common.{take-append_seam, drop-append_seam, cases_lt, cond-true, eq-eqb, ne_eqb}
+use Rattle.board_prelude.proofs.Common.{append_cancel_left, append-nil, All-head, All-tail, All-drop, Event, Entry}
+use Rattle.board_prelude.proofs.Common.{Statement, Setup, IsNext, IsLegal, statement_of, statements_of, entries_by}
+use Rattle.board_prelude.proofs.Common.{events_by, IsFrontOfPhase, HasPhasesSoFar, IsBegunFor, in_file_order, OneReplay}
+use Rattle.board_prelude.proofs.Common.{statements-newest}
 use Rattle.std.proofs.lemmas.List.Elements.{All-take}
 use Rattle.board_spec.proofs.OrderLawProofs.{events-append}
-use Rattle.board_spec.proofs.GoesOnProofs.{events-own, events-other}
 use Rattle.log_check.specs.Phases.{IsTyped}
 use Rattle.log_check.proofs.PhaseCuts.{in_first_phase, past_first_phase}
 
 -- ---- the events of a processor
 
+pub events-own :
+    (actor : ℕ) (first : Statement) (later : List Statement) → first.actor ≡ actor →
+    events_by actor (first ∷ later) ≡ first.event ∷ events_by actor later
+events-own actor first later own = rw (eq-eqb first.actor actor own) refl
+
+events-other :
+    (actor : ℕ) (first : Statement) (later : List Statement) → first.actor ≢ actor →
+    events_by actor (first ∷ later) ≡ events_by actor later
+events-other actor first later other = rw (ne_eqb first.actor actor other) refl
+
 pub events-last :
     (actor : ℕ) (part : List Statement) (last : Statement) → last.actor ≡ actor →
     events_by actor (part ++ last ∷ []) ≡ events_by actor part ++ last.event ∷ []
 events-last actor part last own =
-    events-append actor part (last ∷ [])
-    ∙ ap (λ (events : List Event). events_by actor part ++ events) (events-own actor last [] own)
+    rw (events-append actor part (last ∷ []), events-own actor last [] own) refl
 
 pub events-last_other :
     (actor : ℕ) (part : List Statement) (last : Statement) → last.actor ≢ actor →
     events_by actor (part ++ last ∷ []) ≡ events_by actor part
 events-last_other actor part last other =
-    events-append actor part (last ∷ [])
-    ∙ ap (λ (events : List Event). events_by actor part ++ events) (events-other actor last [] other)
-    ∙ append-nil (events_by actor part)
+    rw (events-append actor part (last ∷ []), events-other actor last [] other) (append-nil (events_by actor part))
 
 -- ---- the next statement of a front
 
@@ -40,22 +46,19 @@ pub goes_first :
     (phase part : List Statement) (last : Statement) → IsFrontOfPhase phase (part ++ last ∷ []) →
     GoesFirst phase part last
 goes_first phase part last front =
-    let begins : BeginsWith (events_by last.actor phase) (events_by last.actor (part ++ last ∷ [])) =
-    front.each last.actor in
+    let begins = front.each last.actor in
     record {
       rest = begins.rest;
       whole =
-          begins.whole
-          ∙ ap (λ (events : List Event). events ++ begins.rest) (events-last last.actor part last refl)
-          ∙ append_assoc (events_by last.actor part) (last.event ∷ []) begins.rest;
+          rw (begins.whole, events-last last.actor part last refl)
+          (append_assoc (events_by last.actor part) (last.event ∷ []) begins.rest);
     }
 
 same_first :
     (phase part : List Statement) (left right : Statement) → GoesFirst phase part left → GoesFirst phase part right →
     left.actor ≡ right.actor → left.event ≡ right.event
 same_first phase part left right l r same =
-    let mine : events_by right.actor phase ≡ events_by right.actor part ++ (left.event ∷ l.rest) =
-    subst (λ (actor : ℕ). events_by actor phase ≡ events_by actor part ++ (left.event ∷ l.rest)) same l.whole in
+    let mine = rw same at l.whole in
     let firsts : left.event ∷ l.rest ≡ right.event ∷ r.rest =
     append_cancel_left (events_by right.actor part) (left.event ∷ l.rest) (right.event ∷ r.rest)
     (sym mine ∙ r.whole) in
@@ -68,8 +71,7 @@ some_statement (first ∷ later) last e = cc
 longer : (statements : List Statement) (last : Statement) (n : ℕ) → length statements < n →
     length (statements ++ last ∷ []) ≤ n
 longer statements last n short =
-    let e : length (statements ++ last ∷ []) ≡ length statements + 1 = length-append statements (last ∷ []) in
-    omega arith
+    omega (arith, length-append statements (last ∷ []))
 
 -- after the same statements a processor has one statement
 same_event :
@@ -108,14 +110,11 @@ pub same_next :
 same_next one setup phases history left right legal l r begun others same =
     let event : left.event ≡ right.event =
     same_event phases (statements_of history) (statement_of left) (statement_of right)
-    (subst (HasPhasesSoFar phases) (statements-newest left history) begun)
-    (subst (HasPhasesSoFar phases) (statements-newest right history) others) same in
+    (rw (statements-newest left history) at begun) (rw (statements-newest right history) at others) same in
     let statement : statement_of left ≡ statement_of right =
     same_statement (statement_of left) (statement_of right) same event in
     let lists : statements_of (right ∷ history) ≡ statements_of (left ∷ history) =
-    statements-newest right history
-    ∙ ap (λ (last : Statement). statements_of history ++ last ∷ []) (sym statement)
-    ∙ sym (statements-newest left history) in
+    cc (statements-newest right history, statements-newest left history) in
     let whole : left ∷ history ≡ right ∷ history =
     one setup (statements_of (left ∷ history)) (left ∷ history) (right ∷ history)
     (record { legal = (l, legal); same = refl }) (record { legal = (r, legal); same = lists }) in
@@ -184,4 +183,4 @@ pub known_actor :
     IsBegunFor phases (entry ∷ history) → entry.actor < 256
 known_actor phases history entry typed begun =
     known_statement phases (statements_of history) (statement_of entry) typed
-    (subst (HasPhasesSoFar phases) (statements-newest entry history) begun)
+    (rw (statements-newest entry history) at begun)

@@ -1,6 +1,6 @@
 -- Phases that are done, and what follows them.
-use Rattle.std.proofs.Common.{◌≡◌, ◌+◌, ◌<◌, ◌≤◌, List, [], ◌∷◌, ◌++◌, length, take, drop, min, sym, subst, inl, inr}
-use Rattle.std.proofs.Common.{length-append, arith}
+use Rattle.std.proofs.Common.{◌≡◌, ◌<◌, ◌≤◌, List, [], ◌∷◌, ◌++◌, length, take, drop, inl, inr, length-append}
+use Rattle.std.proofs.Common.{arith}
 use Rattle.board_prelude.proofs.Common.{take-append-le, drop-append-le, length-take, take_all, Statement, IsWholePhase}
 use Rattle.board_prelude.proofs.Common.{IsFrontOfPhase, HasPhases, HasPhasesSoFar, whole_front, nothing_left}
 use Rattle.board_prelude.proofs.Common.{whole_is_front}
@@ -8,70 +8,55 @@ use Rattle.board_prelude.proofs.Common.{whole_is_front}
 pub phase_fits :
     (phase statements : List Statement) → IsWholePhase phase (take (length phase) statements) →
     length phase ≤ length statements
-phase_fits phase statements whole =
-    let size : length (take (length phase) statements) ≡ length phase = whole.size in
-    let taken : length (take (length phase) statements) ≡ min (length phase) (length statements) =
-    length-take (length phase) statements in
-    omega arith
+phase_fits phase statements whole = omega (arith, whole.size, length-take (length phase) statements)
 
-whole_again :
-    (phase before tail : List Statement) → IsWholePhase phase (take (length phase) before) →
-    IsWholePhase phase (take (length phase) (before ++ tail))
-whole_again phase before tail whole =
-    subst (IsWholePhase phase) (sym (take-append-le (length phase) before tail (phase_fits phase before whole))) whole
+-- a phase that is done, before more statements
+module _ (phase before tail : List Statement) (whole : IsWholePhase phase (take (length phase) before)) where
+  whole_again : IsWholePhase phase (take (length phase) (before ++ tail))
+  whole_again = rw (take-append-le (length phase) before tail (phase_fits phase before whole)) whole
 
-left_again :
-    (phase before tail : List Statement) → IsWholePhase phase (take (length phase) before) →
-    drop (length phase) (before ++ tail) ≡ drop (length phase) before ++ tail
-left_again phase before tail whole = drop-append-le (length phase) before tail (phase_fits phase before whole)
+  left_again : drop (length phase) (before ++ tail) ≡ drop (length phase) before ++ tail
+  left_again = drop-append-le (length phase) before tail (phase_fits phase before whole)
 
 -- phases that follow those that are done
 pub begun_joined :
     (done later : List (List Statement)) (before tail : List Statement) → HasPhases done before →
     HasPhasesSoFar later tail → HasPhasesSoFar (done ++ later) (before ++ tail)
-begun_joined [] later before tail whole begun =
-    subst (λ (first : List Statement). HasPhasesSoFar later (first ++ tail)) (sym whole) begun
+begun_joined [] later before tail whole begun = rw whole begun
 begun_joined (phase ∷ done) later before tail whole begun =
     inr (
       whole_again phase before tail whole.0,
-      subst (HasPhasesSoFar (done ++ later)) (sym (left_again phase before tail whole.0))
+      rw (left_again phase before tail whole.0)
           (begun_joined done later (drop (length phase) before) tail whole.1 begun),
     )
 
 pub whole_joined :
     (done later : List (List Statement)) (before tail : List Statement) → HasPhases done before →
     HasPhases later tail → HasPhases (done ++ later) (before ++ tail)
-whole_joined [] later before tail whole more =
-    subst (λ (first : List Statement). HasPhases later (first ++ tail)) (sym whole) more
+whole_joined [] later before tail whole more = rw whole more
 whole_joined (phase ∷ done) later before tail whole more = (
   whole_again phase before tail whole.0,
-  subst (HasPhases (done ++ later)) (sym (left_again phase before tail whole.0))
-      (whole_joined done later (drop (length phase) before) tail whole.1 more),
+  rw (left_again phase before tail whole.0) (whole_joined done later (drop (length phase) before) tail whole.1 more),
 )
 
 -- what stands after the phases that are done has the phases that follow
 pub whole_left :
     (done later : List (List Statement)) (before tail : List Statement) → HasPhases done before →
     HasPhases (done ++ later) (before ++ tail) → HasPhases later tail
-whole_left [] later before tail whole more =
-    subst (λ (first : List Statement). HasPhases later (first ++ tail)) whole more
+whole_left [] later before tail whole more = rw whole at more
 whole_left (phase ∷ done) later before tail whole more =
     whole_left done later (drop (length phase) before) tail whole.1
-    (subst (HasPhases (done ++ later)) (left_again phase before tail whole.0) more.1)
+    (rw (left_again phase before tail whole.0) at more.1)
 
 pub begun_left :
     (done later : List (List Statement)) (before tail : List Statement) → HasPhases done before → 0 < length tail →
     HasPhasesSoFar (done ++ later) (before ++ tail) → HasPhasesSoFar later tail
-begun_left [] later before tail whole some begun =
-    subst (λ (first : List Statement). HasPhasesSoFar later (first ++ tail)) whole begun
+begun_left [] later before tail whole some begun = rw whole at begun
 begun_left (phase ∷ done) later before tail whole some (inl front) =
-    let fits : length phase ≤ length before = phase_fits phase before whole.0 in
-    let size : length (before ++ tail) ≤ length phase = front.size in
-    let all : length (before ++ tail) ≡ length before + length tail = length-append before tail in
-    absurd (omega arith)
+    absurd (omega (arith, phase_fits phase before whole.0, front.size, length-append before tail))
 begun_left (phase ∷ done) later before tail whole some (inr more) =
     begun_left done later (drop (length phase) before) tail whole.1 some
-    (subst (HasPhasesSoFar (done ++ later)) (left_again phase before tail whole.0) more.1)
+    (rw (left_again phase before tail whole.0) at more.1)
 
 -- ---- one phase
 
@@ -81,7 +66,7 @@ pub in_first_phase :
     length statements ≤ length phase → HasPhasesSoFar (phase ∷ later) statements → IsFrontOfPhase phase statements
 in_first_phase phase later statements short (inl front) = front
 in_first_phase phase later statements short (inr whole) =
-    whole_is_front phase statements (subst (IsWholePhase phase) (take_all (length phase) statements short) whole.0)
+    whole_is_front phase statements (rw (take_all (length phase) statements short) at whole.0)
 
 -- and those that do go past it have all of it
 pub past_first_phase :
@@ -89,16 +74,12 @@ pub past_first_phase :
     length phase ≤ length statements → HasPhasesSoFar (phase ∷ later) (statements ++ last ∷ []) →
     HasPhasesSoFar later (drop (length phase) statements ++ last ∷ [])
 past_first_phase phase later statements last long (inl front) =
-    let size : length (statements ++ last ∷ []) ≤ length phase = front.size in
-    let all : length (statements ++ last ∷ []) ≡ length statements + 1 = length-append statements (last ∷ []) in
-    absurd (omega arith)
+    absurd (omega (arith, front.size, length-append statements (last ∷ [])))
 past_first_phase phase later statements last long (inr whole) =
-    subst (HasPhasesSoFar later) (drop-append-le (length phase) statements (last ∷ []) long) whole.1
+    rw (drop-append-le (length phase) statements (last ∷ []) long) at whole.1
 
 -- a front as long as its phase is the whole of it
 pub full_phase :
     (phase part : List Statement) → IsFrontOfPhase phase part → length part ≡ length phase → HasPhases (phase ∷ []) part
-full_phase phase part front full = (
-  whole_front phase part front (omega (arith, full)),
-  nothing_left phase part front (omega (arith, full)),
-)
+full_phase phase part front full =
+    (whole_front phase part front (omega (arith, full)), nothing_left phase part front (omega (arith, full)))

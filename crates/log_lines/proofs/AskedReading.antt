@@ -1,15 +1,13 @@
 -- What a statement that was read asks.
-use Rattle.std.proofs.Common.{◌≡◌, ◌≢◌, ℕ, zero, suc, ◌<◌, ◌≤◌, Bool, true, false, eqb, Option, Some, None, List}
-use Rattle.std.proofs.Common.{refl, sym, ap, subst, ◌∙◌, inl, inr, arith, MatchOption}
-use Rattle.board_prelude.proofs.Common.{cases_lt, ne_eqb, true≢false, WideAccess, PortAccess, Moment, IsMoment, Event}
-use Rattle.board_prelude.proofs.Common.{Memory, Wide, Port, Ack, Time, Stimulus, stimulus_form, event_applied}
-use Rattle.board_base.specs.declared.access.Access.{Access}
+use Rattle.board_prelude.proofs.Common.{nat_tests, cases_lt, true≢false, IsMoment, Event, Ack, Time, Stimulus}
+use Rattle.board_prelude.proofs.Common.{stimulus_form, event_applied}
+use Rattle.std.proofs.Common.{◌≡◌, ◌≢◌, ℕ, ◌<◌, ◌≤◌, Bool, true, false, eqb, Option, Some, None, List, refl, sym, ap}
+use Rattle.std.proofs.Common.{subst, ◌∙◌, inl, inr, arith, MatchOption}
 use Rattle.board_spec.specs.declared.stimulus.Stimulus.TheVariants.{Pulses}
-use Rattle.script_spec.specs.Common.{Item, Ask, AskLevel, HasForm, FitsLevel, IsNamed, ask, stimulus_item}
+use Rattle.script_spec.specs.Common.{Item, Ask, AskLevel, HasForm, FitsLevel, ask, stimulus_item}
 use Rattle.script_spec.proofs.LineReading.{one_item}
 use Rattle.script_lines.specs.declared.item.Asked.{Asked}
-use Rattle.script_lines.specs.declared.item.Asked.TheVariants.{Event as AnEvent, Moment as AMoment}
-use Rattle.script_lines.specs.declared.item.Asked.TheVariants.{Stimulus as Applies}
+use Rattle.script_lines.specs.declared.item.Asked.TheVariants.{Event as AnEvent, Moment as AMoment, Stimulus as Applies}
 use Rattle.script_lines.specs.declared.item.Item.{Item as Read}
 use Rattle.script_lines.specs.declared.item.Item.TheVariants.{Statement as Asks}
 use Rattle.script_lines.specs.declared.moment.MomentFields.{MomentFields}
@@ -49,18 +47,13 @@ moment_is m event is = (subst IsPlacedEvent (sym (event_is 0 0 (Time (moment_sai
 -- a level of 0 or 1 asks for the event
 low_asks : (actor : ℕ) (one : Stimulus) (number level : ℕ) → level < 2
     → stimulus_item actor one number level ≡ ask actor (event_applied one number (eqb level 1))
-low_asks actor one number zero few = refl
-low_asks actor one number (suc zero) few = refl
-low_asks actor one number (suc (suc n)) few = absurd (omega (arith, few))
+low_asks actor one number level few = grind (arith, nat_tests)
 
 -- a higher one asks for none
 high_asks : (actor other : ℕ) (one : Stimulus) (number level : ℕ) (event : Event) → 2 ≤ level
     → stimulus_item actor one number level ≢ ask other event
 high_asks actor other one number level event high is =
-    let item : stimulus_item actor one number level ≡ AskLevel actor one number level = rw (
-      ne_eqb level 0 (λ e. let none : ⊥ = omega (arith, high, e) in none),
-      ne_eqb level 1 (λ e. let none : ⊥ = omega (arith, high, e) in none),
-    ) refl in
+    let item : stimulus_item actor one number level ≡ AskLevel actor one number level = grind (arith, nat_tests) in
     true≢false (sym (ap asks (sym item ∙ is)))
 
 level_fits : (one : Stimulus) (number : ℕ) (on : Bool) → IsPlacedEvent (event_applied one number on)
@@ -128,13 +121,3 @@ asked_exact version actor text asked (Some p) has exact = record {
 }
 
 -- ---- events in their places
-
-pub named_is : (event : Event) → ((access : Access) → event ≢ Memory access) → ((access : WideAccess)
-    → event ≢ Wide access)
-    → ((access : PortAccess) → event ≢ Port access) → ((moment : Moment) → event ≢ Time moment) → IsNamed event
-    → IsPlacedEvent event
-named_is (Memory access) one two three four named = absurd (one access refl)
-named_is (Wide access) one two three four named = absurd (two access refl)
-named_is (Port access) one two three four named = absurd (three access refl)
-named_is (Time moment) one two three four named = absurd (four moment refl)
-named_is _ one two three four named = record { named = named; placed = refl }

@@ -1,7 +1,7 @@
 -- Where a text is cut.
-use Rattle.std.proofs.Common.{◌≡◌, ℕ, suc, ◌+◌, ◌-◌, Bool, cond, eqb, ltb, Option, Some, None, List, [], ◌∷◌, length}
-use Rattle.std.proofs.Common.{take, drop, refl, sym, ap, ◌∙◌, inl, inr, arith}
-use Rattle.board_prelude.proofs.Common.{position_or_len, option_map, cases_Bool, cases_lt, lt-ltb, le-ltb, take_rest}
+use Rattle.board_prelude.proofs.Common.{nat_tests, position_or_len, option_map, take_rest}
+use Rattle.std.proofs.Common.{◌≡◌, ℕ, ◌+◌, ◌-◌, Bool, cond, eqb, ltb, Option, Some, None, List, [], ◌∷◌, length, take}
+use Rattle.std.proofs.Common.{drop, refl, sym, ◌∙◌, arith}
 use Rattle.std.proofs.lemmas.Option.{cond_some}
 use Rattle.script_spec.specs.Cuts.{cut}
 use Rattle.script_lines.proofs.FieldLemmas.{nowhere}
@@ -18,21 +18,12 @@ cut_to place text = cond (ltb place (length text)) (Some (take place text, drop 
 
 cut_later : (c place : ℕ) (cs : List ℕ) → option_map (λ p. (c ∷ p.0, p.1)) (cut_to place cs) ≡ cut_to (1 + place)
     (c ∷ cs)
-cut_later c place cs =
-    let e : 1 + place ≡ suc place = omega arith in
-    let f : suc place + 1 ≡ suc (place + 1) = omega arith in
-    elim (cases_lt place (length cs)) [
-      | inl lt ↦ rw (e, f, lt-ltb place (length cs) lt, lt-ltb (suc place) (suc (length cs)) (omega (arith, lt))) refl
-      | inr le ↦ rw (e, le-ltb place (length cs) le, le-ltb (suc place) (suc (length cs)) (omega (arith, le))) refl
-    ]
+cut_later c place cs = grind (arith, nat_tests)
 
 cut_is : (mark : ℕ) (text : List ℕ) → cut mark text ≡ cut_to (place_of mark text) text
 unfolding cut
 cut_is mark [] = refl
-cut_is mark (c ∷ cs) = elim (cases_Bool (eqb c mark)) [
-  | inl here ↦ rw (here, lt-ltb 0 (suc (length cs)) (omega arith)) refl
-  | inr other ↦ rw other (ap (option_map (λ p. (c ∷ p.0, p.1))) (cut_is mark cs) ∙ cut_later c (place_of mark cs) cs)
-]
+cut_is mark (c ∷ cs) = grind (arith, nat_tests, cut_is mark cs, cut_later c (place_of mark cs) cs)
 
 abbrev place : ℕ → List ℕ → Option ℕ
 place mark text = cond (ltb (place_of mark text) (length text)) (Some (place_of mark text)) None

@@ -1,19 +1,11 @@
 -- Bytes of a number, by shifts.
-use Rattle.std.proofs.Common.{◌≡◌, ℕ, zero, suc, ◌+◌, ◌*◌, ◌/◌, ◌%◌, ◌<◌, ◌≤◌, ◌^◌, ◌++◌, [], refl, ap, sym, ◌∙◌}
-use Rattle.std.proofs.Common.{pow-add, arith}
-use Rattle.board_prelude.proofs.Common.{pow-le-pow_right, byte, hex_byte, hex_number}
+use Rattle.std.proofs.Common.{pow-suc, ◌≡◌, ℕ, zero, suc, ◌*◌, ◌/◌, ◌%◌, ◌<◌, ◌≤◌, ◌^◌, refl, ap, sym, pow-add, arith}
+use Rattle.board_prelude.proofs.Common.{pow-le-pow_right, byte, hex_number}
 use Rattle.std.proofs.Math.Nat.{div-eq_of_lt}
 
 byte_power : (n : ℕ) → 2 ^ (8 * n) ≡ 256 ^ n
 byte_power zero = refl
-byte_power (suc n) =
-    let longer : 8 * suc n ≡ 8 + 8 * n = omega arith in
-    let one_more : 1 + n ≡ suc n = omega arith in
-    ap (λ (k : ℕ). 2 ^ k) longer
-    ∙ pow-add 2 8 (8 * n)
-    ∙ ap (λ (m : ℕ). 256 * m) (byte_power n)
-    ∙ sym (pow-add 256 1 n)
-    ∙ ap (λ (k : ℕ). 256 ^ k) one_more
+byte_power (suc n) = rw (pow-suc 256 n, ← byte_power n, ← pow-add 2 (8 * n) 8) (ap (λ k. 2 ^ k) (omega arith))
 
 pub byte_shifted : (value index : ℕ) → value / 2 ^ (8 * index) % 256 ≡ byte value index
 byte_shifted value index = ap (λ (unit : ℕ). value / unit % 256) (byte_power index)
@@ -25,12 +17,6 @@ byte_past value index small past =
     let below : value < 256 ^ index = omega (arith, small, far) in
     ap (λ (n : ℕ). n % 256) (sym (div-eq_of_lt below))
 
-four :
-    (a b c d e f g h : ℕ) → a ≡ e → b ≡ f → c ≡ g → d ≡ h
-    → hex_byte a ++ hex_byte b ++ hex_byte c ++ hex_byte d ++ [] ≡ hex_byte e ++ hex_byte f ++ hex_byte g ++ hex_byte
-    h ++ []
-four a b c d e f g h one two three last = rw (one, two, three, last) refl
-
 -- the low four bytes are those of the low 32 bits
 pub low_long : (value : ℕ) → hex_number 4 value ≡ hex_number 4 (value % 2 ^ 32)
 low_long value =
@@ -38,4 +24,4 @@ low_long value =
     let at_2 : byte value 2 ≡ byte (value % 2 ^ 32) 2 = omega arith in
     let at_1 : byte value 1 ≡ byte (value % 2 ^ 32) 1 = omega arith in
     let at_0 : byte value 0 ≡ byte (value % 2 ^ 32) 0 = omega arith in
-    four _ _ _ _ _ _ _ _ at_3 at_2 at_1 at_0
+    cc

@@ -1,14 +1,14 @@
 -- What two calls in a row append. In the second lemma the last call may still fail.
+use Rattle.board_prelude.specs.Common.{Event, value_bytes, Entry, Wide, WideAccess, event_text, hex_long, is_write}
+use Rattle.board_prelude.specs.Common.{kind_text, line_text, reply_text, size_text, smm_text, space, written_text}
 use Rattle.std.proofs.Common.{◌∷◌, ◌≡◌, ℕ, ◌++◌, List, Result, Ok, Err, OnOk, ap, sym, ◌∙◌, append_assoc, codes}
 use Rattle.std.proofs.Common.{decimal, OnErr}
-use Rattle.board_prelude.specs.Common.{Entry, Event, Wide, WideAccess, event_text, hex_long, is_write, kind_text}
-use Rattle.board_prelude.specs.Common.{line_text, reply_text, size_text, smm_text, space, value_bytes, written_text}
 use Rattle.logs_and_maps.specs.Adds.{IsFront}
 
 pub appended_more :
     (old first middle new second : List ℕ) → middle ≡ old ++ first → new ≡ middle ++ second
     → new ≡ old ++ (first ++ second)
-appended_more old first middle new second one two = two ∙ ap (λ t. t ++ second) one ∙ append_assoc old first second
+appended_more old first middle new second one two = rw (two, one) (simp append_assoc)
 
 pub appended_twice :
     {T E : Type 0} (r : Result T E) (old first : List ℕ) (middle new second whole : List ℕ) → middle ≡ old ++ first
@@ -23,34 +23,18 @@ pub front_more :
     → OnErr r (IsFront middle new) → OnErr r (IsFront old new)
 front_more (Ok x) old first middle new one front = tt
 front_more (Err e) old first middle new one front =
-    record {
-      rest = first ++ front.rest;
-      joined = front.joined ∙ ap (λ t. t ++ front.rest) one ∙ append_assoc old first front.rest;
-    }
-
-joined_left : (a x y z : List ℕ) → a ++ (x ++ y ++ z) ≡ a ++ x ++ y ++ z
-joined_left a x y z = sym (append_assoc a (x ++ y) z) ∙ ap (λ t. t ++ z) (sym (append_assoc a x y))
+    record { rest = first ++ front.rest; joined = appended_more old first middle new front.rest one front.joined }
 
 -- a number is put before three words at the front of an end of a line
 pub number_put :
     (number version : ℕ) (x y z old middle new : List ℕ) → number ≡ version → middle ≡ x ++ y ++ z ++ old
     → new ≡ decimal number ++ middle → new ≡ decimal version ++ x ++ y ++ z ++ old
-number_put number version x y z old middle new same below above =
-    above
-    ∙ ap (λ (t : List ℕ). decimal number ++ t) below
-    ∙ ap (λ (n : ℕ). decimal n ++ (x ++ y ++ z ++ old)) same
-    ∙ sym (append_assoc (decimal version) (x ++ y ++ z) old)
-    ∙ ap (λ t. t ++ old) (joined_left (decimal version) x y z)
+number_put number version x y z old middle new same below above = rw (above, below, same) (simp append_assoc)
 
 parts_joined :
     (h k z a w s e r : List ℕ)
     → h ++ (k ++ z ++ a ++ w ++ s) ++ e ++ r ≡ h ++ k ++ z ++ a ++ (w ++ s) ++ (e ++ r)
-parts_joined h k z a w s e r =
-    append_assoc (h ++ (k ++ z ++ a ++ w ++ s)) e r
-    ∙ ap (λ t. t ++ (e ++ r))
-    (ap (λ t. h ++ t) (append_assoc (k ++ z ++ a) w s)
-    ∙ sym (append_assoc h (k ++ z ++ a) (w ++ s))
-    ∙ ap (λ t. t ++ (w ++ s)) (joined_left h k z a))
+parts_joined h k z a w s e r = simp append_assoc
 
 -- the line of a wide access: up to its address, its value and its mark, and its reply
 pub line_text-wide :

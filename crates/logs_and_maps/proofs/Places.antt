@@ -1,6 +1,6 @@
 -- The place of a line: three numbers with a mark after each.
-use Rattle.std.proofs.Common.{ℕ, zero, suc, ◌≡◌, ◌+◌, ◌<◌, ◌≤◌, ◌^◌, List, [], ◌∷◌, ◌++◌, drop, get_or, length, decimal}
-use Rattle.std.proofs.Common.{sym, ap, ◌∙◌, arith}
+use Rattle.std.proofs.Common.{sym, ap, ◌∙◌, ℕ, zero, suc, ◌≡◌, ◌+◌, ◌<◌, ◌≤◌, ◌^◌, List, [], ◌∷◌, ◌++◌, drop, get_or}
+use Rattle.std.proofs.Common.{length, decimal, arith}
 use Rattle.board_prelude.proofs.Common.{drop_more}
 use Rattle.std.specs.Str.{IsAscii}
 use Rattle.std.proofs.lemmas.Fmt.{length-decimal-le, IsAscii-decimal}
@@ -8,9 +8,6 @@ use Rattle.std.proofs.lemmas.Str.{IsAscii-append}
 
 pub long_line : (n : ℕ) → n < 2 ^ 64 → length (decimal n) ≤ 20
 long_line n fits = length-decimal-le 20 n (omega arith) (omega (arith, fits)) fits
-
-pub long_seq : (n : ℕ) → n < 2 ^ 32 → length (decimal n) ≤ 10
-long_seq n fits = length-decimal-le 10 n (omega arith) (omega (arith, fits)) (omega (arith, fits))
 
 pub long_actor : (n : ℕ) → n < 2 ^ 8 → length (decimal n) ≤ 3
 long_actor n fits = length-decimal-le 3 n (omega arith) (omega (arith, fits)) (omega (arith, fits))

@@ -1,10 +1,10 @@
 -- Where the bytes of a log stop being one.
-use Rattle.std.proofs.Common.{◌≡◌, ◌≢◌, ℕ, ◌+◌, ◌<◌, true, Option, Some, None, List, [], ◌∷◌, ◌++◌, length, reverse}
-use Rattle.std.proofs.Common.{get_or, drop, All, refl, sym, ap, subst, ◌∙◌, inl, inr, append_assoc, append-nil, arith}
-use Rattle.std.proofs.Common.{Result, Ok, Err, IfErr, IsErrAnd, codes, decimal}
-use Rattle.board_prelude.proofs.Common.{cases_lt, get_or_append_left, append_cancel_left, length-append, All-nil}
-use Rattle.board_prelude.proofs.Common.{All-cons, All-head, All-tail, All-push, Entry, line_feed, line_text, lines_text}
-use Rattle.board_prelude.proofs.Common.{log_text}
+use Rattle.board_prelude.proofs.Common.{none-some, get_or-append_seam, common_steps, nat_tests, cases_lt}
+use Rattle.board_prelude.proofs.Common.{get_or_append_left, append_cancel_left, length-append, All-nil, All-cons}
+use Rattle.board_prelude.proofs.Common.{All-head, All-tail, All-push, Entry, line_feed, line_text, lines_text, log_text}
+use Rattle.std.proofs.Common.{◌≡◌, ◌≢◌, ℕ, ◌+◌, ◌<◌, true, Some, None, List, [], ◌∷◌, ◌++◌, length, reverse, get_or}
+use Rattle.std.proofs.Common.{drop, All, refl, sym, ap, subst, ◌∙◌, inl, inr, append_assoc, append-nil, arith, Result}
+use Rattle.std.proofs.Common.{Ok, Err, IfErr, IsErrAnd, codes, decimal}
 use Rattle.script_spec.specs.Common.{text_of_lines, IsOneLine, IsVersion, IsWellFormed, IsLogText, IsSomeLog, IsBadLog}
 use Rattle.script_spec.specs.Common.{cut}
 use Rattle.script_spec.proofs.Common.{lacks, lacks-append, lacks-word, decimal_word, one_line, compared, log_lines}
@@ -20,9 +20,7 @@ abbrev whole : (version : ℕ) → List Entry → List (List ℕ)
 whole version history = heading version ∷ log_lines history
 
 log_is : (version : ℕ) (history : List Entry) → log_text version history ≡ text_of_lines (whole version history)
-log_is version history =
-    ap (λ (text : List ℕ). heading version ++ line_feed ∷ text) (lines_joined history)
-    ∙ sym (append_assoc (heading version) (line_feed ∷ []) (text_of_lines (log_lines history)))
+log_is version history = rw (lines_joined history) (simp append_assoc)
 
 heading_lacks : (version : ℕ) → lacks line_feed (heading version) ≡ true
 heading_lacks version =
@@ -30,9 +28,7 @@ heading_lacks version =
     (lacks-word line_feed (decimal version) refl (decimal_word version))
 
 each_line : (version : ℕ) (history : List Entry) → All IsOneLine (whole version history)
-each_line version history =
-    All-cons IsOneLine (heading version) (log_lines history) (one_line (heading version) (heading_lacks version))
-    (lines_whole history)
+each_line version history = grind (arith, nat_tests, All-cons, one_line, heading_lacks, lines_whole)
 
 -- lines that begin a log are its first
 begins : (lines : List (List ℕ)) (later : List ℕ) (version : ℕ) (history : List Entry) → All IsOneLine lines
@@ -48,13 +44,11 @@ begins lines later version history each same =
 
 lines_length : (history : List Entry) → length (log_lines history) ≡ length history
 lines_length [] = refl
-lines_length (entry ∷ before) =
-    length-append (log_lines before) (line_text (length before + 1) entry ∷ []) ∙ omega (arith, lines_length before)
+lines_length (entry ∷ before) = grind (arith, common_steps, length-append, lines_length before)
 
 get_at : (lines : List (List ℕ)) (this : List ℕ) (more : List (List ℕ)) (k : ℕ) → k ≡ length lines
     → get_or (lines ++ this ∷ more) k [] ≡ this
-get_at [] this more k is = rw is refl
-get_at (line ∷ lines) this more k is = rw is (get_at lines this more (length lines) refl)
+get_at lines this more k is = rw is (get_or-append_seam lines this more [])
 
 -- each line of a log is that of an entry
 line_at : (P : Entry → Type 0) (history : List Entry) (k : ℕ) → All P history → k < length history
@@ -70,8 +64,7 @@ line_at P (entry ∷ before) k each lt = elim (cases_lt k (length before)) [
       let place : k ≡ length (log_lines before) = omega (arith, at_end, lines_length before) in (
         entry,
         All-head P entry before each,
-        get_at (log_lines before) (line_text (length before + 1) entry) [] k place
-            ∙ ap (λ (n : ℕ). line_text (n + 1) entry) (sym at_end),
+        rw at_end (get_at (log_lines before) (line_text (length before + 1) entry) [] _ (sym (lines_length before))),
       )
 ]
 
@@ -81,9 +74,9 @@ clash : (version other : ℕ) (history entries : List Entry) (this : List ℕ) (
     → whole other entries ≡ whole version history ++ this ∷ more
     → HasNoEntry version (length history + 1) rest → rest ≡ this ++ line_feed ∷ after → ⊥
 clash version other history entries this more rest after known its each same none is =
-    let first : heading other ≡ heading version = ap (λ (lines : List (List ℕ)). get_or lines 0 []) same in
     let later : log_lines entries ≡ log_lines history ++ this ∷ more = ap (λ (lines : List (List ℕ)). drop 1 lines)
     same in
+    let first : heading other ≡ heading version = ap (λ (lines : List (List ℕ)). get_or lines 0 []) same in
     let versions : other ≡ version =
     some_is other version (sym (version_known other its) ∙ ap parse_heading first ∙ version_known version known) in
     let count = ap length later ∙ length-append (log_lines history) (this ∷ more) in
@@ -103,16 +96,10 @@ clash version other history entries this more rest after known its each same non
 abbrev HasNoHeading : List ℕ → Type 0
 HasNoHeading bytes = (version : ℕ) (after : List ℕ) → IsVersion version → bytes ≢ heading version ++ line_feed ∷ after
 
-empty_log : IsSomeLog (log_text 1 [])
-empty_log = record {
-  version = 1;
-  entries = [];
-  log = record {
-    known = inl refl;
-    each = All-nil (IsWellFormed 1);
-    text = refl;
-  };
-}
+some_log : (version : ℕ) (history : List Entry) (text : List ℕ) → IsVersion version
+    → All (IsWellFormed version) history → text ≡ log_text version history → IsSomeLog text
+some_log version history text known each is =
+    record { version = version; entries = history; log = record { known = known; each = each; text = is } }
 
 bad_heading : (bytes : List ℕ) → HasNoHeading bytes → IsBadLog bytes 1
 bad_heading bytes none = record {
@@ -121,7 +108,7 @@ bad_heading bytes none = record {
   rest = bytes;
   cut = refl;
   place = refl;
-  begun = record { later = log_text 1 []; text = empty_log };
+  begun = record { later = log_text 1 []; text = some_log 1 [] (log_text 1 []) (inl refl) (All-nil (IsWellFormed 1)) refl };
   leaves = λ this after one is begun.
       let log = begun.text.log in
       let on = begins (this ∷ []) begun.later begun.text.version begun.text.entries
@@ -133,101 +120,84 @@ bad_heading bytes none = record {
 
 pub bad_uncut : (bytes : List ℕ) → None ≡ cut line_feed bytes → IsBadLog bytes 1
 bad_uncut bytes uncut = bad_heading bytes (λ version after known is.
-    let e : ◌≡◌ {A = Option (List ℕ × List ℕ)} None (Some (heading version, after)) =
-    uncut ∙ ap (cut line_feed) is ∙ cut_field line_feed (heading version) after (heading_lacks version) in
-    absurd cc)
+    none-some (heading version, after)
+    (uncut ∙ ap (cut line_feed) is ∙ cut_field line_feed (heading version) after (heading_lacks version)))
 
 pub bad_version : (bytes line after : List ℕ) → Some (line, after) ≡ cut line_feed bytes → None ≡ parse_heading line
     → IsBadLog bytes 1
 bad_version bytes line after parts none = bad_heading bytes (λ version later known is.
     let same = some_is (line, after) (heading version, later)
     (parts ∙ ap (cut line_feed) is ∙ cut_field line_feed (heading version) later (heading_lacks version)) in
-    let e : ◌≡◌ {A = Option ℕ} None (Some version) =
-    none ∙ ap parse_heading (ap (λ (p : List ℕ × List ℕ). p.0) same) ∙ version_known version known in
-    absurd cc)
+    none-some version (none ∙ ap (λ (p : List ℕ × List ℕ). parse_heading p.0) same ∙ version_known version known))
 
 -- ---- bad lines after the heading
 
-pub bad_after : (bytes heading_line lines : List ℕ) (version line : ℕ)
-    → Some (heading_line, lines) ≡ cut line_feed bytes
-    → Some version ≡ parse_heading heading_line → IsBadAfter version lines line → IsBadLog bytes line
-bad_after bytes heading_line lines version line parts named bad =
-    let said = version_said heading_line version (sym named) in
-    let before : List (List ℕ) = whole version bad.history in
-    let each : All IsOneLine before = each_line version bad.history in
-    let front : bytes ≡ log_text version bad.history ++ bad.rest =
-    cut_joined line_feed bytes heading_line lines (sym parts)
-    ∙ ap (λ (text : List ℕ). text ++ line_feed ∷ lines) said.1
-    ∙ ap (λ (text : List ℕ). heading version ++ line_feed ∷ text) bad.cut
-    ∙ sym (append_assoc (heading version) (line_feed ∷ lines_text bad.history) bad.rest) in
-    let cut : bytes ≡ text_of_lines before ++ bad.rest = front ∙ ap (λ (text : List ℕ). text ++ bad.rest)
-    (log_is version bad.history) in
-    record {
-      before = before;
-      each = each;
-      rest = bad.rest;
-      cut = cut;
-      place = bad.place ∙ omega (arith, lines_length bad.history);
-      begun = record {
-        later = [];
-        text = record {
-          version = version;
-          entries = bad.history;
-          log = record {
-            known = said.0;
-            each = bad.each;
-            text = append-nil (text_of_lines before) ∙ sym (log_is version bad.history);
-          };
+module _ (bytes heading_line lines : List ℕ) (version : ℕ) (parts : Some (heading_line, lines) ≡ cut line_feed bytes)
+    (named : Some version ≡ parse_heading heading_line) where
+  said : IsVersion version × (heading_line ≡ heading version)
+  said = version_said heading_line version (sym named)
+
+  -- the text is that of the lines in front with the rest after it
+  text_is : (front rest : List ℕ) → lines ≡ front ++ rest → bytes ≡ (heading version ++ line_feed ∷ front) ++ rest
+  text_is front rest is =
+      cut_joined line_feed bytes heading_line lines (sym parts)
+      ∙ ap (λ (text : List ℕ). text ++ line_feed ∷ lines) said.1
+      ∙ ap (λ (text : List ℕ). heading version ++ line_feed ∷ text) is
+      ∙ sym (append_assoc (heading version) (line_feed ∷ front) rest)
+
+  bad_after : (line : ℕ) → IsBadAfter version lines line → IsBadLog bytes line
+  bad_after line bad =
+      let before : List (List ℕ) = whole version bad.history in
+      let each : All IsOneLine before = each_line version bad.history in
+      let cut : bytes ≡ text_of_lines before ++ bad.rest =
+      text_is (lines_text bad.history) bad.rest bad.cut
+      ∙ ap (λ (text : List ℕ). text ++ bad.rest) (log_is version bad.history) in
+      record {
+        before = before;
+        each = each;
+        rest = bad.rest;
+        cut = cut;
+        place = bad.place ∙ omega (arith, lines_length bad.history);
+        begun = record {
+          later = [];
+          text = some_log version bad.history (text_of_lines before ++ []) said.0 bad.each
+              (append-nil (text_of_lines before) ∙ sym (log_is version bad.history));
         };
-      };
-      leaves = λ this after one is begun.
-          let log = begun.text.log in
-          let on = begins (before ++ this ∷ []) begun.later begun.text.version begun.text.entries
-          (All-push IsOneLine before this each one) log.text in
-          clash version begun.text.version bad.history begun.text.entries this on.0 bad.rest after said.0 log.known
-          log.each
-          (on.1 ∙ append_assoc before (this ∷ []) on.0) bad.none is;
-      other = λ some.
-          elim (compared before bad.rest (whole some.version some.entries) [] each (each_line some.version some.entries)
-          (sym cut ∙ some.log.text ∙ log_is some.version some.entries ∙ sym
-          (append-nil (text_of_lines (whole some.version some.entries))))) [
-            | inl all ↦
-                bad.some (append_cancel_left (text_of_lines before) bad.rest []
-                (sym cut ∙ some.log.text ∙ log_is some.version some.entries ∙ ap text_of_lines (sym all)
-                ∙ sym (append-nil (text_of_lines before))))
-            | inr (inl on) ↦
-                clash version some.version bad.history some.entries on.this on.more bad.rest
-                (text_of_lines on.more ++ []) said.0 some.log.known
-                some.log.each on.is bad.none on.whole
-            | inr (inr on) ↦ nothing_more on.this (text_of_lines on.more ++ bad.rest) on.whole
-          ];
-    }
+        leaves = λ this after one is begun.
+            let log = begun.text.log in
+            let on = begins (before ++ this ∷ []) begun.later begun.text.version begun.text.entries
+            (All-push IsOneLine before this each one) log.text in
+            clash version begun.text.version bad.history begun.text.entries this on.0 bad.rest after said.0 log.known
+            log.each (on.1 ∙ append_assoc before (this ∷ []) on.0) bad.none is;
+        other = λ some.
+            let same = sym cut ∙ some.log.text ∙ log_is some.version some.entries in
+            let lines = whole some.version some.entries in
+            elim (compared before bad.rest lines [] each (each_line some.version some.entries)
+            (same ∙ sym (append-nil (text_of_lines lines)))) [
+              | inl all ↦
+                  bad.some (append_cancel_left (text_of_lines before) bad.rest []
+                  (same ∙ ap text_of_lines (sym all) ∙ sym (append-nil (text_of_lines before))))
+              | inr (inl on) ↦
+                  clash version some.version bad.history some.entries on.this on.more bad.rest
+                  (text_of_lines on.more ++ []) said.0 some.log.known some.log.each on.is bad.none on.whole
+              | inr (inr on) ↦ nothing_more on.this (text_of_lines on.more ++ bad.rest) on.whole
+            ];
+      }
 
--- ---- whole logs
+  pub names_bad : (fault : LogFault) → NamesBad (IsBadAfter version lines) fault → NamesBad (IsBadLog bytes) fault
+  names_bad (Bad line) bad = bad_after line bad
+  names_bad NoMemory bad = tt
 
-pub good_log : (bytes heading_line lines : List ℕ) (version : ℕ) (entries : List Entry)
-    → Some (heading_line, lines) ≡ cut line_feed bytes
-    → Some version ≡ parse_heading heading_line → lines ≡ lines_text (reverse entries)
-    → All (IsWellFormed version) (reverse entries)
-    → IsLogText version (reverse entries) bytes
-good_log bytes heading_line lines version entries parts named is each =
-    let said = version_said heading_line version (sym named) in
-    record {
-      known = said.0;
-      each = each;
-      text =
-          cut_joined line_feed bytes heading_line lines (sym parts)
-          ∙ ap (λ (text : List ℕ). text ++ line_feed ∷ lines) said.1
-          ∙ ap (λ (text : List ℕ). heading version ++ line_feed ∷ text) is;
-    }
+  -- ---- whole logs
 
-pub names_bad : (bytes heading_line lines : List ℕ) (version : ℕ) (fault : LogFault)
-    → Some (heading_line, lines) ≡ cut line_feed bytes
-    → Some version ≡ parse_heading heading_line → NamesBad (IsBadAfter version lines) fault
-    → NamesBad (IsBadLog bytes) fault
-names_bad bytes heading_line lines version (Bad line) parts named bad = bad_after bytes heading_line lines version
-    line parts named bad
-names_bad bytes heading_line lines version NoMemory parts named bad = tt
+  pub good_log : (entries : List Entry) → lines ≡ lines_text (reverse entries)
+      → All (IsWellFormed version) (reverse entries) → IsLogText version (reverse entries) bytes
+  good_log entries is each = record {
+    known = said.0;
+    each = each;
+    text = text_is (lines_text (reverse entries)) [] (is ∙ sym (append-nil (lines_text (reverse entries))))
+        ∙ append-nil (log_text version (reverse entries));
+  }
 
 pub passed_on : {T : Type 0} (result : Result T LogFault) (fault : LogFault) (Named : LogFault → Type 0)
     → IsErrAnd result (λ given. given ≡ fault)

@@ -1,15 +1,13 @@
 -- The words of stimuli are short, and of ASCII.
+use Rattle.board_prelude.proofs.Common.{nat_tests, list_all, Stimulus, stimulus_form}
 use Rattle.std.proofs.Common.{ℕ, zero, suc, ◌≡◌, ◌≤◌, true, List, [], ◌∷◌, length, nat_lt, refl, arith}
 use Rattle.std.specs.Str.{IsAscii}
-use Rattle.board_prelude.proofs.Common.{list_all, and_parts, ltb-true, Stimulus, stimulus_form}
 use Rattle.board_spec.specs.declared.stimulus.Stimulus.TheVariants.{Pulses}
 
 all_ascii : (bytes : List ℕ) → list_all (λ byte. nat_lt byte 128) bytes ≡ true → IsAscii bytes
 all_ascii [] each i = omega arith
-all_ascii (byte ∷ later) each zero =
-    ltb-true byte 128 (and_parts (nat_lt byte 128) (list_all (λ b. nat_lt b 128) later) each).0
-all_ascii (byte ∷ later) each (suc i) =
-    all_ascii later (and_parts (nat_lt byte 128) (list_all (λ b. nat_lt b 128) later) each).1 i
+all_ascii (byte ∷ later) each zero = grind (arith, nat_tests)
+all_ascii (byte ∷ later) each (suc i) = grind (arith, nat_tests, all_ascii later)
 
 small_bytes : (one : Stimulus) → list_all (λ byte. nat_lt byte 128) (stimulus_form one).word ≡ true
 small_bytes Pulses = refl

@@ -1,18 +1,15 @@
 -- Statements that are read in turn after a setup and a phase.
-use Rattle.board_prelude.proofs.Common.{nat_tests, common_steps, find, list_any, AllZip, list_all}
-use Rattle.board_prelude.proofs.Common.{and_from, and_parts, reverse-append, All-head, All-tail, sum_by-cons, Statement}
-use Rattle.board_prelude.proofs.Common.{memory_of_cards, line_feed}
-use Rattle.std.proofs.Common.{ℕ, ◌≡◌, ◌+◌, ◌*◌, ◌<◌, ◌≤◌, Bool, true, false, ◌&&◌, not, None, List, [], ◌∷◌}
-use Rattle.std.proofs.Common.{◌++◌, length, map, filter, sum_by, All, refl, sym, ap, ◌∙◌, inl, inr, append_assoc}
-use Rattle.std.proofs.Common.{append-nil, arith, option_map}
-use Rattle.std.proofs.lemmas.Bool.{not_from_true}
-use Rattle.script_spec.specs.Common.{lines_of, text_of_lines, Item, Ask, StandsFor, IsEventForm, item_text, reason}
-use Rattle.script_spec.specs.Common.{is_phase, is_statement, cards_of, is_misplaced, is_repeated, lacks_setup}
-use Rattle.script_spec.specs.Common.{is_in_range, is_event_in_range, is_placed, is_event_placed, is_there}
-use Rattle.script_spec.specs.Common.{is_cpus_above, is_card_there, pulses_of, pulses_of_event, passes_limits}
-use Rattle.script_spec.specs.Common.{least_reason, most_bytes, is_skipped, AreRead}
-use Rattle.script_spec.proofs.Common.{lacks, lacks-later, lacks-append, lacks-word, lacks-plain}
-use Rattle.script_spec.proofs.Common.{decimal_word, event_plain}
+use Rattle.board_prelude.proofs.Common.{nat_tests, common_steps, list_any, AllZip, list_all, and_from, and_parts}
+use Rattle.board_prelude.proofs.Common.{reverse-append, All-head, All-tail, sum_by-cons, Statement, memory_of_cards}
+use Rattle.board_prelude.proofs.Common.{line_feed}
+use Rattle.std.proofs.Common.{ℕ, ◌≡◌, ◌+◌, ◌*◌, ◌<◌, ◌≤◌, true, false, None, List, [], ◌∷◌, ◌++◌, length, map, filter}
+use Rattle.std.proofs.Common.{sum_by, All, refl, sym, ap, ◌∙◌, inl, inr, append_assoc, append-nil, arith}
+use Rattle.script_spec.specs.Common.{lines_of, text_of_lines, Item, Ask, StandsFor, IsEventForm, item_text, is_phase}
+use Rattle.script_spec.specs.Common.{is_statement, cards_of, is_event_in_range, is_event_placed, is_cpus_above}
+use Rattle.script_spec.specs.Common.{is_card_there, pulses_of, pulses_of_event, passes_limits, least_reason, most_bytes}
+use Rattle.script_spec.specs.Common.{is_skipped, AreRead}
+use Rattle.script_spec.proofs.Common.{lacks, lacks-later, lacks-append, lacks-word, lacks-plain, decimal_word}
+use Rattle.script_spec.proofs.Common.{event_plain}
 use Rattle.script_spec.proofs.ReadingExists.{run_of}
 
 -- ---- lines
@@ -81,31 +78,15 @@ asked-more : (count : ℕ) (before : List Item) (statement : Statement) → AreA
     → AreAsked (count + 1) (Ask statement ∷ before)
 asked-more count before statement has fine = grind (arith, nat_tests, common_steps, sum_by-cons)
 
-all-false : (a b c d e f g : Bool) → a ≡ false → b ≡ false → c ≡ false → d ≡ false → e ≡ false → f ≡ false → g ≡ false
-    → option_map (λ r. r.why) (find (λ r. r.holds)
-    (reason 4 a ∷ reason 5 b ∷ reason 6 c ∷ reason 7 d ∷ reason 8 e ∷ reason 9 f ∷ reason 10 g ∷ [])) ≡ None
-all-false a b c d e f g one two three four five six seven = rw (one, two, three, four, five, six, seven) refl
-
 within-limits : (count : ℕ) (items : List Item) → AreAsked count items → count ≤ 250_000 → passes_limits items ≡ false
 within-limits count items has few = grind (arith, nat_tests)
-
-placed-after : (before : List Item) (statement : Statement) → list_any is_phase before ≡ true
-    → is_misplaced before (Ask statement) ≡ false
-placed-after before statement begun = rw begun refl
 
 no-reason : (count : ℕ) (before : List Item) (statement : Statement) → AreAsked count before → IsFine statement
     → count + 1 ≤ 250_000 → least_reason before (Ask statement) ≡ None
 unfolding least_reason
 no-reason count before statement has fine few =
-    let item : Item = Ask statement in
-    all-false (is_misplaced before item) (is_repeated before item) (is_phase item && lacks_setup before)
-    (not (is_in_range item)) (not (is_placed item)) (not (is_there before item)) (passes_limits (item ∷ before))
-    (placed-after before statement has.begun) refl refl
-    (not_from_true (is_in_range item) fine.range)
-    (not_from_true (is_placed item) fine.placed)
-    (not_from_true (is_there before item) (and_from (list_any (is_cpus_above statement.actor) before)
-    (is_card_there before statement.event) (has.cpus statement.actor fine.actor) (fine.card before)))
-    (within-limits (count + 1) (item ∷ before) (asked-more count before statement has fine) few)
+    let more = within-limits (count + 1) (Ask statement ∷ before) (asked-more count before statement has fine) few in
+    grind (arith, nat_tests, more, has.begun, has.cpus statement.actor fine.actor, fine.card before)
 
 -- ---- all of them
 

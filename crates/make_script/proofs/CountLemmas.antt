@@ -1,6 +1,5 @@
 -- The counts of one entry more.
-use Rattle.board_prelude.proofs.Common.{nat_tests, All-head, All-tail}
-use Rattle.board_prelude.proofs.Common.{Event, Reply, Entry}
+use Rattle.board_prelude.proofs.Common.{nat_tests, All-head, All-tail, Event, Reply, Entry}
 use Rattle.std.proofs.Common.{ℕ, ◌≡◌, ◌+◌, ◌≤◌, ◌<◌, Bool, cond, List, [], ◌∷◌, length, refl, arith}
 use mir.Val.{bool_byte}
 use Rattle.make_script.specs.Common.{is_dram, is_shadow, is_smram, is_rom, is_card, is_config, is_device, is_abort}

@@ -1,14 +1,14 @@
 -- Each statement of a script that is made can be asked, wherever it stands.
-use Rattle.board_prelude.proofs.Common.{nat_tests, list_all, digits, ltb-true, and_parts, not-true}
-use Rattle.board_prelude.proofs.Common.{All-nil, All-cons, All-append, Read, One, Moment, bytes_of}
-use Rattle.board_prelude.proofs.Common.{weekday_of, days_since_1980, days_of_years, days_of_months, Event, Memory, Port}
-use Rattle.board_prelude.proofs.Common.{Ack, Pulses, Time, Statement, is_write, event_text}
+use Rattle.board_prelude.proofs.Common.{nat_tests, list_all, digits, ltb-true, and_parts, not-true, All-nil, All-cons}
+use Rattle.board_prelude.proofs.Common.{All-append, Read, One, Moment, bytes_of, weekday_of, days_since_1980}
+use Rattle.board_prelude.proofs.Common.{days_of_years, days_of_months, Event, Memory, Port, Ack, Pulses, Time}
+use Rattle.board_prelude.proofs.Common.{Statement, is_write, event_text}
 use Rattle.std.proofs.Common.{ℕ, zero, suc, ◌≡◌, ◌%◌, ◌<◌, ◌≤◌, ◌^◌, Bool, true, false, ◌&&◌, not, ltb, eqb, List, []}
 use Rattle.std.proofs.Common.{◌∷◌, length, map, All, refl, arith}
 use Rattle.board_base.specs.declared.access.Width.TheVariants.{Four}
 use Rattle.board_spec.specs.declared.event.Event.TheVariants.{Look as LookAt}
-use Rattle.script_spec.specs.Common.{Item, IsEventForm, item_text, is_event_in_range, is_event_placed}
-use Rattle.script_spec.specs.Common.{is_card_there, pulses_of_event, is_skipped}
+use Rattle.script_spec.specs.Common.{Item, IsEventForm, item_text, is_event_in_range, is_event_placed, is_card_there}
+use Rattle.script_spec.specs.Common.{pulses_of_event, is_skipped}
 use Rattle.make_script.specs.Common.{dram_addr, card_addr, asks, reads, writes, outs, opening_events, round_statements}
 use Rattle.make_script.specs.Common.{statements_of_rounds, made_statements}
 use Rattle.make_script.proofs.AskedLemmas.{said, IsFine}

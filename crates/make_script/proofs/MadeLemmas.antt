@@ -1,15 +1,14 @@
 -- The text that is made is that of the made script.
-use Rattle.board_prelude.proofs.Common.{nat_tests, find, list_all, digits, and_from, map-append}
-use Rattle.board_prelude.proofs.Common.{length-append, All-nil, All-cons, length-map-range_with_len, IsCardList}
-use Rattle.board_prelude.proofs.Common.{IsRomSize, IsDisk, MemoryBase, IoBase, line_feed, event_text, Statement}
-use Rattle.std.proofs.Common.{ℕ, zero, suc, ◌≡◌, ◌*◌, ◌%◌, ◌/◌, ◌<◌, ◌≤◌, true, false, List, [], ◌∷◌, ◌++◌, length}
-use Rattle.std.proofs.Common.{map, Some, None, refl, sym, ap, ◌∙◌, inl, inr, append_assoc, append-nil, arith, codes}
+use Rattle.board_prelude.proofs.Common.{nat_tests, find, list_all, digits, and_from, map-append, length-append, All-nil}
+use Rattle.board_prelude.proofs.Common.{All-cons, length-map-range_with_len, IsCardList, IsRomSize, IsDisk, MemoryBase}
+use Rattle.board_prelude.proofs.Common.{IoBase, line_feed, event_text, Statement}
+use Rattle.std.proofs.Common.{ℕ, zero, suc, ◌≡◌, ◌*◌, ◌%◌, ◌/◌, ◌<◌, ◌≤◌, true, false, List, [], ◌∷◌, ◌++◌, length, map}
+use Rattle.std.proofs.Common.{Some, None, refl, sym, ap, ◌∙◌, inl, inr, append_assoc, append-nil, arith, codes}
 use Rattle.std.proofs.lemmas.List.Folds.{list_all-append}
 use Rattle.std.proofs.lemmas.List.Sorted.{IsPermutation-reverse}
-use Rattle.script_spec.specs.Common.{lines_of, Item, SetCpus, SetMemory, SetRom, SetDisk, FitCard}
-use Rattle.script_spec.specs.Common.{BeginPhase, Ask, IsBaseForm, IsForm, Says, item_text, is_cpus, is_memory, is_rom}
-use Rattle.script_spec.specs.Common.{is_disk, cards_of, lacks_setup, least_reason, most_bytes}
-use Rattle.script_spec.specs.Common.{is_skipped, IsGoodLine, AreRead, IsSaidBy}
+use Rattle.script_spec.specs.Common.{lines_of, Item, SetCpus, SetMemory, SetRom, SetDisk, FitCard, BeginPhase, Ask}
+use Rattle.script_spec.specs.Common.{IsBaseForm, IsForm, Says, item_text, is_cpus, is_memory, is_rom, is_disk, cards_of}
+use Rattle.script_spec.specs.Common.{lacks_setup, least_reason, most_bytes, is_skipped, IsGoodLine, AreRead, IsSaidBy}
 use Rattle.script_spec.proofs.Common.{lacks, scripts_are_in_range}
 use Rattle.make_script.specs.Common.{setup_lines, opening_lines, round_lines, lines_of_rounds, make_lines, make_text}
 use Rattle.make_script.specs.Common.{asks, opening_events, round_statements, statements_of_rounds, made_statements}

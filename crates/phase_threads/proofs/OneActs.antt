@@ -2,7 +2,8 @@
 use Rattle.std.proofs.Common.{set, Result, Ok, Err, OnOk, ◌≡◌, ◌≢◌, ℕ, ◌+◌, ◌<◌, ◌≤◌, ◌==◌, true, false, not}
 use Rattle.std.proofs.Common.{List, [], ◌∷◌, length, All, get_or, slice_index_or, refl, sym, ◌∙◌, ap, arith, inl}
 use Rattle.std.proofs.Common.{inr}
-use Rattle.board_prelude.proofs.Common.{cases_Bool, cases_eq, nat_tests, length-map, get_or-map, All-head, All-tail, All-cons, Entry}
+use Rattle.board_prelude.proofs.Common.{cases_Bool, cases_eq, nat_tests, length-map, get_or-map, All-head, All-tail}
+use Rattle.board_prelude.proofs.Common.{All-cons, Entry}
 use Rattle.board_prelude.proofs.Common.{Statement, MapChange, Setup, IsInRange}
 use Rattle.board_prelude.proofs.Common.{entries_by, events_by, map_writes_of}
 use Rattle.board_prelude.proofs.Common.{most_statements}
@@ -228,35 +229,27 @@ can_act number most board works old phase some few in_range within empty asked_o
     }
 
 -- one work is replaced
-pub has_grown : (number : ℕ) (before now : Standing) (phase : List Statement) (old : List Work) (was work : Work)
-    → number < length old
-    → was ≡ slice_index_or old number was → now.setup ≡ before.setup
-    → others number now.entries ≡ others number before.entries
-    → length (entries_by number now.entries) ≤ length (entries_by number before.entries) + length phase
-    → work.asked ≤ was.asked + length phase → HasGrown number before now phase old (set old number work)
-has_grown number before now phase old was work within is setup same mine asked = record {
-  setup = setup;
-  others = same;
-  count = length-set old number work;
-  same = λ k d unlike. get_or-set_other old number k work d unlike;
-  mine = mine;
-  asked = λ most d few.
-      let before : (slice_index_or old number was).asked ≤ most = few number was within in
-      rw (get_or-set_same old number work d within)
-      (omega (arith, before, ap (λ (w : Work). w.asked) is, asked));
-}
+module _ (number : ℕ) (before now : Standing) (phase : List Statement) (old : List Work) (was work : Work)
+    (within : number < length old) (is : was ≡ slice_index_or old number was) (setup : now.setup ≡ before.setup)
+    (same : others number now.entries ≡ others number before.entries)
+    (mine : length (entries_by number now.entries) ≤ length (entries_by number before.entries) + length phase)
+    (asked : work.asked ≤ was.asked + length phase) where
+  pub has_grown : HasGrown number before now phase old (set old number work)
+  has_grown = record {
+    setup = setup;
+    others = same;
+    count = length-set old number work;
+    same = λ k d unlike. get_or-set_other old number k work d unlike;
+    mine = mine;
+    asked = λ most d few.
+        let before : (slice_index_or old number was).asked ≤ most = few number was within in
+        rw (get_or-set_same old number work d within)
+        (omega (arith, before, ap (λ (w : Work). w.asked) is, asked));
+  }
 
-pub has_acted : (number : ℕ) (before now : Standing) (phase : List Statement) (old : List Work) (was work : Work)
-    → number < length old
-    → was ≡ slice_index_or old number was → now.setup ≡ before.setup
-    → others number now.entries ≡ others number before.entries
-    → HasDone before.setup number before.entries phase work.done.items now.entries (map_writes_of now.setup now.entries)
-    → length (entries_by number now.entries) ≤ length (entries_by number before.entries) + length phase
-    → work.asked ≤ was.asked + length phase → HasActed number before now phase old (set old number work)
-has_acted number before now phase old was work within is setup same done mine asked = record {
-  grown = has_grown number before now phase old was work within is setup same mine asked;
-  done = λ d. rw (get_or-set_same old number work d within) done;
-}
+  pub has_acted : HasDone before.setup number before.entries phase work.done.items now.entries
+      (map_writes_of now.setup now.entries) → HasActed number before now phase old (set old number work)
+  has_acted done = record { grown = has_grown; done = λ d. rw (get_or-set_same old number work d within) done }
 
 pub both_ok : {T E : Type 0} {P Q R : Type 0} (result : Result T E) → (P → Q → R) → OnOk result P → OnOk result Q
     → OnOk result R

@@ -1,6 +1,6 @@
 -- What the record of a part names is this part.
-use Rattle.std.proofs.Common.{◌≡◌, zero, suc, Option, Some, None, refl, arith}
-use Rattle.board_prelude.proofs.Common.{lt-ltb, Dev, Area, Target, Denial, Register, Confadd, NoRegister, Reg, Part}
+use Rattle.std.proofs.Common.{◌≡◌, zero, suc, Option, Some, refl, arith}
+use Rattle.board_prelude.proofs.Common.{lt-ltb, nat_tests, Dev, Area, Target, Denial, Register, Part}
 use Rattle.board_base.specs.declared.target.Dev.TheVariants as devices
 use Rattle.board_base.specs.declared.target.Area.TheVariants as areas
 use Rattle.board_base.specs.declared.target.Target.TheVariants as targets
@@ -18,15 +18,10 @@ device_back (devices.Spurious (suc zero)) fits = refl
 device_back (devices.Spurious (suc (suc chip))) fits = absurd (omega (arith, fits))
 device_back _ fits = refl
 
-register_back : (reg : Reg) → FitsTarget (targets.Config reg)
-    → target_recorded (target_said (targets.Config reg)) ≡ Some (targets.Config reg)
-unfolding target_recorded config_recorded
-register_back reg fits = rw (lt-ltb reg.off 256 fits.2) refl
-
 target_back : (target : Target) → FitsTarget target → target_recorded (target_said target) ≡ Some target
-unfolding target_recorded
+unfolding target_recorded config_recorded
 target_back (targets.Device dev) fits = rw (device_back dev fits) refl
-target_back (targets.Config reg) fits = register_back reg fits
+target_back (targets.Config reg) fits = rw (lt-ltb reg.off 256 fits.2) refl
 target_back _ fits = refl
 
 -- a denial leaves what answered as it is
@@ -45,15 +40,11 @@ unreserved (targets.Dram row) = refl
 unreserved _ = refl
 
 not_reserved : (target : Target) (denial : Option Denial) → (with_denial (target_said target) denial).reserved ≡ 0
-not_reserved target (Some (Register reg)) = unreserved target
-not_reserved target _ = unreserved target
+not_reserved target denial = grind (arith, nat_tests, unreserved target)
 
 denial_back : (target : Target) (denial : Option Denial) → denial_recorded (part_said target denial) ≡ Some denial
 unfolding denial_recorded part_said
-denial_back target None = rw (not_denied target) refl
-denial_back target (Some (Register reg)) = refl
-denial_back target (Some Confadd) = refl
-denial_back target (Some NoRegister) = refl
+denial_back target denial = grind (arith, nat_tests, not_denied target)
 
 pub part_back : (part : Part) → FitsPart part → part_recorded (of_part part) ≡ Some part
 unfolding part_recorded part_said

@@ -1,10 +1,9 @@
 -- What the record of a reply says is this reply.
-use Rattle.std.proofs.Common.{◌≡◌, ℕ, ◌<◌, ◌≤◌, ◌^◌, Bool, false, Option, Some, None, [], ◌∷◌, length, All, refl, arith}
+use Rattle.std.proofs.Common.{◌≡◌, ℕ, ◌<◌, ◌≤◌, ◌^◌, Bool, false, Option, Some, None, length, All, refl, arith, lit<}
 use Rattle.std.proofs.Common.{IfSome}
-use Rattle.board_prelude.proofs.Common.{lt-ltb, All-head, All-tail, Dev, Target, Device, Denial, bytes_of, Event}
-use Rattle.board_prelude.proofs.Common.{Memory, Wide, Port, Ack, Parts, Two, Three, Four, Look, Reply, Bus, Saw}
-use Rattle.board_prelude.proofs.Common.{is_write}
-use Rattle.board_prelude.proofs.Common.{outside_answer, answers_outside, parts_list, parts_of as cut_of, bytes_few}
+use Rattle.board_prelude.proofs.Common.{nat_tests, Dev, Target, Device, Denial, bytes_of, Event, Memory, Wide, Port}
+use Rattle.board_prelude.proofs.Common.{Ack, Parts, Two, Three, Four, Look, Reply, Bus, Saw, is_write, outside_answer}
+use Rattle.board_prelude.proofs.Common.{answers_outside, parts_list, parts_of as cut_of, bytes_few}
 use Rattle.board_spec.specs.declared.event.Event.TheVariants.{Look as LookAt}
 use Rattle.board_spec.specs.declared.event.Reply.TheVariants.{Parts as InParts}
 use Rattle.script_spec.specs.WellFormed.{FitsPart, FitsTarget, IsBusReply, IsWideReply, IsLookReply, HasShape}
@@ -22,9 +21,8 @@ cycle_back : (value : Option ℕ) (target : Target) (denial : Option Denial) (af
     IfSome value (λ v. v < 2 ^ 32) → FitsPart (record { target = target; denial = denial }) →
     reply_recorded (bus_said value target denial after) ≡ Some (Bus value target denial)
 unfolding reply_recorded form_recorded bus_recorded cycle_value_recorded bus_said blank
-cycle_back None target denial after small fits = rw (part_back (record { target = target; denial = denial }) fits) refl
-cycle_back (Some value) target denial after small fits =
-    rw (lt-ltb value (2 ^ 32) small, part_back (record { target = target; denial = denial }) fits) refl
+cycle_back value target denial after small fits =
+    grind (arith, nat_tests, part_back (record { target = target; denial = denial }) fits)
 
 area_seen : (look : Look) (after : AfterStep) → reply_recorded (look_said look after) ≡ Some (Saw look)
 unfolding reply_recorded form_recorded look_recorded look_said blank
@@ -34,54 +32,25 @@ wide_back : (parts : Parts) (value : Option ℕ) (after : AfterStep) → All Fit
     reply_recorded (wide_said parts value after) ≡ Some (InParts parts value)
 unfolding reply_recorded form_recorded wide_recorded parts_recorded two_parts_recorded three_parts_recorded
     four_parts_recorded wide_said blank
-wide_back (Two a b) None after fits =
-    let second = All-tail FitsPart a (b ∷ []) fits in
-    rw (
-      part_back a (All-head FitsPart a (b ∷ []) fits),
-      part_back b (All-head FitsPart b [] second),
-    ) refl
-wide_back (Two a b) (Some value) after fits =
-    let second = All-tail FitsPart a (b ∷ []) fits in
-    rw (
-      part_back a (All-head FitsPart a (b ∷ []) fits),
-      part_back b (All-head FitsPart b [] second),
-    ) refl
-wide_back (Three a b c) None after fits =
-    let second = All-tail FitsPart a (b ∷ c ∷ []) fits in
-    let third = All-tail FitsPart b (c ∷ []) second in
-    rw (
-      part_back a (All-head FitsPart a (b ∷ c ∷ []) fits),
-      part_back b (All-head FitsPart b (c ∷ []) second),
-      part_back c (All-head FitsPart c [] third),
-    ) refl
-wide_back (Three a b c) (Some value) after fits =
-    let second = All-tail FitsPart a (b ∷ c ∷ []) fits in
-    let third = All-tail FitsPart b (c ∷ []) second in
-    rw (
-      part_back a (All-head FitsPart a (b ∷ c ∷ []) fits),
-      part_back b (All-head FitsPart b (c ∷ []) second),
-      part_back c (All-head FitsPart c [] third),
-    ) refl
-wide_back (Four a b c d) None after fits =
-    let second = All-tail FitsPart a (b ∷ c ∷ d ∷ []) fits in
-    let third = All-tail FitsPart b (c ∷ d ∷ []) second in
-    let fourth = All-tail FitsPart c (d ∷ []) third in
-    rw (
-      part_back a (All-head FitsPart a (b ∷ c ∷ d ∷ []) fits),
-      part_back b (All-head FitsPart b (c ∷ d ∷ []) second),
-      part_back c (All-head FitsPart c (d ∷ []) third),
-      part_back d (All-head FitsPart d [] fourth),
-    ) refl
-wide_back (Four a b c d) (Some value) after fits =
-    let second = All-tail FitsPart a (b ∷ c ∷ d ∷ []) fits in
-    let third = All-tail FitsPart b (c ∷ d ∷ []) second in
-    let fourth = All-tail FitsPart c (d ∷ []) third in
-    rw (
-      part_back a (All-head FitsPart a (b ∷ c ∷ d ∷ []) fits),
-      part_back b (All-head FitsPart b (c ∷ d ∷ []) second),
-      part_back c (All-head FitsPart c (d ∷ []) third),
-      part_back d (All-head FitsPart d [] fourth),
-    ) refl
+wide_back (Two a b) value after fits =
+    grind (arith, nat_tests, part_back a (fits 0 a (lit< tt)), part_back b (fits 1 a (lit< tt)))
+wide_back (Three a b c) value after fits =
+    grind (
+      arith,
+      nat_tests,
+      part_back a (fits 0 a (lit< tt)),
+      part_back b (fits 1 a (lit< tt)),
+      part_back c (fits 2 a (lit< tt)),
+    )
+wide_back (Four a b c d) value after fits =
+    grind (
+      arith,
+      nat_tests,
+      part_back a (fits 0 a (lit< tt)),
+      part_back b (fits 1 a (lit< tt)),
+      part_back c (fits 2 a (lit< tt)),
+      part_back d (fits 3 a (lit< tt)),
+    )
 
 -- ---- by the event
 
@@ -90,23 +59,20 @@ bus_back : (writes : Bool) (bytes : ℕ) (reply : Reply) (after : AfterStep) →
 unfolding record_said
 bus_back writes bytes (Bus value target denial) after few fits =
     cycle_back value target denial after (narrow_value writes bytes value few fits.0) (fits.1, fits.2)
-bus_back writes bytes (InParts parts value) after few fits = absurd fits
-bus_back writes bytes (Saw look) after few fits = absurd fits
+bus_back writes bytes _ after few fits = absurd fits
 
 parted_back : (writes : Bool) (bytes count : ℕ) (reply : Reply) (after : AfterStep)
     → IsWideReply writes bytes count reply →
     reply_recorded (record_said reply after) ≡ Some reply
 unfolding record_said
-parted_back writes bytes count (Bus value target denial) after fits = absurd fits
 parted_back writes bytes count (InParts parts value) after fits = wide_back parts value after fits.1
-parted_back writes bytes count (Saw look) after fits = absurd fits
+parted_back writes bytes count _ after fits = absurd fits
 
 look_back : (reply : Reply) (after : AfterStep) → IsLookReply reply
     → reply_recorded (record_said reply after) ≡ Some reply
 unfolding record_said
-look_back (Bus value target denial) after fits = absurd fits
-look_back (InParts parts value) after fits = absurd fits
 look_back (Saw look) after fits = area_seen look after
+look_back _ after fits = absurd fits
 
 outside_back : (dev : Dev) (reply : Reply) (after : AfterStep) → FitsTarget (Device dev) → reply ≡ outside_answer dev →
     reply_recorded (record_said reply after) ≡ Some reply

@@ -1,11 +1,9 @@
 -- Cards: how much memory their bases decode, and where a card is put among the others.
-use Rattle.board_prelude.proofs.Common.{common_steps}
-use Rattle.board_prelude.proofs.Common.{nat_tests}
-use Rattle.std.proofs.Common.{◌≡◌, ℕ, ◌+◌, ◌<◌, ◌≤◌, not, List, length, map, take, get_or, sum_by, All, refl, subst}
-use Rattle.std.proofs.Common.{arith, lit<, lit≤, inl, inr, nat_lt, position, unwrap_or}
-use Rattle.board_prelude.proofs.Common.{position_or_len, cases_Bool, ltb-false, All-get_or, get_or-map, length-map}
-use Rattle.board_prelude.proofs.Common.{pow-le-pow_right, Base, MemoryBase, IoBase, OutsideBase, FittedCard, IsBase}
-use Rattle.board_prelude.proofs.Common.{IsCard, memory_size}
+use Rattle.std.proofs.Common.{sym, ◌≡◌, ℕ, ◌+◌, ◌<◌, ◌≤◌, List, length, map, take, get_or, sum_by, All, subst, arith}
+use Rattle.std.proofs.Common.{lit<, lit≤, nat_lt, position, unwrap_or}
+use Rattle.board_prelude.proofs.Common.{common_steps, nat_tests, position_or_len, cases_Bool, ltb-false, All-get_or}
+use Rattle.board_prelude.proofs.Common.{get_or-map, length-map, pow-le-pow_right, Base, MemoryBase, IoBase, OutsideBase}
+use Rattle.board_prelude.proofs.Common.{FittedCard, IsBase, IsCard, memory_size}
 use Rattle.std.proofs.lemmas.List.Sums.{sum_by-le, sum_by-take-le, sum_by_more, prefix_len-le-length}
 use Rattle.pci_bars.specs.declared.spec.BaseSpec.{BaseSpec}
 use Rattle.pci_bars.specs.Bases.{base_of}
@@ -39,14 +37,8 @@ pub next_base :
     total ≡ sum_by memory_size (take i card.bases) → size ≡ memory_size (base_of (get_or bases i d))
     → total + size ≡ sum_by memory_size (take (i + 1) card.bases)
 next_base card bases i total size d view lt is here =
-    let base : get_or (map base_of bases) i (base_of d) ≡ base_of (get_or bases i d) =
-    get_or-map base_of bases i d (base_of d) lt in
-    let more : sum_by memory_size (take (i + 1) (map base_of bases)) ≡ sum_by memory_size (take i (map base_of bases)) +
-    memory_size (get_or (map base_of bases) i (base_of d)) =
-    sum_by_more memory_size (map base_of bases) i (base_of d) (omega (arith, length-map bases base_of)) in
-    let so_far : total ≡ sum_by memory_size (take i (map base_of bases)) = rw view is in
-    let next : size ≡ memory_size (get_or (map base_of bases) i (base_of d)) = rw base here in
-    rw (← view) (omega arith)
+    rw (is, here, ← view, ← get_or-map base_of bases i d (base_of d) lt)
+    (sym (sum_by_more memory_size (map base_of bases) i (base_of d) (omega (arith, length-map bases base_of))))
 
 -- ---- places
 

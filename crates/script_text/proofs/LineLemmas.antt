@@ -1,9 +1,8 @@
 -- A text up to its first line feed, and after it.
-use Rattle.board_prelude.proofs.Common.{nat_tests}
+use Rattle.board_prelude.proofs.Common.{nat_tests, position_or_len, onto_first, eqb-true, take_rest, common_steps}
+use Rattle.board_prelude.proofs.Common.{All-head, All-tail}
 use Rattle.std.proofs.Common.{◌≡◌, ℕ, ◌+◌, ◌<◌, ◌-◌, Bool, true, false, cond, eqb, Some, None, List, [], ◌∷◌, ◌++◌}
 use Rattle.std.proofs.Common.{length, get_or, take, drop, refl, sym, ap, subst, ◌∙◌, All, arith}
-use Rattle.board_prelude.proofs.Common.{position_or_len, onto_first, eqb-true, take_rest, common_steps, All-head}
-use Rattle.board_prelude.proofs.Common.{All-tail}
 use Rattle.std.specs.List.{before_first, after_first}
 use Rattle.std.proofs.lemmas.Grind.{get_or_default_zero}
 use Rattle.std.proofs.lemmas.List.Sums.{split_at_first, fails_before_first, passes_at_first, position_or_len_is}

@@ -1,88 +1,59 @@
 -- The least reason for an item, by what is kept of the lines before it.
-use Rattle.board_prelude.proofs.Common.{common_steps}
-use Rattle.board_prelude.proofs.Common.{nat_tests}
+use Rattle.board_prelude.proofs.Common.{common_steps, nat_tests, option_map, find, list_any, false≢true, lt-ltb}
+use Rattle.board_prelude.proofs.Common.{leb-true, or_right, and_parts, none-some, sum_by-append, sum_by-cons, Event}
+use Rattle.board_prelude.proofs.Common.{Pulses, FittedCard, memory_size, memory_of_cards}
 use Rattle.std.proofs.Common.{ℕ, ◌≡◌, ◌+◌, ◌<◌, ◌≤◌, Bool, true, false, not, ◌&&◌, ◌||◌, Option, Some, None, Result, Ok}
 use Rattle.std.proofs.Common.{Err, List, [], ◌∷◌, length, filter, flat_map, sum_by, refl, sym, ap, ◌∙◌, arith, ◌==◌}
 use Rattle.std.proofs.Common.{nat_le, nat_lt, is_some, if◌then◌else◌}
-use Rattle.board_prelude.proofs.Common.{option_map, find, list_any, false≢true, le-ltb, lt-ltb, leb-true, or_right}
-use Rattle.board_prelude.proofs.Common.{and_parts, none-some, sum_by-append, sum_by-cons, Event}
-use Rattle.board_prelude.proofs.Common.{Pulses, Time, Stimulus, event_applied, Statement, FittedCard, memory_size}
-use Rattle.board_prelude.proofs.Common.{memory_of_cards}
 use Rattle.std.specs.Result.{IsErr, IsErrAnd}
 use Rattle.std.proofs.lemmas.List.Sorted.{list_any-IsPermutation}
-use Rattle.script_spec.specs.Common.{Item, SetCpus, SetMemory, SetRom, SetDisk, FitCard, BeginPhase, Ask, AskLevel}
-use Rattle.script_spec.specs.Common.{reason, is_phase, is_statement, is_setup, is_cpus, is_memory, is_rom, is_disk}
-use Rattle.script_spec.specs.Common.{is_cpus_above, cards_of, has_card, has_setup, lacks_setup, is_misplaced}
-use Rattle.script_spec.specs.Common.{is_repeated, is_event_in_range, is_in_range, is_placed, is_there, pulses_of_event}
-use Rattle.script_spec.specs.Common.{pulses_of, passes_limits, least_reason, ask}
+use Rattle.script_spec.specs.Common.{Item, SetCpus, SetMemory, SetRom, SetDisk, FitCard, BeginPhase, reason, is_phase}
+use Rattle.script_spec.specs.Common.{is_statement, is_setup, is_cpus, is_memory, is_rom, is_disk, cards_of, has_card}
+use Rattle.script_spec.specs.Common.{has_setup, lacks_setup, is_misplaced, is_repeated, is_event_in_range, is_in_range}
+use Rattle.script_spec.specs.Common.{is_placed, is_there, pulses_of_event, pulses_of, passes_limits, least_reason, ask}
 use Rattle.script_spec.proofs.ReadingLaws.{same_some}
-use Rattle.script_spec.proofs.LeastReasons.{first_is}
+use Rattle.script_spec.proofs.LeastReasons.{first_is, first_of}
 use Rattle.script_lines.specs.declared.item.Asked.{Asked}
-use Rattle.script_lines.specs.declared.item.Asked.TheVariants.{Event as AnEvent, Moment as AMoment, Stimulus as Applies}
-use Rattle.script_lines.specs.Items.{asked_said, moment_said}
+use Rattle.script_lines.specs.Items.{asked_said}
 use Rattle.script_text.specs.declared.fault.Reason.{Reason}
 use Rattle.script_text.specs.declared.reading.Reading.{Reading}
-use Rattle.script_text.specs.Common.{in_case, number_of, is_below, IsReadingOf, Judges, Stands}
+use Rattle.script_text.specs.Common.{in_case, number_of, IsReadingOf, Judges, Stands}
 
 -- ---- of several reasons the least
 
-pub misplaced : (items : List Item) (item : Item) → is_misplaced items item ≡ true → least_reason items item ≡ Some 4
-misplaced items item ea = first_is true _ _ _ _ _ _ items item ea refl refl refl refl refl refl
+module _ (items : List Item) (item : Item) where
+  pub misplaced : is_misplaced items item ≡ true → least_reason items item ≡ Some 4
+  misplaced ea = first_is true _ _ _ _ _ _ items item ea refl refl refl refl refl refl
 
-pub repeated :
-    (items : List Item) (item : Item) → is_misplaced items item ≡ false → is_repeated items item ≡ true →
-    least_reason items item ≡ Some 5
-repeated items item ea eb = first_is false true _ _ _ _ _ items item ea eb refl refl refl refl refl
+  module _ (ea : is_misplaced items item ≡ false) where
+    pub repeated : is_repeated items item ≡ true → least_reason items item ≡ Some 5
+    repeated eb = first_is false true _ _ _ _ _ items item ea eb refl refl refl refl refl
 
-pub no_setup :
-    (items : List Item) (item : Item) → is_misplaced items item ≡ false → is_repeated items item ≡ false →
-    (is_phase item && lacks_setup items) ≡ true → least_reason items item ≡ Some 6
-no_setup items item ea eb ec = first_is false false true _ _ _ _ items item ea eb ec refl refl refl refl
+    module _ (eb : is_repeated items item ≡ false) where
+      pub no_setup : (is_phase item && lacks_setup items) ≡ true → least_reason items item ≡ Some 6
+      no_setup ec = first_is false false true _ _ _ _ items item ea eb ec refl refl refl refl
 
-pub out_of_range :
-    (items : List Item) (item : Item) → is_misplaced items item ≡ false → is_repeated items item ≡ false →
-    (is_phase item && lacks_setup items) ≡ false → is_in_range item ≡ false → least_reason items item ≡ Some 7
-out_of_range items item ea eb ec ed = first_is false false false false _ _ _ items item ea eb ec ed refl refl refl
+      module _ (ec : (is_phase item && lacks_setup items) ≡ false) where
+        pub out_of_range : is_in_range item ≡ false → least_reason items item ≡ Some 7
+        out_of_range ed = first_is false false false false _ _ _ items item ea eb ec ed refl refl refl
 
-pub not_placed :
-    (items : List Item) (item : Item) → is_misplaced items item ≡ false → is_repeated items item ≡ false →
-    (is_phase item && lacks_setup items) ≡ false → is_in_range item ≡ true → is_placed item ≡ false →
-    least_reason items item ≡ Some 8
-not_placed items item ea eb ec ed ee = first_is false false false true false _ _ items item ea eb ec ed ee refl refl
+        module _ (ed : is_in_range item ≡ true) (ee : is_placed item ≡ true) (ef : is_there items item ≡ true) where
+          pub past_limit : passes_limits (item ∷ items) ≡ true → least_reason items item ≡ Some 10
+          past_limit eg = first_is false false false true true true true items item ea eb ec ed ee ef eg
 
-pub not_there :
-    (items : List Item) (item : Item) → is_misplaced items item ≡ false → is_repeated items item ≡ false →
-    (is_phase item && lacks_setup items) ≡ false → is_in_range item ≡ true → is_placed item ≡ true →
-    is_there items item ≡ false → least_reason items item ≡ Some 9
-not_there items item ea eb ec ed ee ef = first_is false false false true true false _ items item ea eb ec ed ee ef refl
-
-pub past_limit :
-    (items : List Item) (item : Item) → is_misplaced items item ≡ false → is_repeated items item ≡ false →
-    (is_phase item && lacks_setup items) ≡ false → is_in_range item ≡ true → is_placed item ≡ true →
-    is_there items item ≡ true → passes_limits (item ∷ items) ≡ true → least_reason items item ≡ Some 10
-past_limit items item ea eb ec ed ee ef eg = first_is false false false true true true true items item ea eb ec ed ee ef
-    eg
-
-pub no_reason :
-    (items : List Item) (item : Item) → is_misplaced items item ≡ false → is_repeated items item ≡ false →
-    (is_phase item && lacks_setup items) ≡ false → is_in_range item ≡ true → is_placed item ≡ true →
-    is_there items item ≡ true → passes_limits (item ∷ items) ≡ false → least_reason items item ≡ None
-no_reason items item ea eb ec ed ee ef eg = first_is false false false true true true false items item ea eb ec ed ee ef
-    eg
+          pub no_reason : passes_limits (item ∷ items) ≡ false → least_reason items item ≡ None
+          no_reason eg = first_is false false false true true true false items item ea eb ec ed ee ef eg
 
 -- ---- places
 
 neither : (phase statement : Bool) → not (phase || statement) ≡ true → (phase ≡ false) × (statement ≡ false)
-neither false false setup = (refl, refl)
-neither true statement setup = absurd (false≢true setup)
-neither false true setup = absurd (false≢true setup)
+neither phase statement setup = grind (arith, nat_tests)
 
 -- a line of the setup stands before the first phase
 pub setup_place :
     (items : List Item) (item : Item) (any : Bool) → is_setup item ≡ true → list_any is_phase items ≡ any →
     is_misplaced items item ≡ any
-setup_place items item true setup e = rw (e, setup) refl
-setup_place items item false setup e = rw e (neither (is_phase item) (is_statement item) setup).1
+setup_place items item any setup e = grind (arith, nat_tests)
 
 pub begun_setup : (items : List Item) (item : Item) → is_setup item ≡ true
     → (is_phase item && lacks_setup items) ≡ false
@@ -92,45 +63,25 @@ begun_setup items item setup = rw (neither (is_phase item) (is_statement item) s
 pub statement_place :
     (items : List Item) (item : Item) (any : Bool) → is_setup item ≡ false → is_statement item ≡ true →
     list_any is_phase items ≡ any → is_misplaced items item ≡ not any
-statement_place items item true setup statement e = rw (e, setup) refl
-statement_place items item false setup statement e = rw (e, statement) refl
-
-phase_place : (items : List Item) (any : Bool) → list_any is_phase items ≡ any → is_misplaced items BeginPhase ≡ false
-phase_place items true e = rw e refl
-phase_place items false e = rw e refl
+statement_place items item any setup statement e = grind (arith, nat_tests)
 
 pub phase_placed : (items : List Item) → is_misplaced items BeginPhase ≡ false
-phase_placed items = phase_place items (list_any is_phase items) refl
-
-lacks_of : (any has : Bool) → (any ≡ true → has ≡ true) → (not any && not has) ≡ not has
-lacks_of false has whole = refl
-lacks_of true has whole = rw (whole refl) refl
+phase_placed items = grind (arith, nat_tests)
 
 -- the setup is whole by the first phase
 pub lacks_is : (items : List Item) → (list_any is_phase items ≡ true → has_setup items ≡ true) →
     lacks_setup items ≡ not (has_setup items)
-lacks_is items whole = lacks_of (list_any is_phase items) (has_setup items) whole
+lacks_is items whole = grind (arith, nat_tests)
 
 -- ---- what is kept
 
-any_more : {X : Type 0} (p : X → Bool) (test : Bool) (x : X) (xs : List X) → list_any p xs ≡ is_some (find p xs) →
-    (test || list_any p xs) ≡ is_some (if test then Some x else find p xs)
-any_more p true x xs later = refl
-any_more p false x xs later = later
-
 any_found : {X : Type 0} (p : X → Bool) (xs : List X) → list_any p xs ≡ is_some (find p xs)
 any_found p [] = refl
-any_found p (x ∷ xs) = any_more p (p x) x xs (any_found p xs)
-
-any_counted_more : {X : Type 0} (p : X → Bool) (test : Bool) (x : X) (xs : List X) →
-    list_any p xs ≡ nat_lt 0 (length (filter p xs)) →
-    (test || list_any p xs) ≡ nat_lt 0 (length (if test then x ∷ filter p xs else filter p xs))
-any_counted_more p true x xs later = sym (lt-ltb 0 (length (x ∷ filter p xs)) (omega arith))
-any_counted_more p false x xs later = later
+any_found p (x ∷ xs) = grind (arith, nat_tests, any_found p xs)
 
 any_counted : {X : Type 0} (p : X → Bool) (xs : List X) → list_any p xs ≡ nat_lt 0 (length (filter p xs))
 any_counted p [] = refl
-any_counted p (x ∷ xs) = any_counted_more p (p x) x xs (any_counted p xs)
+any_counted p (x ∷ xs) = grind (arith, nat_tests, any_counted p xs)
 
 some_mapped : {X Y : Type 0} (f : X → Y) (o : Option X) → is_some (option_map f o) ≡ is_some o
 some_mapped f None = refl
@@ -140,54 +91,30 @@ found : {X : Type 0} (p : Item → Bool) (f : X → Item) (items : List Item) (k
     find p items ≡ option_map f kept → list_any p items ≡ is_some kept
 found p f items kept e = any_found p items ∙ ap (λ o. is_some o) e ∙ some_mapped f kept
 
-pub phase_kept : (items : List Item) (reading : Reading) → IsReadingOf items reading →
-    list_any is_phase items ≡ nat_lt 0 (length reading.phases.items)
-phase_kept items reading is = any_counted is_phase items ∙ ap (nat_lt 0) is.count
+module _ (items : List Item) (reading : Reading) (is : IsReadingOf items reading) where
+  pub phase_kept : list_any is_phase items ≡ nat_lt 0 (length reading.phases.items)
+  phase_kept = any_counted is_phase items ∙ ap (nat_lt 0) is.count
 
-pub cpus_kept : (items : List Item) (reading : Reading) → IsReadingOf items reading →
-    list_any is_cpus items ≡ is_some reading.cpus
-cpus_kept items reading is = found is_cpus SetCpus items reading.cpus is.cpus
+  pub cpus_kept : list_any is_cpus items ≡ is_some reading.cpus
+  cpus_kept = found is_cpus SetCpus items reading.cpus is.cpus
 
-pub memory_kept : (items : List Item) (reading : Reading) → IsReadingOf items reading →
-    list_any is_memory items ≡ is_some reading.mib
-memory_kept items reading is = found is_memory SetMemory items reading.mib is.mib
+  pub memory_kept : list_any is_memory items ≡ is_some reading.mib
+  memory_kept = found is_memory SetMemory items reading.mib is.mib
 
-pub rom_kept : (items : List Item) (reading : Reading) → IsReadingOf items reading →
-    list_any is_rom items ≡ is_some reading.rom
-rom_kept items reading is = found is_rom SetRom items reading.rom is.rom
+  pub rom_kept : list_any is_rom items ≡ is_some reading.rom
+  rom_kept = found is_rom SetRom items reading.rom is.rom
 
-pub disk_kept : (items : List Item) (reading : Reading) → IsReadingOf items reading →
-    list_any is_disk items ≡ is_some reading.disk
-disk_kept items reading is = found is_disk SetDisk items reading.disk is.disk
+  pub disk_kept : list_any is_disk items ≡ is_some reading.disk
+  disk_kept = found is_disk SetDisk items reading.disk is.disk
 
-pub setup_kept : (items : List Item) (reading : Reading) → IsReadingOf items reading →
-    has_setup items ≡ (is_some reading.cpus && is_some reading.mib && is_some reading.rom)
-setup_kept items reading is = rw (cpus_kept items reading is, memory_kept items reading is, rom_kept items reading is)
-    refl
+  pub setup_kept : has_setup items ≡ (is_some reading.cpus && is_some reading.mib && is_some reading.rom)
+  setup_kept = rw (cpus_kept, memory_kept, rom_kept) refl
 
-pub actor_kept : (items : List Item) (reading : Reading) (actor : ℕ) → IsReadingOf items reading →
-    list_any (is_cpus_above actor) items ≡ is_below actor reading.cpus
-actor_kept items reading actor is = is.actors actor
-
-pub card_kept : (items : List Item) (reading : Reading) (dev : ℕ) → IsReadingOf items reading →
-    has_card items dev ≡ list_any (λ card. card.dev == dev) reading.cards.items
-card_kept items reading dev is = list_any-IsPermutation (λ card. card.dev == dev) (cards_of items) reading.cards.items
-    is.cards
+  pub card_kept : (dev : ℕ) → has_card items dev ≡ list_any (λ card. card.dev == dev) reading.cards.items
+  card_kept dev =
+      list_any-IsPermutation (λ card. card.dev == dev) (cards_of items) reading.cards.items is.cards
 
 -- ---- statements
-
-of_level : (P : Item → Type 0) (off on : Bool) (low high other : Item) → P low → P high → P other →
-    P (if off then low else if on then high else other)
-of_level P true on low high other p q r = p
-of_level P false true low high other p q r = q
-of_level P false false low high other p q r = r
-
-asked_all : (P : Item → Type 0) → ((statement : Statement) → P (Ask statement)) →
-    ((actor : ℕ) (one : Stimulus) (number level : ℕ) → P (AskLevel actor one number level)) →
-    (actor : ℕ) (asked : Asked) → P (asked_said actor asked)
-asked_all P asks levels actor (AnEvent event) = asks (record { actor = actor; event = event })
-asked_all P asks levels actor (AMoment moment) = asks (record { actor = actor; event = Time (moment_said moment) })
-asked_all P asks levels actor (Applies one number level) = grind (arith, nat_tests)
 
 -- of what a statement asks, in range or not
 pub asked_place : (items : List Item) (actor : ℕ) (asked : Asked) (any : Bool) → list_any is_phase items ≡ any →
@@ -196,16 +123,15 @@ asked_place items actor asked any e = grind (arith, nat_tests)
 
 pub asked_repeated : (items : List Item) (actor : ℕ) (asked : Asked)
     → is_repeated items (asked_said actor asked) ≡ false
-asked_repeated items actor asked =
-    asked_all (λ item. is_repeated items item ≡ false) (λ statement. refl) (λ n one number level. refl) actor asked
+asked_repeated items actor asked = grind (arith, nat_tests)
 
 pub asked_begun : (items : List Item) (actor : ℕ) (asked : Asked) →
     (is_phase (asked_said actor asked) && lacks_setup items) ≡ false
 asked_begun items actor asked = grind (arith, nat_tests)
 
-pub few_pulses : (event : Event) → is_event_in_range event ≡ true → pulses_of_event event ≤ 1_000_000
-few_pulses (Pulses count) e = leb-true count 1_000_000 (and_parts (nat_le 1 count) (nat_le count 1_000_000) e).1
-few_pulses _ e = omega arith
+few : (event : Event) → is_event_in_range event ≡ true → pulses_of_event event ≤ 1_000_000
+few (Pulses count) e = leb-true count 1_000_000 (and_parts (nat_le 1 count) (nat_le count 1_000_000) e).1
+few _ e = omega arith
 
 -- ---- numbers in range
 
@@ -226,11 +152,6 @@ past statements phases pulses memory =
 pub within : (statements phases pulses memory : ℕ) → statements ≤ 250_000 → phases ≤ 1_000 → pulses ≤ 100_000_000 →
     memory ≤ 0x400_0000 → past statements phases pulses memory ≡ false
 within statements phases pulses memory few_statements few_phases few_pulses little = grind (arith, nat_tests)
-
-only_two : (a b : Bool) → (a || false || b || false) ≡ (a || b)
-only_two true b = refl
-only_two false true = refl
-only_two false false = refl
 
 pub past_two : (statements phases pulses memory : ℕ) → phases ≤ 1_000 → memory ≤ 0x400_0000 →
     past statements phases pulses memory ≡ (nat_lt 250_000 statements || nat_lt 100_000_000 pulses)
@@ -271,6 +192,31 @@ pub limits_with : (items : List Item) (reading : Reading) (item : Item) → IsRe
     ≡ past (one_more (is_statement item) reading.statements) (one_more (is_phase item) (length reading.phases.items))
     (pulses_of item + reading.pulses) (memory_with item reading.memory)
 limits_with items reading item is = grind (arith, nat_tests, common_steps, count_more, sum_by-cons, memory_more)
+
+-- of an event in range
+module _ (actor : ℕ) (asked : Asked) (event : Event)
+    (valid : Some (ask actor event) ≡ in_case (is_in_range (asked_said actor asked)) (asked_said actor asked)) where
+  pub few_pulses : pulses_of_event event ≤ 1_000_000
+  few_pulses = let read = some_in_case _ _ _ valid in few event (ap is_in_range read.1 ∙ read.0)
+
+  -- the least reason, of those that are left after a `phase`
+  pub asked_reason : (items : List Item) → list_any is_phase items ≡ true → (placed there past : Bool) →
+      is_placed (ask actor event) ≡ placed → is_there items (ask actor event) ≡ there →
+      passes_limits (ask actor event ∷ items) ≡ past →
+      least_reason items (asked_said actor asked) ≡ first_of false false false false (not placed) (not there) past
+  asked_reason items begun placed there past ee ef eg =
+      let read = some_in_case _ _ _ valid in
+      ap (least_reason items) (sym read.1)
+      ∙ first_is false false false true placed there past items (ask actor event)
+      (statement_place items (ask actor event) true refl refl begun) refl refl (ap is_in_range read.1 ∙ read.0) ee ef eg
+
+  pub asked_limits : (items : List Item) (reading : Reading) → IsReadingOf items reading →
+      passes_limits (ask actor event ∷ items)
+      ≡ (nat_lt 250_000 (reading.statements + 1) || nat_lt 100_000_000 (pulses_of_event event + reading.pulses))
+  asked_limits items reading is =
+      limits_with items reading (ask actor event) is
+      ∙ past_two (reading.statements + 1) (length reading.phases.items) (pulses_of_event event + reading.pulses)
+      reading.memory is.limits.phases is.limits.memory
 
 pub setup_within : (items : List Item) (reading : Reading) (item : Item) → IsReadingOf items reading →
     is_setup item ≡ true → pulses_of item ≡ 0 →

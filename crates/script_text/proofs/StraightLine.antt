@@ -1,17 +1,12 @@
 -- A line that is read straight.
-use Rattle.board_prelude.proofs.Common.{nat_tests}
-use Rattle.std.proofs.Common.{◌≡◌, ℕ, true, false, Some, None, List, [], ◌∷◌, ◌++◌, Result, Ok, Err, OnOk, IfErr, refl}
-use Rattle.std.proofs.Common.{ap, ◌∙◌, inl, inr, leb, All, arith, decimal}
-use Rattle.board_prelude.proofs.Common.{AllZip, All-nil, All-cons, and_parts, leb-true, ne_eqb, Event, space}
-use Rattle.board_prelude.proofs.Common.{event_text}
-use Rattle.script_spec.specs.Common.{lines_of, Item, StandsFor, HasForm, item_text, ask, AreRead, IsBadLine}
-use Rattle.script_spec.specs.Common.{least_reason}
+use Rattle.board_prelude.proofs.Common.{nat_tests, AllZip, All-nil, All-cons, Event, space, event_text}
+use Rattle.std.proofs.Common.{◌≡◌, ℕ, true, false, None, List, [], ◌∷◌, ◌++◌, Result, Ok, Err, OnOk, refl, ap, ◌∙◌, inl}
+use Rattle.std.proofs.Common.{inr, All, arith, decimal}
+use Rattle.script_spec.specs.Common.{lines_of, Item, StandsFor, HasForm, item_text, ask, AreRead, least_reason}
 use Rattle.script_spec.proofs.Common.{lacks, lacks-first, lacks-later, lacks-append, lacks-word, lacks-plain}
 use Rattle.script_spec.proofs.Common.{decimal_word, event_plain}
-use Rattle.script_text.specs.declared.fault.ScriptFault.{ScriptFault}
-use Rattle.script_text.specs.declared.fault.ScriptFault.TheVariants.{Bad, NoMemory}
 use Rattle.script_text.specs.declared.reading.Reading.{Reading}
-use Rattle.script_text.specs.Common.{OnBad, IsReadingOf}
+use Rattle.script_text.specs.Common.{IsReadingOf}
 use Rattle.script_text.specs.Straight.{IsStraight}
 use Rattle.script_text.proofs.LineLemmas.{is_feed, line_ended}
 
@@ -59,16 +54,3 @@ pub line_taken : {T E : Type 0} (r : Result T E) (version : ℕ) (line : List �
     → (more : List Item) × IsReadingOf more new × AreRead version items (line ∷ []) more)
 line_taken (Ok x) version line actor event old new is taken = grind (arith, nat_tests)
 line_taken (Err e) version line actor event old new is taken = tt
-
--- and where it is refused, the line is bad
-pub line_refused :
-    {T : Type 0} (r : Result T ScriptFault) (version number : ℕ) (line : List ℕ) (actor : ℕ) (event : Event)
-    (old : Reading)
-    → IsStraight version line actor event
-    → IfErr r (λ fault. OnBad fault (λ place why. (place ≡ number)
-    × ((items : List Item) → IsReadingOf items old → least_reason items (ask actor event) ≡ Some why)))
-    → IfErr r (λ fault. OnBad fault (λ place why. (place ≡ number)
-    × ((items : List Item) → IsReadingOf items old → IsBadLine version items line why)))
-line_refused (Ok x) version number line actor event old is bad = tt
-line_refused (Err (Bad place why)) version number line actor event old is bad = grind (arith, nat_tests)
-line_refused (Err NoMemory) version number line actor event old is bad = tt

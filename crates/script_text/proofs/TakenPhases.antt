@@ -1,12 +1,10 @@
 -- What `phase` and statements add to what is kept.
-use Rattle.board_prelude.proofs.Common.{common_steps}
-use Rattle.board_prelude.proofs.Common.{nat_tests}
+use Rattle.script_text.proofs.TakenSetup.{no_pulses}
+use Rattle.board_prelude.proofs.Common.{common_steps, nat_tests, list_any, false≢true, map-append, map-set, get_or-map}
+use Rattle.board_prelude.proofs.Common.{length-map, sum_by-cons, get_or-append_seam, Statement}
 use Rattle.std.proofs.Common.{◌≡◌, ℕ, ◌+◌, ◌-◌, ◌<◌, ◌≤◌, true, false, not, List, [], ◌∷◌, ◌++◌, Vec, Global, vec_len}
-use Rattle.std.proofs.Common.{length, get_or, map, filter, set, sum_by, refl, sym, ap, ◌∙◌, inl, inr, arith}
-use Rattle.std.proofs.Common.{length-append, append_assoc}
-use Rattle.board_prelude.proofs.Common.{list_any, true≢false, false≢true, cases_Bool, or_parts, ltb-false, not-false}
-use Rattle.board_prelude.proofs.Common.{map-append, map-set, get_or-map, length-map, sum_by-cons, get_or-append_seam}
-use Rattle.board_prelude.proofs.Common.{Statement}
+use Rattle.std.proofs.Common.{length, get_or, filter, set, sum_by, refl, sym, ap, ◌∙◌, arith, length-append, reverse}
+use Rattle.std.proofs.Common.{append_assoc}
 use Rattle.std.proofs.Math.Seq.{set-append_seam}
 use Rattle.script_spec.specs.Common.{Item, BeginPhase, Ask, is_phase, is_statement, is_setup, has_setup, pulses_of}
 use Rattle.script_spec.specs.Common.{pulses_of_event, passes_limits, phase_items, lists_of}
@@ -49,33 +47,20 @@ phase_taken old phases empty nothing longer items is least =
     let many : length phases.items ≡ length old.phases.items + 1 =
     ap length longer ∙ length-append old.phases.items (empty ∷ []) in
     let lists : lists_of phases.items ≡ lists_of old.phases.items ++ [] ∷ [] =
-    ap lists_of longer
-    ∙ map-append list_of old.phases.items (empty ∷ [])
-    ∙ ap (λ (last : List Statement). lists_of old.phases.items ++ last ∷ []) nothing in
-    record {
-      cpus = is.cpus;
-      actors = is.actors;
-      mib = is.mib;
-      rom = is.rom;
-      disk = is.disk;
-      cards = is.cards;
-      rises = is.rises;
-      memory = is.memory;
-      statements = is.statements;
-      pulses = sum_by-cons pulses_of BeginPhase items ∙ omega (arith, is.pulses);
-      count = omega (arith, many, is.count);
-      phases = reverse_more BeginPhase (filter (λ item. not (is_setup item)) items)
-          ∙ ap (λ (items : List Item). items ++ BeginPhase ∷ []) is.phases
-          ∙ sym (phases_more (lists_of old.phases.items) [])
-          ∙ ap phase_items (sym lists);
-      whole = λ begun. setup_whole items is.whole none;
-      limits = record {
-        statements = is.limits.statements;
-        phases = omega (arith, many, is.count, limits.phases);
-        pulses = is.limits.pulses;
-        memory = is.limits.memory;
-      };
-    }
+    rw (longer, map-append list_of old.phases.items (empty ∷ []), nothing) refl in
+    let count : length (filter is_phase (BeginPhase ∷ items)) ≡ length phases.items = omega (arith, many, is.count) in
+    let spelled : reverse (filter (λ item. not (is_setup item)) (BeginPhase ∷ items))
+    ≡ phase_items (lists_of phases.items) =
+    reverse_more BeginPhase (filter (λ item. not (is_setup item)) items)
+    ∙ rw (is.phases, lists, phases_more (lists_of old.phases.items) []) refl in
+    let few : length phases.items ≤ 1_000 = omega (arith, count, limits.phases) in
+    assumption (
+      count,
+      spelled,
+      few,
+      setup_whole items is.whole none,
+      no_pulses items BeginPhase old.pulses refl is.pulses,
+    )
 
 -- ---- statements
 
@@ -92,15 +77,9 @@ last_longer phases front last old new statement are here longer =
     let found : old.items ≡ last =
     ap list_of here
     ∙ sym (get_or-map list_of phases.items (vec_len phases - 1) old old.items (omega (arith, place, count)))
-    ∙ ap (λ (lists : List (List Statement)). get_or lists (vec_len phases - 1) old.items) are
-    ∙ ap (λ n. get_or (front ++ last ∷ []) n old.items) place
-    ∙ get_or-append_seam front last [] old.items in
-    map-set list_of phases.items (vec_len phases - 1) new
-    ∙ ap (λ (lists : List (List Statement)). set lists (vec_len phases - 1) new.items) are
-    ∙ ap (λ n. set (front ++ last ∷ []) n new.items) place
-    ∙ set-append_seam front last [] new.items
-    ∙ ap (λ (items : List Statement). front ++ items ∷ []) longer
-    ∙ ap (λ (items : List Statement). front ++ (items ++ statement ∷ []) ∷ []) found
+    ∙ rw (are, place) (get_or-append_seam front last [] old.items) in
+    rw (map-set list_of phases.items (vec_len phases - 1) new, are, place, longer, found)
+    (set-append_seam front last [] (last ++ statement ∷ []))
 
 -- a phase has begun
 has_begun : (items : List Item) (statement : Statement) → NoReason items (Ask statement) →
@@ -109,8 +88,7 @@ has_begun items statement none = grind (arith, nat_tests)
 
 some_phase : (items : List Item) → list_any is_phase items ≡ true → 0 < length (filter is_phase items)
 some_phase [] any = absurd (false≢true any)
-some_phase (BeginPhase ∷ before) any = omega arith
-some_phase (item ∷ before) any = some_phase before any
+some_phase (item ∷ before) any = grind (arith, nat_tests, some_phase before)
 
 record IsLast (phases : List (List Statement)) : Type 0 where
   front : List (List Statement)
@@ -121,12 +99,8 @@ last_of : (phases : List (List Statement)) → 0 < length phases → IsLast phas
 last_of [] some = absurd (omega (arith, some))
 last_of (phase ∷ []) some = record { front = []; last = phase; is = refl }
 last_of (phase ∷ next ∷ later) some =
-    let rest : IsLast (next ∷ later) = last_of (next ∷ later) (omega arith) in
-    record {
-      front = phase ∷ rest.front;
-      last = rest.last;
-      is = ap (λ (phases : List (List Statement)). phase ∷ phases) rest.is;
-    }
+    let rest = last_of (next ∷ later) (omega arith) in
+    record { front = phase ∷ rest.front; last = rest.last; is = rw rest.is refl }
 
 abbrev pub Grows : (old new : List (List Statement)) → Statement → Type 0
 Grows old new statement =
@@ -135,10 +109,7 @@ Grows old new statement =
 
 same_count : (old new : List (List Statement)) (statement : Statement) (last : IsLast old) → Grows old new statement →
     length new ≡ length old
-same_count old new statement last grows =
-    ap length (grows last.front last.last last.is)
-    ∙ length-append last.front ((last.last ++ statement ∷ []) ∷ [])
-    ∙ sym (ap length last.is ∙ length-append last.front (last.last ∷ []))
+same_count old new statement last grows = grind (arith, length-append, grows last.front last.last last.is, last.is)
 
 pub statement_taken :
     (old : Reading) (statement : Statement) (phases : Vec (Vec Statement Global) Global) (pulses : ℕ) →
@@ -164,27 +135,14 @@ statement_taken old statement phases pulses asked grows items is least =
     ∙ old_count in
     let total : sum_by pulses_of (Ask statement ∷ items) ≡ old.pulses + pulses =
     sum_by-cons pulses_of (Ask statement) items ∙ omega (arith, is.pulses, asked) in
-    record {
-      cpus = is.cpus;
-      actors = is.actors;
-      mib = is.mib;
-      rom = is.rom;
-      disk = is.disk;
-      cards = is.cards;
-      rises = is.rises;
-      memory = is.memory;
-      statements = omega (arith, is.statements);
-      pulses = total;
-      count = is.count ∙ sym many;
-      phases = reverse_more (Ask statement) (filter (λ item. not (is_setup item)) items)
-          ∙ ap (λ (items : List Item). items ++ Ask statement ∷ []) (is.phases ∙ ap phase_items last.is)
-          ∙ sym (statements_more last.front last.last statement)
-          ∙ ap phase_items (sym longer);
-      whole = is.whole;
-      limits = record {
-        statements = omega (arith, is.statements, limits.statements);
-        phases = rw many is.limits.phases;
-        pulses = rw (← total) limits.pulses;
-        memory = is.limits.memory;
-      };
-    }
+    let more : length (filter is_statement (Ask statement ∷ items)) ≡ old.statements + 1 =
+    omega (arith, is.statements) in
+    let count : length (filter is_phase items) ≡ length phases.items = is.count ∙ sym many in
+    let spelled : reverse (filter (λ item. not (is_setup item)) (Ask statement ∷ items))
+    ≡ phase_items (lists_of phases.items) =
+    reverse_more (Ask statement) (filter (λ item. not (is_setup item)) items)
+    ∙ rw (is.phases, last.is, longer, statements_more last.front last.last statement) refl in
+    let few : old.statements + 1 ≤ 250_000 = omega (arith, more, limits.statements) in
+    let begun : length phases.items ≤ 1_000 = rw many is.limits.phases in
+    let less : old.pulses + pulses ≤ 100_000_000 = rw (← total) limits.pulses in
+    assumption (more, count, spelled, total, few, begun, less)

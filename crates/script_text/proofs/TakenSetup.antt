@@ -1,14 +1,13 @@
 -- What the lines of the setup add to what is kept.
-use Rattle.board_prelude.proofs.Common.{nat_tests}
-use Rattle.std.proofs.Common.{◌≡◌, ℕ, ◌+◌, ◌<◌, ◌≤◌, ◌≢◌, true, false, Some, List, [], ◌∷◌, Vec, Global, get_or, insert}
-use Rattle.std.proofs.Common.{sum_by, All, refl, sym, ap, ◌∙◌, inl, inr, arith, one-add, nat_lt, ◌==◌}
-use Rattle.board_prelude.proofs.Common.{list_any, position_or_len, IsPermutation, true≢false, cases_Bool, or_parts}
+use Rattle.board_prelude.proofs.Common.{nat_tests, list_any, position_or_len, IsPermutation, true≢false, cases_Bool}
 use Rattle.board_prelude.proofs.Common.{ltb-true, ltb-false, eqb-false, All-nil, All-cons, All-head, All-tail}
 use Rattle.board_prelude.proofs.Common.{sum_by-cons, All-permutation, or-false, FittedCard, Rises, memory_size}
 use Rattle.board_prelude.proofs.Common.{memory_of_cards}
+use Rattle.std.proofs.Common.{◌≡◌, ℕ, ◌+◌, ◌<◌, ◌≤◌, ◌≢◌, true, false, Some, List, [], ◌∷◌, Vec, Global, get_or, insert}
+use Rattle.std.proofs.Common.{sum_by, All, refl, sym, ◌∙◌, inl, inr, arith, one-add, nat_lt, ◌==◌, Bool}
 use Rattle.std.proofs.lemmas.List.Sorted.{IsPermutation-trans, IsPermutation-cons, IsPermutation-insert}
 use Rattle.script_spec.specs.Common.{Item, SetCpus, FitCard, is_phase, is_setup, is_cpus, is_cpus_above, has_card}
-use Rattle.script_spec.specs.Common.{cards_of, pulses_of}
+use Rattle.script_spec.specs.Common.{cards_of, pulses_of, has_setup}
 use Rattle.script_spec.proofs.Common.{NoReason, no_reason, none_any}
 use Rattle.script_text.specs.declared.reading.Reading.{Reading}
 use Rattle.script_text.proofs.Reasons.{memory_cons}
@@ -19,6 +18,14 @@ no_phase : (items : List Item) (item : Item) → is_setup item ≡ true → NoRe
     list_any is_phase items ≡ false
 no_phase items item setup none = grind (arith, nat_tests)
 
+not_begun : (items : List Item) (item : Item) (has : Bool) → is_setup item ≡ true → NoReason items item →
+    list_any is_phase items ≡ true → has ≡ true
+not_begun items item has setup none begun = absurd (true≢false (sym begun ∙ no_phase items item setup none))
+
+pub no_pulses : (items : List Item) (item : Item) (pulses : ℕ) → pulses_of item ≡ 0 → sum_by pulses_of items ≡ pulses →
+    sum_by pulses_of (item ∷ items) ≡ pulses
+no_pulses items item pulses none kept = sum_by-cons pulses_of item items ∙ omega (arith, none, kept)
+
 -- ---- processors
 
 no_cpus : (items : List Item) (actor : ℕ) → list_any is_cpus items ≡ false →
@@ -27,30 +34,18 @@ no_cpus [] actor none = refl
 no_cpus (SetCpus count ∷ before) actor none = absurd (true≢false none)
 no_cpus (item ∷ before) actor none = no_cpus before actor none
 
+cpus_above : (items : List Item) (count : ℕ) → list_any is_cpus items ≡ false → (actor : ℕ) →
+    list_any (is_cpus_above actor) (SetCpus count ∷ items) ≡ nat_lt actor count
+cpus_above items count none actor = rw (no_cpus items actor none) (or-false (nat_lt actor count))
+
 pub cpus_taken : (old : Reading) (count : ℕ) → Takes old (SetCpus count) (record old { cpus = Some count })
 cpus_taken old count items is least =
-    let none : NoReason items (SetCpus count) = no_reason items (SetCpus count) least in
-    record {
-      cpus = refl;
-      actors = λ actor. rw (no_cpus items actor none.first) (or-false (nat_lt actor count));
-      mib = is.mib;
-      rom = is.rom;
-      disk = is.disk;
-      cards = is.cards;
-      rises = is.rises;
-      memory = is.memory;
-      statements = is.statements;
-      pulses = sum_by-cons pulses_of (SetCpus count) items ∙ omega (arith, is.pulses);
-      count = is.count;
-      phases = is.phases;
-      whole = λ begun. absurd (true≢false (sym begun ∙ no_phase items (SetCpus count) refl none));
-      limits = record {
-        statements = is.limits.statements;
-        phases = is.limits.phases;
-        pulses = is.limits.pulses;
-        memory = is.limits.memory;
-      };
-    }
+    let none = no_reason items (SetCpus count) least in
+    assumption (
+      cpus_above items count none.first,
+      no_pulses items (SetCpus count) old.pulses refl is.pulses,
+      not_begun items (SetCpus count) (has_setup (SetCpus count ∷ items)) refl none,
+    )
 
 -- ---- cards
 
@@ -125,32 +120,21 @@ pub card_taken :
     cards.items ≡ put card old.cards.items → memory ≡ sum_by memory_size card.bases →
     Takes old (FitCard card) (record old { cards = cards; memory = old.memory + memory })
 card_taken old card cards memory at_place decoded items is least =
-    let none : NoReason items (FitCard card) = no_reason items (FitCard card) least in
+    let none = no_reason items (FitCard card) least in
+    let same : IsPermutation (card ∷ cards_of items) cards.items =
+    rw at_place (IsPermutation-trans (card ∷ cards_of items) (card ∷ old.cards.items) (put card old.cards.items)
+    (IsPermutation-cons card (cards_of items) old.cards.items is.cards) (put_same card old.cards.items)) in
+    let rises : Rises cards.items =
+    rw at_place (put_rises card old.cards.items is.rises
+    (apart_from items old.cards.items card is.cards none.first)) in
     let total : memory_of_cards (card ∷ cards_of items) ≡ old.memory + memory =
     omega (arith, memory_cons card (cards_of items), is.memory, decoded) in
-    record {
-      cpus = is.cpus;
-      actors = is.actors;
-      mib = is.mib;
-      rom = is.rom;
-      disk = is.disk;
-      cards = rw at_place (
-          IsPermutation-trans (card ∷ cards_of items) (card ∷ old.cards.items) (put card old.cards.items)
-          (IsPermutation-cons card (cards_of items) old.cards.items is.cards) (put_same card old.cards.items)
-          );
-      rises = rw at_place (
-          put_rises card old.cards.items is.rises (apart_from items old.cards.items card is.cards none.first)
-          );
-      memory = total;
-      statements = is.statements;
-      pulses = sum_by-cons pulses_of (FitCard card) items ∙ omega (arith, is.pulses);
-      count = is.count;
-      phases = is.phases;
-      whole = λ begun. absurd (true≢false (sym begun ∙ no_phase items (FitCard card) refl none));
-      limits = record {
-        statements = is.limits.statements;
-        phases = is.limits.phases;
-        pulses = is.limits.pulses;
-        memory = rw (← total) (memory_within items card none);
-      };
-    }
+    let little : old.memory + memory ≤ 0x400_0000 = rw (← total) (memory_within items card none) in
+    assumption (
+      same,
+      rises,
+      total,
+      little,
+      no_pulses items (FitCard card) old.pulses refl is.pulses,
+      not_begun items (FitCard card) (has_setup (FitCard card ∷ items)) refl none,
+    )

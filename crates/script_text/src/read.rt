@@ -79,6 +79,7 @@ fn read_line(
 }
 
 /// Reads one line after the first as `read_line` does, where what it asks may be known already.
+#[tactic(auto, using(std::proofs::lemmas::Bool::Decides::nat_tests, crate::proofs::StraightLine::line_taken))]
 #[inline(always)]
 fn read_next(
     alloc: Global,

@@ -86,6 +86,7 @@ impl Reading {
     }
 
     /// Refuses a line of the setup after the first phase, or where one of its kind came before.
+    #[tactic(auto, using(std::proofs::lemmas::Bool::Decides::nat_tests, crate::proofs::Reasons::misplaced, crate::proofs::Reasons::repeated, crate::proofs::Reasons::setup_place,))]
     fn validate_setup(&self, came: bool) -> Result<(), Reason>
         ensures judged { (items : List Said) (item : Said) → IsReadingOf items self.now → is_setup item ≡ true
             → is_repeated items item ≡ came → Stands items item result }

@@ -27,6 +27,7 @@ fn index_for_card(cards: &[CardSpec], dev: u8) -> usize
 }
 
 /// Adds a statement to the last phase, where there is one.
+#[tactic(auto, using(std::proofs::lemmas::Bool::Decides::nat_tests, crate::proofs::TakenPhases::last_longer))]
 fn push_statement(phases: &mut Vec<Vec<Statement>>, statement: Statement) -> Result<(), AllocError>
     ensures phases { OnOk result ((front : List (List Statement)) (last : List Statement) →
         lists_of phases.old.items ≡ front ++ last ∷ [] →
@@ -83,6 +84,7 @@ impl Reading {
         Ok(())
     }
 
+    #[tactic(auto, using(std::proofs::lemmas::Bool::Decides::nat_tests, crate::proofs::TakenPhases::phase_taken))]
     fn take_phase(&mut self, alloc: Global) -> Result<(), AllocError>
         ensures taken { OnOk result (Takes self.old BeginPhase self.new) }
     {

@@ -4,7 +4,6 @@ pub mod CallProofs
 pub mod ControlProofs
 pub mod Loads
 pub mod CardLoads
-pub mod OverChipset
 pub mod StateFormat
 pub mod SerialStates
 mod SerialAlone

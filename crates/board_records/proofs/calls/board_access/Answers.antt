@@ -1,22 +1,21 @@
 use Rattle.std.proofs.Common.{◌∙◌, lit<, refl}
 use Rattle.board_chipset.specs.Common.{reply_of}
 use Rattle.uart_16550.specs.declared.com1.SerialReply.TheVariants.{Board as OfBoard}
-use Rattle.board_records.specs.Common.{after_step}
-use Rattle.board_records.proofs.AskedSteps.{bus_told, board_steps_are}
+use Rattle.board_records.proofs.AskedSteps.{board_steps_are}
 use Rattle.board_records.proofs.EventReplies.{after_as}
+use Rattle.board_records.specs.Replies.{record_said, serial_said}
 use Rattle.board_records.proofs.calls.board_access.Goals as goal
 
 pub returns : goal.returns
+unfolding serial_said record_said
 returns c =
     let step = c.port-said.ensures in
-    let said = c.port-said.result in
-    let old = c.args.serial.now in
     let new = c.port-said.new.self in
     record {
       done = record {
         can = c.requires.bus;
         setup = step.setup;
-        reply = OfBoard (reply_of said);
+        reply = OfBoard (reply_of c.port-said.result);
         answered = λ history left.
             let com1 = step.com1 history left in
             let gone = step.history history 0 (lit< tt) left in
@@ -25,11 +24,9 @@ returns c =
               com1 = com1;
               goes_on =
                   after_as new history _ _
-                  (board_steps_are old new.com1 history c.args.access.now c.requires.board com1) gone;
+                  (board_steps_are c.args.serial.now new.com1 history c.args.access.now c.requires.board com1) gone;
               told =
                   c.tell_cycle.ensures.said gone.after gone.left_at.left
-                  ∙ bus_told said.value said.target said.denial
-                  (after_step new.board.setup gone.after c.reset_by-reset.result new.com1)
                   ∙ rw (step.setup, c.reset_by-reset.ensures.kind history (rw c.board.ensures.board left.left)) refl;
             };
       };

@@ -8,8 +8,6 @@ pub returns : goal.returns
 returns c =
     let step = c.step-said.ensures in
     let event = c.args.event.now in
-    let old = c.args.serial.now in
-    let new = c.step-said.new.self in
     record {
       done = record {
         can = c.requires.in_range;
@@ -18,7 +16,9 @@ returns c =
         answered = λ history left.
             let gone = step.history history left in
             record {
-              answer = reply_is old history event (uart_access event) c.step-said.result left step.uart step.board;
+              answer =
+                  reply_is c.args.serial.now history event (uart_access event) c.step-said.result left step.uart
+                  step.board;
               com1 = step.com1 history left;
               goes_on = gone;
               told =

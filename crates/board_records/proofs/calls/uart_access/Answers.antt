@@ -1,20 +1,21 @@
 use Rattle.std.proofs.Common.{◌∙◌, refl}
 use Rattle.uart_16550.specs.Common.{from_uart}
-use Rattle.board_records.proofs.AskedSteps.{uart_told, uart_steps_are, uart_com1_is}
+use Rattle.board_records.proofs.AskedSteps.{uart_steps_are, uart_com1_is}
 use Rattle.board_records.proofs.EventReplies.{after_as}
+use Rattle.board_records.specs.Replies.{serial_said}
 use Rattle.board_records.proofs.calls.uart_access.Goals as goal
 
 pub returns : goal.returns
+unfolding serial_said
 returns c =
     let step = c.uart_access-said.ensures in
-    let said = c.uart_access-said.result in
     let old = c.args.serial.now in
     let new = c.uart_access-said.new.self in
     record {
       done = record {
         can = c.requires.bus;
         setup = step.setup;
-        reply = from_uart said;
+        reply = from_uart c.uart_access-said.result;
         answered = λ history left.
             let gone = step.history history left in
             record {
@@ -25,7 +26,6 @@ returns c =
                   (uart_steps_are old new.com1 history c.args.access.now c.requires.uart step.com1) gone;
               told =
                   c.tell_uart.ensures.said
-                  ∙ uart_told said.value said.sent c.after_step-after.result
                   ∙ rw (
                     c.after_step-after.ensures.after gone.after gone.left_at.left,
                     step.setup,

@@ -1,7 +1,7 @@
 use Rattle.std.proofs.Common.{[], sym, ◌∙◌}
 use Rattle.board_prelude.proofs.Common.{append-nil}
 use Rattle.uart_16550.specs.SerialState.{serial_bytes}
-use Rattle.board_records.proofs.Images.{last_exact, last_loaded, last_refused}
+use Rattle.board_records.proofs.Images.{last_exact, last_loaded}
 use Rattle.board_records.proofs.image.read_last.Goals as goal
 
 pub returns-in-Ok : goal.returns-in-Ok
@@ -12,8 +12,3 @@ returns-in-Ok c = record {
       last_exact c.alone.result c.in-Ok.behind behind c.read_state.new.fields c.alone.ensures.last
       (c.in-Ok.ensures.exact behind [] is same (begins ∙ sym (append-nil (serial_bytes behind.serial))));
 }
-
-pub returns-in-Err-clause-exact : goal.returns-in-Err-clause-exact
-returns-in-Err-clause-exact c behind is same begins =
-    last_refused c.in-Err.fault behind c.read_state.new.fields
-    (c.in-Err.ensures.exact behind [] is same (begins ∙ sym (append-nil (serial_bytes behind.serial))))

@@ -1,5 +1,5 @@
-use Rattle.std.proofs.Common.{◌-◌, length, drop, arith}
-use Rattle.board_prelude.proofs.Common.{length-take, length-drop}
+use Rattle.board_prelude.proofs.Common.{common_steps, nat_tests, length-take, length-drop}
+use Rattle.std.proofs.Common.{◌-◌, arith}
 use Rattle.std.proofs.lemmas.List.{take_rest}
 use Rattle.state_room.proofs.Puts.{put_length}
 use Rattle.board_records.proofs.SavedParts.{written_in_three}
@@ -12,16 +12,7 @@ pub put_dram-end-requires-clause-room : goal.put_dram-end-requires-clause-room
 put_dram-end-requires-clause-room c = omega (arith, length-take c.args.dram_at c.args.bytes.now)
 
 pub put-requires : goal.put-requires
-put-requires c = record {
-  room =
-      omega (
-        arith,
-        length-take c.args.dram_at c.args.bytes.now,
-        length-drop c.args.dram_at c.args.bytes.now,
-        length-take (length c.args.bytes.now - c.args.dram_at) (drop c.args.dram_at c.args.bytes.now),
-        put_length _ _ _ _ c.put_dram-end.ensures.put,
-      );
-}
+put-requires c = grind (arith, nat_tests, common_steps, length-take, length-drop, put_length)
 
 pub returns : goal.returns
 returns c = record {

@@ -1,4 +1,4 @@
-use Rattle.std.proofs.Common.{refl, sym, ◌∙◌}
+use Rattle.std.proofs.Common.{sym, ◌∙◌}
 use Rattle.bus_master.proofs.HeldTargets.{cards_fitted, held_at}
 use Rattle.bus_master.proofs.memory.write.Goals as goal
 
@@ -11,12 +11,3 @@ write_to-requires-clause-held c =
     held_at reached c.args.width c.requires.aligned c.target_in-target.result
     (c.target_in-target.ensures.target reached.setup reached.of.registers.cards.0
     (sym reached.of.rom ∙ sym c.deref.ensures.value))
-
-pub returns-clause-put : goal.returns-clause-put
-returns-clause-put c = λ setup bytes of reached cell there.
-    c.write_to.ensures.put setup of.memory of.contents cell there
-    ∙ rw (
-      c.target_in-target.ensures.target setup of.registers.cards.0
-          (sym of.rom ∙ sym c.deref.ensures.value),
-      reached,
-    ) refl

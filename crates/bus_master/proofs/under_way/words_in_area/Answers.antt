@@ -1,10 +1,6 @@
 use Rattle.std.proofs.Common.{sym, ◌∙◌, arith}
-use Rattle.bus_master.proofs.AreaLemmas.{in_area, first_in_area}
+use Rattle.bus_master.proofs.AreaLemmas.{in_area}
 use Rattle.bus_master.proofs.under_way.words_in_area.Goals as goal
-
-pub returns-then-contains-clause-area : goal.returns-then-contains-clause-area
-returns-then-contains-clause-area c = λ setup bytes kind i stands below.
-    first_in_area setup bytes c.args.addr kind (omega (arith, c.ranges.addr.fits)) i below
 
 pub returns-clause-area : goal.returns-clause-area
 returns-clause-area c = λ setup bytes kind i stands below.

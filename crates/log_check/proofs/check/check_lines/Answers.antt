@@ -1,8 +1,7 @@
-use Rattle.std.proofs.Common.{ℕ, ◌++◌, List, length, sym, ap, ◌∙◌, subst}
-use Rattle.board_prelude.proofs.Common.{Statement, Setup, IsLegal}
+use Rattle.std.proofs.Common.{ℕ, ◌++◌, List, length, sym, ap, ◌∙◌}
+use Rattle.board_prelude.proofs.Common.{Statement, Setup}
 use Rattle.log_check.specs.declared.fault.CheckFault.TheVariants.{NoMemory}
 use Rattle.script_spec.specs.Phases.{lists_of}
-use Rattle.log_check.specs.Walks.{FailedCheck}
 use Rattle.log_check.proofs.LineSteps.{handed_on}
 use Rattle.log_check.proofs.LogChecks.{known, failed_first, failed_heading, failed_within, passed, failed_end}
 use Rattle.log_check.proofs.LogChecks.{nothing_left, something_left}
@@ -20,12 +19,10 @@ returns-in_err-rest-clause-checked c =
     let phases : List (List Statement) = lists_of c.args.phases.now in
     let printed = c.deref.ensures ∙ c.in_ok-print_heading.ensures.printed in
     handed_on c.from_residual-in_err-rest.result c.in_err-rest.field-0.0 _ _ c.from_residual-in_err-rest.ensures.1
-    (subst (FailedCheck setup c.args.version phases c.args.bytes.now c.args.board.now.entries)
-    (sym c.in_err-rest.ensures.cases.0)
+    (rw c.in_err-rest.ensures.cases.0
     (failed_heading setup c.args.version phases c.args.bytes.now c.args.board.now.entries
     (known setup phases c.law_one_replay.ensures.one c.requires.typed c.requires.in_range) c.requires.fresh
-    (λ after text. c.in_err-rest.ensures.cases.1 after
-    (text ∙ ap (λ (t : List ℕ). t ++ after) (sym printed)))))
+    (λ after text. c.in_err-rest.ensures.cases.1 after (rw printed text))))
 
 pub returns-in_err-rest-2-clause-checked : goal.returns-in_err-rest-2-clause-checked
 returns-in_err-rest-2-clause-checked c =
@@ -47,8 +44,7 @@ returns-then-is_empty-clause-checked c =
     (c.in_ok-rest.ensures.cases ∙ ap (λ (t : List ℕ). t ++ c.in_ok-rest.rest.now) printed) in
     passed c.args.board.now.setup c.args.version (lists_of c.args.phases.now) c.args.bytes.now
     c.check_phases.new.board.entries c.in_ok-rest-2.rest.now c.len-count.result
-    (subst (λ (setup : Setup). IsLegal setup c.check_phases.new.board.entries) c.check_phases.ensures.setup
-    c.history.ensures.legal)
+    (rw c.check_phases.ensures.setup at c.history.ensures.legal)
     walked.0 walked.1
     (nothing_left c.in_ok-rest-2.rest.now (sym c.is_empty.ensures ∙ c.if-is_empty.true))
     (c.len-count.ensures.length ∙ ap (λ history. length history.entries) c.history.ensures.history)
@@ -64,8 +60,7 @@ returns-clause-checked c =
     failed_end setup c.args.version phases c.args.bytes.now
     c.check_phases.new.board.entries c.in_ok-rest-2.rest.now c.len-count.result
     (known setup phases c.law_one_replay.ensures.one c.requires.typed c.requires.in_range)
-    (subst (λ (setup : Setup). IsLegal setup c.check_phases.new.board.entries) c.check_phases.ensures.setup
-    c.history.ensures.legal)
+    (rw c.check_phases.ensures.setup at c.history.ensures.legal)
     walked.0 walked.1
     (something_left c.in_ok-rest-2.rest.now (sym c.is_empty.ensures ∙ c.if-is_empty.false))
     (c.len-count.ensures.length ∙ ap (λ history. length history.entries) c.history.ensures.history)

@@ -1,7 +1,5 @@
-use Rattle.std.proofs.Common.{ap, subst, ◌∙◌, MatchResult}
-use Rattle.board_spec.specs.Setup.{Setup}
+use Rattle.std.proofs.Common.{ap, ◌∙◌}
 use Rattle.script_spec.specs.Phases.{lists_of}
-use Rattle.log_check.specs.Common.{IsCheckedLog, FailedCheck}
 use Rattle.log_check.proofs.LogChecks.{nothing_begun, begun_after, exactly}
 use Rattle.log_check.proofs.check.check_log.Goals as goal
 
@@ -14,10 +12,7 @@ pub returns-clause-exactly : goal.returns-clause-exactly
 returns-clause-exactly c =
     exactly c.args.board.now.setup c.args.version (lists_of c.args.phases.now) c.args.bytes.now
     c.check_lines.new.board.entries c.check_lines.result
-    (subst (λ (setup : Setup). MatchResult c.check_lines.result
-    (IsCheckedLog setup c.args.version (lists_of c.args.phases.now) c.args.bytes.now c.check_lines.new.board.entries)
-    (FailedCheck setup c.args.version (lists_of c.args.phases.now) c.args.bytes.now c.check_lines.new.board.entries))
-    (ap (λ board. board.setup) c.in_ok-reserve.ensures.ok) c.check_lines.ensures.checked)
+    (rw (ap (λ board. board.setup) c.in_ok-reserve.ensures.ok) at c.check_lines.ensures.checked)
 
 pub returns-clause-begun : goal.returns-clause-begun
 returns-clause-begun c =

@@ -1,6 +1,6 @@
-use Rattle.std.proofs.Common.{◌+◌, ◌++◌, ◌∷◌, ◌<◌, List, All, length, refl, sym, ◌∙◌, subst, add-zero, arith}
-use Rattle.board_prelude.proofs.Common.{Statement, Setup}
-use Rattle.log_check.specs.Common.{IsTyped, left_of, WalkPlace, IsWithin, StoppedCheck}
+use Rattle.std.proofs.Common.{◌+◌, List, All, refl, sym, ◌∙◌, subst, add-zero, arith}
+use Rattle.board_prelude.proofs.Common.{Statement}
+use Rattle.log_check.specs.Common.{IsTyped, left_of, WalkPlace, IsWithin}
 use Rattle.log_check.proofs.Steps.{within_start, within_whole}
 use Rattle.log_check.proofs.LineSteps.{handed_on}
 use Rattle.log_check.proofs.check.check_phase.Goals as goal
@@ -42,8 +42,7 @@ loop-preserved c = record {
       (subst (λ (phase : List Statement). IsWithin here phase (left_of c.loop.front) c.loop.board.entries)
       (sym c.loop.invariant.phase) before.0)
       before.1
-      (subst (λ (phase : List Statement). c.loop.counter < length phase) (sym c.loop.invariant.phase) c.loop-test.true)
-      in (
+      (rw c.loop.invariant.phase c.loop-test.true) in (
         subst (λ (phase : List Statement). IsWithin next phase (left_of c.check_line.new.front)
             c.check_line.new.board.entries) c.loop.invariant.phase after.0,
         after.1,
@@ -59,15 +58,9 @@ returns-in_err-left-clause-walked c = λ place complete past.
     (subst (λ (phase : List Statement). IsWithin here phase (left_of c.loop.front) c.loop.board.entries)
     (sym c.loop.invariant.phase) before.0)
     before.1
-    (subst (λ (phase : List Statement). c.loop.counter < length phase) (sym c.loop.invariant.phase) c.loop-test.true)
-    in
+    (rw c.loop.invariant.phase c.loop-test.true) in
     handed_on c.from_residual.result c.in_err-left.field-0.0 _ _ c.from_residual.ensures.1
-    (subst (λ (setup : Setup). StoppedCheck setup place.version (place.done ++ c.args.phase.now ∷ place.later)
-    place.bytes
-    c.check_line.new.board.entries c.in_err-left.field-0.0) c.loop.invariant.setup
-    (subst (λ (phase : List Statement). StoppedCheck c.loop.board.setup place.version
-    (place.done ++ phase ∷ place.later)
-    place.bytes c.check_line.new.board.entries c.in_err-left.field-0.0) c.loop.invariant.phase after))
+    (rw (c.loop.invariant.setup, c.loop.invariant.phase) at after)
 
 pub returns-clause-walked : goal.returns-clause-walked
 returns-clause-walked c = λ place complete past.

@@ -1,10 +1,9 @@
 use Rattle.std.proofs.Common.{ℕ, ◌≡◌, ◌+◌, ◌++◌, [], ◌∷◌, List, All, length, take, drop, refl, sym, ap, ◌∙◌, subst}
 use Rattle.std.proofs.Common.{arith}
-use Rattle.board_prelude.proofs.Common.{take_all, Statement, Setup, IsInRange, log_text, statements_of, IsCompleteFor}
+use Rattle.board_prelude.proofs.Common.{take_all, Statement, IsInRange, log_text, statements_of, IsCompleteFor}
 use Rattle.board_prelude.proofs.Common.{in_file_order}
-use Rattle.board_core.specs.Steps.{AreInRange}
 use Rattle.script_spec.specs.Phases.{lists_of}
-use Rattle.log_check.specs.Common.{IsTyped, WalkPlace, StoppedCheck}
+use Rattle.log_check.specs.Common.{IsTyped, WalkPlace}
 use Rattle.log_check.proofs.LineSteps.{handed_on}
 use Rattle.log_check.proofs.PhaseLists.{phases_cut, phases_more, length_cut, all_of_phase}
 use Rattle.log_check.proofs.check.check_phases.Goals as goal
@@ -38,19 +37,18 @@ check_phase-requires-clause-in_range c =
     let own : All P c.phase-item.result.items =
     all_of_phase P (lists_of (take i c.args.phases.now)) c.phase-item.result.items
     (lists_of (drop (i + 1) c.args.phases.now))
-    (subst (λ (ps : List (List Statement)). All P (in_file_order ps))
-    (phases_cut c.args.phases.now i c.phase-item.result c.loop-phase-test.true c.phase-item.is) c.requires.in_range) in
-    subst (λ (setup : Setup). AreInRange setup c.deref.result.now) (sym c.loop-phase.invariant.setup)
-    (subst (AreInRange c.args.board.now.setup) (sym c.deref.ensures.value) own)
+    (rw (phases_cut c.args.phases.now i c.phase-item.result c.loop-phase-test.true c.phase-item.is) at
+    c.requires.in_range) in
+    rw (c.loop-phase.invariant.setup, c.deref.ensures.value) own
 
 pub check_phase-requires-clause-typed : goal.check_phase-requires-clause-typed
 check_phase-requires-clause-typed c =
     let i : ℕ = c.loop-phase.phase-index in
-    subst (All IsTyped) (sym c.deref.ensures.value)
+    rw c.deref.ensures.value
     (all_of_phase IsTyped (lists_of (take i c.args.phases.now)) c.phase-item.result.items
     (lists_of (drop (i + 1) c.args.phases.now))
-    (subst (λ (ps : List (List Statement)). All IsTyped (in_file_order ps))
-    (phases_cut c.args.phases.now i c.phase-item.result c.loop-phase-test.true c.phase-item.is) c.requires.typed))
+    (rw (phases_cut c.args.phases.now i c.phase-item.result c.loop-phase-test.true c.phase-item.is) at
+    c.requires.typed))
 
 pub loop-phase-preserved : goal.loop-phase-preserved
 loop-phase-preserved c =
@@ -76,9 +74,7 @@ loop-phase-preserved c =
       complete =
           let first : List ℕ = log_text 0 c.loop-phase.board.entries ++ c.loop-phase.left.now in
           let walked = c.in_ok-left.ensures.walked (place 0 first) c.loop-phase.invariant.complete refl in
-          subst (λ (ps : List (List Statement)). IsCompleteFor ps c.check_phase.new.board.entries) (sym more)
-          (subst (λ (phase : List Statement). IsCompleteFor (before ++ phase ∷ []) c.check_phase.new.board.entries)
-          c.deref.ensures.value walked.0);
+          rw more (rw c.deref.ensures.value at walked.0);
       past = λ version bytes text.
           (c.in_ok-left.ensures.walked (place version bytes) c.loop-phase.invariant.complete
           (c.loop-phase.invariant.past version bytes text)).1;
@@ -96,12 +92,7 @@ returns-in_err-left-clause-walked c = λ version bytes text.
     c.in_err-left.ensures.walked place c.loop-phase.invariant.complete
     (c.loop-phase.invariant.past version bytes text) in
     handed_on c.from_residual.result c.in_err-left.field-0.0 _ _ c.from_residual.ensures.1
-    (subst (λ (ps : List (List Statement)). StoppedCheck c.args.board.now.setup version ps bytes
-    c.check_phase.new.board.entries c.in_err-left.field-0.0) (sym cut)
-    (subst (λ (setup : Setup). StoppedCheck setup version (before ++ c.phase-item.result.items ∷ later) bytes
-    c.check_phase.new.board.entries c.in_err-left.field-0.0) c.loop-phase.invariant.setup
-    (subst (λ (phase : List Statement). StoppedCheck c.loop-phase.board.setup version (before ++ phase ∷ later) bytes
-    c.check_phase.new.board.entries c.in_err-left.field-0.0) c.deref.ensures.value stopped)))
+    (rw cut (rw (c.loop-phase.invariant.setup, c.deref.ensures.value) at stopped))
 
 pub returns-clause-walked : goal.returns-clause-walked
 returns-clause-walked c = λ version bytes text. (

@@ -1,4 +1,3 @@
-use Rattle.std.proofs.Common.{All, subst}
 use Rattle.std.proofs.lemmas.List.{take_all}
 use Rattle.std.proofs.lemmas.List.Elements.{All-more}
 use Rattle.log_check.specs.Phases.{IsTyped}
@@ -11,6 +10,6 @@ loop-statement-preserved c =
 
 pub returns : goal.returns
 returns c = record {
-  typed = subst (All IsTyped) (take_all c.loop-statement.statement-index c.args.phase.now c.loop-statement-test.false)
+  typed = rw (take_all c.loop-statement.statement-index c.args.phase.now c.loop-statement-test.false) at
       c.loop-statement.invariant;
 }

@@ -13,14 +13,10 @@ returns-in_default-parse_heading-clause-bad c =
 
 pub returns-in_err-entries-clause-bad : goal.returns-in_err-entries-clause-bad
 returns-in_err-entries-clause-bad c =
-    let bad = names_bad c.args.bytes.now c.in-Some.heading.now c.in-Some.lines.now c.in-Some-parse_heading.version _
-    c.in-Some.ensures.parts
-    c.in-Some-parse_heading.ensures.version c.in_err-entries.ensures.bad in
-    passed_on c.from_residual.result _ (NamesBad (IsBadLog c.args.bytes.now)) c.from_residual.ensures.1 bad
+    passed_on c.from_residual.result _ (NamesBad (IsBadLog c.args.bytes.now)) c.from_residual.ensures.1
+    (names_bad _ _ _ _ c.in-Some.ensures.parts c.in-Some-parse_heading.ensures.version _ c.in_err-entries.ensures.bad)
 
 pub returns-clause-log : goal.returns-clause-log
 returns-clause-log c =
-    good_log c.args.bytes.now c.in-Some.heading.now c.in-Some.lines.now c.in-Some-parse_heading.version
-    c.in_ok-entries.entries.items
-    c.in-Some.ensures.parts c.in-Some-parse_heading.ensures.version c.in_ok-entries.ensures.entries.0
-    c.in_ok-entries.ensures.entries.1
+    good_log _ _ _ _ c.in-Some.ensures.parts c.in-Some-parse_heading.ensures.version c.in_ok-entries.entries.items
+    c.in_ok-entries.ensures.entries.0 c.in_ok-entries.ensures.entries.1

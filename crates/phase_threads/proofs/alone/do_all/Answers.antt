@@ -10,6 +10,6 @@ returns g c =
           rw c.from.ensures (both_ok c.run.result (λ done mine.
           has_acted number c.args.alone.now.board c.run.new.cpu.board c.args.phase.now c.args.works.now.items
           c.index_mut.result.now
-          c.run.new.self (search rules) (search rules) c.run.ensures.setup (search rules) done mine c.run.ensures.asked)
+          c.run.new.self (search rules) (search rules) c.run.ensures.setup (search rules) mine c.run.ensures.asked done)
           c.run.ensures.done c.run.ensures.mine);
     }

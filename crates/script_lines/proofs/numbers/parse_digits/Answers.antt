@@ -1,43 +1,34 @@
-use Rattle.std.proofs.Common.{◌<◌, ◌≤◌, ◌^◌, length, arith}
+use Rattle.std.proofs.Common.{◌^◌, length, arith}
 use Rattle.script_lines.proofs.NumberLemmas.{number_below, number_fits, goes_on, stops, ends}
 use Rattle.script_lines.proofs.numbers.parse_digits.Goals as goal
 
 pub overflow_mul-number : goal.overflow_mul-number
 overflow_mul-number c =
-    let lt : c.loop-byte.byte-index < length c.args.field.now = omega arith in
-    omega (
-      arith,
-      number_fits c.args.base c.loop-byte.number 0 c.loop-byte.byte-index (length c.args.field.now)
-          (2 ^ 64) c.loop-byte.invariant.below c.requires.some lt c.requires.fits,
-    )
+    let fits = number_fits c.args.base c.loop-byte.number 0 c.loop-byte.byte-index (length c.args.field.now) (2 ^ 64)
+    c.loop-byte.invariant.below c.requires.some (omega arith) c.requires.fits in
+    omega (arith, fits)
 
 pub overflow_add-number : goal.overflow_add-number
 overflow_add-number c =
-    let lt : c.loop-byte.byte-index < length c.args.field.now = omega arith in
-    omega (
-      arith,
-      number_fits c.args.base c.loop-byte.number c.in_ok-number.field-0 c.loop-byte.byte-index
-          (length c.args.field.now) (2 ^ 64) c.loop-byte.invariant.below c.in_ok-number.ensures.below lt
-          c.requires.fits,
-    )
+    let fits = number_fits c.args.base c.loop-byte.number c.in_ok-number.field-0 c.loop-byte.byte-index
+    (length c.args.field.now) (2 ^ 64) c.loop-byte.invariant.below c.in_ok-number.ensures.below (omega arith)
+    c.requires.fits in
+    omega (arith, fits)
 
 pub loop-byte-preserved : goal.loop-byte-preserved
-loop-byte-preserved c =
-    let lt : c.loop-byte.byte-index < length c.args.field.now = omega arith in
-    record {
-      below = number_below c.args.base c.loop-byte.number c.in_ok-number.field-0 c.loop-byte.byte-index
-          c.loop-byte.invariant.below c.in_ok-number.ensures.below;
-      kept = goes_on c.args.base c.loop-byte.number c.in_ok-number.field-0 c.loop-byte.byte-index c.args.field.now _ lt
-          c.in_ok-number.ensures.digit c.loop-byte.invariant.kept;
-    }
+loop-byte-preserved c = record {
+  below = number_below c.args.base c.loop-byte.number c.in_ok-number.field-0 c.loop-byte.byte-index
+      c.loop-byte.invariant.below c.in_ok-number.ensures.below;
+  kept = goes_on c.args.base c.loop-byte.number c.in_ok-number.field-0 c.loop-byte.byte-index c.args.field.now _
+      (omega arith) c.in_ok-number.ensures.digit c.loop-byte.invariant.kept;
+}
 
 pub returns-in_err-number-clause-number : goal.returns-in_err-number-clause-number
 returns-in_err-number-clause-number c =
-    let lt : c.loop-byte.byte-index < length c.args.field.now = omega arith in
-    rw c.from_residual.ensures (stops c.args.base c.loop-byte.number c.loop-byte.byte-index c.args.field.now _ lt
-    c.in_err-number.ensures.digit c.loop-byte.invariant.kept)
+    rw c.from_residual.ensures (stops c.args.base c.loop-byte.number c.loop-byte.byte-index c.args.field.now _
+    (omega arith) c.in_err-number.ensures.digit c.loop-byte.invariant.kept)
 
 pub returns-clause-number : goal.returns-clause-number
 returns-clause-number c =
-    let le : length c.args.field.now ≤ c.loop-byte.byte-index = omega arith in
-    ends c.args.base c.loop-byte.number c.loop-byte.byte-index c.args.field.now _ le c.loop-byte.invariant.kept
+    ends c.args.base c.loop-byte.number c.loop-byte.byte-index c.args.field.now _ (omega arith)
+    c.loop-byte.invariant.kept

@@ -1,7 +1,5 @@
-use Rattle.std.proofs.Common.{arith}
-use Rattle.board_prelude.proofs.Common.{common_steps}
-use Rattle.board_prelude.proofs.Common.{nat_tests}
-use Rattle.std.proofs.Common.{subst}
+use Rattle.std.proofs.Common.{arith, subst}
+use Rattle.board_prelude.proofs.Common.{common_steps, nat_tests}
 use Rattle.memchr.specs.Find.{IsFirstByte}
 use Rattle.script_text.proofs.LineLemmas.{is_feed, cut_at, uncut, none_left, begun_empty}
 use Rattle.script_text.proofs.lines.split_line.Goals as goal

@@ -1,5 +1,4 @@
-use Rattle.board_prelude.proofs.Common.{common_steps}
-use Rattle.board_prelude.proofs.Common.{nat_tests}
+use Rattle.board_prelude.proofs.Common.{common_steps, nat_tests}
 use Rattle.std.proofs.Common.{◌≡◌, ◌+◌, ◌∙◌, ap, map, arith}
 use Rattle.pci_bars.specs.declared.spec.BaseSpec.TheVariants.{Memory}
 use Rattle.pci_bars.specs.Bases.{base_of}

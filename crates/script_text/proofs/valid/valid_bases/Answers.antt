@@ -1,5 +1,4 @@
-use Rattle.board_prelude.proofs.Common.{common_steps}
-use Rattle.board_prelude.proofs.Common.{nat_tests}
+use Rattle.board_prelude.proofs.Common.{common_steps, nat_tests}
 use Rattle.std.proofs.Common.{arith}
 use Rattle.script_text.proofs.BaseRuns.{base_read, base_added, base_refused}
 use Rattle.script_text.proofs.valid.valid_bases.Goals as goal
@@ -10,8 +9,8 @@ returns-in_err-valid_base c = grind (arith, nat_tests, common_steps, base_refuse
 pub loop-field-preserved : goal.loop-field-preserved
 loop-field-preserved c = record {
   count = omega (arith, c.push.ensures.len, c.loop-field.invariant.count);
-  each = base_read c.args.fields.now c.loop-field.field-index _ c.in_ok-valid_base.field-0 c.loop-field-test.true
+  each = base_read c.args.fields.now c.loop-field.field-index _ c.loop-field-test.true c.in_ok-valid_base.field-0
       c.in_ok-valid_base.ensures.base c.loop-field.invariant.each;
-  same = base_added c.args.fields.now c.loop-field.field-index _ c.in_ok-valid_base.field-0 c.loop-field.bases.items _
-      c.loop-field-test.true c.in_ok-valid_base.ensures.base c.push.ensures.items c.loop-field.invariant.same;
+  same = base_added c.args.fields.now c.loop-field.field-index _ c.loop-field-test.true c.in_ok-valid_base.field-0
+      c.in_ok-valid_base.ensures.base c.loop-field.bases.items _ c.push.ensures.items c.loop-field.invariant.same;
 }

@@ -1,19 +1,15 @@
 use Rattle.std.proofs.Common.{◌≡◌, ◌%◌, Option, sym, ap, ◌∙◌}
 use Rattle.board_prelude.proofs.Common.{Disk, Medium, Setup, Bytes, DramCell}
-use Rattle.board_chipset.specs.declared.store.Store.{Store}
 use Rattle.bus_master.specs.Common.{Master, Moving, TransferPlace, done_of, end_of, first_place, medium_of, with_medium}
 use Rattle.bus_master.specs.Common.{cells_of, transfer_of, EndedSo}
 use Rattle.board_chipset.specs.Stores.{IsStoreOf}
 use Rattle.bus_master.proofs.TransferLemmas.{all_moved, disk_is, done_is, same_transfer, smram_kept}
-use Rattle.bus_master.proofs.WordLemmas.{own_medium, same_store}
+use Rattle.bus_master.proofs.WordLemmas.{own_medium}
 use Rattle.bus_master.proofs.WayLemmas.{memory_kept, sectors_kept}
 use Rattle.bus_master.proofs.registers.BusMaster.transfer.Goals as goal
 
 abbrev of_store : (c : goal.After-moved) → Setup → Bytes → Moving
 of_store c setup bytes = transfer_of setup bytes c.args.self.now c.args.lba c.args.count c.args.store.now
-
-abbrev of_other : (c : goal.After-moved) → Setup → Bytes → Store → Moving
-of_other c setup bytes other = transfer_of setup bytes c.args.self.now c.args.lba c.args.count other
 
 moved : (c : goal.After-moved) (setup : Setup) (bytes : Bytes) → IsStoreOf setup bytes c.args.store.now →
     EndedSo (of_store c setup bytes) c.transfer-end.new.store c.transfer-end.new.self c.transfer-end.result
@@ -36,10 +32,6 @@ returns-clause-disk c = λ setup bytes of. disk_is (moved c setup bytes of) c.tr
 
 pub returns-clause-cells : goal.returns-clause-cells
 returns-clause-cells c = λ setup bytes cell of there. (moved c setup bytes of).cells cell there
-
-pub returns-clause-sound : goal.returns-clause-sound
-returns-clause-sound c =
-    let sound = c.requires.sound in (sound.0, sound.1, same_store sound.2 c.transfer-end.ensures.shape)
 
 aligned : (c : goal.After-moved) → c.args.self.now.table % 4 ≡ 0
 aligned c = rw (ap (λ (master : Master). master.table) c.self.view_is) at c.self.invariant
@@ -69,17 +61,18 @@ returns-clause-to_disk c = λ way cell there.
 
 pub returns-clause-hidden : goal.returns-clause-hidden
 returns-clause-hidden c = λ setup bytes other of differs.
+    let after = transfer_of setup bytes c.args.self.now c.args.lba c.args.count other in
     let is = moved c setup bytes of in
     let hidden =
     same_transfer setup bytes c.args.self.now c.args.lba c.args.count c.args.store.now (aligned c) differs in
     let medium = ap (λ (moving : Moving). moving.medium) hidden in (
       done_is is c.moved.ensures.moved ∙ sym (ap done_of hidden),
-      c.end_transfer.ensures.ended (of_other c setup bytes other)
+      c.end_transfer.ensures.ended after
           (ap end_of hidden ∙ sym is.ends)
           (ap (λ (moving : Moving). moving.place.table) hidden
           ∙ ap (λ (place : TransferPlace). place.table) (sym is.come)
           ∙ sym c.table.ensures.table),
       disk_is is c.transfer-end.ensures.shape
           ∙ ap (λ (m : Medium). with_medium c.args.store.now.disk m) (sym medium)
-          ∙ ap (λ (disk : Option Disk). with_medium disk (of_other c setup bytes other).medium) (sym differs.disk),
+          ∙ ap (λ (disk : Option Disk). with_medium disk after.medium) (sym differs.disk),
     )

@@ -1,11 +1,7 @@
 use Rattle.std.proofs.Common.{◌≡◌, Err, sym, ap, ◌∙◌, rules}
 use Rattle.bus_master.specs.Transfer.{TransferPlace}
-use Rattle.bus_master.proofs.StepLemmas.{region_read, region_in_use, ready_over, ready_misses, ready_at_region}
+use Rattle.bus_master.proofs.StepLemmas.{ready_in_use, ready_misses, ready_read}
 use Rattle.bus_master.proofs.under_way.UnderWay.make_ready.Goals as goal
-
-pub returns-then-is_over-clause-ready : goal.returns-then-is_over-clause-ready
-returns-then-is_over-clause-ready c = λ setup bytes moving of is.
-    ready_over is setup bytes c.args.lba (sym c.is_over.ensures.over ∙ c.if-is_over.true)
 
 pub returns-in_err-test_sector-clause-ready : goal.returns-in_err-test_sector-clause-ready
 returns-in_err-test_sector-clause-ready c = λ setup bytes moving of is.
@@ -19,27 +15,20 @@ returns-in_err-read_descriptor-clause-ready c = λ setup bytes moving of is.
     let passed : c.from_residual-in_err-read_descriptor.result ≡ Err c.in_err-read_descriptor.field-0.0 =
     search rules in
     rw passed
-    (ready_at_region is setup bytes c.args.lba (sym c.is_over.ensures.over ∙ c.if-is_over.false)
-    (λ tested on. c.in_ok-test_sector.ensures.tested tested on) _ _
-    (λ tested on. region_read on setup bytes _ _
-    (sym (ap (λ (p : TransferPlace). p.left) c.self.view_is) ∙ c.if-self-eq0.true)
-    (c.in_err-read_descriptor.ensures.read setup bytes tested of on)))
+    (ready_read is setup bytes c.args.lba (sym c.is_over.ensures.over ∙ c.if-is_over.false)
+    (λ tested on. c.in_ok-test_sector.ensures.tested tested on)
+    (sym (ap (λ (p : TransferPlace). p.left) c.self.view_is) ∙ c.if-self-eq0.true) _ _
+    (λ tested on. c.in_err-read_descriptor.ensures.read setup bytes tested of on))
 
 pub returns-in_ok-read_descriptor-clause-ready : goal.returns-in_ok-read_descriptor-clause-ready
 returns-in_ok-read_descriptor-clause-ready c = λ setup bytes moving of is.
-    ready_at_region is setup bytes c.args.lba (sym c.is_over.ensures.over ∙ c.if-is_over.false)
-    (λ tested on. c.in_ok-test_sector.ensures.tested tested on) _ _
-    (λ tested on. region_read on setup bytes _ _
-    (sym (ap (λ (p : TransferPlace). p.left) c.self.view_is) ∙ c.if-self-eq0.true)
-    (c.in_ok-read_descriptor.ensures.read setup bytes tested of on))
-
-pub returns-in_ok-read_descriptor-clause-sector : goal.returns-in_ok-read_descriptor-clause-sector
-returns-in_ok-read_descriptor-clause-sector c =
-    rw c.in_ok-read_descriptor.ensures.moved c.in_ok-test_sector.ensures.sector
+    ready_read is setup bytes c.args.lba (sym c.is_over.ensures.over ∙ c.if-is_over.false)
+    (λ tested on. c.in_ok-test_sector.ensures.tested tested on)
+    (sym (ap (λ (p : TransferPlace). p.left) c.self.view_is) ∙ c.if-self-eq0.true) _ _
+    (λ tested on. c.in_ok-read_descriptor.ensures.read setup bytes tested of on)
 
 pub returns-else-self-eq0-clause-ready : goal.returns-else-self-eq0-clause-ready
 returns-else-self-eq0-clause-ready c = λ setup bytes moving of is.
-    ready_at_region is setup bytes c.args.lba (sym c.is_over.ensures.over ∙ c.if-is_over.false)
-    (λ tested on. c.in_ok-test_sector.ensures.tested tested on) _ _
-    (λ tested on. region_in_use on setup bytes
-    (λ left. c.if-self-eq0.false (ap (λ (p : TransferPlace). p.left) c.self.view_is ∙ left)))
+    ready_in_use is setup bytes c.args.lba (sym c.is_over.ensures.over ∙ c.if-is_over.false)
+    (λ tested on. c.in_ok-test_sector.ensures.tested tested on)
+    (λ left. c.if-self-eq0.false (ap (λ (p : TransferPlace). p.left) c.self.view_is ∙ left))

@@ -1,19 +1,7 @@
-use Rattle.std.proofs.Common.{ap}
-use Rattle.bus_master.specs.Common.{TransferPlace}
-use Rattle.bus_master.specs.Pieces.{going_from}
-use Rattle.bus_master.proofs.PieceLemmas.{described_same, ends_at_count}
+use Rattle.board_base.proofs.Common.{nat_tests}
+use Rattle.std.proofs.Common.{arith}
+use Rattle.bus_master.proofs.PieceLemmas.{ends_at_count}
 use Rattle.bus_master.proofs.under_way.UnderWay.next_count.Goals as goal
 
-pub returns-in-Ok-clause-next : goal.returns-in-Ok-clause-next
-returns-in-Ok-clause-next c = λ setup bytes direction lba words cells medium stands passed first.
-    let table = ap (λ (p : TransferPlace). p.table) c.self.view_is in
-    rw table
-    (described_same setup bytes (going_from c.args.self.now direction lba words) cells medium passed
-    c.requires.used first
-    (rw table at (c.in-Ok.ensures.end setup bytes stands)))
-
 pub returns-in-Err-clause-next : goal.returns-in-Err-clause-next
-returns-in-Err-clause-next c = λ setup bytes direction lba words cells medium stands passed first.
-    let table = ap (λ (p : TransferPlace). p.table) c.self.view_is in
-    ends_at_count setup bytes (going_from c.args.self.now direction lba words) cells medium passed c.in-Err.end
-    c.requires.used first (rw table at (c.in-Err.ensures.end setup bytes stands))
+returns-in-Err-clause-next c = grind (arith, nat_tests, ends_at_count)

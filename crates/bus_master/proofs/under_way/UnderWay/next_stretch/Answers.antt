@@ -1,5 +1,5 @@
-use Rattle.std.proofs.Common.{◌+◌, ◌/◌, ◌%◌, ap, arith, sym, ◌∙◌}
-use Rattle.bus_master.specs.Common.{TransferPlace, next_sector, next_word}
+use Rattle.std.proofs.Common.{ap, arith, sym, ◌∙◌}
+use Rattle.bus_master.specs.Common.{TransferPlace, kind_of, next_sector, next_word}
 use Rattle.bus_master.specs.Pieces.{going_from}
 use Rattle.bus_master.proofs.PieceLemmas.{ends_at_word, move_is, outside_smram}
 use Rattle.bus_master.proofs.under_way.UnderWay.next_stretch.Goals as goal
@@ -27,14 +27,7 @@ returns-in-Ok-clause-next c = λ setup bytes cells medium stands passed.
 pub returns-in-Ok-clause-smram : goal.returns-in-Ok-clause-smram
 returns-in-Ok-clause-smram c = λ setup bytes stands.
     let addr = ap (λ (p : TransferPlace). p.addr) c.self.view_is in
-    outside_smram setup bytes (going_from c.args.self.now c.args.direction c.args.lba c.args.most)
-    (record {
-      area = c.in-Ok.area;
-      addr = c.self.inside.addr;
-      sector = c.args.lba + c.self.inside.moved / 512;
-      word = c.self.inside.moved % 512 / 2;
-      words = c.stretch-words.result;
-    })
+    outside_smram setup bytes (kind_of c.args.direction) c.self.inside.addr c.stretch-words.result c.in-Ok.area
     c.self.invariant.addr
     (λ i below.
     rw addr

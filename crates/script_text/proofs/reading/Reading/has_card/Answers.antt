@@ -9,5 +9,5 @@ returns c = record {
   card = λ items is. any_from_yields_List (λ card. card.dev == c.args.dev) _ _ c.any.result c.any.ensures.ran
       (YieldsList-from_slice c.args.self.now.cards.items (c.iter.ensures.rest ∙ c.deref.ensures.value))
       (λ x b q k. search (rules, tests))
-      ∙ sym (card_kept items c.args.self.now c.args.dev is);
+      ∙ sym (card_kept items c.args.self.now is c.args.dev);
 }

@@ -1,7 +1,5 @@
-use Rattle.std.proofs.Common.{arith}
-use Rattle.board_prelude.proofs.Common.{common_steps}
-use Rattle.board_prelude.proofs.Common.{nat_tests}
-use Rattle.std.proofs.Common.{◌∙◌, refl, sym}
+use Rattle.std.proofs.Common.{arith, ◌∙◌, refl, sym}
+use Rattle.board_prelude.proofs.Common.{common_steps, nat_tests}
 use Rattle.script_spec.specs.Grammar.{SetMemory}
 use Rattle.script_text.proofs.Reasons.{refused, out_of_range, no_reason, memory_kept, setup_within}
 use Rattle.script_text.proofs.reading.Reading.validate_memory.Goals as goal

@@ -1,7 +1,5 @@
-use Rattle.board_prelude.proofs.Common.{common_steps}
-use Rattle.board_prelude.proofs.Common.{nat_tests}
-use Rattle.std.proofs.Common.{◌≡◌, ◌+◌, ◌∙◌, not, true, false, length, refl, sym, ap, arith}
-use Rattle.script_spec.specs.Common.{BeginPhase, has_setup}
+use Rattle.board_prelude.proofs.Common.{common_steps, nat_tests}
+use Rattle.std.proofs.Common.{arith}
 use Rattle.script_text.proofs.Reasons.{phase_placed, no_setup, past_limit, no_reason, setup_kept, lacks_is, limits_with}
 use Rattle.script_text.proofs.Reasons.{past_phases, within}
 use Rattle.script_text.proofs.reading.Reading.validate_phase.Goals as goal

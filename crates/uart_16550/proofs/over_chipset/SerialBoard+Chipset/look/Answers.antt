@@ -2,17 +2,17 @@ use Rattle.std.proofs.Common.{refl}
 use Rattle.board_prelude.proofs.Common.{next_entry}
 use Rattle.board_spec.specs.declared.event.Event.TheVariants.{Look as LookAt}
 use Rattle.board_spec.specs.declared.event.Reply.TheVariants.{Saw}
-use Rattle.board_chipset.specs.Common.{Running}
-use Rattle.uart_16550.specs.Common.{Serial}
-use Rattle.uart_16550.proofs.OverChipset.{gone_on}
+use Rattle.board_chipset.specs.Common.{Running, IsAnswerModulo, IsLeftBy}
+use Rattle.uart_16550.specs.Common.{level_of}
+use Rattle.uart_16550.proofs.SerialSteps.{quiet_step}
 use Rattle.uart_16550.proofs.over_chipset.SerialBoard+Chipset.look.Goals as goal
 
 pub returns-clause-history : goal.returns-clause-history
 returns-clause-history c =
     let event = LookAt c.args.kind c.args.addr c.args.smm in
     let reply = Saw c.look.result in
-    let here : Serial Running = record { board = c.self.inside.board; com1 = c.self.inside.com1 } in
     rw (← c.self.view_is)
     (λ history actor below left_at.
-    gone_on here here refl refl history actor below left_at event reply (c.look.ensures.answer history left_at.left)
-    (c.look.ensures.left history (next_entry history actor event reply) left_at.left refl) (assumption))
+    quiet_step IsAnswerModulo (λ (chipset : Running). chipset.setup) IsLeftBy c.self.inside.board c.self.inside.board
+    (level_of c.self.inside.com1) history actor event reply left_at refl (c.look.ensures.answer history left_at.left)
+    (c.look.ensures.left history (next_entry history actor event reply) left_at.left refl) refl below)

@@ -1,0 +1,78 @@
+-- A relation between two transfers under way whose bytes alone may differ. It holds after words that both move.
+use Rattle.std.proofs.Common.{◌≡◌, ℕ, zero, suc, Bool, true, false, not, ◌&&◌, Option, Some, is_some, sym, subst, ◌==◌}
+use Rattle.std.proofs.Common.{if◌then◌else◌}
+use Rattle.board_prelude.proofs.Common.{Read, Setup, Bytes}
+use Rattle.ata_pio.specs.Words.{is_readable}
+use Rattle.bus_master.specs.declared.done.End.{End}
+use Rattle.bus_master.specs.declared.done.End.TheVariants.{Shorter, Sector}
+use Rattle.bus_master.specs.declared.direction.Direction.{Direction}
+use Rattle.bus_master.specs.Common.{Cells, Moving, ◌and_then◌, address_after, answered, descriptor_read, is_used_up}
+use Rattle.bus_master.specs.Common.{kind_of, next_moved, next_sector, next_word, ready_for, region_found, region_taken}
+use Rattle.bus_master.specs.Common.{sector_tested, table_tested, word_moved, words_moved}
+
+abbrev pub with_cells : Cells → Moving → Moving
+with_cells cells moving = record moving { cells = cells }
+
+-- a step after which it holds where it held before
+abbrev pub Keeps : (Moving → Moving → Type 0) → (Moving → Moving) → Type 0
+Keeps R step =
+    (moving : Moving) (cells : Cells) → R moving (with_cells cells moving) →
+    R (step moving) (step (with_cells cells moving))
+
+module _ (setup : Setup) (bytes : Bytes) (direction : Direction) (lba : ℕ) (R : Moving → Moving → Type 0)
+    (same : (one other : Moving) → R one other → other ≡ with_cells other.cells one)
+    (ends : (end : Option End) → Keeps R (λ moving. record moving { end = end }))
+    (region : Keeps R (region_taken setup bytes)) (word : Keeps R (word_moved setup bytes direction lba)) where
+  holds : (step : Moving → Moving) → Keeps R step → {one other : Moving} → R one other → R (step one) (step other)
+  holds step keeps {one} {other} is =
+      subst (λ (m : Moving). R (step one) (step m)) (sym (same one other is))
+      (keeps one other.cells (subst (λ (m : Moving). R one m) (same one other is) is))
+
+  either : (c : Bool) {one one' other other' : Moving} → R one one' → R other other' →
+      R (if c then one else other) (if c then one' else other')
+  either true is is_other = is
+  either false is is_other = is_other
+
+  then_holds : (step : Moving → Moving) → Keeps R step → {one other : Moving} → R one other →
+      R (one and_then step) (other and_then step)
+  then_holds step keeps is =
+      holds (λ m. m and_then step) (λ m cells alike. either (is_some m.end) alike (keeps m cells alike)) is
+
+  table : Keeps R table_tested
+  unfolding table_tested
+  table moving cells is =
+      either (is_used_up moving.place && moving.place.is_last) (ends (Some Shorter) moving cells is) is
+
+  sector : Keeps R (sector_tested lba)
+  unfolding sector_tested
+  sector moving cells is =
+      either (next_word moving.place == 0 && not (is_readable moving.medium (next_sector lba moving.place)))
+      (ends (Some (Sector (next_sector lba moving.place))) moving cells is) is
+
+  -- the addresses of the two halves do not depend on the bytes
+  descriptor : Keeps R (descriptor_read setup bytes)
+  unfolding answered
+  descriptor moving cells is =
+      then_holds (region_taken setup bytes) region
+      (then_holds (answered setup bytes Read (address_after moving.place.table 4))
+      (λ m others alike. ends _ m others alike) (ends _ moving cells is))
+
+  found : Keeps R (region_found setup bytes)
+  unfolding region_found
+  found moving cells is = either (is_used_up moving.place) (descriptor moving cells is) is
+
+  next : {one other : Moving} → R one other →
+      R (next_moved setup bytes direction lba one) (next_moved setup bytes direction lba other)
+  unfolding next_moved ready_for answered
+  next is =
+      then_holds (word_moved setup bytes direction lba) word
+      (then_holds (λ ready. answered setup bytes (kind_of direction) ready.place.addr ready)
+      (λ m others alike. ends _ m others alike)
+      (then_holds (region_found setup bytes) found
+      (then_holds (sector_tested lba) sector (then_holds table_tested table is))))
+
+  pub words_hold : (words : ℕ) {one other : Moving} → R one other →
+      R (words_moved setup bytes direction lba words one) (words_moved setup bytes direction lba words other)
+  unfolding words_moved
+  words_hold zero is = is
+  words_hold (suc words) is = next (words_hold words is)
