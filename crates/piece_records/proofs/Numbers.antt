@@ -1,27 +1,13 @@
 -- What the numbers of a transfer say, and what a piece changes of it.
 use Rattle.board_prelude.proofs.Common.{nat_tests, Medium, Setup, Bytes}
-use Rattle.std.proofs.Common.{◌≡◌, ℕ, zero, suc, ◌+◌, ◌-◌, ◌*◌, ◌==◌, nat_lt, Bool, true, false, refl, ◌∙◌, arith}
+use Rattle.std.proofs.Common.{◌≡◌, ℕ, zero, suc, ◌+◌, ◌-◌, ◌*◌, nat_lt, refl, ◌∙◌, arith}
 use Rattle.ata_pio.specs.Words.{is_readable}
 use Rattle.bus_master.specs.declared.direction.Direction.{Direction}
 use Rattle.bus_master.specs.declared.direction.Direction.TheVariants.{ToMemory, ToDisk}
-use Rattle.bus_master.specs.Pieces.{Going, IsSaid, copied}
-use Rattle.bus_master.specs.States.{direction_to}
+use Rattle.bus_master.specs.Pieces.{IsSaid, copied}
 use Rattle.bus_master.specs.Transfer.{Moving, next_sector, word_moved}
 use Rattle.piece_records.specs.declared.transfer.TransferRecord.{TransferRecord}
-use Rattle.piece_records.specs.Transfers.{AreReadable, IsTransfer, flag, going_in, memory_flag, recorded}
-
--- ---- the numbers of a transfer say it
-
-flag_is : (b : Bool) → (flag b == 1) ≡ b
-flag_is true = refl
-flag_is false = refl
-
-direction_is : (direction : Direction) → direction_to (memory_flag direction == 1) ≡ direction
-direction_is ToMemory = refl
-direction_is ToDisk = refl
-
-pub going_recorded : (going : Going) (readable : ℕ) → going_in (recorded going readable) ≡ going
-going_recorded going readable = rw (flag_is going.place.is_last, direction_is going.direction) refl
+use Rattle.piece_records.specs.Transfers.{AreReadable, IsTransfer, going_in}
 
 -- ---- the disk
 

@@ -27,16 +27,6 @@ point_of stage = record { going = going_in stage.transfer; cells = stage.cells; 
 abbrev at_going : Cells → Medium → Going → Point
 at_going cells medium going = record { going = going; cells = cells; medium = medium }
 
--- a descriptor lies at the table pointer
-abbrev IsAtTable : Going → Piece → Type 0
-IsAtTable going (Descriptor addr) = addr ≡ going.place.table
-IsAtTable going _ = Unit {0}
-
-at_table : (setup : Setup) (bytes : Bytes) (going : Going) (cells : Cells) (medium : Medium) (piece : Piece) →
-    IsNext setup bytes going cells medium piece → IsAtTable going piece
-at_table setup bytes going cells medium (Descriptor addr) next = next.here
-at_table setup bytes going cells medium _ next = tt
-
 -- the pieces that were told, one after another
 record AreTold (setup : Setup) (bytes : Bytes) (first last : Stage) : Type 0 where
   pieces : List Piece
@@ -57,15 +47,16 @@ module _ (chipset : Running) (bytes : Bytes) (held : HoldsBytes chipset bytes) w
   ended_done (Sector lba) moved after old = refl
 
   -- what is told is done to the point too, whatever the piece
-  done_so : (piece : Piece) (old : Stage) → IsAtTable (going_in old.transfer) piece →
+  done_so : (piece : Piece) (old : Stage) →
+      IsNext chipset.setup bytes (going_in old.transfer) old.cells old.medium piece →
       once_done chipset.setup bytes piece (point_of old)
       ≡ point_of (done_as_told chipset.setup bytes
       (piece_said (master_part chipset.setup bytes) (going_in old.transfer) piece)
       (recorded (going_past piece (going_in old.transfer)) old.transfer.readable) old)
   unfolding once_done done_as_told
-  done_so (Descriptor addr) old here = grind (arith, nat_tests)
-  done_so (Move stretch) old here = grind (arith, nat_tests)
-  done_so (Ended end) old here = grind (arith, nat_tests)
+  done_so (Descriptor addr) old next = let here = next.here in grind (arith, nat_tests)
+  done_so (Move stretch) old _ = grind (arith, nat_tests)
+  done_so (Ended end) old _ = grind (arith, nat_tests)
 
   -- the disk stays as readable
   readable_so : (piece : Piece) (old : Stage) → IfMove piece (IsStretch (going_in old.transfer)) →
@@ -104,10 +95,7 @@ module _ (chipset : Running) (bytes : Bytes) (held : HoldsBytes chipset bytes) w
     round_done : AreReadable old.transfer old.medium →
         once_done chipset.setup bytes round.told.piece (point_of old) ≡ point_of new
     round_done readable =
-        done_so round.told.piece old
-        (at_table chipset.setup bytes (going_in old.transfer) old.cells old.medium round.told.piece
-        (round.told.next bytes old.cells old.medium held readable))
-        ∙ ap point_of same_round
+        done_so round.told.piece old (round.told.next bytes old.cells old.medium held readable) ∙ ap point_of same_round
 
     round_readable : AreReadable old.transfer old.medium → AreReadable new.transfer new.medium
     round_readable readable = grind (arith, nat_tests, common_steps, same_round, readable_so, readable)
@@ -122,10 +110,7 @@ module _ (chipset : Running) (bytes : Bytes) (held : HoldsBytes chipset bytes) w
       let told = all_told next later (round_readable first next round readable) rounds.1 in
       record {
         pieces = round.told.piece ∷ told.pieces;
-        next = (
-          round.told.next bytes first.cells first.medium held readable,
-          rw done told.next,
-        );
+        next = (round.told.next bytes first.cells first.medium held readable, rw done told.next);
         done = ap (all_done chipset.setup bytes told.pieces) done ∙ told.done;
         readable = told.readable;
       }

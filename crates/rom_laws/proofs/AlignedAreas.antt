@@ -1,4 +1,5 @@
 -- All bytes of an aligned access lie in one area: the edges of the memory map are multiples of 4.
+use Rattle.board_prelude.proofs.Common.{common_steps}
 use Rattle.std.proofs.Common.{◌≡◌, ℕ, ◌+◌, ◌-◌, ◌*◌, ◌/◌, ◌%◌, ◌^◌, ◌<◌, ◌≤◌, Bool, true, List, [], ◌∷◌, Option, Some}
 use Rattle.std.proofs.Common.{None, refl, arith, All, flat_map, ◌==◌, ◌&&◌}
 use Rattle.std.proofs.lemmas.List.Elements.{All-contains, All-from_recursion, All-map}
@@ -88,9 +89,7 @@ cards_even bytes (card ∷ later) fit =
 
 edges_even : (setup : Setup) (bytes : Bytes) → All IsCard setup.cards → All IsEven (edges_of setup bytes)
 unfolding edges_of
-edges_even setup bytes fit =
-    All-append IsEven fixed_edges _ fixed_even
-    (All-append IsEven (row_edges bytes) _ (rows_even bytes) (cards_even bytes setup.cards fit))
+edges_even setup bytes fit = grind (arith, nat_tests, common_steps, fixed_even, rows_even, cards_even)
 
 -- ---- the areas
 

@@ -1,4 +1,6 @@
 -- Each byte that an aligned read gives is the one that a read of that byte alone gives.
+use Rattle.board_prelude.proofs.Common.{common_steps}
+use Rattle.board_prelude.proofs.Common.{nat_tests}
 use Rattle.std.proofs.Common.{◌≡◌, ℕ, zero, suc, ◌+◌, ◌-◌, ◌*◌, ◌/◌, ◌%◌, ◌^◌, ◌<◌, ◌≤◌, List, [], length, inl, inr}
 use Rattle.std.proofs.Common.{refl, ap, ◌∙◌, arith, slice_index, lit<}
 use Rattle.std.proofs.lemmas.Nat.{mod-pow-add}
@@ -55,8 +57,7 @@ pub target_moved : (setup : Setup) (area : Area) (addr i : ℕ) (width : Width) 
 target_moved setup RomArea addr i width size claim aligned within =
     ap Rom (rom_moved addr i (length setup.rom) width size aligned within)
 target_moved setup (CardArea dev base) addr i width size claim aligned within =
-    ap (Card dev base)
-    (window_moved addr i (window_bits setup dev base) width (claim dev base refl).least aligned within)
+    grind (arith, nat_tests, common_steps, window_moved, window_bits)
 target_moved setup _ addr i width size claim aligned within = refl
 
 -- ---- what is read there

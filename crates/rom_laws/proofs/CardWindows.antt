@@ -1,15 +1,14 @@
 -- The window of a card that claims an address has the size of its base, of 4 bytes or more.
-use Rattle.std.proofs.Common.{◌≡◌, ℕ, ◌+◌, ◌<◌, ◌≤◌, Bool, false, ◌&&◌, List, [], ◌∷◌, ◌++◌, length}
-use Rattle.std.proofs.Common.{Option, Some, None, inl, inr, refl, ap, subst, ◌∙◌, arith, lit<, lit≤, ◌==◌, All}
-use Rattle.std.proofs.Common.{flat_map, slice_get, if◌then◌else◌, is_some, not, unwrap_or}
-use Rattle.board_prelude.proofs.Common.{cases_Bool, ne_eqb, All-nil, All-cons, All-head}
-use Rattle.board_prelude.proofs.Common.{All-tail, All-append, enumerate_from, Base, MemoryBase, IoBase, OutsideBase}
-use Rattle.board_prelude.proofs.Common.{FittedCard, Setup, IsCard, IsCardList, IsExpansionRom, card_at}
-use Rattle.board_prelude.proofs.Common.{window_bits, Bytes, Window, is_covered, is_enabled_for, is_rom_on}
-use Rattle.board_prelude.proofs.Common.{memory_window, memory_windows, rom_window, rom_window_of, vga_window}
-use Rattle.board_prelude.proofs.Common.{memory_claim, Kind, lies_in, upper_memory, row_of}
-use Rattle.board_prelude.proofs.Common.{is_smram_range, is_shadowed, area_of}
-use Rattle.board_prelude.proofs.Common.{is_in_hole, is_bios_selected, is_smram_open}
+use Rattle.board_prelude.proofs.Common.{nat_tests, cases_Bool, ne_eqb, All-nil, All-cons, All-head, All-tail}
+use Rattle.board_prelude.proofs.Common.{All-append, enumerate_from, Base, MemoryBase, IoBase, OutsideBase, FittedCard}
+use Rattle.board_prelude.proofs.Common.{Setup, IsCard, IsCardList, IsExpansionRom, card_at, window_bits, Bytes, Window}
+use Rattle.board_prelude.proofs.Common.{is_covered, is_enabled_for, is_rom_on, memory_window, memory_windows}
+use Rattle.board_prelude.proofs.Common.{rom_window, rom_window_of, vga_window, memory_claim, Kind, lies_in}
+use Rattle.board_prelude.proofs.Common.{upper_memory, row_of, is_smram_range, is_shadowed, area_of, is_in_hole}
+use Rattle.board_prelude.proofs.Common.{is_bios_selected, is_smram_open}
+use Rattle.std.proofs.Common.{◌≡◌, ℕ, ◌+◌, ◌<◌, ◌≤◌, Bool, false, ◌&&◌, List, [], ◌∷◌, ◌++◌, length, Option, Some, None}
+use Rattle.std.proofs.Common.{inl, inr, refl, ap, subst, ◌∙◌, arith, ◌==◌, All, flat_map, slice_get, if◌then◌else◌}
+use Rattle.std.proofs.Common.{is_some, not, unwrap_or}
 use Rattle.board_base.specs.declared.target.Area.TheVariants.{Card as CardArea}
 use Rattle.board_chipset.proofs.HeldTargets.{IsClaim, claim_line}
 use Rattle.pci_bars.specs.Common.{IsBaseNumber}
@@ -65,22 +64,10 @@ base_windows setup bytes card is k (base ∷ later) few same =
 rom_windows : (setup : Setup) (bytes : Bytes) (card : FittedCard) → IsFound setup card → (rom : Option ℕ) →
     card.rom ≡ rom → IsExpansionRom rom → All (OfCard setup) (rom_window_of bytes card.dev rom)
 rom_windows setup bytes card is None none size = All-nil (OfCard setup)
-rom_windows setup bytes card is (Some bits) some size =
-    All-cons (OfCard setup) _ [] (record {
-      number = record { first = is.0.first; last = is.0.last; below = lit< tt };
-      least = rw (is.1, some) (omega (arith, size.0));
-    }) (All-nil (OfCard setup))
+rom_windows setup bytes card is (Some bits) some size = grind (arith, nat_tests)
 
 vga_windows : (setup : Setup) (card : FittedCard) → IsFound setup card → All (OfCard setup) (vga_window card)
-vga_windows setup card is =
-    elim (cases_Bool card.vga) [
-      | inl vga ↦
-          rw vga (All-cons (OfCard setup) _ [] (record {
-            number = record { first = is.0.first; last = is.0.last; below = lit< tt };
-            least = lit≤ tt;
-          }) (All-nil (OfCard setup)))
-      | inr plain ↦ rw plain (All-nil (OfCard setup))
-    ]
+vga_windows setup card is = grind (arith, nat_tests)
 
 card_windows : (setup : Setup) (bytes : Bytes) (card : FittedCard) → IsFound setup card →
     All (OfCard setup) (memory_windows bytes card)

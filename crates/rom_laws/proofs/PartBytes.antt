@@ -1,9 +1,9 @@
 -- Which part of a read moves a byte of it, and that this byte is one of that part's value.
-use Rattle.std.proofs.Common.{◌≡◌, ℕ, zero, suc, ◌+◌, ◌-◌, ◌*◌, ◌/◌, ◌%◌, ◌^◌, ◌<◌, ◌≤◌, false, List, [], ◌∷◌, ◌++◌}
-use Rattle.std.proofs.Common.{Some, inl, inr, ap, ◌∙◌, arith, ◌==◌, nat_lt, All, map}
-use Rattle.board_prelude.proofs.Common.{cases_lt, cond-true, cond-false, ne_eqb, lt-ltb, le-ltb, All-head, All-tail}
-use Rattle.board_prelude.proofs.Common.{further, Width, One, WideAccess, bytes_of, byte, longest_at, part_at, joined}
-use Rattle.board_prelude.proofs.Common.{Covers}
+use Rattle.board_prelude.proofs.Common.{common_steps, nat_tests, cases_lt, cond-true, cond-false, ne_eqb, lt-ltb}
+use Rattle.board_prelude.proofs.Common.{le-ltb, All-head, All-tail, further, Width, One, WideAccess, bytes_of, byte}
+use Rattle.board_prelude.proofs.Common.{longest_at, part_at, joined, Covers}
+use Rattle.std.proofs.Common.{◌≡◌, ℕ, zero, suc, ◌+◌, ◌-◌, ◌*◌, ◌/◌, ◌^◌, ◌<◌, ◌≤◌, false, List, [], ◌∷◌, ◌++◌, Some}
+use Rattle.std.proofs.Common.{inl, inr, ap, ◌∙◌, arith, ◌==◌, nat_lt, All, map}
 use Rattle.board_spec.specs.Common.{parts_from}
 use Rattle.board_base.specs.declared.access.Width.TheVariants.{Two, Four}
 use Rattle.board_base.specs.declared.access.Access.{Access}
@@ -33,9 +33,7 @@ above_low n above Four fits = omega (arith, fits)
 
 high_byte : (n above i : ℕ) (width : Width) → n < 256 ^ bytes_of width →
     byte (n + 256 ^ bytes_of width * above) (bytes_of width + i) ≡ byte above i
-high_byte n above i width fits =
-    ap (λ m. m % 256) (further (n + 256 ^ bytes_of width * above) (bytes_of width) i)
-    ∙ ap (λ m. m / 256 ^ i % 256) (above_low n above width fits)
+high_byte n above i width fits = grind (arith, nat_tests, common_steps, further, bytes_of, above_low)
 
 -- ---- the parts
 

@@ -1,13 +1,13 @@
 -- Each byte of a read is the one that a read of that byte alone gives.
-use Rattle.std.proofs.Common.{◌≡◌, ℕ, ◌+◌, ◌-◌, ◌%◌, ◌^◌, ◌<◌, Bool, true, false, List, [], ◌∷◌, ◌++◌, length, Option}
-use Rattle.std.proofs.Common.{Some, None, inl, inr, refl, sym, ap, ◌∙◌, arith, ◌==◌, map, if◌then◌else◌}
-use Rattle.std.proofs.lemmas.Simd.{map-map}
-use Rattle.board_prelude.proofs.Common.{nat_tests, and_right, cases_Bool, cond-false, eq-eqb, lt-ltb, Width, One}
+use Rattle.board_prelude.proofs.Common.{common_steps, nat_tests, and_right, cases_Bool, cond-false, eq-eqb, Width, One}
 use Rattle.board_prelude.proofs.Common.{WideAccess, bytes_of, Area, Target, Card, Device, Config, Denial, Register}
 use Rattle.board_prelude.proofs.Common.{Entry, Setup, IsSetup, IsInRange, Memory, Wide, Parts, Reply, Bus, Saw, Bytes}
 use Rattle.board_prelude.proofs.Common.{byte, is_write, memory_target, memory_denial, parts_of, parts_list, joined}
 use Rattle.board_prelude.proofs.Common.{value_at, target_at, longest_at, address_count, expansion_byte, IsPart}
 use Rattle.board_prelude.proofs.Common.{AreParts, IsAnswer, IsWideAnswer}
+use Rattle.std.proofs.Common.{◌≡◌, ℕ, ◌+◌, ◌-◌, ◌%◌, ◌^◌, ◌<◌, Bool, true, false, List, [], ◌∷◌, ◌++◌, length, Option}
+use Rattle.std.proofs.Common.{Some, None, inl, inr, refl, sym, ap, ◌∙◌, arith, ◌==◌, map, if◌then◌else◌}
+use Rattle.std.proofs.lemmas.Simd.{map-map}
 use Rattle.board_spec.specs.Common.{area_of, memory_answer, part_answer, wide_value}
 use Rattle.board_spec.specs.Registers.{byte_of as register_byte}
 use Rattle.board_spec.specs.declared.event.Parts.TheVariants as parts
@@ -23,9 +23,9 @@ use Rattle.board_records.specs.declared.reply.PartRecord.{PartRecord}
 use Rattle.board_records.specs.declared.reply.ReplyRecord.{ReplyRecord}
 use Rattle.board_records.specs.Replies.{no_part, of_part, target_said, with_denial, part_said, blank, bus_said}
 use Rattle.board_records.specs.Replies.{wide_said, record_said}
-use Rattle.board_records.specs.RomReplies.{byte_by, byte_told, is_given, part_of, parts_said, reads_given, with_roms}
-use Rattle.rom_laws.specs.RomReads.{AreBytes, IsOfGivenRom, OnlyValueChanges, OtherRepliesStay, ReadsByteByByte}
-use Rattle.rom_laws.specs.RomReads.{byte_access, byte_of, byte_read}
+use Rattle.board_records.specs.RomReplies.{byte_by, byte_told, part_of, parts_said, reads_given, with_roms}
+use Rattle.rom_laws.specs.RomReads.{AreBytes, OnlyValueChanges, OtherRepliesStay, ReadsByteByByte, byte_access, byte_of}
+use Rattle.rom_laws.specs.RomReads.{byte_read}
 use Rattle.rom_laws.proofs.AlignedAreas.{same_area}
 use Rattle.rom_laws.proofs.CardWindows.{IsWindow, card_window}
 use Rattle.rom_laws.proofs.ByteReads.{InMemory, byte_alone, moved, reaches_memory, target_moved, value_fits}
@@ -63,9 +63,7 @@ module _ (setup : Setup) (before : List Entry) (roms : List (List ℕ)) (fits : 
       card_window setup (register_byte setup before) part.addr part.kind part.smm dev base fits.cards is
 
   pub in_memory : (part : Access) → InMemory setup (memory_target setup before part)
-  in_memory part =
-      reaches_memory setup (area_of setup (register_byte setup before) part.addr part.kind part.smm) part.addr
-      (window_of part)
+  in_memory part = grind (arith, nat_tests, common_steps, reaches_memory, window_of)
 
   abbrev value_of : Access → ℕ
   value_of part = value_at setup before (memory_target setup before part) part.addr part.width
@@ -103,11 +101,7 @@ module _ (setup : Setup) (before : List Entry) (roms : List (List ℕ)) (fits : 
       addr % bytes_of width ≡ 0 → k < bytes_of width →
       part_of (said ∷ rest) addr (bytes_of width) 0 k ≡ Some (said, k)
   unfolding part_of
-  moved_by_one addr width rest said k aligned within =
-      let start : addr + 0 ≡ addr = omega arith in
-      let all : bytes_of width - 0 ≡ bytes_of width = omega arith in
-      let place : k - 0 ≡ k = omega arith in
-      rw (start, all, place, one_cycle width addr aligned, lt-ltb k (0 + bytes_of width) (omega (arith, within))) refl
+  moved_by_one addr width rest said k aligned within = grind (arith, nat_tests)
 
   read_whole : (said : EventRecord) (access : Access) (after : AfterStep) (k : ℕ) → is_write access.kind ≡ false →
       said.addr ≡ access.addr → said.bytes ≡ bytes_of access.width → access.addr % bytes_of access.width ≡ 0 →
@@ -249,30 +243,8 @@ reads_byte_by_byte setup before roms said (Wide access) read reply after k fits 
 reads_byte_by_byte setup before roms said _ read reply after k fits bytes says answer within =
     let none : ◌≡◌ {A = Option WideAccess} None (Some read) = says.reads in absurd (cc)
 
-not_given : (roms : List (List ℕ)) (part : PartRecord) → ¬ IsOfGivenRom roms part → is_given roms part ≡ false
-not_given roms part apart =
-    elim (cases_Bool (is_given roms part)) [
-      | inl it ↦ absurd (apart (of_given roms part it))
-      | inr other ↦ other
-    ]
-  where
-    of_given : (roms : List (List ℕ)) (part : PartRecord) → is_given roms part ≡ true → IsOfGivenRom roms part
-    of_given roms part it =
-        record {
-          card = grind (arith, nat_tests);
-          base = grind (arith, nat_tests);
-          given = λ none. let never = rw none at it in grind (arith, nat_tests);
-        }
-
 pub others_stay : OtherRepliesStay
-others_stay roms event reply none =
-    rw (
-      not_given roms reply.part0 (none 0 no_part (omega arith)),
-      not_given roms reply.part1 (none 1 no_part (omega arith)),
-      not_given roms reply.part2 (none 2 no_part (omega arith)),
-      not_given roms reply.part3 (none 3 no_part (omega arith)),
-      and_right (reply.has_value == 1) false refl,
-    ) refl
+others_stay roms event reply none = grind (arith, nat_tests)
 
 pub value_changes : OnlyValueChanges
 value_changes roms event reply =

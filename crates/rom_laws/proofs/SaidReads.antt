@@ -1,18 +1,17 @@
 -- The bytes of memory that a record asks for are those at its address, as many as it says.
-use Rattle.std.proofs.Common.{◌≡◌, ℕ, ◌%◌, ◌^◌, ◌==◌, Bool, true, false, nat_lt, if◌then◌else◌, ◌/◌, Option, Some, None}
-use Rattle.std.proofs.Common.{option_map, option_and_then, inl, inr, refl, sym, ap, ◌∙◌, arith}
-use Rattle.board_prelude.proofs.Common.{cases_Bool, nat_tests, Kind, Width, One, WideAccess, bytes_of, is_write, Event}
-use Rattle.board_prelude.proofs.Common.{Memory, Wide, Ack, Stimulus, stimulus_form, stimulus_of_code, event_applied}
+use Rattle.board_prelude.proofs.Common.{common_steps, cases_Bool, nat_tests, Kind, Width, One, WideAccess, bytes_of}
+use Rattle.board_prelude.proofs.Common.{is_write, Event, Wide, Ack, Stimulus, stimulus_of_code, event_applied}
+use Rattle.std.proofs.Common.{◌≡◌, ℕ, ◌==◌, Bool, true, false, if◌then◌else◌, Option, Some, None, option_map}
+use Rattle.std.proofs.Common.{option_and_then, refl, arith}
 use Rattle.board_spec.specs.declared.event.Event.TheVariants.{Look as LookAt}
 use Rattle.board_spec.specs.declared.stimulus.Stimulus.TheVariants.{Pulses}
 use Rattle.board_base.specs.declared.access.Width.TheVariants.{Two, Four}
-use Rattle.board_base.specs.declared.access.Access.{Access}
 use Rattle.uart_16550.specs.declared.com1.Happening.TheVariants.{Happens}
 use Rattle.board_records.specs.declared.event.EventRecord.{EventRecord}
 use Rattle.board_records.specs.Events.{access_said, applied_said, asked_by, asked_said, byte_said, cycle_said}
 use Rattle.board_records.specs.Events.{digits_said, direction_said, event_said, is_plain, kind_said, moment_said}
-use Rattle.board_records.specs.Events.{number_said, port_said, stimulus_said, two_digits, width_said}
-use Rattle.board_records.specs.Numbers.{ack_event, look_event, memory_event, port_event, serial_event, time_event}
+use Rattle.board_records.specs.Events.{number_said, port_said, stimulus_said, width_said}
+use Rattle.board_records.specs.Numbers.{ack_event, look_event, memory_event, port_event, time_event}
 use Rattle.rom_laws.specs.RomReads.{read_by}
 
 -- these bytes are those that a record says
@@ -30,10 +29,7 @@ module _ (said : EventRecord) where
   no_event event read is reads = absurd (cc)
 
   reads_none : (event : Event) → read_by event ≡ None → ReadsSaid said (Some event)
-  reads_none event none other read is reads =
-      let same : event ≡ other = cc in
-      let some : ◌≡◌ {A = Option WideAccess} None (Some read) = sym none ∙ ap read_by same ∙ reads in
-      absurd (cc)
+  reads_none event none other read is reads = grind (arith, nat_tests)
 
   either : (b : Bool) (x y : Option Event) → ReadsSaid said x → ReadsSaid said y → ReadsSaid said (if b then x else y)
   either true x y first second = first
@@ -54,11 +50,7 @@ module _ (said : EventRecord) where
   by_read : (writes : Bool) (event : Event) (access : WideAccess) → IsReadSaid said access →
       read_by event ≡ (if writes then None else Some access) → ReadsSaid said (Some event)
   by_read true event access is none = reads_none event none
-  by_read false event access is some = λ other read same reads.
-      let it : event ≡ other = cc in
-      let both : Some access ≡ Some read = sym some ∙ ap read_by it ∙ reads in
-      let whole : access ≡ read = cc in
-      rw (← whole) is
+  by_read false event access is some = grind (arith, nat_tests)
 
   abbrev whole_access : Kind → WideAccess
   whole_access kind =
@@ -70,15 +62,7 @@ module _ (said : EventRecord) where
 
   by_cycle : (kind : Kind) (width : Width) → bytes_of width ≡ said.bytes → ReadsSaid said (cycle_said said kind width)
   unfolding cycle_said
-  by_cycle kind width is =
-      let access : Access =
-      record { kind = kind; addr = said.addr; width = width; smm = said.smm == 1; value = said.value } in
-      let read : WideAccess =
-      record { kind = kind; bytes = bytes_of width; smm = said.smm == 1; addr = said.addr; value = 0 } in
-      either (said.addr % bytes_of width == 0) _ _
-      (either (nat_lt said.value (2 ^ 32)) _ _
-      (by_read (is_write kind) (Memory access) read (record { addr = refl; bytes = sym is }) refl) no_event)
-      (in_parts kind)
+  by_cycle kind width is = grind (arith, nat_tests)
 
   width_is : (bytes : ℕ) (width : Width) → width_said bytes ≡ Some width → bytes_of width ≡ bytes
   unfolding width_said
@@ -113,9 +97,7 @@ module _ (said : EventRecord) where
   no_read _ number on = refl
 
   of_applied : (one : Stimulus) (number : ℕ) → ReadsSaid said (applied_said said one number)
-  of_applied one number =
-      either (stimulus_form one).has_level _ _ (either _ _ _ (reads_none _ (no_read one number _)) no_event)
-      (reads_none _ (no_read one number false))
+  of_applied one number = grind (arith, nat_tests)
 
   of_stimulus : (one : Stimulus) → ReadsSaid said (stimulus_said said one)
   unfolding stimulus_said
@@ -123,9 +105,7 @@ module _ (said : EventRecord) where
 
   of_digits : ReadsSaid said (digits_said said.value)
   unfolding digits_said
-  of_digits =
-      of_moment (said.value / 10 ^ 10) (two_digits said.value 8) (two_digits said.value 6) (two_digits said.value 4)
-      (two_digits said.value 2) (two_digits said.value 0)
+  of_digits = grind (arith, nat_tests, common_steps, of_moment)
 
   of_all : ReadsSaid said (asked_by said)
   unfolding asked_by
@@ -157,8 +137,4 @@ module _ (said : EventRecord) where
   pub read_said : (event : Event) (read : WideAccess) → asked_said said ≡ Some (Happens event) →
       read_by event ≡ Some read → IsReadSaid said read
   unfolding asked_said
-  read_said event read asked reads =
-      elim (cases_Bool (said.what == serial_event)) [
-        | inl serial ↦ absurd (comes event (rw serial at asked))
-        | inr other ↦ of_event event read (happens (event_said said) event (rw other at asked)) reads
-      ]
+  read_said event read asked reads = grind (arith, nat_tests, common_steps, cases_Bool, comes, of_event, happens)

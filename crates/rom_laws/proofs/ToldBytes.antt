@@ -1,9 +1,9 @@
 -- The bytes of the value that is told, one by one: each by the part that moved it.
-use Rattle.std.proofs.Common.{◌≡◌, ℕ, zero, suc, ◌+◌, ◌-◌, ◌<◌, Bool, true, false, ◌||◌, List, [], ◌∷◌, get_or, Option}
-use Rattle.std.proofs.Common.{Some, None, inl, inr, refl, sym, ap, ◌∙◌, arith, ◌==◌, nat_lt, slice_index, lit<}
+use Rattle.board_prelude.proofs.Common.{common_steps, AllByRecursion, cases_Bool, cases_lt, eq-eqb, get_or_past}
+use Rattle.board_prelude.proofs.Common.{nat_tests, w64, to_le_bytes, from_le_bytes, byte, bytes_of, longest_at}
+use Rattle.std.proofs.Common.{◌≡◌, ℕ, zero, suc, ◌+◌, ◌-◌, ◌<◌, true, false, ◌||◌, List, [], ◌∷◌, get_or, Option, Some}
+use Rattle.std.proofs.Common.{None, inl, inr, refl, sym, arith, ◌==◌, slice_index, lit<}
 use Rattle.std.proofs.lemmas.Nat.{le_bytes_8}
-use Rattle.board_prelude.proofs.Common.{AllByRecursion, cases_Bool, cases_lt, eq-eqb, get_or_past, nat_tests, w64}
-use Rattle.board_prelude.proofs.Common.{to_le_bytes, from_le_bytes, byte, bytes_of, longest_at}
 use Rattle.expansion_roms.specs.Roms.{given, byte_over}
 use Rattle.board_records.specs.declared.event.EventRecord.{EventRecord}
 use Rattle.board_records.specs.declared.reply.PartRecord.{PartRecord}
@@ -42,10 +42,7 @@ byte_in n =
 
 byte_of_eight : (f : ℕ → ℕ) → ((k : ℕ) → f k < 256) → (k : ℕ) → k < 8 → byte (from_le_bytes w64 (eight f)) k ≡ f k
 byte_of_eight f below k within =
-    byte_in (from_le_bytes w64 (eight f)) k within
-    ∙ ap (λ (list : List ℕ). get_or list k 0)
-    (le_bytes_8 (eight f) (from_le_bytes w64 (eight f)) refl (small f below) refl)
-    ∙ below_eight (λ i. get_or (eight f) i 0 ≡ f i) refl refl refl refl refl refl refl refl k within
+    grind (arith, nat_tests, common_steps, byte_in, from_le_bytes, w64, le_bytes_8, small, below_eight)
 
 -- ---- a byte that is told
 
@@ -77,13 +74,7 @@ module _ (roms : List (List ℕ)) (bytes : (dev at : ℕ) → slice_index (given
   none_of : (a b c d : PartRecord) →
       (is_given roms a || is_given roms b || is_given roms c || is_given roms d) ≡ false →
       AreOthers (a ∷ b ∷ c ∷ d ∷ [])
-  none_of a b c d none =
-      all_false (is_given roms a) (is_given roms b) (is_given roms c) (is_given roms d) none
-    where
-      all_false : (p q r s : Bool) → (p || q || r || s) ≡ false →
-          (p ≡ false) × ((q ≡ false) × ((r ≡ false) × ((s ≡ false) × Unit {0})))
-      all_false false false false false none = (refl, (refl, (refl, (refl, tt))))
-      all_false p q r s none = absurd (cc)
+  none_of a b c d none = grind (arith, nat_tests)
 
   pub value_told : (event : EventRecord) (said : ReplyRecord) (k : ℕ) → said.has_value ≡ 1 → k < 8 →
       byte (with_roms roms event said).value k ≡ byte_told roms event said k

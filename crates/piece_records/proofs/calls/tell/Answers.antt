@@ -2,7 +2,6 @@ use Rattle.std.proofs.Common.{◌∙◌, refl}
 use Rattle.board_prelude.proofs.Common.{Bytes}
 use Rattle.addr_decode.specs.Common.{StandsFor, map_bytes}
 use Rattle.board_chipset.specs.Held.{HoldsBytes}
-use Rattle.piece_records.specs.Transfers.{recorded}
 use Rattle.piece_records.proofs.Numbers.{said_by_count}
 use Rattle.piece_records.proofs.Safe.{safe_so}
 use Rattle.piece_records.proofs.calls.tell.Goals as goal
@@ -35,7 +34,5 @@ returns-clause-done c =
           (safe_so chipset.setup some _ piece c.piece_record.ensures.table c.requires.sound.state.aligned.table
           c.piece_record.ensures.address (rw going at (next.area chipset.setup some (stands some held)))
           (rw going at next.stretch) (next.smram chipset.setup some (stands some held)));
-      after =
-          c.of.ensures.recorded
-          ∙ rw (c.go_past.ensures.past, going) refl;
+      after = c.of.ensures.recorded ∙ rw (c.go_past.ensures.past, going) refl;
     }
