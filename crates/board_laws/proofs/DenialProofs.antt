@@ -5,13 +5,11 @@ use Rattle.board_prelude.proofs.Common.{Reply, Bus, Entry, Setup, is_config_port
 use Rattle.board_prelude.proofs.Common.{byte_of, Bytes, denial_in, denial_of, Decoded, config_port, device_port}
 use Rattle.board_prelude.proofs.Common.{port_target_of, is_write, part_at, parts_from, target_at, memory_target}
 use Rattle.board_prelude.proofs.Common.{memory_denial, memory_answer, part_answer, port_answer}
-use Rattle.std.proofs.Common.{arith, ◌≡◌, ℕ, zero, suc, ◌-◌, Bool, false, List, Option, None, is_some, sym, subst, inl}
+use Rattle.std.proofs.Common.{arith, ◌≡◌, ℕ, zero, suc, Bool, false, List, Option, None, is_some, sym, subst, inl}
 use Rattle.std.proofs.Common.{inr, ◌==◌, if◌then◌else◌, map, All}
 use Rattle.board_base.specs.declared.access.Access.{Access}
 use Rattle.board_spec.specs.declared.event.Event.TheVariants.{Look as LookAt}
 use Rattle.board_laws.specs.DenialLaws.{IsDeniedExactly, DeniedOnBus, DeniedInParts}
-
--- ---- targets that answer, and those that do not
 
 -- ---- memory
 

@@ -1,5 +1,5 @@
 -- Lists of numbers that follow one another, and tests on them.
-use Rattle.std.proofs.Common.{◌≡◌, ℕ, zero, suc, ◌+◌, ◌≤◌, ◌<◌, Bool, true, false, List, [], ◌∷◌, get_or, refl, ap, inl}
+use Rattle.std.proofs.Common.{◌≡◌, ℕ, zero, suc, ◌+◌, ◌≤◌, ◌<◌, Bool, true, List, [], ◌∷◌, get_or, refl, ap, inl}
 use Rattle.std.proofs.Common.{inr, arith, map}
 use Rattle.board_prelude.proofs.Common.{list_any, cases_Bool, cases_eq, false≢true, or_right}
 

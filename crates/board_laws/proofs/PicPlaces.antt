@@ -1,5 +1,5 @@
 -- What INT stands for, and what a non-specific end of interrupt ends, by places in the order of priorities.
-use Rattle.std.proofs.Common.{◌≡◌, ◌≢◌, ℕ, zero, suc, ◌+◌, ◌/◌, ◌<◌, ◌≤◌, Bool, true, false, not, cond, eqb, ◌&&◌, Some}
+use Rattle.std.proofs.Common.{◌≡◌, ℕ, zero, suc, ◌+◌, ◌/◌, ◌<◌, ◌≤◌, Bool, true, false, not, cond, eqb, ◌&&◌, Some}
 use Rattle.std.proofs.Common.{None, List, [], ◌∷◌, length, get_or, drop, refl, sym, ap, ◌∙◌, inl, inr, arith, is_some}
 use Rattle.std.proofs.Common.{length-append}
 use Rattle.board_prelude.proofs.Common.{find, list_all, cases_Bool, cases_lt, agree_below_at, eqb-true, nat_tests}

@@ -100,8 +100,10 @@ nothing_put :
     is_hard_reset before event ≡ true → entry_put event reply cell ≡ None
 unfolding port_answer
 nothing_put setup before (Port access) reply cell answer hard =
-    rw (answer, decoded-reset setup before access (byte_of setup before) (config_address before) (is_some setup.disk) hard)
-    (no_put access cell)
+    rw (
+      answer,
+      decoded-reset setup before access (byte_of setup before) (config_address before) (is_some setup.disk) hard,
+    ) (no_put access cell)
 nothing_put setup before event reply cell answer hard = absurd (false≢true hard)
 
 wire-hard :

@@ -1,6 +1,6 @@
 -- A cell holds the byte of the last entry that put one there.
 use Rattle.board_prelude.proofs.Common.{nat_tests, All-head, All-tail, Entry, Cell, stored_of}
-use Rattle.std.proofs.Common.{◌≡◌, ℕ, ◌+◌, List, [], ◌∷◌, ◌++◌, Some, None, refl, ◌∙◌, ap, arith, unwrap_or}
+use Rattle.std.proofs.Common.{◌≡◌, ℕ, List, [], ◌∷◌, ◌++◌, Some, None, refl, ◌∙◌, ap, arith, unwrap_or}
 use Rattle.board_laws.specs.StoreLaws.{put_by, LastStays, NothingStored, OutsideGivesOnes}
 
 -- an entry that puts a byte in a cell, and one that does not
