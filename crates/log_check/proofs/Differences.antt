@@ -1,11 +1,10 @@
 -- Where a walk stops, the bytes leave the logs of the script.
 use Rattle.std.proofs.Common.{ℕ, ◌≡◌, ◌≢◌, ◌+◌, List, [], ◌∷◌, ◌++◌, length, reverse, All, refl, sym, ap, ◌∙◌, subst}
 use Rattle.std.proofs.Common.{append_assoc, append-nil, arith}
+use Rattle.board_prelude.proofs.Common.{common_steps, nat_tests, All-nil, Entry, Statement, Setup, IsNext, IsLegal}
+use Rattle.board_prelude.proofs.Common.{IsBegunFor, IsCompleteFor, in_file_order, IsAddressed, OneReplay, line_feed}
+use Rattle.board_prelude.proofs.Common.{line_text, lines_text, log_text, complete_is_begun, none_so_far}
 use Rattle.board_spec.proofs.ReplayLaws.{legal_before}
-use Rattle.board_prelude.proofs.Common.{All-nil, Entry, Statement, Setup, IsNext, IsLegal, IsBegunFor}
-use Rattle.board_prelude.proofs.Common.{IsCompleteFor}
-use Rattle.board_prelude.proofs.Common.{in_file_order, IsAddressed, OneReplay, line_feed, line_text, lines_text}
-use Rattle.board_prelude.proofs.Common.{log_text, complete_is_begun, none_so_far}
 use Rattle.script_spec.specs.Common.{text_of_lines, IsOneLine, AreBegun, IsLogOf, DiffersAt}
 use Rattle.script_spec.proofs.LogLaws.{line_whole}
 use Rattle.log_check.specs.Common.{IsTyped, GoesOnWithNone, StopsAt}
@@ -48,10 +47,7 @@ module _ (setup : Setup) (version : ℕ) (phases : List (List Statement)) where
       whole ≡ reverse (next ∷ later) ++ history →
       IsNext setup history next × IsBegunFor phases (next ∷ history)
   entry_may_come history whole later next legal complete is =
-      let longer : whole ≡ reverse later ++ (next ∷ history) = is ∙ newest_last next later history in (
-        (legal_before setup (reverse later) (next ∷ history) (rw longer at legal)).0,
-        begun_front phases (reverse later) (next ∷ history) (rw longer at (complete_is_begun phases whole complete)),
-      )
+      grind (arith, nat_tests, common_steps, reverse, newest_last, legal_before, begun_front, complete_is_begun)
 
   -- with none of the entries that may come next can a whole history have a longer log
   no_more :
@@ -61,10 +57,7 @@ module _ (setup : Setup) (version : ℕ) (phases : List (List Statement)) where
       this ++ line_feed ∷ rest ≡ lines_from (length history) more → ⊥
   no_more history whole rest this after [] none single legal complete is text = absurd (no_line this rest text)
   no_more history whole rest this after (next ∷ later) none single legal complete is text =
-      let n : ℕ = length history + 1 in
-      let may = entry_may_come history whole later next legal complete is in
-      let cut = cut_line this (line_text n next) rest (lines_from n later) single (line_whole n next) text in
-      none next after may.0 may.1 (ap (λ (line : List ℕ). line ++ line_feed ∷ after) cut.0)
+      grind (arith, nat_tests, common_steps, entry_may_come, cut_line, line_text, lines_from, line_whole, line_feed)
 
   -- and no whole history has this log
   no_log :
@@ -73,8 +66,7 @@ module _ (setup : Setup) (version : ℕ) (phases : List (List Statement)) where
       whole ≡ reverse more ++ history → rest ≡ lines_from (length history) more → ⊥
   no_log history whole rest [] none unfinished legal complete is text = unfinished text (rw is at complete)
   no_log history whole rest (next ∷ later) none unfinished legal complete is text =
-      let may = entry_may_come history whole later next legal complete is in
-      none next (lines_from (length history + 1) later) may.0 may.1 text
+      grind (arith, nat_tests, common_steps, entry_may_come, lines_from)
 
   pub differs :
       (bytes : List ℕ) (entries : List Entry) (line : ℕ) → Known setup phases →

@@ -1,6 +1,7 @@
 -- How many digits a number has.
 use Rattle.std.proofs.Common.{ℕ, ◌≡◌, ◌+◌, ◌/◌, ◌%◌, ◌^◌, ◌<◌, ◌≤◌, [], ◌∷◌, length, ap, ◌∙◌, length-append, arith}
 use Rattle.std.proofs.Common.{decimal}
+use Rattle.board_prelude.proofs.Common.{common_steps, nat_tests}
 use Rattle.std.proofs.lemmas.Fmt.{decimal_digit, decimal_step}
 
 pub one_digit : (n : ℕ) → n < 10 → length (decimal n) ≡ 1
@@ -27,11 +28,4 @@ five_digits n large below =
 
 -- without its last five a number has five digits less
 pub five_more : (n : ℕ) → 100000 ≤ n → n < 2 ^ 64 → length (decimal n) ≡ length (decimal (n / 100000)) + 5
-five_more n large fits =
-    let one = one_more n (omega (arith, large)) fits in
-    let two = one_more (n / 10) (omega (arith, large)) (omega (arith, fits)) in
-    let three = one_more (n / 10 / 10) (omega (arith, large)) (omega (arith, fits)) in
-    let four = one_more (n / 10 / 10 / 10) (omega (arith, large)) (omega (arith, fits)) in
-    let five = one_more (n / 10 / 10 / 10 / 10) (omega (arith, large)) (omega (arith, fits)) in
-    let whole : n / 10 / 10 / 10 / 10 / 10 ≡ n / 100000 = omega arith in
-    omega (arith, one, two, three, four, five, ap (λ (k : ℕ). length (decimal k)) whole)
+five_more n large fits = grind (arith, nat_tests, common_steps, one_more, decimal)

@@ -1,6 +1,6 @@
 -- The next statement of a processor in a phase.
-use Rattle.std.proofs.Common.{ℕ, suc, ◌≡◌, ◌<◌, List, length, drop, get_or, ◌∙◌, add-one}
-use Rattle.board_prelude.proofs.Common.{drop-cons, Statement, events_by}
+use Rattle.std.proofs.Common.{arith, ℕ, ◌≡◌, ◌<◌, List, length, drop, get_or, add-one}
+use Rattle.board_prelude.proofs.Common.{common_steps, nat_tests, drop-cons, Statement, events_by}
 use Rattle.log_check.proofs.NextStatements.{events-own}
 use Rattle.std.proofs.lemmas.Option.{slice_get-get_or}
 use Rattle.log_check.specs.Fronts.{IsNextOf}
@@ -10,13 +10,4 @@ pub found :
     (get_or phase place other).actor ≡ actor →
     events_by actor (drop start phase) ≡ events_by actor (drop place phase) → IsNextOf phase start actor place
 found phase start actor place other within own passed =
-    let statement : Statement = get_or phase place other in
-    record {
-      within = within;
-      statement = statement;
-      here = slice_get-get_or phase place other within;
-      own = own;
-      left = passed
-          ∙ rw (drop-cons phase place other within, add-one place)
-          (events-own actor statement (drop (suc place) phase) own);
-    }
+    grind (arith, nat_tests, common_steps, slice_get-get_or, drop-cons, add-one, events-own)

@@ -1,10 +1,10 @@
 -- A whole check: passed, or where it fails.
 use Rattle.std.proofs.Common.{ℕ, ◌≡◌, ◌≢◌, ◌+◌, ◌⊎◌, List, [], ◌∷◌, ◌++◌, length, All, refl, sym, ap, ◌∙◌, inl, inr}
 use Rattle.std.proofs.Common.{append-nil, arith, ◌==◌, true, false, Result, Ok, Err, MatchResult}
-use Rattle.board_prelude.proofs.Common.{eq-eqb, eqb-true, true≢false, All-nil, All-cons, All-head, All-tail, Event}
-use Rattle.board_prelude.proofs.Common.{Wide, Entry, Statement, Setup, IsInRange, IsLegal, IsBegunFor, IsCompleteFor}
-use Rattle.board_prelude.proofs.Common.{in_file_order, IsAddressed, OneReplay, log_text, complete_is_begun}
-use Rattle.board_prelude.proofs.Common.{begun_is_bounded, complete_is_whole, none_so_far}
+use Rattle.board_prelude.proofs.Common.{common_steps, nat_tests, eq-eqb, eqb-true, true≢false, All-nil, All-cons}
+use Rattle.board_prelude.proofs.Common.{All-head, All-tail, Event, Wide, Entry, Statement, Setup, IsInRange, IsLegal}
+use Rattle.board_prelude.proofs.Common.{IsBegunFor, IsCompleteFor, in_file_order, IsAddressed, OneReplay, log_text}
+use Rattle.board_prelude.proofs.Common.{complete_is_begun, begun_is_bounded, complete_is_whole, none_so_far}
 use Rattle.board_spec.specs.declared.event.Event.TheVariants.{Look as LookAt}
 use Rattle.board_core.specs.Steps.{AreInRange}
 use Rattle.script_spec.specs.Checks.{IsLogOf}
@@ -46,23 +46,14 @@ nothing_legal setup entries fresh = rw fresh tt
 
 module _ (setup : Setup) (version : ℕ) (phases : List (List Statement)) (bytes : List ℕ) where
   pub failed_first : (entries : List Entry) → entries ≡ [] → FailedCheck setup version phases bytes entries NoMemory
-  failed_first entries fresh = record {
-    refused = tt;
-    legal = nothing_legal setup entries fresh;
-    begun = nothing_begun phases entries fresh;
-    stands = (1, inl (refl, fresh));
-  }
+  failed_first entries fresh = grind (arith, nat_tests, common_steps, nothing_legal, nothing_begun)
 
   pub failed_heading :
       (entries : List Entry) → Known setup phases → entries ≡ [] →
       ((after : List ℕ) → bytes ≢ log_text version [] ++ after) →
       FailedCheck setup version phases bytes entries (Differs 1)
-  failed_heading entries known fresh none = record {
-    refused = differs_at_once setup version phases bytes known none;
-    legal = nothing_legal setup entries fresh;
-    begun = nothing_begun phases entries fresh;
-    stands = inl (refl, fresh);
-  }
+  failed_heading entries known fresh none =
+      grind (arith, nat_tests, common_steps, differs_at_once, known, nothing_legal, nothing_begun)
 
   -- ---- at a line
 
@@ -75,12 +66,7 @@ module _ (setup : Setup) (version : ℕ) (phases : List (List Statement)) (bytes
     begun = stopped.begun;
     stands = inr stopped.by.at_line;
   }
-  failed_within entries NoMemory known stopped = record {
-    refused = tt;
-    legal = stopped.legal;
-    begun = stopped.begun;
-    stands = (stopped.by.0, inr stopped.by.1);
-  }
+  failed_within entries NoMemory known stopped = grind (arith, nat_tests, common_steps)
 
   -- ---- after all lines
 
@@ -143,10 +129,7 @@ module _ (setup : Setup) (version : ℕ) (phases : List (List Statement)) (bytes
       MatchResult result (IsCheckedLog setup version phases bytes entries)
       (FailedCheck setup version phases bytes entries) →
       (log : IsLogOf setup version phases bytes) → (result ≡ Ok (length log.history)) ⊎ (result ≡ Err NoMemory)
-  exactly entries (Ok count) checked log =
-      let own = complete_is_whole phases checked.log.history checked.log.complete in
-      let other = complete_is_whole phases log.history log.complete in
-      inl (ap Ok (checked.count_is ∙ own ∙ sym other))
+  exactly entries (Ok count) checked log = grind (arith, nat_tests, common_steps, complete_is_whole)
   exactly entries (Err (Differs line)) checked log = absurd (checked.refused.other log)
   exactly entries (Err NoMemory) checked log = inr refl
 

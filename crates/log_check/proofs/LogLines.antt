@@ -1,17 +1,16 @@
 -- The lines of a log: those of a history, and those of the entries that follow it.
 use Rattle.std.proofs.Common.{ℕ, ◌≡◌, ◌+◌, List, [], ◌∷◌, ◌++◌, length, reverse, All, refl, sym, ap, ◌∙◌, append_assoc}
 use Rattle.std.proofs.Common.{append-nil, length-append, add-one, arith, codes, decimal}
-use Rattle.board_prelude.proofs.Common.{flat_map-append, reverse-append, reverse-reverse, append_cancel_left, All-nil}
-use Rattle.board_prelude.proofs.Common.{All-cons, All-push, Entry, line_feed, line_text, lines_text, log_text}
+use Rattle.board_prelude.proofs.Common.{common_steps, nat_tests, flat_map-append, reverse-append, reverse-reverse}
+use Rattle.board_prelude.proofs.Common.{append_cancel_left, All-nil, All-cons, All-push, Entry, line_feed, line_text}
+use Rattle.board_prelude.proofs.Common.{lines_text, log_text}
 use Rattle.script_spec.specs.Lines.{text_of_lines, IsOneLine}
 use Rattle.script_spec.proofs.Common.{lacks-append, one_line, lacks-word, decimal_word, line_whole}
 use Rattle.logs_and_maps.specs.Reading.{heading}
 
 pub heading_whole : (version : ℕ) → IsOneLine (heading version)
 heading_whole version =
-    one_line (heading version)
-    (lacks-append line_feed (codes "access log ") (decimal version) refl
-    (lacks-word line_feed (decimal version) refl (decimal_word version)))
+    grind (arith, nat_tests, common_steps, one_line, lacks-append, line_feed, codes, decimal, lacks-word, decimal_word)
 
 pub heading-log : (version : ℕ) → log_text version [] ≡ heading version ++ line_feed ∷ []
 unfolding lines_text
@@ -40,10 +39,7 @@ pub lines-newest :
     lines_text (entry ∷ history) ++ rest
     ≡ lines_text history ++ (line_text (length history + 1) entry ++ line_feed ∷ rest)
 unfolding lines_text
-lines-newest entry history rest =
-    let line : List ℕ = line_text (length history + 1) entry in
-    append_assoc (lines_text history ++ line) (line_feed ∷ []) rest
-    ∙ append_assoc (lines_text history) line (line_feed ∷ rest)
+lines-newest entry history rest = grind (arith, nat_tests, common_steps, line_text, append_assoc, lines_text, line_feed)
 
 lines-joined :
     (more history : List Entry) →
@@ -66,23 +62,13 @@ pub lines_left :
     (version : ℕ) (whole history : List Entry) (rest : List ℕ) →
     log_text version whole ≡ log_text version history ++ rest → lines_text whole ≡ lines_text history ++ rest
 lines_left version whole history rest same =
-    append_cancel_left (log_text version []) (lines_text whole) (lines_text history ++ rest)
-    (cc (
-      log_parts version whole,
-      log_parts version history,
-      append_assoc (log_text version []) (lines_text history) rest,
-    ))
+    grind (arith, nat_tests, common_steps, append_cancel_left, log_text, lines_text, log_parts, append_assoc)
 
 pub log_joined :
     (version : ℕ) (more history : List Entry) →
     log_text version (reverse more ++ history) ≡ log_text version history ++ lines_from (length history) more
 log_joined version more history =
-    cc (
-      log_parts version (reverse more ++ history),
-      lines-joined more history,
-      append_assoc (log_text version []) (lines_text history) (lines_from (length history) more),
-      log_parts version history,
-    )
+    grind (arith, nat_tests, common_steps, log_parts, reverse, lines-joined, append_assoc, log_text, lines_text)
 
 pub log-newest :
     (version : ℕ) (entry : Entry) (history : List Entry) (rest : List ℕ) →

@@ -1,11 +1,11 @@
 -- A processor has one statement that may come next.
-use Rattle.std.proofs.Common.{ℕ, ◌≡◌, ◌≢◌, ◌+◌, ◌<◌, ◌≤◌, List, [], ◌∷◌, ◌++◌, length, drop, All, refl, sym, ap, ◌∙◌}
-use Rattle.std.proofs.Common.{subst, inl, inr, append_assoc, length-append, add-one, arith, ◌==◌}
-use Rattle.board_prelude.proofs.Common.{take-append_seam, drop-append_seam, cases_lt, cond-true, eq-eqb, ne_eqb}
-use Rattle.board_prelude.proofs.Common.{append_cancel_left, append-nil, All-head, All-tail, All-drop, Event, Entry}
-use Rattle.board_prelude.proofs.Common.{Statement, Setup, IsNext, IsLegal, statement_of, statements_of, entries_by}
-use Rattle.board_prelude.proofs.Common.{events_by, IsFrontOfPhase, HasPhasesSoFar, IsBegunFor, in_file_order, OneReplay}
-use Rattle.board_prelude.proofs.Common.{statements-newest}
+use Rattle.std.proofs.Common.{ℕ, ◌≡◌, ◌≢◌, ◌+◌, ◌<◌, ◌≤◌, List, [], ◌∷◌, ◌++◌, length, drop, All, refl, sym, ◌∙◌, subst}
+use Rattle.std.proofs.Common.{inl, inr, append_assoc, length-append, add-one, arith}
+use Rattle.board_prelude.proofs.Common.{common_steps, nat_tests, take-append_seam, drop-append_seam, cases_lt}
+use Rattle.board_prelude.proofs.Common.{cond-true, eq-eqb, ne_eqb, append_cancel_left, append-nil, All-head, All-tail}
+use Rattle.board_prelude.proofs.Common.{All-drop, Event, Entry, Statement, Setup, IsNext, IsLegal, statement_of}
+use Rattle.board_prelude.proofs.Common.{statements_of, entries_by, events_by, IsFrontOfPhase, HasPhasesSoFar}
+use Rattle.board_prelude.proofs.Common.{IsBegunFor, in_file_order, OneReplay, statements-newest}
 use Rattle.std.proofs.lemmas.List.Elements.{All-take}
 use Rattle.board_spec.proofs.OrderLawProofs.{events-append}
 use Rattle.log_check.specs.Phases.{IsTyped}
@@ -126,9 +126,7 @@ same_next one setup phases history left right legal l r begun others same =
 pub last_number :
     (history : List Entry) (entry : Entry) →
     length (entries_by entry.actor (entry ∷ history)) ≡ length (entries_by entry.actor history) + 1
-last_number history entry =
-    ap length (cond-true (entry.actor == entry.actor) _ _ (eq-eqb entry.actor entry.actor refl))
-    ∙ sym (add-one (length (entries_by entry.actor history)))
+last_number history entry = grind (arith, nat_tests, common_steps, cond-true, eq-eqb, add-one, entries_by)
 
 no_events :
     (actor : ℕ) (phase : List Statement) → All IsTyped phase → 256 ≤ actor → events_by actor phase ≡ []
@@ -182,5 +180,4 @@ pub known_actor :
     (phases : List (List Statement)) (history : List Entry) (entry : Entry) → All IsTyped (in_file_order phases) →
     IsBegunFor phases (entry ∷ history) → entry.actor < 256
 known_actor phases history entry typed begun =
-    known_statement phases (statements_of history) (statement_of entry) typed
-    (rw (statements-newest entry history) at begun)
+    grind (arith, nat_tests, common_steps, known_statement, statements_of, statement_of, statements-newest)

@@ -1,6 +1,5 @@
 -- Phases that are done, and what follows them.
-use Rattle.std.proofs.Common.{◌≡◌, ◌<◌, ◌≤◌, List, [], ◌∷◌, ◌++◌, length, take, drop, inl, inr, length-append}
-use Rattle.std.proofs.Common.{arith}
+use Rattle.std.proofs.Common.{◌≡◌, ◌<◌, ◌≤◌, List, [], ◌∷◌, ◌++◌, length, take, drop, inl, inr, length-append, arith}
 use Rattle.board_prelude.proofs.Common.{take-append-le, drop-append-le, length-take, take_all, Statement, IsWholePhase}
 use Rattle.board_prelude.proofs.Common.{IsFrontOfPhase, HasPhases, HasPhasesSoFar, whole_front, nothing_left}
 use Rattle.board_prelude.proofs.Common.{whole_is_front}

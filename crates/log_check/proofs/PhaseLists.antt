@@ -1,8 +1,8 @@
 -- The phases of a script as lists.
 use Rattle.std.proofs.Common.{ℕ, ◌≡◌, ◌+◌, ◌<◌, ◌≤◌, List, [], ◌∷◌, ◌++◌, length, take, drop, get_or, All, refl, ap}
 use Rattle.std.proofs.Common.{sym, ◌∙◌, length-append, add-one, arith}
-use Rattle.board_prelude.proofs.Common.{Vec, Global, drop-cons, flat_map-append, map-append, take-append-drop}
-use Rattle.board_prelude.proofs.Common.{take_more, Statement, in_file_order}
+use Rattle.board_prelude.proofs.Common.{common_steps, nat_tests, Vec, Global, drop-cons, flat_map-append, map-append}
+use Rattle.board_prelude.proofs.Common.{take-append-drop, take_more, Statement, in_file_order}
 use Rattle.script_spec.specs.Phases.{lists_of}
 use Rattle.log_check.proofs.NextStatements.{all_parts}
 
@@ -19,9 +19,7 @@ phases_cut phases i phase within is =
 pub phases_more :
     (phases : List (Vec Statement Global)) (i : ℕ) (phase : Vec Statement Global) → i < length phases →
     phase ≡ get_or phases i phase → lists_of (take (i + 1) phases) ≡ lists_of (take i phases) ++ phase.items ∷ []
-phases_more phases i phase within is =
-    rw (take_more phases i phase within, ← is)
-    (map-append (λ (p : Vec Statement Global). p.items) (take i phases) (phase ∷ []))
+phases_more phases i phase within is = grind (arith, nat_tests, common_steps, take_more, map-append)
 
 -- the statements of the phases before one, those of this one, and those after it
 pub statements_cut :
@@ -33,9 +31,7 @@ pub length_cut :
     (before : List (List Statement)) (phase : List Statement) (later : List (List Statement)) →
     length (in_file_order (before ++ phase ∷ later))
     ≡ length (in_file_order before) + (length phase + length (in_file_order later))
-length_cut before phase later =
-    rw (statements_cut before phase later, length-append (in_file_order before) (phase ++ in_file_order later))
-    (omega (arith, length-append phase (in_file_order later)))
+length_cut before phase later = grind (arith, nat_tests, common_steps, statements_cut, length-append, in_file_order)
 
 pub all_of_phase :
     (P : Statement → Type 0) (before : List (List Statement)) (phase : List Statement)

@@ -1,9 +1,9 @@
 -- The steps of a walk within a phase.
 use Rattle.std.proofs.Common.{ℕ, ◌≡◌, ◌≢◌, ◌+◌, ◌<◌, ◌≤◌, List, [], ◌∷◌, ◌++◌, length, All, refl, sym, ◌∙◌, inl, inr}
 use Rattle.std.proofs.Common.{append_assoc, append-nil, length-append, arith}
-use Rattle.board_prelude.proofs.Common.{cases_eq, append_cancel_left, Event, Entry, Statement, statement_of}
-use Rattle.board_prelude.proofs.Common.{statements_of, events_by, IsFrontOfPhase, HasPhases, IsBegunFor, IsCompleteFor}
-use Rattle.board_prelude.proofs.Common.{statements-newest}
+use Rattle.board_prelude.proofs.Common.{common_steps, nat_tests, cases_eq, append_cancel_left, Event, Entry, Statement}
+use Rattle.board_prelude.proofs.Common.{statement_of, statements_of, events_by, IsFrontOfPhase, IsBegunFor}
+use Rattle.board_prelude.proofs.Common.{IsCompleteFor, statements-newest}
 use Rattle.log_check.specs.Common.{IsTyped, WalkPlace, IsWithin}
 use Rattle.log_check.proofs.PhaseCuts.{begun_joined, whole_joined, whole_left, begun_left, in_first_phase, full_phase}
 use Rattle.log_check.proofs.PhaseCuts.{phase_fits}
@@ -14,43 +14,25 @@ pub within_start :
     (place : WalkPlace) (phase : List Statement) (left : ℕ → List Event) (history : List Entry) →
     IsCompleteFor place.done history → place.count ≡ 0 → ((actor : ℕ) → left actor ≡ events_by actor phase) →
     IsWithin place phase left history
-within_start place phase left history complete none all = record {
-  before = statements_of history;
-  part = [];
-  statements = sym (append-nil (statements_of history));
-  whole = complete;
-  size = sym none;
-  each = λ actor. sym (all actor);
-}
+within_start place phase left history complete none all =
+    grind (arith, nat_tests, common_steps, statements_of, append-nil)
 
 module _ (place : WalkPlace) (phase : List Statement) (left : ℕ → List Event) (history : List Entry)
     (within : IsWithin place phase left history) where
   front_of : place.count ≤ length phase → IsFrontOfPhase phase within.part
-  front_of short = record {
-    size = omega (arith, within.size);
-    each = λ actor. record { rest = left actor; whole = within.each actor };
-  }
+  front_of short = grind (arith, nat_tests, common_steps)
 
   -- a history within a phase is begun
   pub within_begun : place.count ≤ length phase → IsBegunFor (place.done ++ phase ∷ place.later) history
-  within_begun short =
-      rw within.statements
-      (begun_joined place.done (phase ∷ place.later) within.before within.part within.whole (inl (front_of short)))
+  within_begun short = grind (arith, nat_tests, common_steps, begun_joined, front_of)
 
   -- with all statements of the phase it is complete
   pub within_whole : place.count ≡ length phase → IsCompleteFor (place.done ++ phase ∷ []) history
-  within_whole full =
-      rw within.statements
-      (whole_joined place.done (phase ∷ []) within.before within.part within.whole
-      (full_phase phase within.part (front_of (omega (arith, full))) (within.size ∙ full)))
+  within_whole full = grind (arith, nat_tests, common_steps, whole_joined, full_phase, front_of)
 
   -- with fewer it is not
   pub within_unfinished : place.count < length phase → ¬ IsCompleteFor (place.done ++ phase ∷ place.later) history
-  within_unfinished short complete =
-      let rest : HasPhases (phase ∷ place.later) within.part =
-      whole_left place.done (phase ∷ place.later) within.before within.part within.whole
-      (rw within.statements at complete) in
-      omega (arith, phase_fits phase within.part rest.0, within.size, short)
+  within_unfinished short complete = grind (arith, nat_tests, common_steps, whole_left, phase_fits)
 
   module _ (entry : Entry) where
     abbrev last : Statement
@@ -65,11 +47,7 @@ module _ (place : WalkPlace) (phase : List Statement) (left : ℕ → List Event
         place.count < length phase → IsBegunFor (place.done ++ phase ∷ place.later) (entry ∷ history) →
         GoesFirst phase within.part last
     next_first short begun =
-        let size = length-append within.part (last ∷ []) in
-        goes_first phase within.part last
-        (in_first_phase phase place.later (within.part ++ last ∷ []) (omega (arith, size, within.size))
-        (begun_left place.done (phase ∷ place.later) within.before (within.part ++ last ∷ []) within.whole
-        (omega (arith, size)) (rw said at begun)))
+        grind (arith, nat_tests, common_steps, length-append, goes_first, in_first_phase, begun_left, said)
 
     pub small_actor :
         place.count < length phase → All IsTyped phase →
@@ -80,12 +58,7 @@ module _ (place : WalkPlace) (phase : List Statement) (left : ℕ → List Event
     pub none_left :
         place.count < length phase → left entry.actor ≡ [] →
         IsBegunFor (place.done ++ phase ∷ place.later) (entry ∷ history) → ⊥
-    none_left short nothing begun =
-        let first = next_first short begun in
-        let same : left entry.actor ≡ entry.event ∷ first.rest =
-        append_cancel_left (events_by entry.actor within.part) (left entry.actor) (entry.event ∷ first.rest)
-        (sym (within.each entry.actor) ∙ first.whole) in
-        cc
+    none_left short nothing begun = grind (arith, nat_tests, common_steps, next_first, append_cancel_left, events_by)
 
   -- an entry is of a processor's next statement
   pub within_next :

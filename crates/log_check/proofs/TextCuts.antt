@@ -3,10 +3,10 @@ use Rattle.std.proofs.Common.{ℕ, ◌≡◌, ◌≢◌, ◌+◌, ◌-◌, ◌<�
 use Rattle.std.proofs.Common.{◌++◌, length, take, drop, All, Option, Some, None, Result, Ok, Err, refl, sym, ap, ◌∙◌}
 use Rattle.std.proofs.Common.{inl, append_assoc, subst, MatchOption, length-append, length-drop, arith, decimal, codes}
 use Rattle.std.proofs.Common.{MatchResult, ◌==◌}
-use Rattle.board_prelude.proofs.Common.{position, position_or_len, result_ok, IsUtf8-from_ascii, take-append_seam}
-use Rattle.board_prelude.proofs.Common.{eq-eqb, ne_eqb, eqb-false, lt-ltb, cond-true, take_all, All-nil, All-cons}
-use Rattle.board_prelude.proofs.Common.{All-head, All-tail, Entry, space, line_feed, event_text, value_bytes}
-use Rattle.board_prelude.proofs.Common.{reply_text, line_text}
+use Rattle.board_prelude.proofs.Common.{common_steps, nat_tests, position, position_or_len, result_ok}
+use Rattle.board_prelude.proofs.Common.{IsUtf8-from_ascii, take-append_seam, eq-eqb, ne_eqb, eqb-false, lt-ltb}
+use Rattle.board_prelude.proofs.Common.{cond-true, take_all, All-nil, All-cons, All-head, All-tail, Entry, space}
+use Rattle.board_prelude.proofs.Common.{line_feed, event_text, value_bytes, reply_text, line_text}
 use Rattle.std.specs.Option.{ok_or}
 use Rattle.std.specs.Str.{IsUtf8}
 use Rattle.std.proofs.lemmas.Fmt.{IsAscii-decimal, decimal_injective}
@@ -31,27 +31,16 @@ position_of_mark :
     (mark : ℕ) (before after : List ℕ) → All (λ byte. byte ≢ mark) before →
     position (λ byte. byte == mark) (before ++ mark ∷ after) ≡ Some (length before)
 position_of_mark mark before after apart =
-    let here : position_or_len (λ byte. byte == mark) (before ++ mark ∷ after) ≡ length before =
-    length_before mark before after apart in
-    let whole : length (before ++ mark ∷ after) ≡ length before + length (mark ∷ after) =
-    length-append before (mark ∷ after) in
-    let within : length before < length (before ++ mark ∷ after) = omega arith in
-    ap (λ (n : ℕ). cond (ltb n (length (before ++ mark ∷ after))) (Some n) None) here
-    ∙ cond-true (ltb (length before) (length (before ++ mark ∷ after))) (Some (length before)) None
-    (lt-ltb (length before) (length (before ++ mark ∷ after)) within)
+    grind (arith, nat_tests, common_steps, position_or_len, length_before, length-append, cond, ltb, cond-true, lt-ltb)
 
 take_rest : (n : ℕ) (bytes : List ℕ) → take (length bytes - n) (drop n bytes) ≡ drop n bytes
-take_rest n bytes =
-    let left : length (drop n bytes) ≡ length bytes - n = length-drop n bytes in
-    take_all (length bytes - n) (drop n bytes) (omega arith)
+take_rest n bytes = grind (arith, nat_tests, common_steps, length-drop, take_all)
 
 -- what stands after the mark
 pub past_mark :
     (mark at : ℕ) (bytes before after : List ℕ) → bytes ≡ before ++ mark ∷ after → at ≡ length before →
     take (length bytes - (at + 1)) (drop (at + 1) bytes) ≡ after
-past_mark mark at bytes before after is place =
-    take_rest (at + 1) bytes ∙ ap (λ (n : ℕ). drop (n + 1) bytes) place ∙ ap (drop (length before + 1)) is
-    ∙ drop-append-add before (mark ∷ after) 1
+past_mark mark at bytes before after is place = grind (arith, nat_tests, common_steps, take_rest, is, drop-append-add)
 
 -- and what stands before it
 pub cut_at_mark :
@@ -59,20 +48,12 @@ pub cut_at_mark :
     position (λ byte. byte == mark) bytes ≡ Some at →
     (take at bytes ≡ before) × (take (length bytes - (at + 1)) (drop (at + 1) bytes) ≡ after)
 cut_at_mark mark at bytes before after apart is found =
-    let same : Some at ≡ Some (length before) =
-    sym found ∙ ap (position (λ byte. byte == mark)) is ∙ position_of_mark mark before after apart in
-    let place : at ≡ length before = cc in (
-      ap (λ (n : ℕ). take n bytes) place ∙ ap (take (length before)) is ∙ take-append_seam before (mark ∷ after),
-      past_mark mark at bytes before after is place,
-    )
+    grind (arith, nat_tests, common_steps, position, is, position_of_mark, take-append_seam, past_mark)
 
 pub not_lost :
     (mark : ℕ) (bytes before after : List ℕ) → All (λ byte. byte ≢ mark) before → bytes ≡ before ++ mark ∷ after →
     position (λ byte. byte == mark) bytes ≡ None → ⊥
-not_lost mark bytes before after apart is lost =
-    let same : ◌≡◌ {A = Option ℕ} None (Some (length before)) =
-    sym lost ∙ ap (position (λ byte. byte == mark)) is ∙ position_of_mark mark before after apart in
-    cc
+not_lost mark bytes before after apart is lost = grind (arith, nat_tests, common_steps, position, is, position_of_mark)
 
 -- an error where none of the results is read
 pub the_error :

@@ -1,12 +1,11 @@
-use Rattle.std.proofs.Common.{ap, ◌∙◌}
+use Rattle.std.proofs.Common.{arith, ap}
+use Rattle.board_prelude.proofs.Common.{common_steps, nat_tests}
 use Rattle.script_spec.specs.Phases.{lists_of}
 use Rattle.log_check.proofs.LogChecks.{nothing_begun, begun_after, exactly}
 use Rattle.log_check.proofs.check.check_log.Goals as goal
 
 pub returns-in_err-reserve-clause-begun : goal.returns-in_err-reserve-clause-begun
-returns-in_err-reserve-clause-begun c =
-    nothing_begun (lists_of c.args.phases.now) c.reserve.new.self.entries
-    (ap (λ board. board.entries) c.in_err-reserve.ensures.err ∙ c.requires.fresh)
+returns-in_err-reserve-clause-begun c = grind (arith, nat_tests, common_steps, nothing_begun)
 
 pub returns-clause-exactly : goal.returns-clause-exactly
 returns-clause-exactly c =
@@ -15,6 +14,4 @@ returns-clause-exactly c =
     (rw (ap (λ board. board.setup) c.in_ok-reserve.ensures.ok) at c.check_lines.ensures.checked)
 
 pub returns-clause-begun : goal.returns-clause-begun
-returns-clause-begun c =
-    begun_after c.reserve.new.self.setup c.args.version (lists_of c.args.phases.now) c.args.bytes.now
-    c.check_lines.new.board.entries c.check_lines.result c.check_lines.ensures.checked
+returns-clause-begun c = grind (arith, nat_tests, common_steps, begun_after)

@@ -1,7 +1,6 @@
-use Rattle.std.proofs.Common.{ℕ, ◌≡◌, ◌+◌, ◌++◌, [], ◌∷◌, List, All, length, take, drop, refl, sym, ap, ◌∙◌, subst}
-use Rattle.std.proofs.Common.{arith}
-use Rattle.board_prelude.proofs.Common.{take_all, Statement, IsInRange, log_text, statements_of, IsCompleteFor}
-use Rattle.board_prelude.proofs.Common.{in_file_order}
+use Rattle.std.proofs.Common.{ℕ, ◌≡◌, ◌+◌, ◌++◌, [], ◌∷◌, List, All, length, take, drop, refl, ap, ◌∙◌, subst, arith}
+use Rattle.board_prelude.proofs.Common.{common_steps, nat_tests, take_all, Statement, IsInRange, log_text}
+use Rattle.board_prelude.proofs.Common.{statements_of, IsCompleteFor, in_file_order}
 use Rattle.script_spec.specs.Phases.{lists_of}
 use Rattle.log_check.specs.Common.{IsTyped, WalkPlace}
 use Rattle.log_check.proofs.LineSteps.{handed_on}
@@ -9,13 +8,7 @@ use Rattle.log_check.proofs.PhaseLists.{phases_cut, phases_more, length_cut, all
 use Rattle.log_check.proofs.check.check_phases.Goals as goal
 
 pub loop-phase-init : goal.loop-phase-init
-loop-phase-init c = record {
-  setup = refl;
-  spare = omega (arith, c.requires.spare);
-  complete = ap statements_of c.requires.fresh;
-  past = λ version bytes text.
-      text ∙ ap (λ entries. log_text version entries ++ c.args.rest.now) (sym c.requires.fresh);
-}
+loop-phase-init c = grind (arith, nat_tests, common_steps, statements_of, log_text)
 
 pub check_phase-requires-clause-spare : goal.check_phase-requires-clause-spare
 check_phase-requires-clause-spare c =

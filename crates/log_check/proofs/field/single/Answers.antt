@@ -1,9 +1,7 @@
+use Rattle.std.proofs.Common.{arith}
+use Rattle.board_prelude.proofs.Common.{common_steps, nat_tests}
 use Rattle.log_check.proofs.TextCuts.{single_if}
 use Rattle.log_check.proofs.field.single.Goals as goal
 
 pub returns : goal.returns
-returns c = record {
-  single =
-      single_if c.digit.result c.args.bytes.now c.if-bytes-lt2.false c.if-bytes-ne46.false c.digit.ensures.digit
-      c.digit.ensures.small;
-}
+returns c = grind (arith, nat_tests, common_steps, single_if)
