@@ -1,4 +1,3 @@
-use Rattle.std.proofs.Common.{◌≡◌, ◌⊎◌, IsSomeAnd}
 use Rattle.board_c.proofs.Full.{is_full}
 use Rattle.board_c.proofs.image.board_save.Goals as goal
 

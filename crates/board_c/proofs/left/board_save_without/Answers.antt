@@ -1,4 +1,3 @@
-use Rattle.std.proofs.Common.{◌≡◌, ◌⊎◌, IsSomeAnd}
 use Rattle.board_c.proofs.Full.{is_full}
 use Rattle.board_c.proofs.left.board_save_without.Goals as goal
 

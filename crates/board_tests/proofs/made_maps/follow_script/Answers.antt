@@ -1,4 +1,4 @@
-use Rattle.std.proofs.Common.{ℕ, ◌≡◌, ◌+◌, List, take, drop, sym, subst, ◌∙◌, ap}
+use Rattle.std.proofs.Common.{ℕ, ◌+◌, List, take, drop, sym, subst, ◌∙◌, ap}
 use Rattle.board_prelude.proofs.Common.{Statement, Setup, IsInRange, in_file_order}
 use Rattle.board_core.specs.Steps.{AreInRange}
 use Rattle.script_text.specs.Script.{said_of}

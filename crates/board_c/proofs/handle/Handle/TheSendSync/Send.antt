@@ -2,7 +2,6 @@
 use mathlib.Core.Bool.{Bool, true, false}
 use base.Fml.{Fml}
 use base.Shift.{Keyless}
-use denote.RattleType.{RattleType}
 use denote.Struct.Struct.{exits_of}
 use denote.Struct.Owning.{shape, fields, to}
 use denote.Param.Send.{IsSend, AllSend, owning_send, struct_send, sendable}
