@@ -1,11 +1,11 @@
 -- A change keeps each register whose windows lie elsewhere, and a store of one byte to a register that keeps its byte
 -- changes no area.
+use Rattle.board_prelude.proofs.Common.{common_steps, cases_Bool, nat_tests, recursion_from_All, Width, Reg, bytes_of}
+use Rattle.board_prelude.proofs.Common.{MapChange, Store, Reset, Setup, IsCardList, byte, host_bridge, reset_byte}
+use Rattle.board_prelude.proofs.Common.{writable_bits, covers, byte_after, Bytes, top_of, bridge, reg_after}
+use Rattle.board_prelude.proofs.Common.{address_count, six_areas, merged-all, One, FittedCard}
 use Rattle.std.proofs.Common.{◌≡◌, ℕ, zero, suc, ◌+◌, ◌-◌, ◌<◌, ◌≤◌, inl, inr, true, List, [], ◌∷◌, length, get_or}
-use Rattle.std.proofs.Common.{take, refl, arith, flat_map, Option, None, sym, ◌∙◌, ap, IfSome, subst}
-use Rattle.board_prelude.proofs.Common.{cases_Bool, nat_tests, recursion_from_All, Width, Reg, bytes_of, MapChange}
-use Rattle.board_prelude.proofs.Common.{Store, Reset, Setup, IsCardList, byte, host_bridge, reset_byte, writable_bits}
-use Rattle.board_prelude.proofs.Common.{covers, byte_after, Bytes, top_of, bridge, reg_after, address_count, six_areas}
-use Rattle.board_prelude.proofs.Common.{merged-all, One, FittedCard}
+use Rattle.std.proofs.Common.{take, refl, arith, flat_map, Option, None, sym, ◌∙◌, IfSome, subst}
 use Rattle.addr_decode.proofs.NameLemmas.{offsets, covered_offset}
 use Rattle.addr_decode.proofs.StoreLemmas.{same_register}
 use Rattle.map_ranges.specs.declared.range.Changed.{Changed}
@@ -82,11 +82,7 @@ pub top_after : (setup : Setup) (bytes : Bytes) (change : MapChange) → top_of 
     top_of (after setup change bytes) ≤ 0x7F80_0000
 top_after setup bytes Reset top = rw (last_row_at_reset setup) (omega arith)
 top_after setup bytes (Store at width value) top =
-    elim (cases_Bool (covers at width (bridge 0x67))) [
-      | inr beside ↦ rw beside top
-      | inl over ↦ rw (over, last_row_after setup (bytes (bridge 0x67)) (byte value (0x67 - at.off)) (omega arith))
-          (omega arith)
-    ]
+    grind (arith, nat_tests, common_steps, cases_Bool, covers, bridge, last_row_after, byte)
 
 -- outside all changed windows nothing changes
 pub changes_keep : (setup : Setup) (bytes : Bytes) (change : MapChange) (addr : ℕ) → IsCardList setup.cards →
@@ -142,8 +138,4 @@ pub held_alone : (bytes : Bytes) (change : MapChange) (cards : List FittedCard) 
     IfSome found (IsHeldAt change bytes)
 held_alone bytes (Store at One value) cards names found one named is =
     let place : at.off + 0 ≡ at.off = omega arith in is at (rw (named, place) refl)
-held_alone bytes _ cards names found one named is = absurd (omega (
-  arith,
-  ap (λ (list : List (Option MapRegister)).
-      length list) named,
-))
+held_alone bytes _ cards names found one named is = grind (arith, nat_tests)
