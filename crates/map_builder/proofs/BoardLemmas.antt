@@ -5,7 +5,7 @@ use Rattle.board_prelude.proofs.Common.{nat_tests, Setup, Rises, IsCard, IsCardL
 use Rattle.board_prelude.proofs.Common.{bridge, Bytes, Reg}
 use Rattle.std.proofs.Common.{◌≡◌, ℕ, zero, suc, ◌+◌, ◌-◌, ◌*◌, ◌/◌, ◌%◌, ◌^◌, ◌<◌, ◌≤◌, List, [], ◌∷◌, length, get_or}
 use Rattle.std.proofs.Common.{Option, Some, None, refl, ◌∙◌, arith, ◌==◌, nat_lt, if◌then◌else◌, false, ◌&&◌, All, find}
-use Rattle.std.proofs.Common.{is_some, slice_index, option_map, true}
+use Rattle.std.proofs.Common.{is_some, slice_index, option_map}
 use Rattle.pci_bars.specs.Cards.{CardBytes, HoldsLong, HoldsRom, DecodesAs, AreFitted, cards_of}
 use Rattle.addr_decode.specs.Common.{MapBytes, StandsFor, AreSinglesOf, single_number}
 use Rattle.addr_decode.proofs.SingleLemmas.{numbered, block_unnumbered, card_unnumbered}

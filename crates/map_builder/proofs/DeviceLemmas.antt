@@ -1,7 +1,7 @@
 -- The windows that the registers of a card govern are those that the code finds by the values of its bases.
 use Rattle.std.proofs.Common.{◌≡◌, ◌≢◌, ℕ, zero, suc, ◌+◌, ◌/◌, ◌<◌, ◌≤◌, inl, inr, Bool, List, [], ◌∷◌, ◌++◌, length}
-use Rattle.std.proofs.Common.{map, filter, Option, Some, None, refl, ap, ◌∙◌, arith, ◌==◌, All, find, flat_map, slice_get}
-use Rattle.std.proofs.Common.{slice_index}
+use Rattle.std.proofs.Common.{map, filter, Option, Some, None, refl, ap, ◌∙◌, arith, ◌==◌, All, find, flat_map}
+use Rattle.std.proofs.Common.{slice_get, slice_index}
 use Rattle.board_prelude.proofs.Common.{option_map_or, enumerate_from, cases_Bool, eq-eqb, ne_eqb, map-append, All-head}
 use Rattle.board_prelude.proofs.Common.{All-tail, Reg, Base, IoBase, FittedCard, Setup, IsCard, card_at, Bytes, Window}
 use Rattle.board_prelude.proofs.Common.{base_value, memory_window, rom_window, rom_window_of, vga_window}

@@ -1,13 +1,11 @@
 -- The ranges of a map between two addresses, and those that follow the last window, as they follow those that were
 -- built.
-use Rattle.board_prelude.proofs.Common.{common_steps}
-use Rattle.board_prelude.proofs.Common.{nat_tests}
+use Rattle.board_prelude.proofs.Common.{common_steps, nat_tests, append-nil, drop_more, map-append, Area, address_count}
+use Rattle.board_prelude.proofs.Common.{MapRange, AllByRecursion, length_push, length-map, get_or-map, length-append}
+use Rattle.board_prelude.proofs.Common.{length-drop, take_all, recursion_from_All, All-drop, Setup, Bytes, Tiles}
+use Rattle.board_prelude.proofs.Common.{Differs, NeighboursDiffer, IsFlatMapOf}
 use Rattle.std.proofs.Common.{◌≡◌, ◌≢◌, ℕ, zero, suc, ◌+◌, ◌-◌, ◌<◌, ◌≤◌, inl, inr, List, [], ◌∷◌, ◌++◌, length, map}
 use Rattle.std.proofs.Common.{take, drop, refl, sym, ◌∙◌, arith, append_assoc, min, get_or}
-use Rattle.board_prelude.proofs.Common.{append-nil, drop_more, map-append, Area, address_count, MapRange}
-use Rattle.board_prelude.proofs.Common.{AllByRecursion, length_push, length-map, get_or-map, length-append, length-drop}
-use Rattle.board_prelude.proofs.Common.{take_all, recursion_from_All, All-drop, Setup, Bytes, Tiles, Differs}
-use Rattle.board_prelude.proofs.Common.{NeighboursDiffer, IsFlatMapOf}
 use Rattle.addr_decode.specs.MapRegs.{MapBytes, StandsFor}
 use Rattle.map_ranges.specs.declared.range.Range.{Range}
 use Rattle.map_builder.specs.Common.{range_of, no_range, range_at, Holds, ContinuesAt, IsBuilt, IsMapWhere, IsBetween}

@@ -267,12 +267,7 @@ module _ (setup : Setup) (bytes new : Bytes) (addr : ℕ)
       ≡ find (claims bytes) (flat_map (memory_windows bytes) cards)
   cards_same [] each = refl
   cards_same (card ∷ later) each =
-      rw (
-        find-append (claims new) (memory_windows new card) (flat_map (memory_windows new) later),
-        find-append (claims bytes) (memory_windows bytes card) (flat_map (memory_windows bytes) later),
-        card_same card each.0,
-        cards_same later each.1,
-      ) refl
+      grind (arith, nat_tests, common_steps, find-append, memory_windows, flat_map, card_same, cards_same later each.1)
 
   pub claim_same : IsCardList setup.cards → memory_claim setup new addr ≡ memory_claim setup bytes addr
   unfolding memory_claim

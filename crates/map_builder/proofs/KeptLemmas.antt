@@ -1,9 +1,8 @@
 -- The areas of an address are the same before and after a change that moves nothing round it.
-use Rattle.board_prelude.proofs.Common.{common_steps, cases_Bool, ne_eqb, nat_tests, Kind, Fetch, Read, Write, Reg}
-use Rattle.board_prelude.proofs.Common.{Setup, IsCardList, is_within, Bytes, top_of, row_of, is_in, hole_of}
-use Rattle.board_prelude.proofs.Common.{is_high_window, nibble, is_open, is_shadow_range, is_shadowed, is_smram_range}
-use Rattle.board_prelude.proofs.Common.{is_rom_selected, pam_register, area_of, bridge, isa, card_register, six_areas}
-use Rattle.board_prelude.proofs.Common.{each_below}
+use Rattle.board_prelude.proofs.Common.{common_steps, cases_Bool, ne_eqb, nat_tests, Kind, Reg, Setup, IsCardList}
+use Rattle.board_prelude.proofs.Common.{is_within, Bytes, top_of, row_of, is_in, hole_of, is_high_window, nibble}
+use Rattle.board_prelude.proofs.Common.{is_open, is_shadow_range, is_shadowed, is_smram_range, is_rom_selected}
+use Rattle.board_prelude.proofs.Common.{pam_register, area_of, bridge, isa, card_register, six_areas, each_below}
 use Rattle.std.proofs.Common.{◌≡◌, ℕ, ◌+◌, ◌-◌, ◌/◌, ◌<◌, ◌≤◌, ◌⊎◌, inl, inr, Bool, true, false, [], ◌∷◌, None, refl}
 use Rattle.std.proofs.Common.{sym, ◌∙◌, ap, arith, ◌==◌, ◌&&◌, ◌||◌, nat_le, nat_lt, if◌then◌else◌, find, List, zero}
 use Rattle.std.proofs.Common.{suc, map, slice_index, rules}
@@ -153,12 +152,4 @@ module _ (setup : Setup) (bytes new : Bytes) (addr : ℕ) (kept : (reg : Reg) �
         ]
 
     pub areas_same : six_areas setup new addr ≡ six_areas setup bytes addr
-    areas_same =
-        rw (
-          area_same Fetch false,
-          area_same Read false,
-          area_same Write false,
-          area_same Fetch true,
-          area_same Read true,
-          area_same Write true,
-        ) refl
+    areas_same = grind (arith, nat_tests, common_steps, area_same)

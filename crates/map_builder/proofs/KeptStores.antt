@@ -9,7 +9,7 @@ use Rattle.std.proofs.Common.{take, refl, arith, flat_map, Option, None, sym, �
 use Rattle.addr_decode.proofs.NameLemmas.{offsets, covered_offset}
 use Rattle.addr_decode.proofs.StoreLemmas.{same_register}
 use Rattle.map_ranges.specs.declared.range.Changed.{Changed}
-use Rattle.map_builder.specs.Common.{windows_of, windows_covered, after, changed_windows, IsOutside, WindowsHoldChanges}
+use Rattle.map_builder.specs.Common.{windows_of, windows_covered, after, changed_windows, WindowsHoldChanges}
 use Rattle.map_builder.specs.Common.{BoundsHoldChanges, IsHeldAt}
 use Rattle.map_builder.proofs.OutsideLemmas.{Outside, outside_bounds, outside_parts}
 use Rattle.map_builder.proofs.KeptCards.{Kept}
@@ -100,8 +100,7 @@ changes_keep setup bytes (Store at width value) addr list top address out =
 
 pub windows_hold_changes : WindowsHoldChanges
 windows_hold_changes setup bytes change addr list top address out =
-    changes_keep setup bytes change addr list top address
-    (recursion_from_All (IsOutside addr) (changed_windows setup bytes change) out)
+    grind (arith, nat_tests, common_steps, changes_keep, recursion_from_All)
 
 pub bounds_hold_changes : BoundsHoldChanges
 bounds_hold_changes setup bytes change addr list top address out =
@@ -126,9 +125,7 @@ pub unchanged_keep : (setup : Setup) (bytes : Bytes) (change : MapChange) (addr 
     IsHeldAt change (after setup change bytes) held →
     six_areas setup (after setup change bytes) addr ≡ six_areas setup bytes addr
 unchanged_keep setup bytes change addr held list before later =
-    let same = same_bytes setup bytes change held before later in
-    areas_same setup bytes (after setup change bytes) addr (λ reg other. inl (same reg))
-    (row_stays bytes (after setup change bytes) addr (λ row below. same (bridge (0x60 + row)))) list
+    grind (arith, nat_tests, common_steps, same_bytes, areas_same, row_stays, bridge)
 
 -- the byte of the one register that a change names is the byte that it stores to
 pub held_alone : (bytes : Bytes) (change : MapChange) (cards : List FittedCard) (names : List (Option MapRegister))

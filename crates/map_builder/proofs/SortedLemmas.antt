@@ -1,9 +1,8 @@
 -- Windows in rising order hold the addresses of those that were sorted, and are no more than there are different ones.
-use Rattle.board_prelude.proofs.Common.{common_steps}
+use Rattle.board_prelude.proofs.Common.{common_steps, AllByRecursion, list_any, cases_Bool, or_cases, false≢true}
+use Rattle.board_prelude.proofs.Common.{nat_tests, Setup, Bytes, each_below}
 use Rattle.std.proofs.Common.{◌≡◌, ℕ, ◌+◌, ◌<◌, ◌≤◌, ◌⊎◌, inl, inr, Bool, true, false, List, [], ◌∷◌, ◌++◌, length}
 use Rattle.std.proofs.Common.{refl, arith, nat_lt, min, max, filter, rules}
-use Rattle.board_prelude.proofs.Common.{AllByRecursion, list_any, cases_Bool, or_cases, false≢true, nat_tests, Setup}
-use Rattle.board_prelude.proofs.Common.{Bytes, each_below}
 use Rattle.addr_decode.specs.Edges.{edges_of, edges_after}
 use Rattle.addr_decode.specs.Singles.{single_count}
 use Rattle.map_ranges.specs.declared.range.Changed.{Changed}
