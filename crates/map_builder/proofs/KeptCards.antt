@@ -199,11 +199,8 @@ module _ (setup : Setup) (bytes new : Bytes) (addr : ℕ)
   rom_outside : (registers : Bytes) (card : FittedCard) → Outside addr (map decoded (rom_window registers card)) →
       find (claims registers) (rom_part registers card) ≡ None
   rom_outside registers card out =
-      elim (cases_Bool (is_rom_on registers card.dev)) [
-        | inl selected ↦ rw selected (none_covered addr (rom_window registers card)
-            (λ dev. is_enabled_for 1 registers dev) out)
-        | inr unselected ↦ rw unselected refl
-      ]
+      let none = none_covered addr (rom_window registers card) (λ dev. is_enabled_for 1 registers dev) out in
+      grind (arith, nat_tests)
 
   rom_alike : (dev : ℕ) (rom : Option ℕ) → is_enabled_for 1 new dev ≡ is_enabled_for 1 bytes dev →
       find (claims new) (rom_window_of bytes dev rom) ≡ find (claims bytes) (rom_window_of bytes dev rom)

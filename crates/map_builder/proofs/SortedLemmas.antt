@@ -88,13 +88,14 @@ outside_with : (addr : ℕ) (window : Changed) (windows : List Changed) → Outs
 unfolding with_window
 outside_with addr window [] out = out
 outside_with addr window (other ∷ later) out =
-    with_step (λ made. Outside addr made → IsOutside addr window × Outside addr (other ∷ later)) window other later
-    (λ behind out. let rest = outside_with addr window later out.1 in (rest.0, (out.0, rest.1)))
-    (λ before out. (out.0, outside_with addr other later out.1))
-    (λ low high out.
-    let rest = outside_with addr (both other window) later out in
-    let each = outside_both addr other window rest.0 in
-    (each.1, (each.0, rest.1))) out
+    grind (
+      arith,
+      nat_tests,
+      outside_with addr window later,
+      outside_with addr other later,
+      outside_with addr (both other window) later,
+      outside_both,
+    )
 
 pub outside_sorted : (addr : ℕ) (windows : List Changed) → Outside addr (sorted windows) → Outside addr windows
 unfolding sorted

@@ -1,6 +1,5 @@
 use Rattle.std.proofs.Common.{arith}
-use Rattle.board_prelude.proofs.Common.{common_steps}
-use Rattle.board_prelude.proofs.Common.{nat_tests}
+use Rattle.board_prelude.proofs.Common.{nat_tests, common_steps}
 use Rattle.map_builder.proofs.BuildLemmas.{is_built_first}
 use Rattle.map_builder.proofs.build.first_range.Goals as goal
 

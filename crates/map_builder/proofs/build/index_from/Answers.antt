@@ -1,5 +1,4 @@
-use Rattle.board_prelude.proofs.Common.{common_steps}
-use Rattle.board_prelude.proofs.Common.{nat_tests}
+use Rattle.board_prelude.proofs.Common.{nat_tests, common_steps}
 use Rattle.std.proofs.Common.{arith}
 use Rattle.map_ranges.proofs.FindLemmas.{placed}
 use Rattle.map_builder.proofs.RebuildLemmas.{begins_next}
