@@ -1,4 +1,6 @@
 -- The state after an access at a port.
+use Rattle.std.proofs.Common.{arith}
+use Rattle.board_prelude.proofs.Common.{nat_tests}
 use Rattle.std.proofs.Common.{◌≡◌, ◌≢◌, ℕ, true, false, List, ◌∷◌, Option, None, refl, ◌∙◌, ap}
 use Rattle.board_prelude.proofs.Common.{cond_both, Width, PortAccess, Reg, Dev, Target, Device, Config, Card, Abort}
 use Rattle.board_prelude.proofs.Common.{bytes_of, Entry, Reply, Setup, config_address, is_hard_reset, Cell, byte_of}
@@ -136,13 +138,7 @@ pub entry_of :
     {setup : Setup} {history : List Entry} {access : PortAccess} {target : Target} {denial : Option Denial}
     {value : Option ℕ} {entry : Entry} → record { target = target; denial = denial } ≡ reached setup history access →
     entry.event ≡ Port access → entry.reply ≡ Bus value target denial → IsEntryOf setup history access target entry
-entry_of {denial = denial} {value = value} decoded event replied = record {
-  value = value;
-  denial = denial;
-  target_is = ap (λ (d : Decoded). d.target) decoded;
-  event = event;
-  reply = replied;
-}
+entry_of {denial = denial} {value = value} decoded event replied = grind (arith, nat_tests)
 
 pub answer_is :
     (setup : Setup) (history : List Entry) (access : PortAccess) (decoded : Decoded) (reply : Reply) →

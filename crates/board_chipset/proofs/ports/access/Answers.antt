@@ -1,3 +1,5 @@
+use Rattle.std.proofs.Common.{arith}
+use Rattle.board_prelude.proofs.Common.{nat_tests}
 use Rattle.std.proofs.Common.{◌≡◌, Bool, ap, List, ℕ}
 use Rattle.board_prelude.proofs.Common.{PortAccess, IsBusAccess, port_target_of}
 use Rattle.board_spec.specs.Ports.{Decoded}
@@ -30,10 +32,7 @@ at_device-requires c =
     record { reaching = reaching c.args.access.now kept c.has_disk-disk.result c.requires.bus stands c.in-Device.is }
 
 pub returns-in-Device-clause-answer : goal.returns-in-Device-clause-answer
-returns-in-Device-clause-answer c = λ setup history kept.
-    c.at_device.ensures.answer setup history kept
-    (rw (c.has_disk-disk.ensures.fitted setup history kept.devices, c.in-Device.is)
-    at (c.find_port.ensures.decoded setup history kept.registers))
+returns-in-Device-clause-answer c = grind (arith, nat_tests)
 
 pub returns-in-Device-clause-board : goal.returns-in-Device-clause-board
 returns-in-Device-clause-board c = λ setup history entry kept.
@@ -48,10 +47,7 @@ at_register-requires-clause-reaching c =
     reaching c.args.access.now kept c.has_disk-disk.result c.requires.bus stands c.in-Register.is
 
 pub returns-in-Register-clause-answer : goal.returns-in-Register-clause-answer
-returns-in-Register-clause-answer c = λ setup history kept.
-    c.at_register.ensures.answer setup history kept
-    (rw (c.has_disk-disk.ensures.fitted setup history kept.devices, c.in-Register.is)
-    at (c.find_port.ensures.decoded setup history kept.registers))
+returns-in-Register-clause-answer c = grind (arith, nat_tests)
 
 pub returns-in-Register-clause-board : goal.returns-in-Register-clause-board
 returns-in-Register-clause-board c = λ setup history entry kept.
@@ -66,10 +62,7 @@ at_card-requires-clause-reaching c =
     reaching c.args.access.now kept c.has_disk-disk.result c.requires.bus stands c.in-Card.is
 
 pub returns-in-Card-clause-answer : goal.returns-in-Card-clause-answer
-returns-in-Card-clause-answer c = λ setup history kept.
-    c.at_card.ensures.answer setup history kept
-    (rw (c.has_disk-disk.ensures.fitted setup history kept.devices, c.in-Card.is)
-    at (c.find_port.ensures.decoded setup history kept.registers))
+returns-in-Card-clause-answer c = grind (arith, nat_tests)
 
 pub returns-in-Card-clause-board : goal.returns-in-Card-clause-board
 returns-in-Card-clause-board c = λ setup history entry kept.
@@ -84,10 +77,7 @@ at_nobody-requires c =
     record { reaching = reaching c.args.access.now kept c.has_disk-disk.result c.requires.bus stands c.in-Nobody.is }
 
 pub returns-in-Nobody-clause-answer : goal.returns-in-Nobody-clause-answer
-returns-in-Nobody-clause-answer c = λ setup history kept.
-    c.at_nobody.ensures.answer setup history kept
-    (rw (c.has_disk-disk.ensures.fitted setup history kept.devices, c.in-Nobody.is)
-    at (c.find_port.ensures.decoded setup history kept.registers))
+returns-in-Nobody-clause-answer c = grind (arith, nat_tests)
 
 pub returns-in-Nobody-clause-board : goal.returns-in-Nobody-clause-board
 returns-in-Nobody-clause-board c = λ setup history entry kept.

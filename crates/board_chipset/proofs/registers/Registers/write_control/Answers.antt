@@ -1,3 +1,5 @@
+use Rattle.std.proofs.Common.{arith}
+use Rattle.board_prelude.proofs.Common.{nat_tests}
 use Rattle.std.proofs.Common.{◌≡◌, ◌∙◌, true, false, sym, refl}
 use Rattle.board_spec.specs.Registers.{byte_of, is_hard_value}
 use Rattle.board_chipset.proofs.RegisterSteps.{follows}
@@ -20,9 +22,7 @@ returns-else-hard-clause-registers c = λ setup history entry put has.
     has.flat
 
 pub returns-then-hard-clause-sound : goal.returns-then-hard-clause-sound
-returns-then-hard-clause-sound c = λ setup sound.
-    c.reset.ensures.sound setup
-    (record { bytes = sound.bytes; kept = sound.kept; address = sound.address; flat = sound.flat })
+returns-then-hard-clause-sound c = grind (arith, nat_tests)
 
 pub returns-else-hard-clause-sound : goal.returns-else-hard-clause-sound
 returns-else-hard-clause-sound c = λ setup sound.
