@@ -1,5 +1,5 @@
-use Rattle.std.proofs.Common.{arith, sym, subst, ◌∙◌}
-use Rattle.board_prelude.proofs.Common.{nat_tests, IsInRange}
+use Rattle.std.proofs.Common.{sym, subst, ◌∙◌}
+use Rattle.board_prelude.proofs.Common.{IsInRange}
 use Rattle.board_chipset.proofs.OutsideSteps.{outside_done, applied_is, applied_answer, level_number}
 use Rattle.board_chipset.proofs.StateSteps.{sound_devices}
 use Rattle.board_chipset.proofs.outside.answer.Goals as goal
@@ -29,9 +29,6 @@ returns-in-Some-clause-board c = λ setup history entry kept event.
     outside_done (event ∙ is) (applied_answer setup history said.stimulus said.number said.on).0 kept
     (λ asks routes. c.apply.ensures.devices setup history entry kept.devices asks
     kept.registers.kept.south.routes routes)
-
-pub returns-in-Some-clause-answer : goal.returns-in-Some-clause-answer
-returns-in-Some-clause-answer c = grind (arith, nat_tests)
 
 pub returns-in-Ack-clause-sound : goal.returns-in-Ack-clause-sound
 returns-in-Ack-clause-sound c = λ setup sound. sound_devices sound c.acknowledge-vector.ensures.fitted

@@ -1,5 +1,5 @@
-use Rattle.std.proofs.Common.{◌≡◌, ap, List, arith}
-use Rattle.board_prelude.proofs.Common.{Entry, Setup, Decoded, nat_tests}
+use Rattle.std.proofs.Common.{◌≡◌, ap, List}
+use Rattle.board_prelude.proofs.Common.{Entry, Setup, Decoded}
 use Rattle.addr_decode.specs.declared.found.Found.{Found}
 use Rattle.addr_decode.specs.Found.{decoded_as}
 use Rattle.board_chipset.specs.Common.{IsStateOf, reached}
@@ -30,9 +30,6 @@ module _ (c : After-find_port) {shown : Found} (is : c.find_port.result ≡ show
 pub at_device-requires : goal.at_device-requires
 at_device-requires c = record { reaching = reaching (goal.at.at_device-requires c).After-find_port c.in-Device.is }
 
-pub returns-in-Device-clause-answer : goal.returns-in-Device-clause-answer
-returns-in-Device-clause-answer c = grind (arith, nat_tests)
-
 pub returns-in-Device-clause-board : goal.returns-in-Device-clause-board
 returns-in-Device-clause-board c = λ setup history entry kept.
     c.at_device.ensures.board setup history entry kept
@@ -41,9 +38,6 @@ returns-in-Device-clause-board c = λ setup history entry kept.
 pub at_register-requires-clause-reaching : goal.at_register-requires-clause-reaching
 at_register-requires-clause-reaching c =
     reaching (goal.at.at_register-requires-clause-reaching c).After-find_port c.in-Register.is
-
-pub returns-in-Register-clause-answer : goal.returns-in-Register-clause-answer
-returns-in-Register-clause-answer c = grind (arith, nat_tests)
 
 pub returns-in-Register-clause-board : goal.returns-in-Register-clause-board
 returns-in-Register-clause-board c = λ setup history entry kept.
@@ -54,9 +48,6 @@ pub at_card-requires-clause-reaching : goal.at_card-requires-clause-reaching
 at_card-requires-clause-reaching c =
     reaching (goal.at.at_card-requires-clause-reaching c).After-find_port c.in-Card.is
 
-pub returns-in-Card-clause-answer : goal.returns-in-Card-clause-answer
-returns-in-Card-clause-answer c = grind (arith, nat_tests)
-
 pub returns-in-Card-clause-board : goal.returns-in-Card-clause-board
 returns-in-Card-clause-board c = λ setup history entry kept.
     c.at_card.ensures.board setup history entry kept
@@ -64,9 +55,6 @@ returns-in-Card-clause-board c = λ setup history entry kept.
 
 pub at_nobody-requires : goal.at_nobody-requires
 at_nobody-requires c = record { reaching = reaching (goal.at.at_nobody-requires c).After-find_port c.in-Nobody.is }
-
-pub returns-in-Nobody-clause-answer : goal.returns-in-Nobody-clause-answer
-returns-in-Nobody-clause-answer c = grind (arith, nat_tests)
 
 pub returns-in-Nobody-clause-board : goal.returns-in-Nobody-clause-board
 returns-in-Nobody-clause-board c = λ setup history entry kept.

@@ -1,5 +1,5 @@
-use Rattle.std.proofs.Common.{arith, sym, refl}
-use Rattle.board_prelude.proofs.Common.{nat_tests, byte_of}
+use Rattle.std.proofs.Common.{sym, refl}
+use Rattle.board_prelude.proofs.Common.{byte_of}
 use Rattle.board_chipset.proofs.HeldTargets.{stands}
 use Rattle.board_chipset.proofs.Lefts.{state_of}
 use Rattle.board_chipset.proofs.MasterSteps.{no_smram, outside_smram}
@@ -18,9 +18,6 @@ returns-clause-part c = λ history left.
       c.decode_master-area.ensures.area setup (byte_of setup history) stand,
       c.decode_master-area.ensures.denial setup (byte_of setup history) stand,
     ) refl
-
-pub returns-clause-held : goal.returns-clause-held
-returns-clause-held c = grind (arith, nat_tests)
 
 pub returns-clause-no_smram : goal.returns-clause-no_smram
 returns-clause-no_smram c =

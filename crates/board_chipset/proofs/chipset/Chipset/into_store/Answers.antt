@@ -1,5 +1,5 @@
-use Rattle.std.proofs.Common.{arith, ap, ◌∙◌}
-use Rattle.board_prelude.proofs.Common.{nat_tests, Setup}
+use Rattle.std.proofs.Common.{ap, ◌∙◌}
+use Rattle.board_prelude.proofs.Common.{Setup}
 use Rattle.board_chipset.proofs.Lefts.{state_of}
 use Rattle.board_chipset.proofs.chipset.Chipset.into_store.Goals as goal
 
@@ -30,6 +30,3 @@ returns-clause-store c = λ history left.
       contents = is.stores.contents.sizes;
       rom = ap (λ (setup : Setup). setup.rom) c.setup.view_is;
     })
-
-pub returns-clause-sound : goal.returns-clause-sound
-returns-clause-sound c = grind (arith, nat_tests)

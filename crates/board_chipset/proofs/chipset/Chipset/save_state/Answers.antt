@@ -1,5 +1,4 @@
-use Rattle.std.proofs.Common.{arith, rules, append_assoc}
-use Rattle.board_prelude.proofs.Common.{nat_tests}
+use Rattle.std.proofs.Common.{rules, append_assoc}
 use Rattle.std.proofs.lemmas.Result.{IfOk-equal}
 use Rattle.board_chipset.specs.ChipsetState.{chipset_bytes}
 use Rattle.board_chipset.proofs.chipset.Chipset.save_state.Goals as goal
@@ -7,6 +6,3 @@ use Rattle.board_chipset.proofs.chipset.Chipset.save_state.Goals as goal
 pub returns-clause-saved : goal.returns-clause-saved
 unfolding chipset_bytes
 returns-clause-saved c = rw (← c.self.view_is) (search (rules, IfOk-equal, append_assoc))
-
-pub returns-clause-sound : goal.returns-clause-sound
-returns-clause-sound c = grind (arith, nat_tests)

@@ -1,11 +1,6 @@
-use Rattle.std.proofs.Common.{arith}
-use Rattle.board_prelude.proofs.Common.{nat_tests}
 use Rattle.std.proofs.Common.{sym}
 use Rattle.board_chipset.proofs.Lefts.{left_by, state_of}
 use Rattle.board_chipset.proofs.chipset.Chipset.wide.Goals as goal
-
-pub access-requires-clause-kept : goal.access-requires-clause-kept
-access-requires-clause-kept c = grind (arith, nat_tests)
 
 pub invariant_of-self : goal.invariant_of-self
 invariant_of-self c = c.access.ensures.sound c.self.inside.setup c.self.invariant

@@ -1,15 +1,8 @@
-use Rattle.board_prelude.proofs.Common.{nat_tests}
 use Rattle.std.proofs.Common.{arith}
 use Rattle.board_devices.proofs.DeviceLemmas.{leaves_devices}
 use Rattle.board_chipset.proofs.LoadSteps.{load_left, load_kept}
 use Rattle.board_chipset.specs.Chipset.{IsLeftBy}
 use Rattle.board_chipset.proofs.chipset.Chipset.write_dram.Goals as goal
-
-pub invariant_of-self : goal.invariant_of-self
-invariant_of-self c = grind (arith, nat_tests)
-
-pub returns-clause-refused : goal.returns-clause-refused
-returns-clause-refused c = grind (arith, nat_tests)
 
 pub returns-clause-left : goal.returns-clause-left
 unfolding IsLeftBy

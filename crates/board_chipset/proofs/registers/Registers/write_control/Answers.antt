@@ -1,5 +1,3 @@
-use Rattle.std.proofs.Common.{arith}
-use Rattle.board_prelude.proofs.Common.{nat_tests}
 use Rattle.std.proofs.Common.{◌≡◌, ◌∙◌, true, false, sym, refl}
 use Rattle.board_spec.specs.Registers.{byte_of, is_hard_value}
 use Rattle.board_chipset.proofs.RegisterSteps.{follows}
@@ -20,9 +18,6 @@ returns-else-hard-clause-registers c = λ setup history entry put has.
     sym c.write-hard.ensures.hard ∙ c.if-hard.false in
     follows put has (rw soft refl) c.write-hard.ensures.byte (rw soft has.kept) (rw soft refl) (rw soft refl)
     has.flat
-
-pub returns-then-hard-clause-sound : goal.returns-then-hard-clause-sound
-returns-then-hard-clause-sound c = grind (arith, nat_tests)
 
 pub returns-else-hard-clause-sound : goal.returns-else-hard-clause-sound
 returns-else-hard-clause-sound c = λ setup sound.
