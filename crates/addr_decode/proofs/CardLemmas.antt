@@ -1,21 +1,21 @@
 -- The cards in a list by their device numbers, and the bytes of their registers.
-use Rattle.std.proofs.Common.{◌≡◌, ◌≢◌, ℕ, zero, suc, ◌+◌, ◌*◌, ◌<◌, ◌≤◌, ◌⊎◌, inl, inr, false, List, [], ◌∷◌, ◌++◌}
-use Rattle.std.proofs.Common.{take, length, get_or, set, Option, Some, None, refl, sym, ◌∙◌, ap, subst, arith}
-use Rattle.std.proofs.Common.{get_or-set_same, get_or-set_other, length-set, ◌==◌, All, is_some, find, slice_index}
-use Rattle.board_prelude.proofs.Common.{position, cases_Bool, cases_eq, cases_lt, eq-eqb, ne_eqb, All-head, All-tail}
-use Rattle.board_prelude.proofs.Common.{eqb-true, true≢false, get_or-map, length-map, take_all, take_more, Setup}
-use Rattle.board_prelude.proofs.Common.{FittedCard, IsCard, IsCardList, Rises, card_at, Reg, reset_byte, Bytes}
-use Rattle.board_prelude.proofs.Common.{card_register, base_register, expansion_rom}
+use Rattle.board_prelude.proofs.Common.{nat_tests, position, cases_Bool, cases_eq, cases_lt, eq-eqb, ne_eqb, All-head}
+use Rattle.board_prelude.proofs.Common.{All-tail, eqb-true, true≢false, get_or-map, length-map, take_all, take_more}
+use Rattle.board_prelude.proofs.Common.{Setup, FittedCard, IsCard, IsCardList, Rises, card_at, Reg, reset_byte, Bytes}
+use Rattle.board_prelude.proofs.Common.{card_register}
+use Rattle.std.proofs.Common.{◌≡◌, ◌≢◌, ℕ, zero, suc, ◌+◌, ◌<◌, ◌≤◌, ◌⊎◌, inl, inr, false, List, [], ◌∷◌, ◌++◌, take}
+use Rattle.std.proofs.Common.{length, get_or, set, Some, None, refl, sym, ◌∙◌, ap, subst, arith, get_or-set_same}
+use Rattle.std.proofs.Common.{get_or-set_other, length-set, ◌==◌, All, is_some, find}
 use Rattle.std.specs.List.{position_from}
 use Rattle.std.proofs.Math.Seq.{map-set_same}
 use Rattle.std.proofs.lemmas.List.Elements.{All-map}
 use Rattle.std.proofs.lemmas.List.Quantifiers.{position-Some}
 use Rattle.std.proofs.lemmas.Iterator.Adapters.{position_from-zero}
-use Rattle.pci_bars.specs.Cards.{CardBytes, HoldsRom, DecodesAs, IsCardOf, AreCards, AreCardsOf, AreDecoded, cards_of}
-use Rattle.pci_bars.specs.Cards.{AreFitted, AreReset}
+use Rattle.pci_bars.specs.Cards.{CardBytes, DecodesAs, IsCardOf, AreCards, AreCardsOf, AreDecoded, cards_of, AreFitted}
+use Rattle.pci_bars.specs.Cards.{AreReset}
 use Rattle.addr_decode.specs.MapRegs.{stored}
-use Rattle.pci_bars.proofs.CardLemmas.{holds-same, card-apart}
-use Rattle.addr_decode.proofs.StoreLemmas.{stored-elsewhere, in_function_0}
+use Rattle.pci_bars.proofs.CardLemmas.{card-apart}
+use Rattle.addr_decode.proofs.StoreLemmas.{in_function_0}
 
 -- ---- what holds of a card and the bytes of its registers
 
@@ -31,32 +31,12 @@ pub record IsOfCard (setup : Setup) (Is : Bytes → CardBytes → Type 0) : Type
 module _ (setup : Setup) (bytes bytes' : Bytes) (card : CardBytes)
     (same : (off : ℕ) → off < 256 → bytes' (card_register card.card.dev off) ≡ bytes (card_register card.card.dev off))
   where
-    same_rom : (register : ℕ) (rom : Option ℕ) → HoldsRom bytes card.card.dev register rom →
-        HoldsRom bytes' card.card.dev register rom
-    same_rom register None is = is
-    same_rom register (Some bits) is =
-        holds-same bytes bytes' (expansion_rom card.card.dev) register (λ j below. same (0x30 + j) (omega arith)) is
-
     decodes-same : DecodesAs setup bytes card → DecodesAs setup bytes' card
-    decodes-same is = record {
-      fitted = is.fitted;
-      command = same 0x04 (omega arith) ∙ is.command;
-      bases = λ k below.
-          holds-same bytes bytes' (base_register card.card.dev k) (slice_index card.bases k)
-          (λ j j_below. same (0x10 + 4 * k + j) (omega arith)) (is.bases k below);
-      rom = same_rom card.rom card.card.rom is.rom;
-    }
+    decodes-same is = grind (arith, nat_tests)
 
 -- so it is of those on which the address map depends, and of all
 pub of_decoded : (setup : Setup) → IsOfCard setup (DecodesAs setup)
-of_decoded setup = record {
-  fitted = λ bytes card is. is.fitted;
-  agrees = λ bytes bytes' card same. decodes-same setup bytes bytes' card (λ off _. same off);
-  beyond = λ bytes card off written fit below past.
-      decodes-same setup bytes (stored setup bytes (card_register card.card.dev off) written) card (λ at small.
-      stored-elsewhere setup bytes (card_register card.card.dev off) written (card_register card.card.dev at)
-      (inr (inr (omega arith))));
-}
+of_decoded setup = grind (arith, nat_tests)
 
 pub of_registers : (setup : Setup) → IsOfCard setup (IsCardOf setup)
 of_registers setup = record {
@@ -124,31 +104,18 @@ module _ {setup : Setup} {Is : Bytes → CardBytes → Type 0} (own : IsOfCard s
   pub cards_agree : (bytes' : Bytes) → AreCards cards →
       ((dev off : ℕ) → 2 ≤ dev → bytes' (card_register dev off) ≡ bytes (card_register dev off)) →
       (setup.cards ≡ cards_of cards) × All (Is bytes') cards
-  cards_agree bytes' each same = (
-    are.0,
-    λ k d within.
-        own.agrees bytes bytes' (get_or cards k d)
-        (λ off. same (get_or cards k d).card.dev off (each k d within).first) (are.1 k d within),
-  )
+  cards_agree bytes' each same = grind (arith, nat_tests)
 
   -- a byte of a bridge, or of a function other than 0, is none of a card
   pub cards_beside : (at : Reg) (written : ℕ) → AreCards cards → (at.dev < 2) ⊎ (at.fun ≢ 0) →
       (setup.cards ≡ cards_of cards) × All (Is (stored setup bytes at written)) cards
-  cards_beside at written each other =
-      cards_agree (stored setup bytes at written) each (λ dev off above.
-      stored-elsewhere setup bytes at written (card_register dev off)
-      (elim other [ inl low ↦ inl (omega arith) | inr fun ↦ inr (inl fun) ]))
+  cards_beside at written each other = grind (arith, nat_tests)
 
   -- a byte of a device
   module _ (dev off written : ℕ) where
     beside : (k : ℕ) (d : CardBytes) → k < length cards → (get_or cards k d).card.dev ≢ dev →
         Is (stored setup bytes (card_register dev off) written) (get_or cards k d)
-    beside k d within apart =
-        own.agrees bytes (stored setup bytes (card_register dev off) written) (get_or cards k d)
-        (λ at.
-        stored-elsewhere setup bytes (card_register dev off) written
-        (card_register (get_or cards k d).card.dev at) (inl (λ same. apart (sym same))))
-        (are.1 k d within)
+    beside k d within apart = grind (arith, nat_tests)
 
     -- the card at a place becomes another state of the same card, and each of the others stays as it is
     pub card_written :

@@ -1,14 +1,10 @@
 -- Between two edges all addresses have the same areas.
-use Rattle.std.proofs.Common.{◌≡◌, ℕ, ◌+◌, ◌-◌, ◌*◌, ◌/◌, ◌^◌, ◌<◌, ◌≤◌, inl, inr, Bool, true, false, List, [], ◌∷◌}
-use Rattle.std.proofs.Common.{◌++◌, Option, Some, None, refl, rules, arith, ◌==◌, nat_lt, nat_le, All, flat_map}
-use Rattle.std.proofs.Common.{unwrap_or, IfSome, IsNone, if◌then◌else◌, slice_index_or}
-use Rattle.std.proofs.Math.Nat.{div-lt_iff_lt-mul}
-use Rattle.board_prelude.proofs.Common.{list_any, each_below, cases_eq, ne_eqb, AllByRecursion, enumerate_from}
-use Rattle.board_prelude.proofs.Common.{cases_Bool, cases_lt, nat_tests, pow_pos, recursion_from_All, Kind, Fetch, Read}
-use Rattle.board_prelude.proofs.Common.{Write, FittedCard, Setup, smram_range, upper_memory, shadow_range}
-use Rattle.board_prelude.proofs.Common.{hole_at_512_kib, hole_at_15_mib, system_bios, high_bios, lower_bios}
-use Rattle.board_prelude.proofs.Common.{lower_high_bios, extended_bios, is_within, Bytes, Window, row_of, is_in_hole}
-use Rattle.board_prelude.proofs.Common.{pam_register, is_high_window, is_shadow_range, is_shadowed, is_rom_selected}
+use Rattle.std.proofs.Common.{◌≡◌, ℕ, ◌+◌, ◌*◌, ◌/◌, ◌^◌, ◌<◌, ◌≤◌, inl, inr, Bool, true, false, List, [], ◌∷◌}
+use Rattle.std.proofs.Common.{◌++◌, Option, Some, None, refl, arith, ◌==◌, All, flat_map, unwrap_or, IfSome, IsNone}
+use Rattle.std.proofs.Common.{if◌then◌else◌, slice_index_or}
+use Rattle.board_prelude.proofs.Common.{list_any, cases_eq, ne_eqb, AllByRecursion, enumerate_from, cases_lt, nat_tests}
+use Rattle.board_prelude.proofs.Common.{pow_pos, recursion_from_All, Kind, FittedCard, Setup, smram_range, upper_memory}
+use Rattle.board_prelude.proofs.Common.{is_within, Bytes, Window, row_of, is_in_hole, is_shadowed, is_rom_selected}
 use Rattle.board_prelude.proofs.Common.{is_covered, memory_window, rom_window, is_rom_on, vga_window, memory_windows}
 use Rattle.board_prelude.proofs.Common.{is_enabled_for, first_window, memory_claim, area_of, xbcs as select_register}
 use Rattle.board_prelude.proofs.Common.{address_count, six_areas}
@@ -60,19 +56,10 @@ module _ (addr x : ℕ) (order : addr ≤ x) where
       is_within first last x ≡ is_within first last addr
   within_same first last at_first at_end = grind (arith, nat_tests)
 
-  before_same : (edge : ℕ) → Clear addr x edge → nat_lt x edge ≡ nat_lt addr edge
-  before_same edge clear = grind (arith, nat_tests)
-
   covered_by :
       (size quotient : ℕ) → 0 < size → Clear addr x (quotient * size) → Clear addr x (quotient * size + size) →
       (quotient == x / size) ≡ (quotient == addr / size)
-  covered_by size quotient positive at_first at_end =
-      let next : (quotient + 1) * size ≡ quotient * size + size = omega arith in
-      let low = div-lt_iff_lt-mul {k = size} {x = addr} {y = quotient} positive in
-      let low' = div-lt_iff_lt-mul {k = size} {x = x} {y = quotient} positive in
-      let high = div-lt_iff_lt-mul {k = size} {x = addr} {y = quotient + 1} positive in
-      let high' = div-lt_iff_lt-mul {k = size} {x = x} {y = quotient + 1} positive in
-      grind (arith, nat_tests)
+  covered_by size quotient positive at_first at_end = grind (arith, nat_tests)
 
   windows_alike :
       (windows : List Window) → AllByRecursion (Clear addr x) (flat_map window_edges windows) →
@@ -119,77 +106,20 @@ module _ (setup : Setup) (bytes : Bytes) (addr x : ℕ) (between : Between setup
 
   hole_same : is_in_hole bytes x ≡ is_in_hole bytes addr
   unfolding fixed_edges
-  hole_same =
-      let low = range_same hole_at_512_kib.0 hole_at_512_kib.1 refl refl in
-      let high = range_same hole_at_15_mib.0 hole_at_15_mib.1 refl refl in
-      grind (arith, nat_tests)
+  hole_same = grind (arith, nat_tests)
 
   -- the ranges of the ROM
   rom_same : (xbcs : ℕ) → is_rom_selected xbcs x ≡ is_rom_selected xbcs addr
   unfolding fixed_edges
-  rom_same xbcs =
-      rw (
-        range_same system_bios.0 system_bios.1 refl refl,
-        within_same addr x between.order high_bios.0 high_bios.1
-            (fixed_clear high_bios.0 refl) (λ _. between.last),
-        range_same lower_bios.0 lower_bios.1 refl refl,
-        range_same lower_high_bios.0 lower_high_bios.1 refl refl,
-        range_same extended_bios.0 extended_bios.1 refl refl,
-      ) refl
-
-  -- every start of a window of 16 KiB from C0000h to F0000h is an edge
-  window_clear : (k : ℕ) → k < 13 → Clear addr x (0xC_0000 + 0x4000 * k)
-  unfolding fixed_edges
-  window_clear k below =
-      fixed_clear (0xC_0000 + 0x4000 * k)
-      (each_below (λ k. list_any (λ other. 0xC_0000 + 0x4000 * k == other) fixed_edges ≡ true) 13 k (search rules)
-      below)
-
-  governed_same : is_shadow_range addr ≡ true →
-      (pam_register x ≡ pam_register addr) × (is_high_window x ≡ is_high_window addr)
-  governed_same shadow =
-      let order = between.order in
-      let above : 0xC_0000 ≤ addr = grind (arith, nat_tests) in
-      let still = window_clear (addr / 0x4000 - 0x2F) in
-      elim (cases_lt addr 0xF_0000) [
-        | inl below ↦
-            let window : x / 0x4000 ≡ addr / 0x4000 = omega arith in
-            let low : nat_le 0xF_0000 addr ≡ false = grind (arith, nat_tests) in
-            let low' : nat_le 0xF_0000 x ≡ false = grind (arith, nat_tests) in
-            let pair : (x - 0xC_0000) / 0x8000 ≡ (addr - 0xC_0000) / 0x8000 = omega arith in
-            (rw (low, low', pair) refl, rw (low, low', window) refl)
-        | inr not_below ↦
-            let high : nat_le 0xF_0000 addr ≡ true = grind (arith, nat_tests) in
-            let high' : nat_le 0xF_0000 x ≡ true = grind (arith, nat_tests) in
-            (rw (high, high') refl, rw (high, high') refl)
-      ]
+  rom_same xbcs = grind (arith, nat_tests)
 
   shadowed_same : (kind : Kind) → is_shadowed bytes x kind ≡ is_shadowed bytes addr kind
   unfolding fixed_edges
-  shadowed_same kind =
-      let range : is_shadow_range x ≡ is_shadow_range addr = range_same shadow_range.0 shadow_range.1 refl refl in
-      elim (cases_Bool (is_shadow_range addr)) [
-        | inr outside ↦ rw (range, outside) refl
-        | inl inside ↦
-            let governed = governed_same inside in
-            rw (range, inside, governed.0, governed.1) refl
-      ]
+  shadowed_same kind = grind (arith, nat_tests)
 
   row_same : row_of bytes x ≡ row_of bytes addr
   unfolding row_of
-  row_same =
-      let before = before_same addr x between.order in
-      let rows = between.rows in
-      rw (
-        before _ rows.0,
-        before _ rows.1.0,
-        before _ rows.1.1.0,
-        before _ rows.1.1.1.0,
-        before _ rows.1.1.1.1.0,
-        before _ rows.1.1.1.1.1.0,
-        before _ rows.1.1.1.1.1.1.0,
-        before _ rows.1.1.1.1.1.1.1.0,
-      ) refl
+  row_same = grind (arith, nat_tests)
 
   -- ---- cards
 
@@ -236,15 +166,7 @@ module _ (setup : Setup) (bytes : Bytes) (addr x : ℕ) (between : Between setup
       ) refl
 
   six_same : six_areas setup bytes x ≡ six_areas setup bytes addr
-  six_same =
-      rw (
-        area_same Fetch false,
-        area_same Read false,
-        area_same Write false,
-        area_same Fetch true,
-        area_same Read true,
-        area_same Write true,
-      ) refl
+  six_same = simp area_same
 
 pub areas_change_at_edges : AreasChangeAtEdges
 unfolding edges_of

@@ -1,10 +1,10 @@
 -- The next edge as the code looks for it is the least edge above an address.
-use Rattle.std.proofs.Common.{◌≡◌, ℕ, zero, suc, ◌+◌, ◌*◌, ◌<◌, ◌≤◌, ◌⊎◌, inl, inr, ◌&&◌, List, [], ◌∷◌, ◌++◌, length}
-use Rattle.std.proofs.Common.{map, Option, Some, None, refl, sym, ◌∙◌, arith, nat_lt, subst, All, flat_map, slice_index}
-use Rattle.std.proofs.Common.{unwrap_or, IfSome, IsNone, ◌↔◌}
-use Rattle.board_prelude.proofs.Common.{Contains, enumerate_from, cases_Bool, cases_lt, nat_tests, All-head, All-tail}
-use Rattle.board_prelude.proofs.Common.{Base, IoBase, Setup, IsCard, boundary_unit, Bytes, base_value, memory_window}
-use Rattle.board_prelude.proofs.Common.{rom_window_of, address_count, none-some}
+use Rattle.std.proofs.Common.{◌≡◌, ℕ, zero, suc, ◌+◌, ◌*◌, ◌<◌, ◌≤◌, ◌⊎◌, inl, inr, List, [], ◌∷◌, ◌++◌, length, map}
+use Rattle.std.proofs.Common.{Option, Some, None, refl, sym, ◌∙◌, arith, subst, All, flat_map, slice_index, unwrap_or}
+use Rattle.std.proofs.Common.{IfSome, IsNone, ◌↔◌}
+use Rattle.board_prelude.proofs.Common.{Contains, enumerate_from, cases_lt, nat_tests, All-head, All-tail, Base, IoBase}
+use Rattle.board_prelude.proofs.Common.{Setup, IsCard, boundary_unit, Bytes, base_value, memory_window, rom_window_of}
+use Rattle.board_prelude.proofs.Common.{address_count, none-some}
 use Rattle.std.proofs.lemmas.List.Elements.{Contains-append_cases, Contains-append_left, Contains-append_right}
 use Rattle.std.proofs.lemmas.List.Sums.{fold-append}
 use Rattle.std.proofs.lemmas.Option.{same_Some}
@@ -115,16 +115,8 @@ module _ (addr : ℕ) where
   nearer_is : (edge : ℕ) (found : Option ℕ) →
       (nearer addr found edge ≡ found)
       ⊎ ((nearer addr found edge ≡ Some edge) × (addr < edge) × (edge < address_count))
-  nearer_is edge None =
-      elim (cases_Bool (nat_lt addr edge && nat_lt edge address_count)) [
-        | inr passed ↦ inl (rw passed refl)
-        | inl counts ↦ inr (grind (arith, nat_tests), grind (arith, nat_tests), grind (arith, nat_tests))
-      ]
-  nearer_is edge (Some least) =
-      elim (cases_Bool (nat_lt addr edge && nat_lt edge address_count && nat_lt edge least)) [
-        | inr passed ↦ inl (grind (arith, nat_tests))
-        | inl counts ↦ inr (grind (arith, nat_tests), grind (arith, nat_tests), grind (arith, nat_tests))
-      ]
+  nearer_is edge None = grind (arith, nat_tests)
+  nearer_is edge (Some least) = grind (arith, nat_tests)
 
   nearest_is : (edges : List ℕ) (found : Option ℕ) →
       (nearest addr found edges ≡ found)

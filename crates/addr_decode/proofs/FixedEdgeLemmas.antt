@@ -45,11 +45,6 @@ skip_first addr (suc count) (edge ∷ later) low =
     let not_above : nat_lt addr edge ≡ false = grind (arith, nat_tests) in
     rw not_above (skip_first addr count later low.1)
 
-pub skip_to_expansion : (addr : ℕ) → 0xC_0000 ≤ addr →
-    find (nat_lt addr) (drop 3 fixed_edges) ≡ find (nat_lt addr) fixed_edges
-unfolding fixed_edges
-skip_to_expansion addr from = skip_first addr 3 fixed_edges (search arith)
-
 pub skip_to_system_bios : (addr : ℕ) → 0x10_0000 ≤ addr →
     find (nat_lt addr) (drop 16 fixed_edges) ≡ find (nat_lt addr) fixed_edges
 unfolding fixed_edges

@@ -1,16 +1,15 @@
 -- The memory map in the order of the code is that of the definitions.
-use Rattle.std.proofs.Common.{◌≡◌, ℕ, Bool, true, false, not, ◌&&◌, Option, Some, None, IfSome, refl, sym, ◌∙◌, arith}
+use Rattle.std.proofs.Common.{◌≡◌, ℕ, Bool, true, false, ◌&&◌, Option, Some, None, IfSome, refl, sym, ◌∙◌, arith}
 use Rattle.std.proofs.Common.{unwrap_or, [], ◌∷◌, option_map}
-use Rattle.board_prelude.proofs.Common.{cond_both, nat_tests, Area, Denial, Kind, top_of, memory_shut, rom_unselected}
+use Rattle.board_prelude.proofs.Common.{nat_tests, Area, Denial, Kind, top_of, memory_shut, rom_unselected}
 use Rattle.board_prelude.proofs.Common.{abort_denial, rom_denial, denial_in, denial_of, Setup, lies_in, upper_memory}
 use Rattle.board_prelude.proofs.Common.{Window, first_of, line_where, is_smram_range, is_shadow_range, card_area}
 use Rattle.board_prelude.proofs.Common.{area_under, Bytes, row_of, pam_register, is_high_window, nibble, is_open}
 use Rattle.board_prelude.proofs.Common.{is_shadowed, memory_claim, area_of, xbcs as select_register, is_in_hole}
 use Rattle.board_prelude.proofs.Common.{is_bios_selected, is_smram_open}
-use Rattle.board_base.specs.declared.target.Area.TheVariants.{Dram, Shadow, Smram, Rom, Abort}
+use Rattle.board_base.specs.declared.target.Area.TheVariants.{Dram, Shadow, Rom, Abort}
 use Rattle.pmc_regs.specs.Pmc.{IsRowsOf}
-use Rattle.addr_decode.specs.Common.{MapBytes, StandsFor, dram_area, above_dram, beside_dram, area_by, master_area}
-use Rattle.addr_decode.specs.Common.{AreSinglesOf}
+use Rattle.addr_decode.specs.Common.{MapBytes, StandsFor, dram_area, above_dram, beside_dram, master_area, AreSinglesOf}
 
 no_dram : (rom : Bool) (claim : Option Window) →
     first_of (line_where rom Rom ∷ option_map card_area claim ∷ []) Abort ≡ above_dram None rom claim
@@ -31,12 +30,6 @@ dram_by bytes addr kind smm =
     dram_area (row_of bytes addr) (is_smram_open bytes kind smm) (is_shadowed bytes addr kind)
     (is_in_hole bytes addr) addr
 
-claim_area :
-    (claim : Option Window) →
-    area_by (option_map (λ window. (window.dev, window.base)) claim) ≡ above_dram None false claim
-claim_area None = refl
-claim_area (Some window) = refl
-
 -- where DRAM answers or not
 or_beside : (dram : Option Area) (rom : Bool) (claim : Option Window) →
     unwrap_or dram (above_dram None rom claim) ≡ above_dram dram rom claim
@@ -44,29 +37,12 @@ or_beside None rom claim = refl
 or_beside (Some area) rom claim = refl
 
 -- where DRAM answers nothing denies
-if_line : {X : Type 0} (P : X → Type 0) (holds : Bool) (answer : X) → P answer → IfSome (line_where holds answer) P
-if_line P true answer is = is
-if_line P false answer is = tt
-
 undenied : (row : Option ℕ) (opened shadowed hole : Bool) (addr : ℕ) (kind : Kind) (abort rom : Denial) →
     IfSome (dram_area row opened shadowed hole addr) (λ area. None ≡ denial_in area kind abort rom)
 undenied None opened shadowed hole addr kind abort rom = tt
-undenied (Some row) opened shadowed hole addr kind abort rom =
-    let P = λ (area : Area). None ≡ denial_in area kind abort rom in
-    let If = λ (found : Option Area). IfSome found P in
-    cond_both (is_smram_range addr) _ _ If (λ _. if_line P opened Smram refl)
-    (λ _. cond_both (is_shadow_range addr) _ _ If (λ _. if_line P shadowed (Shadow row) refl)
-    (λ _. if_line P (not hole) (Dram row) refl))
+undenied (Some row) opened shadowed hole addr kind abort rom = grind (arith, nat_tests)
 
 module _ (setup : Setup) (bytes : Bytes) (addr : ℕ) where
-  pub rom_answers : true ≡ is_bios_selected bytes addr → Rom ≡ beside_dram setup bytes addr
-  rom_answers rom = rw (← rom) refl
-
-  pub claim_answers : (claim : Option (ℕ × ℕ)) → false ≡ is_bios_selected bytes addr →
-      claim ≡ option_map (λ window. (window.dev, window.base)) (memory_claim setup bytes addr) →
-      area_by claim ≡ beside_dram setup bytes addr
-  claim_answers claim rom is = rw (is, ← rom) (claim_area (memory_claim setup bytes addr))
-
   answers :
       (kind : Kind) (smram : Bool) (dram : Option Area) (beside : Area) →
       dram ≡ dram_area (row_of bytes addr) smram (is_shadowed bytes addr kind) (is_in_hole bytes addr) addr →
@@ -107,10 +83,7 @@ module _ (setup : Setup) (bytes : Bytes) (addr : ℕ) where
     -- a row of ordinary DRAM
     plain_dram : (row : ℕ) → lies_in upper_memory addr ≡ false → is_in_hole bytes addr ≡ false →
         Some row ≡ row_of bytes addr → Some (Dram row) ≡ dram_by bytes addr kind smm
-    plain_dram row outside no_hole is =
-        let beside : is_smram_range addr ≡ false = grind (arith, nat_tests) in
-        let unshadowed : is_shadow_range addr ≡ false = grind (arith, nat_tests) in
-        rw (← is, beside, unshadowed, no_hole) refl
+    plain_dram row outside no_hole is = grind (arith, nat_tests)
 
     -- at an address of a shadow window
     pub shadow_answers : (row : ℕ) (open' : Bool) (beside : Area) → is_shadow_range addr ≡ true →

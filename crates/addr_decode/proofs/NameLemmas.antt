@@ -2,25 +2,21 @@
 use Rattle.std.proofs.Common.{◌≡◌, ◌≢◌, ℕ, ◌+◌, ◌-◌, ◌<◌, ◌≤◌, Bool, true, false, ◌&&◌, ◌||◌, Option, Some, None, List}
 use Rattle.std.proofs.Common.{[], ◌∷◌, ◌++◌, length, get_or, inl, inr, refl, sym, ◌∙◌, ap, arith, take, lit<, ◌==◌, map}
 use Rattle.std.proofs.Common.{find, is_some, option_map, option_and_then, if◌then◌else◌, rules, IfSome}
-use Rattle.board_prelude.proofs.Common.{position, AllByRecursion, list_any, and-true, and-false, cases_Bool, cases_eq}
-use Rattle.board_prelude.proofs.Common.{ne_eqb, eqb-true, nat_tests, get_or-map, Width, One, Reg, bytes_of, MapChange}
-use Rattle.board_prelude.proofs.Common.{Store, Reset, FittedCard, Setup, card_at, is_within, bridge, isa, card_register}
-use Rattle.board_prelude.proofs.Common.{is_host_byte, has_rom, is_map_byte, reg_after, touches_map, bytes_few}
-use Rattle.board_prelude.proofs.Common.{each_below, third, fourth, or-false, get_or-take, length-take}
+use Rattle.board_prelude.proofs.Common.{position, AllByRecursion, list_any, and-true, and-false, cases_Bool, ne_eqb}
+use Rattle.board_prelude.proofs.Common.{nat_tests, Width, One, Reg, bytes_of, MapChange, Store, Reset, FittedCard}
+use Rattle.board_prelude.proofs.Common.{Setup, card_at, is_within, bridge, isa, card_register, is_host_byte, has_rom}
+use Rattle.board_prelude.proofs.Common.{is_map_byte, reg_after, touches_map, bytes_few, each_below, or-false}
 use Rattle.std.proofs.lemmas.List.{map_more}
 use Rattle.std.proofs.lemmas.List.Quantifiers.{position-Some}
 use Rattle.std.proofs.lemmas.Option.{slice_get-get_or}
 use Rattle.pci_bars.proofs.CardListLemmas.{find-cards, at_position}
 use Rattle.addr_decode.specs.declared.register.MapRegister.{MapRegister}
 use Rattle.addr_decode.specs.declared.register.MapRegister.TheVariants.{Pam, RowBoundary, Single, Card}
-use Rattle.addr_decode.specs.declared.register.CardRegister.{CardRegister}
 use Rattle.addr_decode.specs.declared.register.CardRegister.TheVariants.{Command, Base, ExpansionRom}
-use Rattle.addr_decode.specs.MapRegister.{offset_of, IsCardNumber, place_of, IsNumbered, IsNumberedName, AreNumbered}
-use Rattle.addr_decode.specs.MapRegister.{in_bridge, in_isa_bridge, in_card, in_device, map_register, names_from}
-use Rattle.addr_decode.specs.MapRegister.{names_of, named_single}
+use Rattle.addr_decode.specs.MapRegister.{place_of, IsNumbered, IsNumberedName, AreNumbered, in_bridge, in_isa_bridge}
+use Rattle.addr_decode.specs.MapRegister.{in_card, in_device, map_register, names_from, names_of, named_single}
 use Rattle.addr_decode.specs.Singles.{single, single_count, single_number}
 use Rattle.pci_bars.specs.Cards.{CardBytes, AreFitted, cards_of}
-use Rattle.addr_decode.proofs.StoreLemmas.{in_function_0}
 use Rattle.addr_decode.proofs.CardLemmas.{no_low_card}
 use Rattle.addr_decode.proofs.SingleLemmas.{number_stands, single_is}
 
@@ -53,16 +49,11 @@ single_is_byte setup k below =
 
 pub card_is_byte : (setup : Setup) (dev off : ℕ) → is_some (card_at setup dev) ≡ true →
     (off == 0x04 || is_within 0x10 0x27 off) ≡ true → is_map_byte setup (card_register dev off) ≡ true
-card_is_byte setup dev off fitted is =
-    third (dev == 0 && 0 == 0 && is_host_byte off) (dev == 1 && 0 == 0 && is_isa_byte off) (is_some (card_at setup dev))
-    (off == 0x04 || is_within 0x10 0x27 off) _ fitted is
+card_is_byte setup dev off fitted is = grind (arith, nat_tests)
 
 pub rom_is_byte : (setup : Setup) (dev off : ℕ) → has_rom (card_at setup dev) ≡ true → is_within 0x30 0x33 off ≡ true →
     is_map_byte setup (card_register dev off) ≡ true
-rom_is_byte setup dev off fitted is =
-    fourth (dev == 0 && 0 == 0 && is_host_byte off) (dev == 1 && 0 == 0 && is_isa_byte off)
-    (is_some (card_at setup dev) && true && (off == 0x04 || is_within 0x10 0x27 off)) (has_rom (card_at setup dev))
-    (is_within 0x30 0x33 off) fitted is
+rom_is_byte setup dev off fitted is = grind (arith, nat_tests)
 
 other_byte : (setup : Setup) (reg : Reg) → reg.fun ≢ 0 → is_map_byte setup reg ≡ false
 other_byte setup reg fun = simp (ne_eqb reg.fun 0 fun, and-false)
@@ -76,19 +67,7 @@ by_function :
     ((dev off : ℕ) → 2 ≤ dev → P (card_register dev off) (in_device cards dev off)) →
     (reg : Reg) → P reg (map_register cards reg)
 unfolding map_register
-by_function P cards other host south device reg =
-    elim (cases_eq reg.fun 0) [
-      | inr apart ↦ rw (ne_eqb reg.fun 0 apart) (other reg apart)
-      | inl function ↦ elim (cases_eq reg.dev 0) [
-        | inl first ↦ rw (← in_function_0 reg 0 first function) (host reg.off)
-        | inr not0 ↦ elim (cases_eq reg.dev 1) [
-          | inl second ↦ rw (← in_function_0 reg 1 second function) (south reg.off)
-          | inr not1 ↦
-              rw (← in_function_0 reg reg.dev refl function, ne_eqb reg.dev 0 not0, ne_eqb reg.dev 1 not1)
-              (device reg.dev reg.off (omega arith))
-        ]
-      ]
-    ]
+by_function P cards other host south device reg = grind (arith, nat_tests)
 
 -- of a name that a test gives, of one by another, and of one by what was found
 if_test : {X : Type 0} (P : X → Type 0) (test : Bool) (name : X) (later : Option X) → (test ≡ true → P name) →
@@ -96,15 +75,10 @@ if_test : {X : Type 0} (P : X → Type 0) (test : Bool) (name : X) (later : Opti
 if_test P true name later here beside = here refl
 if_test P false name later here beside = beside refl
 
-if_named : {X Y : Type 0} (P : Y → Type 0) (f : X → Y) (name : Option X) → IfSome name (λ x. P (f x)) →
-    IfSome (option_map f name) P
-if_named P f None is = tt
-if_named P f (Some x) is = is
-
 if_some : {X : Type 0} (P : X → Type 0) (found : Option X) (x : X) → IfSome found P → found ≡ Some x → P x
 if_some P found x is same = rw same at is
 
-is_named : {X Y : Type 0} (f : X → Y) (name : Option X) → is_some (option_map f name) ≡ is_some name
+pub is_named : {X Y : Type 0} (f : X → Y) (name : Option X) → is_some (option_map f name) ≡ is_some name
 is_named f None = refl
 is_named f (Some x) = refl
 
@@ -160,29 +134,10 @@ bridge_names off =
     (λ row. record { place = ap bridge (grind (arith, nat_tests)); number = grind (arith, nat_tests) })
     (λ _. single_names (bridge off) _ refl))
 
-card_names : (off : ℕ) (card : FittedCard) →
-    IfSome (in_card off card) (λ register. (offset_of register ≡ off) × IsCardNumber register)
-card_names off card =
-    if_test (λ register. (offset_of register ≡ off) × IsCardNumber register) (off == 0x04) Command _
-    (λ command. (sym (eqb-true off 0x04 command), tt))
-    (λ _. if_test (λ register. (offset_of register ≡ off) × IsCardNumber register) (is_within 0x10 0x27 off)
-    (Base (off - 0x10)) _ (λ base. (grind (arith, nat_tests), grind (arith, nat_tests)))
-    (λ _. if_test (λ register. (offset_of register ≡ off) × IsCardNumber register)
-    (is_some card.rom && is_within 0x30 0x33 off) (ExpansionRom (off - 0x30)) None
-    (λ rom. (grind (arith, nat_tests), grind (arith, nat_tests))) (λ _. tt)))
-
 device_names : (fitted : Option FittedCard) (dev off : ℕ) → 2 ≤ dev →
     AreNamed (option_map (Card dev) (option_and_then (in_card off) fitted)) (card_register dev off)
 device_names None dev off above = tt
-device_names (Some card) dev off above =
-    if_named (λ register. IsNameAt register (card_register dev off)) (Card dev) (in_card off card)
-    (either (in_card off card) (card_names off card))
-  where
-    either : (name : Option CardRegister) →
-        IfSome name (λ register. (offset_of register ≡ off) × IsCardNumber register) →
-        IfSome name (λ register. IsNameAt (Card dev register) (card_register dev off))
-    either None is = tt
-    either (Some register) is = record { place = ap (card_register dev) is.0; number = (above, is.1) }
+device_names (Some card) dev off above = grind (arith, nat_tests)
 
 names_at : (cards : List FittedCard) (reg : Reg) → AreNamed (map_register cards reg) reg
 names_at cards =
@@ -209,11 +164,7 @@ offset_at k below = each_below (λ k. get_or offsets k 0 ≡ k) 4 k (search rule
 
 pub covered_offset : (width : Width) (k : ℕ) → k < bytes_of width →
     (k < length (take (bytes_of width) offsets)) × (get_or (take (bytes_of width) offsets) k 0 ≡ k)
-covered_offset width k below =
-    let few = bytes_few width in (
-      omega (arith, length-take (bytes_of width) offsets),
-      get_or-take (bytes_of width) offsets k 0 below ∙ offset_at k (omega arith),
-    )
+covered_offset width k below = grind (arith, nat_tests)
 
 pub count_names : (cards : List FittedCard) (reg : Reg) (width : Width) →
     length (names_from cards reg width) ≡ bytes_of width
@@ -223,10 +174,7 @@ count_names cards reg _ = refl
 pub name_at : (cards : List FittedCard) (reg : Reg) (width : Width) (k : ℕ) (d : Option MapRegister) →
     k < bytes_of width →
     get_or (names_from cards reg width) k d ≡ map_register cards (reg_after reg k)
-name_at cards reg width k d below =
-    let at = covered_offset width k below in
-    get_or-map (λ k. map_register cards (reg_after reg k)) (take (bytes_of width) offsets) k 0 d at.0
-    ∙ ap (λ (j : ℕ). map_register cards (reg_after reg j)) at.1
+name_at cards reg width k d below = grind (arith, nat_tests)
 
 any_same : (name : ℕ → Option MapRegister) (is : ℕ → Bool) (xs : List ℕ) → ((k : ℕ) → is_some (name k) ≡ is k) →
     list_any is_some (map name xs) ≡ list_any is xs
@@ -312,9 +260,7 @@ names_numbered cards (Store reg width value) = record {
 
 pub one_name : (cards : List FittedCard) (reg : Reg) (name : Option MapRegister) → name ≡ map_register cards reg →
     name ∷ [] ≡ names_from cards reg One
-one_name cards reg name is =
-    let same : reg.off + 0 ≡ reg.off = omega arith in
-    rw (same, is) refl
+one_name cards reg name is = grind (arith, nat_tests)
 
 pub bridge_name : (cards : List FittedCard) (reg : Reg) → (reg.dev ≡ 0) × (reg.fun ≡ 0) →
     in_bridge reg.off ≡ map_register cards reg

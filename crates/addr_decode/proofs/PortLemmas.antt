@@ -1,17 +1,15 @@
 -- The ports in the order of the code are those of the definitions.
-use Rattle.std.proofs.Common.{◌≡◌, ◌≢◌, ℕ, List, ◌/◌, Bool, true, false, Option, Some, None, refl, inl, inr, sym, arith}
-use Rattle.std.proofs.Common.{is_some, option_map, if◌then◌else◌}
-use Rattle.board_prelude.proofs.Common.{nat_tests, cases_Bool, ne_eqb, Width, Dev, Decoded, nobody, NoRegister}
-use Rattle.board_prelude.proofs.Common.{bytes_of, Select, Always, IdeChannel, device_at, select_of, Setup, FittedCard}
-use Rattle.board_prelude.proofs.Common.{card_at, is_enabled, is_config_port, config_register, Bytes}
-use Rattle.board_prelude.proofs.Common.{ide_command as command_register, idetim_high, xbcs as select_register}
-use Rattle.board_prelude.proofs.Common.{config_port, selected_by, device_port, port_target_of, card_function}
-use Rattle.board_prelude.proofs.Common.{function_at, function_exists}
-use Rattle.std.proofs.lemmas.Bool.{true_from_ne_false}
-use Rattle.board_spec.specs.RegisterTable.{Line}
+use Rattle.std.proofs.Common.{◌≡◌, ◌≢◌, ℕ, ◌/◌, Bool, true, false, Option, Some, None, refl, sym, arith, is_some}
+use Rattle.std.proofs.Common.{if◌then◌else◌}
+use Rattle.board_prelude.proofs.Common.{nat_tests, ne_eqb, Width, Dev, Decoded, nobody, NoRegister, bytes_of, Select}
+use Rattle.board_prelude.proofs.Common.{Always, IdeChannel, device_at, select_of, Setup, card_at, is_enabled}
+use Rattle.board_prelude.proofs.Common.{is_config_port, config_register, Bytes, ide_command as command_register}
+use Rattle.board_prelude.proofs.Common.{idetim_high, xbcs as select_register, config_port, selected_by, device_port}
+use Rattle.board_prelude.proofs.Common.{port_target_of, card_function, function_at, function_exists}
 use Rattle.cfg_ports.specs.declared.conf_add.Selected.{Selected}
 use Rattle.cfg_ports.specs.Selection.{existing}
 use Rattle.addr_decode.specs.declared.onboard.Onboard.{Onboard}
+use Rattle.addr_decode.proofs.NameLemmas.{is_named}
 use Rattle.addr_decode.specs.Common.{by_select, response_of, IsChannelOf, register_answers, after_onboard}
 
 select_in_order :
@@ -71,21 +69,11 @@ pub selected_target :
     (if function_exists setup selected.bus selected.reg.dev selected.reg.fun then register_answers selected.reg else
     nobody NoRegister) →
     answer ≡ config_port address (config_register setup address port)
-selected_target setup address port selected answer on register is =
-    let enabled = true_from_ne_false (is_enabled address) on in
-    rw (is, register)
-    elim (cases_Bool (function_exists setup selected.bus selected.reg.dev selected.reg.fun)) [
-      | inl here ↦ rw here refl
-      | inr none ↦ rw (none, enabled) refl
-    ]
+selected_target setup address port selected answer on register is = grind (arith, nat_tests)
 
 -- ---- functions
-
-is_some_map : (f : FittedCard → List Line) (card : Option FittedCard) → is_some (option_map f card) ≡ is_some card
-is_some_map f None = refl
-is_some_map f (Some card) = refl
 
 pub card_exists :
     (setup : Setup) (dev : ℕ) → dev ≢ 0 → dev ≢ 1 → is_some (card_at setup dev) ≡ is_some (function_at setup dev 0)
 card_exists setup dev not0 not1 =
-    rw (ne_eqb dev 0 not0, ne_eqb dev 1 not1) (sym (is_some_map card_function (card_at setup dev)))
+    rw (ne_eqb dev 0 not0, ne_eqb dev 1 not1) (sym (is_named card_function (card_at setup dev)))

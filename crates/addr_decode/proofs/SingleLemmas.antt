@@ -1,10 +1,10 @@
 -- The registers of one byte each: their numbers, and that each stands beside all others.
-use Rattle.std.proofs.Common.{◌≡◌, ◌≢◌, ℕ, suc, ◌+◌, ◌-◌, ◌<◌, ◌≤◌, Bool, true, false, not, ◌&&◌, Option, Some, None}
-use Rattle.std.proofs.Common.{List, [], ◌∷◌, length, get_or, inl, inr, refl, sym, ◌∙◌, ap, subst, arith, ◌==◌, nat_lt}
-use Rattle.std.proofs.Common.{rules, map, slice_index}
+use Rattle.std.proofs.Common.{◌≡◌, ◌≢◌, ℕ, suc, ◌+◌, ◌-◌, ◌<◌, ◌≤◌, Bool, true, not, ◌&&◌, Option, Some, None, List, []}
+use Rattle.std.proofs.Common.{◌∷◌, length, get_or, inl, inr, refl, sym, ◌∙◌, ap, arith, ◌==◌, nat_lt, rules, map}
+use Rattle.std.proofs.Common.{slice_index}
 use Rattle.std.proofs.lemmas.Option.{same_Some}
-use Rattle.board_prelude.proofs.Common.{cases_Bool, nat_tests, and-false, false≢true, each_below, Reg, is_same}
-use Rattle.board_prelude.proofs.Common.{is_within, bridge, card_register, fdhc, Bytes, get_or-map}
+use Rattle.board_prelude.proofs.Common.{cases_Bool, nat_tests, each_below, Reg, is_same, is_within, bridge}
+use Rattle.board_prelude.proofs.Common.{card_register, fdhc, Bytes, get_or-map}
 use Rattle.addr_decode.specs.Singles.{singles, single, single_count, number_from, single_number, AreSinglesOf}
 use Rattle.addr_decode.proofs.StoreLemmas.{Differs, same_register, same_or_apart}
 
@@ -79,19 +79,7 @@ pub record IsSingle (reg : Reg) : Type 0 where
   pub apart : (off : ℕ) → 0x59 ≤ off → off ≤ 0x67 → Differs (bridge off) reg
 
 single_told : (reg : Reg) → is_single reg ≡ true → IsSingle reg
-single_told reg is = record {
-  low = grind (arith, nat_tests);
-  function = grind (arith, nat_tests);
-  byte = grind (arith, nat_tests);
-  apart = λ off from to. elim (same_or_apart (bridge off) reg) [
-    | inr differ ↦ differ
-    | inl same ↦
-        let here : is_single (bridge off) ≡ true = subst (λ (it : Reg). is_single it ≡ true) (sym same) is in
-        let within : is_within 0x59 0x67 off ≡ true = grind (arith, nat_tests) in
-        let no : (nat_lt off 256 && false) ≡ true = rw within at here in
-        absurd (false≢true (sym (and-false (nat_lt off 256)) ∙ no))
-  ];
-}
+single_told reg is = grind (arith, nat_tests)
 
 pub single_is : (k : ℕ) → k < single_count → IsSingle (single k)
 single_is k below =
@@ -104,9 +92,7 @@ is_none reg other None is = refl
 is_none reg other (Some number) is = let there = number_stands reg number is in absurd (other number there.0 there.1)
 
 not_one : (at reg : Reg) → Differs at reg → reg ≢ at
-not_one at reg (inl dev) same = dev (ap (λ (it : Reg). it.dev) (sym same))
-not_one at reg (inr (inl fun)) same = fun (ap (λ (it : Reg). it.fun) (sym same))
-not_one at reg (inr (inr off)) same = off (ap (λ (it : Reg). it.off) (sym same))
+not_one at reg apart same = grind (arith, nat_tests)
 
 pub block_unnumbered : (off : ℕ) → 0x59 ≤ off → off ≤ 0x67 → single_number (bridge off) ≡ None
 block_unnumbered off from to =

@@ -146,14 +146,7 @@ pub record IsBeside (off : ℕ) : Type 0 where
   pub singles : (k : ℕ) → k < single_count → Differs (bridge off) (single k)
 
 bridge_apart : (off : ℕ) → IsBeside off → IsApart (bridge off)
-bridge_apart off beside = record {
-  rows = λ row below. inr (inr (λ same. elim beside.rows [ inl low ↦ omega arith | inr high ↦ omega arith ]));
-  windows = λ at inside. inr (inr (λ same. elim beside.windows [
-    | inl low ↦ omega (arith, inside.0)
-    | inr high ↦ omega (arith, inside.1)
-  ]));
-  singles = beside.singles;
-}
+bridge_apart off beside = grind (arith, nat_tests)
 
 isa_apart : (off : ℕ) → single_number (isa off) ≡ None → IsApart (isa off)
 isa_apart off none = record {

@@ -3,19 +3,16 @@ use Rattle.std.proofs.Common.{◌≡◌, ℕ, zero, suc, ◌+◌, ◌*◌, ◌^�
 use Rattle.std.proofs.Common.{None, Result, Ok, refl, sym, ap, ◌∙◌, arith, slice_index, flat_map, get_or, take, drop}
 use Rattle.std.proofs.Common.{◌-◌, Err}
 use Rattle.board_prelude.proofs.Common.{AllByRecursion, All-cons, All-head, All-nil, All-tail, append-nil, get_or_past}
-use Rattle.board_prelude.proofs.Common.{drop_all, drop_at, drop_more, flat_map-cons, take_at, w32, length-append}
-use Rattle.board_prelude.proofs.Common.{length-drop, length-take-le, take-append-drop, to_le_bytes, FittedCard}
+use Rattle.board_prelude.proofs.Common.{drop_all, drop_at, drop_more, flat_map-cons, take_at, length-append}
+use Rattle.board_prelude.proofs.Common.{length-drop, length-take-le, take-append-drop, FittedCard}
 use Rattle.byte_fields.proofs.Formats.{IsFormat, fields_format, ◌then◌, ◌&◌, last_field, whole_field, done_format}
 use Rattle.byte_fields.proofs.Formats.{plain_format}
 use Rattle.byte_fields.proofs.Loops.{with_front, front_joined}
-use Rattle.byte_fields.proofs.Numbers.{Ranges, any_byte, any_number, number_to, within_format, wide32}
+use Rattle.byte_fields.proofs.Numbers.{any_byte, any_number, number_to, wide32}
 use Rattle.pci_bars.specs.Cards.{CardBytes}
 use Rattle.addr_decode.specs.Singles.{single_count}
-use Rattle.addr_decode.specs.State.{any_long, AreBases, bases_bytes, bases_fields, IsCardRegs, most_rom, card_bytes}
-use Rattle.addr_decode.specs.State.{card_fields, AreCardRegs, cards_fields, AreMapRegs, regs_bytes, regs_fields}
-
-pub long_format : IsFormat 4 any_long (to_le_bytes w32) (Ranges 0 0xFFFF_FFFF)
-long_format = within_format wide32 0 0xFFFF_FFFF (omega arith)
+use Rattle.addr_decode.specs.State.{AreBases, bases_bytes, bases_fields, IsCardRegs, most_rom, card_bytes, card_fields}
+use Rattle.addr_decode.specs.State.{AreCardRegs, cards_fields, AreMapRegs, regs_bytes, regs_fields}
 
 -- ---- the bases
 

@@ -1,7 +1,7 @@
 -- A byte that is stored in one register leaves all others, and a register takes it under its mask.
-use Rattle.std.proofs.Common.{◌≡◌, ◌≢◌, ℕ, List, ◌<◌, false, ◌⊎◌, inl, inr, refl, sym, ◌∙◌, ap, arith, slice_index}
-use Rattle.board_prelude.proofs.Common.{w32, to_le_bytes, cond-false, cases_eq, nat_tests, One, Reg, Setup, byte}
-use Rattle.board_prelude.proofs.Common.{covers, Bytes, card_register}
+use Rattle.std.proofs.Common.{◌≡◌, ◌≢◌, ℕ, List, ◌<◌, false, ◌⊎◌, refl, sym, arith, slice_index}
+use Rattle.board_prelude.proofs.Common.{w32, to_le_bytes, cond-false, nat_tests, One, Reg, Setup, byte, covers, Bytes}
+use Rattle.board_prelude.proofs.Common.{card_register}
 use Rattle.pci_bars.proofs.BaseLemmas.{long_byte}
 use Rattle.addr_decode.specs.MapRegs.{stored}
 
@@ -9,24 +9,16 @@ abbrev pub Differs : Reg → Reg → Type 0
 Differs at reg = (at.dev ≢ reg.dev) ⊎ (at.fun ≢ reg.fun) ⊎ (at.off ≢ reg.off)
 
 not_covered : (at reg : Reg) → Differs at reg → covers at One reg ≡ false
-not_covered at reg (inl dev) = grind (arith, nat_tests)
-not_covered at reg (inr (inl fun)) = grind (arith, nat_tests)
-not_covered at reg (inr (inr off)) = grind (arith, nat_tests)
+not_covered at reg apart = grind (arith, nat_tests)
 
 pub stored-elsewhere :
     (setup : Setup) (bytes : Bytes) (at : Reg) (written : ℕ) (reg : Reg) → Differs at reg →
     stored setup bytes at written reg ≡ bytes reg
 stored-elsewhere setup bytes at written reg apart = cond-false (covers at One reg) _ _ (not_covered at reg apart)
 
-abbrev pub reg_made : (dev fun off : ℕ) → Reg
-reg_made dev fun off = record { dev = dev; fun = fun; off = off }
-
 -- a register by its three numbers
 pub same_register : (reg other : Reg) → reg.dev ≡ other.dev → reg.fun ≡ other.fun → reg.off ≡ other.off → reg ≡ other
-same_register reg other devs funs offs =
-    ap (λ (d : ℕ). reg_made d reg.fun reg.off) devs
-    ∙ ap (λ (f : ℕ). reg_made other.dev f reg.off) funs
-    ∙ ap (λ (o : ℕ). reg_made other.dev other.fun o) offs
+same_register reg other devs funs offs = grind (arith, nat_tests)
 
 -- a register of function 0 by its device
 pub in_function_0 : (reg : Reg) (dev : ℕ) → reg.dev ≡ dev → reg.fun ≡ 0 → card_register dev reg.off ≡ reg
@@ -34,22 +26,10 @@ in_function_0 reg dev is_dev is_fun = same_register (card_register dev reg.off) 
 
 -- two registers are one, or differ
 pub same_or_apart : (at reg : Reg) → (at ≡ reg) ⊎ Differs at reg
-same_or_apart at reg =
-    elim (cases_eq at.dev reg.dev) [
-      | inr dev ↦ inr (inl dev)
-      | inl devs ↦ elim (cases_eq at.fun reg.fun) [
-        | inr fun ↦ inr (inr (inl fun))
-        | inl funs ↦ elim (cases_eq at.off reg.off) [
-          | inr off ↦ inr (inr (inr off))
-          | inl offs ↦ inl (same_register at reg devs funs offs)
-        ]
-      ]
-    ]
+same_or_apart at reg = grind (arith, nat_tests)
 
 pub differs_back : (at reg : Reg) → Differs at reg → Differs reg at
-differs_back at reg (inl dev) = inl (λ e. dev (sym e))
-differs_back at reg (inr (inl fun)) = inr (inl (λ e. fun (sym e)))
-differs_back at reg (inr (inr off)) = inr (inr (λ e. off (sym e)))
+differs_back at reg apart = grind (arith, nat_tests)
 
 -- ---- the bytes of a value
 

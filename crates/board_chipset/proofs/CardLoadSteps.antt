@@ -1,22 +1,19 @@
 -- The state after bytes were written to a card from outside.
 use Rattle.std.proofs.Common.{◌≡◌, ◌≢◌, ℕ, zero, suc, ◌+◌, ◌-◌, ◌<◌, ◌≤◌, true, false, ◌&&◌, List, [], ◌∷◌, ◌++◌}
 use Rattle.std.proofs.Common.{length, take, drop, Option, Some, None, refl, sym, ◌∙◌, ap, arith, inl, inr, ◌==◌, nat_le}
-use Rattle.std.proofs.Common.{nat_lt, if◌then◌else◌, slice_index, unwrap_or, option_and_then, IfSome}
+use Rattle.std.proofs.Common.{nat_lt, if◌then◌else◌, slice_index, unwrap_or, IfSome}
 use Rattle.std.proofs.lemmas.Grind.{elements}
 use Rattle.std.proofs.lemmas.Option.{slice_get_past}
-use Rattle.board_prelude.proofs.Common.{cases_Bool, cases_eq, cases_lt, ne_eqb, eq-eqb, and_from, and_left, eqb-true}
-use Rattle.board_prelude.proofs.Common.{eqb-false, and_parts, get_or-take, get_or-drop, nat_tests, Write, One, Card}
-use Rattle.board_prelude.proofs.Common.{Event, Memory, Port, Bus, Entry, Setup, IsSetup, IsCard, FittedCard, card_at}
-use Rattle.board_prelude.proofs.Common.{Cell, DramCell, CardCell, byte, byte_put, card_byte, kept_size, Denial}
-use Rattle.board_prelude.proofs.Common.{PortAccess, config_address, reset_control_port, config_address_port}
+use Rattle.board_prelude.proofs.Common.{cases_Bool, cases_eq, cases_lt, ne_eqb, eq-eqb, and_from, eqb-false}
+use Rattle.board_prelude.proofs.Common.{get_or-take, get_or-drop, nat_tests, Write, One, Card, Event, Memory, Port, Bus}
+use Rattle.board_prelude.proofs.Common.{Entry, Setup, IsSetup, IsCard, FittedCard, card_at, Cell, DramCell, CardCell}
+use Rattle.board_prelude.proofs.Common.{byte, byte_put, card_byte, kept_size, Denial}
 use Rattle.pci_bars.specs.Contents.{IsBaseNumber, held, IsContentsOf}
 use Rattle.pci_bars.proofs.ContentsLemmas.{card_within, stored_byte}
 use Rattle.board_devices.specs.Common.{LeavesDevices}
 use Rattle.board_chipset.specs.declared.state.State.{State}
 use Rattle.board_chipset.specs.Common.{IsSound, IsStateOf}
-use Rattle.board_chipset.specs.CardLoads.{card_size, is_bridge_port, WritesByte, WriteCardInTurn, WriteCard}
-use Rattle.board_chipset.proofs.Effects.{writes_beside}
-use Rattle.board_chipset.proofs.Reach.{IsBeside}
+use Rattle.board_chipset.specs.CardLoads.{card_size, WritesByte, WriteCardInTurn, WriteCard}
 use Rattle.board_chipset.proofs.OutsideSteps.{found_in}
 use Rattle.board_chipset.proofs.InTurn.{IsPut, one_put, all_put, InTurn, state_in_turn, made, made_length}
 
@@ -81,41 +78,15 @@ abbrev in_card : (dev base : ℕ) → Cell → Option ℕ
 in_card dev base (DramCell at) = None
 in_card dev base (CardCell d b at) = if dev == d && base == b then Some at else None
 
-byte_there : (off n at value : ℕ) → value ≤ 0xFF →
-    option_and_then (λ k. if nat_lt k 1 then Some (byte value k) else None)
-    (if nat_le (off + n) at then Some (at - (off + n)) else None)
-    ≡ (if at == off + n then Some value else None)
-byte_there off n at value small = grind (arith, nat_tests)
-
 card_put : (dev base off n : ℕ) (bytes : List ℕ) (cell : Cell) → base ≢ 6 → slice_index bytes n ≤ 0xFF →
     byte_put (Card dev base (off + n)) 0 One (slice_index bytes n) cell ≡ one_put (in_card dev base cell) off bytes n
 card_put dev base off n bytes (DramCell at) kept small = rw (ne_eqb base 6 kept) refl
-card_put dev base off n bytes (CardCell d b at) kept small =
-    elim (cases_Bool (dev == d && base == b)) [
-      | inl both ↦ rw (ne_eqb base 6 kept, both) (byte_there off n at (slice_index bytes n) small)
-      | inr apart ↦ rw (ne_eqb base 6 kept, apart) refl
-    ]
-
-beside : (setup : Setup) (address : ℕ) (access : PortAccess) → is_bridge_port access.port ≡ false →
-    IsBeside setup address access.port access.width
-beside setup address access is = record {
-  control = and_left (access.port == reset_control_port) _ (grind (arith, nat_tests));
-  address_port = and_left (access.port == config_address_port) _ (grind (arith, nat_tests));
-  config = λ there. absurd (grind (arith, nat_tests));
-}
+card_put dev base off n bytes (CardCell d b at) kept small = grind (arith, nat_tests)
 
 write_put : (dev base off byte : ℕ) (denial : Option Denial) (event : Event) → WritesByte byte event →
     IsPut (byte_put (Card dev base off) 0 One byte) event (Bus None (Card dev base off) denial)
-write_put dev base off byte denial (Memory access) is = record {
-  writes = λ setup history. record { control_is = refl; address_is = refl; store_is = refl };
-  passes = tt;
-  puts = λ cell. rw (is.0, is.1, is.2) refl;
-}
-write_put dev base off byte denial (Port access) is = record {
-  writes = λ setup history. writes_beside setup history access (beside setup (config_address history) access is.3);
-  passes = refl;
-  puts = λ cell. rw (is.0, is.1, is.2) refl;
-}
+write_put dev base off byte denial (Memory access) is = grind (arith, nat_tests)
+write_put dev base off byte denial (Port access) is = grind (arith, nat_tests)
 write_put dev base off byte denial _ is = absurd is
 
 module _ (dev base off : ℕ) (bytes : List ℕ) where
@@ -183,9 +154,7 @@ pub record IsCopied (old : List (List ℕ)) (dev base off : ℕ) (bytes : List �
 module _ {old new : List (List ℕ)} {dev base off : ℕ} {bytes : List ℕ} (is : IsCopied old dev base off bytes new) where
   copied_here : (d b : ℕ) → (dev == d && base == b) ≡ true →
       (held new d b ≡ over (held old d b) bytes off) × (off + length bytes ≤ length (held old d b))
-  copied_here d b both =
-      let same = and_parts (dev == d) (base == b) both in
-      rw (← eqb-true dev d same.0, ← eqb-true base b same.1) (is.here, is.fits)
+  copied_here d b both = grind (arith, nat_tests)
 
   copied_apart : (d b : ℕ) → IsBaseNumber d b → (dev == d && base == b) ≡ false → held new d b ≡ held old d b
   copied_apart d b number apart =

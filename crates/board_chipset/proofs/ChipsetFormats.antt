@@ -1,12 +1,12 @@
 -- The state of a chipset is spelled and read back. What is read has no ranges of the map yet.
+use Rattle.board_prelude.proofs.Common.{nat_tests, Setup, FittedCard, IsSetup, IsRomSize, IsDisk, w8, to_le_bytes}
 use Rattle.std.proofs.Common.{◌≡◌, ℕ, ◌+◌, ◌*◌, ◌^◌, ◌<◌, ◌≤◌, Bool, true, false, List, ◌∷◌, [], length, Option, Some}
 use Rattle.std.proofs.Common.{None, is_some, refl, ap, arith, unwrap_or}
 use Rattle.std.specs.Int.{Width as Size, byte_len}
-use Rattle.board_prelude.proofs.Common.{Setup, FittedCard, IsSetup, IsRomSize, IsDisk, w8, to_le_bytes}
 use Rattle.byte_fields.specs.Fields.{within, flag_byte}
 use Rattle.byte_fields.proofs.Exactly.{exactly_format}
 use Rattle.byte_fields.proofs.Formats.{IsFormat, format_as, fields_format, ◌then◌, ◌&◌, last_field}
-use Rattle.byte_fields.proofs.Numbers.{Any, IsWide, byte_within, within_format, any_byte, wide16, wide32}
+use Rattle.byte_fields.proofs.Numbers.{Any, IsWide, within_format, any_byte, wide16, wide32}
 use Rattle.cfg_ports.proofs.StateFormat.{address_format}
 use Rattle.dram_store.proofs.StateFormats.{dram_format}
 use Rattle.pci_bars.proofs.StateFormats.{contents_format}
@@ -35,9 +35,7 @@ one_number wide value fits =
     (λ n good. omega (arith, good.0, good.1)) (λ n good. refl)
 
 one_byte : (value : ℕ) → value < 2 ^ 8 → IsFormat 1 (within w8 value value) (λ n. n ∷ []) (λ n. n ≡ value)
-one_byte value fits =
-    format_as _ _ _ (byte_within value value fits) (omega arith) (λ n is. (omega arith, omega arith))
-    (λ n good. omega (arith, good.0, good.1)) (λ n good. refl)
+one_byte value fits = grind (arith, nat_tests)
 
 rom_few : (size : ℕ) → IsRomSize size → size ≤ 0x8_0000
 rom_few size is = grind (arith, is)

@@ -1,14 +1,13 @@
 -- What was read is a chipset, and the one that was saved.
-use Rattle.std.proofs.Common.{◌≡◌, ℕ, ◌*◌, ◌↔◌, inl, inr, false, List, [], ◌++◌, length, Option, Some, None, Result, Ok}
-use Rattle.std.proofs.Common.{Err, IfOk, refl, sym, ap, ◌∙◌, append_assoc, arith}
-use Rattle.board_prelude.proofs.Common.{w16, to_le_bytes, Entry, Setup, IsSetup}
+use Rattle.std.proofs.Common.{◌≡◌, ℕ, ◌↔◌, inl, inr, false, List, [], ◌++◌, length, Option, Some, None, Result, Ok, Err}
+use Rattle.std.proofs.Common.{IfOk, refl, sym, ap, ◌∙◌, append_assoc, arith}
+use Rattle.board_prelude.proofs.Common.{nat_tests, w16, to_le_bytes, Entry, Setup, IsSetup}
 use Rattle.byte_fields.specs.declared.fault.Fault.{Fault}
 use Rattle.byte_fields.specs.declared.fault.Fault.TheVariants as faults
 use Rattle.byte_fields.specs.Fields.{AreBytes, Filled}
 use Rattle.byte_fields.proofs.Formats.{ok_is, not_err}
 use Rattle.byte_fields.proofs.Numbers.{wide16, within_format}
 use Rattle.device_spec.specs.Common.{Disk}
-use Rattle.ata_pio.proofs.StateFormats.{sectors_of_length}
 use Rattle.map_builder.specs.Map.{Mapped}
 use Rattle.map_builder.specs.State.{IsMapped, SameMap}
 use Rattle.board_devices.specs.Common.{HasDisk}
@@ -40,9 +39,7 @@ registers_sound setup registers are =
 
 disk_fitted : (fitted : Option (List ℕ)) (disk : Option Disk) → IsFittedDisk fitted disk → HasDisk fitted disk
 disk_fitted None None is = refl
-disk_fitted (Some bytes) (Some disk) is =
-    ap (λ (count : ℕ). Some count)
-    ((sectors_of_length bytes is.size).whole ∙ ap (λ (count : ℕ). 512 * count) (sym is.medium.bad))
+disk_fitted (Some bytes) (Some disk) is = grind (arith, nat_tests)
 disk_fitted _ _ is = absurd is
 
 pub running : (chipset : Running) → IsChipset chipset → IsRunning chipset

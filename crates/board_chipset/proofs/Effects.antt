@@ -1,11 +1,9 @@
 -- What an access at a port writes, by what it reaches.
-use Rattle.std.proofs.Common.{◌≡◌, ℕ, ◌+◌, ◌%◌, ◌≤◌, true, false, ◌&&◌, List, Option, Some, None, refl, arith, inl, inr}
-use Rattle.std.proofs.Common.{◌==◌, is_some}
+use Rattle.std.proofs.Common.{◌≡◌, ℕ, ◌+◌, ◌%◌, ◌≤◌, true, false, List, Option, Some, None, refl, arith, is_some}
 use Rattle.std.proofs.lemmas.Option.{cond_some}
-use Rattle.board_prelude.proofs.Common.{cases_Bool, and_parts, cond_both, nat_tests, Width, One, PortAccess, Reg}
-use Rattle.board_prelude.proofs.Common.{Target, Card, Device, Config, Abort, bytes_of, largest_of, Port, Entry}
-use Rattle.board_prelude.proofs.Common.{MapChange, Store, Setup, config_address_port, reset_control_port, kept_address}
-use Rattle.board_prelude.proofs.Common.{config_address, register_of, is_config_port, config_register, byte_of}
+use Rattle.board_prelude.proofs.Common.{nat_tests, Width, One, PortAccess, Reg, Target, Card, Device, Config, Abort}
+use Rattle.board_prelude.proofs.Common.{bytes_of, largest_of, Port, Entry, MapChange, Store, Setup, kept_address}
+use Rattle.board_prelude.proofs.Common.{config_address, register_of, config_register, byte_of}
 use Rattle.board_base.specs.declared.target.Dev.TheVariants.{Confadd as AddressPort, Reset}
 use Rattle.cfg_ports.proofs.AddressLemmas.{kept_address-low_bits, within_space}
 use Rattle.board_chipset.specs.declared.state.State.{State}
@@ -26,10 +24,6 @@ abbrev pub store_at : Target → PortAccess → Option MapChange
 store_at (Config reg) access = Some (Store reg access.width access.value)
 store_at _ access = None
 
-data_apart : (port : ℕ) → is_config_port port ≡ true →
-    ((port == reset_control_port) ≡ false) × ((port == config_address_port) ≡ false)
-data_apart port is = (grind (arith, nat_tests), grind (arith, nat_tests))
-
 abbrev pub Reached : Setup → List Entry → PortAccess → Target → Type 0
 Reached setup history access target =
     IsReached setup (byte_of setup history) (config_address history) access.port access.width target
@@ -40,36 +34,14 @@ module _ (setup : Setup) (history : List Entry) (access : PortAccess) where
 
   pub writes_beside : IsBeside setup (config_address history) access.port access.width →
       Writes setup history (Port access) None None None
-  writes_beside by = record {
-    control_is = elim (cases_Bool access.write)
-        [ inl writes ↦ rw (writes, by.control) refl | inr reads ↦ rw reads refl ];
-    address_is = elim (cases_Bool access.write)
-        [ inl writes ↦ rw (writes, by.address_port) refl | inr reads ↦ rw reads refl ];
-    store_is = cond_both (access.write && is_config_port access.port) _ None
-        (λ (store : Option MapChange). store ≡ None)
-        (λ both. rw (by.config (and_parts access.write _ both).1) refl) (λ _. refl);
-  }
+  writes_beside by = grind (arith, nat_tests)
 
   pub writes_at : (target : Target) → access.write ≡ true → Reached setup history access target →
       Writes setup history (Port access) (control_at target access) (address_at target access) (store_at target access)
-  writes_at (Device AddressPort) writes at = record {
-    control_is = rw (writes, at.0) refl;
-    address_is = rw (writes, at.0, at.1) refl;
-    store_is = rw (writes, at.0) refl;
-  }
-  writes_at (Device Reset) writes at = record {
-    control_is = rw (writes, at.0, at.1) refl;
-    address_is = rw (writes, at.0) refl;
-    store_is = rw (writes, at.0) refl;
-  }
+  writes_at (Device AddressPort) writes at = grind (arith, nat_tests)
+  writes_at (Device Reset) writes at = grind (arith, nat_tests)
   writes_at (Device dev) writes at = writes_beside at.0
-  writes_at (Config reg) writes at =
-      let apart = data_apart access.port at.0 in
-      record {
-        control_is = rw (writes, apart.0) refl;
-        address_is = rw (writes, apart.1) refl;
-        store_is = rw (writes, at.0, at.1) refl;
-      }
+  writes_at (Config reg) writes at = grind (arith, nat_tests)
   writes_at (Card dev base off) writes at = writes_beside at.0
   writes_at Abort writes at = writes_beside at
   writes_at _ writes at = absurd at

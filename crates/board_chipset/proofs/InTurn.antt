@@ -1,8 +1,7 @@
 -- Entries that put a byte each, one after another from a place on. They write no register and reach no device.
 use Rattle.std.proofs.Common.{◌≡◌, ℕ, zero, suc, ◌+◌, ◌-◌, ◌&&◌, ◌==◌, nat_le, nat_lt, if◌then◌else◌, List, [], ◌∷◌}
-use Rattle.std.proofs.Common.{◌++◌, length, slice_index, unwrap_or, Option, Some, None, refl, sym, ◌∙◌, ap, inl, inr}
-use Rattle.std.proofs.Common.{arith}
-use Rattle.board_prelude.proofs.Common.{cases_eq, nat_tests, Event, Reply, Entry, Setup, Cell, entry_put, stored_of}
+use Rattle.std.proofs.Common.{◌++◌, length, slice_index, unwrap_or, Option, Some, None, refl, sym, ◌∙◌, ap, arith}
+use Rattle.board_prelude.proofs.Common.{nat_tests, Event, Reply, Entry, Setup, Cell, entry_put, stored_of}
 use Rattle.board_prelude.proofs.Common.{device_reached}
 use Rattle.board_devices.specs.Common.{DevicesValue, AreDevicesOf, PassesBy, LeavesDevices}
 use Rattle.board_stores.specs.declared.stores.Stores.{Stores}
@@ -42,12 +41,7 @@ none_put at from was bytes = grind (arith, nat_tests)
 more_put : (at from n was : ℕ) (bytes : List ℕ) →
     unwrap_or (one_put (Some at) from bytes n) (unwrap_or (all_put (Some at) from bytes n) was)
     ≡ unwrap_or (all_put (Some at) from bytes (suc n)) was
-more_put at from n was bytes =
-    elim (cases_eq at (from + n)) [
-      | inl same ↦
-          let k : at - from ≡ n = omega (arith, same) in grind (arith, nat_tests, ap (slice_index bytes) k)
-      | inr other ↦ grind (arith, nat_tests)
-    ]
+more_put at from n was bytes = grind (arith, nat_tests)
 
 one_more : (found : Option ℕ) (from n was : ℕ) (bytes : List ℕ) →
     unwrap_or (one_put found from bytes n) (unwrap_or (all_put found from bytes n) was)

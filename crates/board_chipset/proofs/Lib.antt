@@ -22,7 +22,6 @@ pub mod MasterSteps
 pub mod CardChecks
 pub mod CardLoadSteps
 pub mod PortAccessSteps
-pub mod Placed
 pub mod KeptBytes
 pub mod Marks
 pub mod LeftBytes

@@ -1,7 +1,7 @@
 -- The state after bytes were written from outside.
 use Rattle.std.proofs.Common.{◌≡◌, ℕ, zero, suc, false, ◌+◌, ◌<◌, ◌≤◌, ◌&&◌, List, [], ◌∷◌, ◌++◌, length, Some, None}
-use Rattle.std.proofs.Common.{refl, arith, ◌↔◌, Result, Ok, Err, IsErr, OnOk, OnErr, nat_le, nat_lt, if◌then◌else◌}
-use Rattle.std.proofs.Common.{slice_index, unwrap_or, Option}
+use Rattle.std.proofs.Common.{refl, arith, Result, Ok, Err, OnOk, OnErr, nat_le, nat_lt, if◌then◌else◌, slice_index}
+use Rattle.std.proofs.Common.{unwrap_or, Option}
 use Rattle.board_prelude.proofs.Common.{nat_tests, Write, One, Dram, Shadow, Smram, Card, Device, clock_index_port}
 use Rattle.board_prelude.proofs.Common.{clock_data_port, Memory, Port, Bus, Reply, Entry, Setup, Cell, DramCell}
 use Rattle.board_prelude.proofs.Common.{CardCell, byte_put, entry_put, clock_of, device_reached}
@@ -113,12 +113,6 @@ module _ (setup : Setup) (old : State) (dram : List ℕ) (addr : ℕ) (bytes : L
       let some = some_entries addr bytes in
       (some.0 ++ history, loaded fits is history some.0 kept some.1)
   load_kept (Err past) fits is same history kept = (history, rw same kept)
-
-pub load_refused : (result : Result (Unit {0}) PastTheEnd) (size installed end : ℕ) → size ≡ installed →
-    OnOk result (end ≤ size) → OnErr result (size < end) → IsErr result ↔ (installed < end)
-load_refused (Ok done) size installed end is fits past =
-    (λ err. absurd (cc), λ beyond. absurd (omega (arith, is, fits, beyond)))
-load_refused (Err fault) size installed end is fits past = (λ err. omega (arith, is, past), λ beyond. refl)
 
 -- ---- a byte of the clock
 

@@ -1,11 +1,10 @@
 -- What a bus master reaches is neither SMRAM nor DRAM in its range.
 use Rattle.std.proofs.Common.{◌≡◌, ◌≢◌, ℕ, Bool, true, false, not, ◌&&◌, [], ◌∷◌, Option, Some, None, is_some, refl, ap}
-use Rattle.std.proofs.Common.{sym, ◌∙◌, inl, inr, arith, ◌==◌, unwrap_or, option_map}
+use Rattle.std.proofs.Common.{sym, ◌∙◌, inl, inr, arith, unwrap_or, option_map}
 use Rattle.board_prelude.proofs.Common.{cases_Bool, false≢true, and_left, and_right, nat_tests, Kind, Area, Target}
-use Rattle.board_prelude.proofs.Common.{Smram, Card, Setup, rom_base, lies_in, smram_range, shadow_range, upper_memory}
-use Rattle.board_prelude.proofs.Common.{Bytes, Window, first_of, line_where, card_area, row_of, is_shadowed}
-use Rattle.board_prelude.proofs.Common.{memory_claim, is_smram_range, target_at, DramCell, first_cell, is_in_hole}
-use Rattle.board_prelude.proofs.Common.{is_bios_selected}
+use Rattle.board_prelude.proofs.Common.{Smram, Card, Setup, lies_in, smram_range, shadow_range, upper_memory, Bytes}
+use Rattle.board_prelude.proofs.Common.{Window, first_of, line_where, card_area, row_of, is_shadowed, memory_claim}
+use Rattle.board_prelude.proofs.Common.{is_smram_range, target_at, DramCell, first_cell, is_in_hole, is_bios_selected}
 use Rattle.board_base.specs.declared.target.Area.TheVariants.{Dram as DramArea, Shadow as ShadowArea}
 use Rattle.board_base.specs.declared.target.Area.TheVariants.{Smram as SmramArea, Rom as RomArea, Card as CardArea}
 use Rattle.board_base.specs.declared.target.Area.TheVariants.{Abort as AbortArea}
@@ -82,10 +81,7 @@ off_dram setup bytes addr kind inside =
     tt (λ dev base. tt) tt
 
 card_cell : (dev base off addr at : ℕ) → first_cell (Card dev base off) addr ≡ Some (DramCell at) → ⊥
-card_cell dev base off addr at is = elim (cases_Bool (base == rom_base)) [
-  | inl rom ↦ let none = rw rom at is in cc
-  | inr kept ↦ let some = rw kept at is in cc
-]
+card_cell dev base off addr at is = grind (arith, nat_tests)
 
 off_cell : (setup : Setup) (area : Area) (addr at : ℕ) → IsOffDram area →
     first_cell (target_at setup area addr) addr ≡ Some (DramCell at) → ⊥

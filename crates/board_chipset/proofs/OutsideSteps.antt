@@ -1,4 +1,5 @@
 -- Events for the devices alone: they write no register and store nothing.
+use Rattle.board_prelude.proofs.Common.{nat_tests}
 use Rattle.std.proofs.Common.{◌≡◌, ◌≤◌, true, List, [], ◌∷◌, None, refl, sym, ◌∙◌, subst, inl, inr, ℕ, ◌==◌, All, find}
 use Rattle.std.proofs.Common.{is_some, Bool, Option, Some, IfSome, arith}
 use Rattle.board_prelude.proofs.Common.{and_from, le-leb, Ack, IsAnswer, IsInRange, outside_answer, Applied, Stimulus}
@@ -46,10 +47,7 @@ found_in (first ∷ later) dev each = elim (cases_Bool (first.dev == dev)) [
 fitted_device : (found : Option FittedCard) (dev : ℕ) → IfSome found (λ card. IsCard card × (card.dev ≡ dev)) →
     is_some found ≡ true → (2 ≤ dev) × (dev ≤ 9)
 fitted_device None dev is some = absurd (cc)
-fitted_device (Some card) dev is some =
-    let fits = is.0 in
-    let same = is.1 in
-    (omega (arith, fits.first), omega (arith, fits.last))
+fitted_device (Some card) dev is some = grind (arith, nat_tests)
 
 -- ---- what a stimulus applies
 

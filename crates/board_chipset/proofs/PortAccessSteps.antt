@@ -1,4 +1,5 @@
 -- The cycles of an access to ports, done one after another.
+use Rattle.board_prelude.proofs.Common.{nat_tests}
 use Rattle.std.proofs.Common.{◌≡◌, ℕ, ◌+◌, ◌-◌, ◌*◌, ◌%◌, ◌^◌, ◌<◌, ◌≤◌, List, [], ◌∷◌, ◌++◌, length, get_or, take}
 use Rattle.std.proofs.Common.{drop, refl, ◌∙◌, ap, subst, arith, lit<, reverse}
 use Rattle.std.proofs.lemmas.List.{drop_more}
@@ -114,9 +115,7 @@ module _ {first value : ℕ} {cycle : PortAccess} {later : List PortAccess}
 
 pub at_first : (first end : ℕ) (cycles : List PortAccess) → Follow first end cycles → end ≤ first + 4 →
     IsAt first 0 cycles
-at_first first end cycles follow few =
-    let none : first - first ≡ 0 = omega arith in
-    record { at = first; end = end; few = few; from = omega arith; rest = follow; small = rw none (lit< tt) }
+at_first first end cycles follow few = grind (arith, nat_tests)
 
 -- ---- cycles as the code keeps them
 

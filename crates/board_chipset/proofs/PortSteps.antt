@@ -1,9 +1,10 @@
 -- The state after an access at a port.
-use Rattle.std.proofs.Common.{◌≡◌, ◌≢◌, ℕ, true, false, List, ◌∷◌, Option, None, refl, ◌∙◌, ap}
-use Rattle.board_prelude.proofs.Common.{cond_both, Width, PortAccess, Reg, Dev, Target, Device, Config, Card, Abort}
-use Rattle.board_prelude.proofs.Common.{bytes_of, Entry, Reply, Setup, config_address, is_hard_reset, Cell, byte_of}
+use Rattle.std.proofs.Common.{arith, Some, ap, ◌∙◌, if◌then◌else◌, ◌≡◌, ◌≢◌, ℕ, true, false, List, ◌∷◌, Option, None}
+use Rattle.std.proofs.Common.{refl, ◌∙◌, ap}
+use Rattle.board_prelude.proofs.Common.{nat_tests, cond_both, Width, PortAccess, Reg, Dev, Target, Device, Config, Card}
+use Rattle.board_prelude.proofs.Common.{Abort, bytes_of, Entry, Setup, config_address, is_hard_reset, Cell, byte_of}
 use Rattle.board_prelude.proofs.Common.{entry_put, byte_put, port_put, device_in, device_reached, device_value, Decoded}
-use Rattle.board_prelude.proofs.Common.{port_value, bus_reply, port_answer, Bytes, Denial, Port, Bus}
+use Rattle.board_prelude.proofs.Common.{port_value, value_at, bus_reply, port_answer, Bytes, Denial, Port, Bus}
 use Rattle.board_base.specs.declared.target.Dev.TheVariants.{Confadd as AddressPort, Reset}
 use Rattle.addr_decode.specs.declared.found.ConfigRegister.{ConfigRegister}
 use Rattle.addr_decode.specs.declared.found.Found.{Found}
@@ -136,19 +137,15 @@ pub entry_of :
     {setup : Setup} {history : List Entry} {access : PortAccess} {target : Target} {denial : Option Denial}
     {value : Option ℕ} {entry : Entry} → record { target = target; denial = denial } ≡ reached setup history access →
     entry.event ≡ Port access → entry.reply ≡ Bus value target denial → IsEntryOf setup history access target entry
-entry_of {denial = denial} {value = value} decoded event replied = record {
-  value = value;
-  denial = denial;
-  target_is = ap (λ (d : Decoded). d.target) decoded;
-  event = event;
-  reply = replied;
-}
+entry_of {denial = denial} {value = value} decoded event replied = grind (arith, nat_tests)
 
 pub answer_is :
-    (setup : Setup) (history : List Entry) (access : PortAccess) (decoded : Decoded) (reply : Reply) →
-    decoded ≡ reached setup history access →
-    reply ≡ bus_reply setup history access.write decoded.target decoded.denial access.port access.width →
-    reply ≡ port_answer setup history access
+    (setup : Setup) (history : List Entry) (access : PortAccess) (target : Target) (denial : Option Denial)
+    (value : Option ℕ) → record { target = target; denial = denial } ≡ reached setup history access →
+    (target ≡ (reached setup history access).target →
+    value ≡ (if access.write then None else Some (value_at setup history target access.port access.width))) →
+    Bus value target denial ≡ port_answer setup history access
 unfolding port_answer
-answer_is setup history access decoded reply is same =
-    same ∙ ap (λ (d : Decoded). bus_reply setup history access.write d.target d.denial access.port access.width) is
+answer_is setup history access target denial value is answers =
+    rw (answers (ap (λ (d : Decoded). d.target) is))
+    (ap (λ (d : Decoded). bus_reply setup history access.write d.target d.denial access.port access.width) is)

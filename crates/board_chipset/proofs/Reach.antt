@@ -1,12 +1,11 @@
 -- What an access at a port reaches, and what that tells of the access.
-use Rattle.std.proofs.Common.{◌≡◌, ℕ, ◌%◌, ◌^◌, Bool, true, false, ◌&&◌, not, List, [], ◌∷◌, drop, Option, Some, None}
-use Rattle.std.proofs.Common.{refl, arith, ◌==◌, unwrap_or, option_map}
+use Rattle.std.proofs.Common.{◌≡◌, ℕ, ◌%◌, ◌^◌, Bool, true, false, ◌&&◌, List, [], ◌∷◌, drop, Option, Some, None, refl}
+use Rattle.std.proofs.Common.{arith, ◌==◌, unwrap_or, option_map}
 use Rattle.board_prelude.proofs.Common.{false≢true, cond_both, nat_tests, Width, Reg, Dev, Wires, Vector, Spurious}
 use Rattle.board_prelude.proofs.Common.{Keyboard, Ata, Target, Card, Device, Config, Abort, Denial, bytes_of}
 use Rattle.board_prelude.proofs.Common.{is_port_of, device_at, Setup, is_bit, config_address_port, reset_control_port}
-use Rattle.board_prelude.proofs.Common.{xbcs, ide_command, idetim_high, is_config_port, config_register, Bytes, Window}
-use Rattle.board_prelude.proofs.Common.{io_claim, Decoded, nobody, card_port, config_port, unselected, by_channel}
-use Rattle.board_prelude.proofs.Common.{device_port, port_target_of}
+use Rattle.board_prelude.proofs.Common.{xbcs, is_config_port, config_register, Bytes, Window, io_claim, Decoded, nobody}
+use Rattle.board_prelude.proofs.Common.{card_port, config_port, unselected, by_channel, device_port, port_target_of}
 use Rattle.board_base.specs.declared.target.Dev.TheVariants.{Confadd as AddressPort, Reset, Clock}
 use Rattle.device_spec.specs.PortTable.{first_with, port_devices}
 use Rattle.board_devices.specs.Events.{is_chip_port}
@@ -46,19 +45,11 @@ address_line port width is = (grind (arith, nat_tests), grind (arith, nat_tests)
 beside_lines : (setup : Setup) (address port : ℕ) (width : Width) →
     is_port_of Reset port (bytes_of width) ≡ false → is_port_of AddressPort port (bytes_of width) ≡ false →
     is_config_port port ≡ false → IsBeside setup address port width
-beside_lines setup address port width control address_port config = record {
-  control = grind (arith, nat_tests);
-  address_port = grind (arith, nat_tests);
-  config = λ is. absurd (cc);
-}
+beside_lines setup address port width control address_port config = grind (arith, nat_tests)
 
 beside_none : (setup : Setup) (address port : ℕ) (width : Width) → is_config_port port ≡ true →
     config_register setup address port ≡ None → IsBeside setup address port width
-beside_none setup address port width config none = record {
-  control = grind (arith, nat_tests);
-  address_port = grind (arith, nat_tests);
-  config = λ is. none;
-}
+beside_none setup address port width config none = grind (arith, nat_tests)
 
 module _ (setup : Setup) (bytes : Bytes) (address : ℕ) (disk : Bool) (port : ℕ) (width : Width) where
   abbrev Lands : Decoded → Type 0
@@ -83,9 +74,7 @@ module _ (setup : Setup) (bytes : Bytes) (address : ℕ) (disk : Bool) (port : �
   at_disk : (fitted : Bool) → IsBeside setup address port width → is_port_of Ata port (bytes_of width) ≡ true →
       Lands (by_channel fitted Ata setup bytes port)
   at_disk false by is = others _ by
-  at_disk true by is =
-      cond_both (not (is_bit (bytes ide_command) 0)) _ _ Lands (λ _. others _ by)
-      (λ _. cond_both (not (is_bit (bytes idetim_high) 7)) _ _ Lands (λ _. others _ by) (λ _. (by, is)))
+  at_disk true by is = grind (arith, nat_tests)
 
   -- ---- the devices in the order of the table
 

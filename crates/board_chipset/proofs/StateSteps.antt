@@ -1,7 +1,7 @@
 -- The state after an entry that changes a part of it.
-use Rattle.std.proofs.Common.{◌≡◌, ℕ, ◌*◌, option_map, false, List, [], ◌∷◌, Option, None, refl, sym, ◌∙◌, ap}
-use Rattle.board_prelude.proofs.Common.{Event, Entry, MapChange, Setup, config_address, byte_of, is_hard_reset, Cell}
-use Rattle.board_prelude.proofs.Common.{entry_put, device_reached}
+use Rattle.std.proofs.Common.{arith, ◌≡◌, ℕ, false, List, [], ◌∷◌, Option, None, refl, sym, ◌∙◌, ap}
+use Rattle.board_prelude.proofs.Common.{nat_tests, Event, Entry, MapChange, Setup, config_address, byte_of}
+use Rattle.board_prelude.proofs.Common.{is_hard_reset, Cell, entry_put, device_reached}
 use Rattle.config_regs.specs.declared.south.South.{South}
 use Rattle.board_devices.specs.Common.{DevicesValue, AreDevicesOf, AreRoutesOf, PassesBy, LeavesDevices, sectors_fitted}
 use Rattle.board_devices.proofs.DiskSizes.{opened_has}
@@ -69,25 +69,13 @@ module _ {setup : Setup} {old : State} (sound : IsSound setup old) where
   -- bytes that were put
   pub sound_put : {put : Cell → Option ℕ} {stores : Stores} → ArePut put old.stores stores →
       IsSound setup (record old { stores = stores })
-  sound_put is = record {
-    fits = sound.fits;
-    registers = sound.registers;
-    memory = is.size ∙ sound.memory;
-    contents = λ dev base number. is.sizes dev base ∙ sound.contents dev base number;
-    disk = sound.disk;
-  }
+  sound_put is = grind (arith, nat_tests)
 
   -- other registers, and other devices with as many sectors of a disk
   pub sound_changed : {registers : Registers} {devices : DevicesValue} → AreSound setup registers →
       sectors_fitted devices.disk ≡ sectors_fitted old.devices.disk →
       IsSound setup (record old { registers = registers; devices = devices })
-  sound_changed is fitted = record {
-    fits = sound.fits;
-    registers = is;
-    memory = sound.memory;
-    contents = sound.contents;
-    disk = sound.disk ∙ ap (λ (count : Option ℕ). option_map (λ sectors. 512 * sectors) count) (sym fitted);
-  }
+  sound_changed is fitted = grind (arith, nat_tests)
 
   pub sound_registers : {registers : Registers} → AreSound setup registers →
       IsSound setup (record old { registers = registers })

@@ -1,9 +1,7 @@
 -- The bytes behind the addresses after one more entry.
-use Rattle.std.proofs.Common.{◌≡◌, ◌≢◌, slice_index, unwrap_or, ℕ, ◌<◌, List, ◌∷◌, length, Option, None, refl, sym, ◌∙◌}
-use Rattle.std.proofs.Common.{arith}
-use Rattle.board_prelude.proofs.Common.{Entry, Setup, Cell, DramCell, CardCell, entry_put, stored_of}
+use Rattle.board_prelude.proofs.Common.{nat_tests, Entry, Setup, Cell, DramCell, CardCell, entry_put, stored_of}
+use Rattle.std.proofs.Common.{◌≡◌, ◌≢◌, slice_index, unwrap_or, ℕ, ◌<◌, List, ◌∷◌, length, Option, None, refl, arith}
 use Rattle.pci_bars.specs.Contents.{IsBaseNumber, held}
-use Rattle.pci_bars.proofs.ContentsLemmas.{contents_of, held_within, stored_byte}
 use Rattle.board_stores.specs.declared.stores.Stores.{Stores}
 use Rattle.board_stores.specs.Puts.{HasStores, ArePut}
 
@@ -23,19 +21,7 @@ pub stores_after :
     HasStores setup history old →
     ((cell : Cell) → stored_of later cell ≡ unwrap_or (put cell) (stored_of history cell)) →
     HavePut put old new → HasStores setup later new
-stores_after {old = old} has same is = record {
-  dram = record {
-    size = is.size ∙ has.dram.size;
-    each = λ at within.
-        let before : at < length old.dram = omega (arith, is.size) in
-        rw (same (DramCell at), ← has.dram.each at before) (is.dram at before);
-  };
-  contents = contents_of (λ dev base number. is.sizes dev base number ∙ has.contents.sizes dev base number)
-      (λ dev base at number kept within.
-      let before : at < length (held old.contents dev base) = omega (arith, within, is.sizes dev base number) in
-      rw (same (CardCell dev base at), ← stored_byte has.contents dev base at number kept before)
-      (is.contents dev base at number kept before));
-}
+stores_after {old = old} has same is = grind (arith, nat_tests)
 
 -- an entry puts the bytes that were put
 pub stores_put :
@@ -44,16 +30,7 @@ pub stores_put :
     ((cell : Cell) → entry_put entry.event entry.reply cell ≡ put cell) → ArePut put old new →
     HasStores setup (entry ∷ history) new
 unfolding stored_of
-stores_put {put = put} {old} {new} has same is =
-    stores_after {put = put} has (λ cell. rw (same cell) refl) (record {
-      size = is.size;
-      dram = is.dram;
-      sizes = λ dev base number. is.sizes dev base;
-      contents = λ dev base at number kept within.
-          sym (held_within new.contents dev base at kept (omega (arith, within, is.sizes dev base)))
-          ∙ is.contents dev base at number within
-          ∙ rw (held_within old.contents dev base at kept within) refl;
-    })
+stores_put {put = put} {old} {new} has same is = grind (arith, nat_tests)
 
 -- an entry that puts no byte leaves all as it is
 pub stores_stay :

@@ -16,9 +16,8 @@ use denote.RawPtr.{Ptr, block_ptr, null_ptr, ptr_val, in_a_block}
 use denote.Steps.{nothing}
 use denote.Param.{layout}
 use denote.Param.Laws.{Laws}
-use denote.Struct.Struct.{Struct, within}
+use denote.Struct.Struct.{within}
 use denote.Struct.Owning.{shape}
-use denote.Struct.Tuple.{Tuple}
 use Rattle.core.specs.declared.alloc.Allocator.{Ghosts}
 use Rattle.core.proofs.alloc.Calls.{Al, handle_tells}
 use Rattle.core.proofs.cell.Inside.{Good}

@@ -33,9 +33,7 @@ pub cover_next : (at : Reg) (count : ℕ) (reg : Reg) (number : ℕ) (old now ne
     now ≡ (if covers_first at count reg then Some number else old) →
     next ≡ (if is_same reg (reg_after at count) then Some number else now) →
     next ≡ (if covers_first at (count + 1) reg then Some number else old)
-cover_next at count reg number old now next so_far step =
-    rw (step, so_far, covers_next at count reg)
-    (elim (cases_Bool (is_same reg (reg_after at count))) [ inl here ↦ rw here refl | inr other ↦ rw other refl ])
+cover_next at count reg number old now next so_far step = grind (arith, nat_tests)
 
 -- ---- of no changes
 
@@ -70,11 +68,7 @@ pub covers_of_store : (at : Reg) (width : Width) (value number : ℕ) (changes :
     new.lock ≡ option_or old.lock (then_some (locks (Store at width value)) number) →
     AreCoversOf (Store at width value ∷ changes) new
 unfolding last_cover first_lock
-covers_of_store at width value number changes old new is are last lock = record {
-  last = λ reg placed. rw (last reg placed, are.last reg placed, is) refl;
-  lock = rw (lock, are.lock, is)
-      (elim (cases_Bool (locks (Store at width value))) [ inl sets ↦ rw sets refl | inr clear ↦ rw clear refl ]);
-}
+covers_of_store at width value number changes old new is are last lock = grind (arith, nat_tests)
 
 -- ---- the registers that the map depends on have a place
 

@@ -1,11 +1,11 @@
 -- The kept changes alone leave each map byte as all changes do.
-use Rattle.std.proofs.Common.{◌≡◌, ℕ, zero, suc, max, ◌+◌, ◌-◌, ◌*◌, ◌/◌, ◌%◌, ◌<◌, ◌≤◌, ◌⊎◌, inl, inr, Bool, true}
-use Rattle.std.proofs.Common.{false, ◌||◌, List, [], ◌∷◌, length, refl, sym, ap, ◌∙◌, arith, Option, Some, None}
-use Rattle.std.proofs.Common.{bit_and, bit_or, if◌then◌else◌, is_some}
+use Rattle.std.proofs.Common.{◌≡◌, ℕ, zero, suc, ◌+◌, ◌-◌, ◌*◌, ◌/◌, ◌%◌, ◌<◌, ◌≤◌, ◌⊎◌, inl, inr, Bool, true, false}
+use Rattle.std.proofs.Common.{◌||◌, List, [], ◌∷◌, length, refl, sym, ap, ◌∙◌, arith, Option, Some, None, bit_and}
+use Rattle.std.proofs.Common.{bit_or, if◌then◌else◌, is_some}
 use Rattle.board_prelude.proofs.Common.{option_or, and_zero_r, cases_Bool, cases_lt, false≢true, nat_tests, Width, Reg}
 use Rattle.board_prelude.proofs.Common.{MapChange, Store, Reset, Setup, bit, is_bit, byte, merged, smram, is_same}
 use Rattle.board_prelude.proofs.Common.{writable_bits, covers, smram_after, changed_byte, is_map_byte, registers_after}
-use Rattle.board_prelude.proofs.Common.{or-false, reset_byte, host_bridge}
+use Rattle.board_prelude.proofs.Common.{reset_byte, host_bridge}
 use Rattle.std.specs.Int.Bits.{and_self}
 use Rattle.std.proofs.lemmas.Nat.{or_comm, and_assoc, and_or_apart}
 use Rattle.std.proofs.lemmas.Grind.{and-not_self}
@@ -47,12 +47,7 @@ below_two zero n below = let same : (1 - 0) * n ≡ n = omega arith in rw same b
 below_two (suc l) n below = let none : 1 - suc l ≡ 0 = omega arith in rw none (omega arith)
 
 lock_of_write : (old written : ℕ) → is_bit (smram_after old written) 4 ≡ (is_bit old 4 || is_bit written 4)
-lock_of_write old written =
-    let lock : ℕ = max (bit old 4) (bit written 4) in
-    let stays : bit (smram_after old written) 4 ≡ lock =
-    lock_bits ((1 - lock) * bit written 6) (bit written 5) lock (bit written 3)
-    (below_two lock (bit written 6) (omega arith)) (omega arith) (omega arith) (omega arith) in
-    grind (arith, nat_tests, stays)
+lock_of_write old written = grind (arith, nat_tests)
 
 bit_of_test : (a b k : ℕ) → is_bit a k ≡ is_bit b k → bit a k ≡ bit b k
 bit_of_test a b k same = let x : bit a k < 2 = omega arith in let y : bit b k < 2 = omega arith in
@@ -243,10 +238,7 @@ module _ (setup : Setup) (keep : List ℕ) where
 
   is_locked_after : (at : Reg) (width : Width) (value old : ℕ) →
       is_locked (changed_byte setup (Store at width value) smram old) ≡ (is_locked old || locks (Store at width value))
-  is_locked_after at width value old = elim (cases_Bool (covers at width smram)) [
-    | inl covered ↦ rw covered (lock_of_write old (byte value (smram.off - at.off)))
-    | inr other ↦ rw other (sym (or-false (is_locked old)))
-  ]
+  is_locked_after at width value old = grind (arith, nat_tests)
 
   -- it is locked where a change since the last reset locks it
   locked_is : (changes : List MapChange) → is_locked (value_after changes smram) ≡ is_some (first_lock changes)

@@ -170,16 +170,7 @@ among_either number next keep is = elim (cases_Bool (is_among number keep)) [
 
 pub kept_on : (setup : Setup) (changes : List MapChange) (count : ℕ) (keep : List ℕ) →
     (RestsOn setup changes (count + 1) → ⊥) → AreKept setup changes count keep → AreKept setup changes (count + 1) keep
-kept_on setup changes count keep other are = record {
-  rises = are.rises;
-  most = λ number among. omega (arith, are.most number among);
-  only = are.only;
-  each =
-      λ number most kept. elim (cases_lt count number) [
-        | inl last ↦ let same : number ≡ count + 1 = omega (arith, most, last) in absurd (other (rw same at kept))
-        | inr earlier ↦ are.each number earlier kept
-      ];
-}
+kept_on setup changes count keep other are = grind (arith, nat_tests)
 
 pub kept_pushed : (setup : Setup) (changes : List MapChange) (count : ℕ) (keep : List ℕ) →
     RestsOn setup changes (count + 1) →

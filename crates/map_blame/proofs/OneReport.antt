@@ -1,4 +1,5 @@
 -- There is only one report of a list of changes.
+use Rattle.board_prelude.proofs.Common.{nat_tests}
 use Rattle.std.proofs.Common.{◌≡◌, ℕ, suc, ◌<◌, ◌≤◌, ◌⊎◌, inl, inr, true, List, [], ◌∷◌, length, get_or, map, refl, sym}
 use Rattle.std.proofs.Common.{arith, ◌==◌}
 use Rattle.board_prelude.proofs.Common.{AllPairs, AllByRecursion, cases_Bool, eq-eqb, eqb-true, false≢true}
@@ -40,17 +41,11 @@ among_first number later = let same : (number == number) ≡ true = eq-eqb numbe
 
 among_later : (number first : ℕ) (later : List ℕ) → is_among number later ≡ true →
     is_among number (first ∷ later) ≡ true
-among_later number first later is = elim (cases_Bool (first == number)) [
-  | inl here ↦ rw here refl
-  | inr other ↦ rw other is
-]
+among_later number first later is = grind (arith, nat_tests)
 
 first_or_later : (number first : ℕ) (later : List ℕ) → is_among number (first ∷ later) ≡ true →
     (first ≡ number) ⊎ (is_among number later ≡ true)
-first_or_later number first later is = elim (cases_Bool (first == number)) [
-  | inl here ↦ inl (eqb-true first number here)
-  | inr other ↦ inr (rw other at is)
-]
+first_or_later number first later is = grind (arith, nat_tests)
 
 -- the numbers of one are among those of the other
 abbrev Within : (numbers other : List ℕ) → Type 0
@@ -66,11 +61,7 @@ least_first first first' later later' rise rise' within =
 
 within_later : (first first' : ℕ) (later later' : List ℕ) → first ≡ first' → Rise (first ∷ later) →
     Within (first ∷ later) (first' ∷ later') → Within later later'
-within_later first first' later later' same rise within number among =
-    elim (first_or_later number first' later' (within number (among_later number first later among))) [
-      | inl here ↦ let above : first < number = rise.0 number among in absurd (omega (arith, above, same, here))
-      | inr rest ↦ rest
-    ]
+within_later first first' later later' same rise within number among = grind (arith, nat_tests)
 
 same_numbers : (numbers other : List ℕ) → Rise numbers → Rise other → Within numbers other → Within other numbers →
     numbers ≡ other

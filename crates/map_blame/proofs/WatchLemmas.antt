@@ -1,9 +1,9 @@
 -- What is known of a range that is watched, before and after a change.
-use Rattle.std.proofs.Common.{◌≡◌, ℕ, suc, ◌+◌, ◌-◌, ◌<◌, ◌≤◌, ◌⊎◌, inl, inr, Bool, true, false, List, [], ◌∷◌, length}
-use Rattle.std.proofs.Common.{get_or, take, reverse, refl, sym, ◌∙◌, arith}
-use Rattle.board_prelude.proofs.Common.{cases_Bool, cases_lt, false≢true, take_more, reverse-append, length-reverse}
+use Rattle.board_prelude.proofs.Common.{nat_tests, cases_lt, false≢true, take_more, reverse-append, length-reverse}
 use Rattle.board_prelude.proofs.Common.{length-take-le, MapChange, Setup, IsCardList, Bytes, top_of, reset_byte}
 use Rattle.board_prelude.proofs.Common.{host_bridge, registers_after, MapRange, IsRight, six_areas}
+use Rattle.std.proofs.Common.{◌≡◌, ℕ, suc, ◌+◌, ◌-◌, ◌<◌, ◌≤◌, ◌⊎◌, inl, inr, Bool, true, false, List, [], ◌∷◌, length}
+use Rattle.std.proofs.Common.{get_or, take, reverse, refl, sym, ◌∙◌, arith}
 use Rattle.map_builder.specs.Common.{Changed, Range, Mapped, range_of, changed_windows, bounds_or_zero, IsApplied}
 use Rattle.addr_decode.specs.MapRegs.{StandsFor}
 use Rattle.map_builder.proofs.KeptStores.{top_after, bounds_hold_changes}
@@ -71,9 +71,7 @@ module _ (setup : Setup) (range : Range) (is : IsInterval range) (bounds : Chang
   same : (addr : ℕ) → range.lo ≤ addr → addr ≤ range.hi →
       six_areas setup (registers_after setup (change ∷ before)) addr
       ≡ six_areas setup (registers_after setup before) addr
-  same addr low high =
-      hold addr (omega (arith, is.last))
-      (elim beside [ inl below ↦ inl (omega (arith, below)) | inr above ↦ inr (omega (arith, above)) ])
+  same addr low high = grind (arith, nat_tests)
 
   same_after : RightNow setup (range_of range) before → RightNow setup (range_of range) (change ∷ before)
   same_after right = record { at_each = λ addr low high. same addr low high ∙ right.at_each addr low high }
@@ -165,31 +163,12 @@ module _ (map : Mapped) (bounds : Changed) (number : ℕ) (self : Watched) (is :
 pub watched_at_reset : (setup : Setup) (range : Range) (stands : Bool) →
     (stands ≡ true → RightNow setup (range_of range) []) → (stands ≡ false → RightNow setup (range_of range) [] → ⊥) →
     IsWatched setup [] (record { blamed = record { range = range; since = 0 }; stands = stands })
-watched_at_reset setup range stands right other = record {
-  standing = λ is_true count from few. now_right setup (range_of range) [] count (omega (arith, few)) (right is_true);
-  fallen = other;
-  before = λ some. absurd (omega (arith, some));
-  most = omega arith;
-}
+watched_at_reset setup range stands right other = grind (arith, nat_tests)
 
 pub since_is : (setup : Setup) (changes : List MapChange) (watched : Watched) → IsWatched setup changes watched →
     RightNow setup (map_range_of watched.blamed) changes →
     IsSince setup changes (map_range_of watched.blamed) watched.blamed.since
-since_is setup changes watched is right =
-    let range : MapRange = map_range_of watched.blamed in
-    elim (cases_Bool watched.stands) [
-      | inr fell ↦ absurd (is.fallen fell (now_right setup range changes (length changes) refl right))
-      | inl stands ↦ record {
-        stands = is.standing stands;
-        least =
-            λ from from_on. elim (cases_lt from watched.blamed.since) [
-              | inr not_below ↦ not_below
-              | inl below ↦
-                  absurd (is.before (omega (arith, below))
-                  (from_on (watched.blamed.since - 1) (omega (arith, below)) (omega (arith, is.most))))
-            ];
-      }
-    ]
+since_is setup changes watched is right = grind (arith, nat_tests)
 
 -- ---- the bounds of a change
 

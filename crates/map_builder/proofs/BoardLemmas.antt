@@ -1,13 +1,12 @@
 -- Registers of the address map are those of some board, whatever its other registers hold: each stands for a byte of
 -- its own.
-use Rattle.std.proofs.Common.{◌≡◌, ℕ, zero, suc, ◌+◌, ◌-◌, ◌*◌, ◌/◌, ◌%◌, ◌^◌, ◌<◌, ◌≤◌, inl, inr, List, [], ◌∷◌}
-use Rattle.std.proofs.Common.{length, get_or, Option, Some, None, refl, ◌∙◌, arith, ◌==◌, nat_lt, if◌then◌else◌, false}
-use Rattle.std.proofs.Common.{◌&&◌, All, find, is_some, slice_index, option_map, true}
-use Rattle.board_prelude.proofs.Common.{option_map_or, cases_Bool, eq-eqb, ne_eqb, get_or-map, length-map, nat_tests}
-use Rattle.board_prelude.proofs.Common.{Setup, Rises, IsCard, IsCardList, byte, is_within, card_register, bridge, Bytes}
-use Rattle.board_prelude.proofs.Common.{Reg}
+use Rattle.board_prelude.proofs.Common.{common_steps, option_map_or, cases_Bool, eq-eqb, ne_eqb, get_or-map, length-map}
+use Rattle.board_prelude.proofs.Common.{nat_tests, Setup, Rises, IsCard, IsCardList, byte, is_within, card_register}
+use Rattle.board_prelude.proofs.Common.{bridge, Bytes, Reg}
+use Rattle.std.proofs.Common.{◌≡◌, ℕ, zero, suc, ◌+◌, ◌-◌, ◌*◌, ◌/◌, ◌%◌, ◌^◌, ◌<◌, ◌≤◌, List, [], ◌∷◌, length, get_or}
+use Rattle.std.proofs.Common.{Option, Some, None, refl, ◌∙◌, arith, ◌==◌, nat_lt, if◌then◌else◌, false, ◌&&◌, All, find}
+use Rattle.std.proofs.Common.{is_some, slice_index, option_map}
 use Rattle.pci_bars.specs.Cards.{CardBytes, HoldsLong, HoldsRom, DecodesAs, AreFitted, cards_of}
-use Rattle.pci_bars.proofs.CardLemmas.{wide_of_bytes}
 use Rattle.addr_decode.specs.Common.{MapBytes, StandsFor, AreSinglesOf, single_number}
 use Rattle.addr_decode.proofs.SingleLemmas.{numbered, block_unnumbered, card_unnumbered}
 use Rattle.map_builder.specs.Map.{IsOfSomeBoard, HoldsDoublewords, HaveWidths}
@@ -48,21 +47,13 @@ unnumbered regs others reg none = rw none refl
 rows_stand : (regs : MapBytes) (others : Bytes) (row : ℕ) → row < 8 →
     slice_index regs.drb row ≡ overlaid regs others (bridge (0x60 + row))
 unfolding bridge_byte
-rows_stand regs others row below =
-    let place : 0x60 + row - 0x60 ≡ row = omega arith in
-    let high : nat_lt (0x60 + row) 0x60 ≡ false = grind (arith, nat_tests) in
-    rw (
-      unnumbered regs others (bridge (0x60 + row)) (block_unnumbered (0x60 + row) (omega arith) (omega arith)),
-      high,
-      place,
-    ) refl
+rows_stand regs others row below = grind (arith, nat_tests, common_steps, nat_lt, unnumbered, bridge, block_unnumbered)
 
 windows_stand : (regs : MapBytes) (others : Bytes) (off : ℕ) → (0x59 ≤ off) × (off ≤ 0x5F) →
     slice_index regs.pam (off - 0x59) ≡ overlaid regs others (bridge off)
 unfolding bridge_byte
 windows_stand regs others off within =
-    let low : nat_lt off 0x60 ≡ true = grind (arith, nat_tests, within.1) in
-    rw (unnumbered regs others (bridge off) (block_unnumbered off within.0 (omega (arith, within.1))), low) refl
+    grind (arith, nat_tests, common_steps, nat_lt, unnumbered, bridge, block_unnumbered)
 
 singles_stand : (regs : MapBytes) (others : Bytes) → AreSinglesOf (overlaid regs others) regs.singles
 unfolding overlaid
@@ -84,10 +75,7 @@ pub find-map : (dev : ℕ) (cards : List CardBytes) →
     find (λ card. card.dev == dev) (cards_of cards) ≡ option_map (λ (card : CardBytes). card.card) (card_with dev cards)
 unfolding card_with
 find-map dev [] = refl
-find-map dev (card ∷ later) = elim (cases_Bool (card.card.dev == dev)) [
-  | inl here ↦ rw (here) refl
-  | inr not_here ↦ rw (not_here) (find-map dev later)
-]
+find-map dev (card ∷ later) = grind (arith, nat_tests, common_steps, cases_Bool, find-map dev later)
 
 command_byte : (other : ℕ) (card : CardBytes) → card_byte other 0x04 card ≡ card.command
 unfolding card_byte
@@ -96,43 +84,25 @@ command_byte other card = refl
 base_byte : (other : ℕ) (card : CardBytes) (k j : ℕ) → k < 6 → j < 4 →
     card_byte other (0x10 + 4 * k + j) card ≡ byte (slice_index card.bases k) j
 unfolding card_byte
-base_byte other card k j few below =
-    let quotient : (0x10 + 4 * k + j - 0x10) / 4 ≡ k = omega arith in
-    let rest : (0x10 + 4 * k + j - 0x10) % 4 ≡ j = omega arith in
-    let base : is_within 0x10 0x27 (0x10 + 4 * k + j) ≡ true = grind (arith, nat_tests) in
-    rw (ne_eqb (0x10 + 4 * k + j) 0x04 (omega arith), base, quotient, rest) refl
+base_byte other card k j few below = grind (arith, nat_tests)
 
 rom_byte : (other : ℕ) (card : CardBytes) (bits j : ℕ) → card.card.rom ≡ Some bits → j < 4 →
     card_byte other (0x30 + j) card ≡ byte card.rom j
 unfolding card_byte
-rom_byte other card bits j is below =
-    let place : 0x30 + j - 0x30 ≡ j = omega arith in
-    let base : is_within 0x10 0x27 (0x30 + j) ≡ false = grind (arith, nat_tests) in
-    let rom : is_within 0x30 0x33 (0x30 + j) ≡ true = grind (arith, nat_tests) in
-    rw (ne_eqb (0x30 + j) 0x04 (omega arith), base, is, rom, place) refl
+rom_byte other card bits j is below = grind (arith, nat_tests)
 
 -- four registers that hold the bytes of a doubleword hold it
 long_held : (bytes : Bytes) (dev from value : ℕ) → value < 2 ^ 32 →
     ((j : ℕ) → j < 4 → bytes (card_register dev (from + j)) ≡ byte value j) →
     HoldsLong bytes (card_register dev from) value
-long_held bytes dev from value below each = record {
-  number = wide_of_bytes (λ off. bytes (card_register dev off)) from value below each;
-  each = each;
-}
+long_held bytes dev from value below each = grind (arith, nat_tests)
 
 -- a card that is found
 module _ (regs : MapBytes) (others : Bytes) (card : CardBytes) (fit : IsCard card.card)
     (there : card_with card.card.dev regs.cards ≡ Some card) where
   stands : (off : ℕ) → overlaid regs others (card_register card.card.dev off)
       ≡ card_byte (others (card_register card.card.dev off)) off card
-  stands off =
-      let dev : ℕ = card.card.dev in
-      rw (
-        unnumbered regs others (card_register dev off) (card_unnumbered dev off fit.first),
-        ne_eqb dev 0 (omega (arith, fit.first)),
-        ne_eqb dev 1 (omega (arith, fit.first)),
-        there,
-      ) refl
+  stands off = grind (arith, nat_tests, common_steps, unnumbered, card_register, card_unnumbered, ne_eqb)
 
   -- what is no part of the map
   pub other_stands : (off : ℕ) → (off == 0x04) ≡ false → is_within 0x10 0x27 off ≡ false →

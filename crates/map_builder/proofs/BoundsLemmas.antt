@@ -1,9 +1,9 @@
 -- Each window that a change may change ends where it begins or above.
-use Rattle.std.proofs.Common.{◌≡◌, ℕ, zero, suc, ◌/◌, ◌≤◌, inl, inr, List, [], ◌∷◌, ◌++◌, map, take, Option, Some, None}
-use Rattle.std.proofs.Common.{refl, ◌∙◌, ap, arith, ◌==◌, flat_map, filter, min, max, get_or}
-use Rattle.board_prelude.proofs.Common.{AllByRecursion, option_map_or, cases_Bool, Reg, bytes_of, MapChange, Store}
-use Rattle.board_prelude.proofs.Common.{Reset, FittedCard, Setup, card_at, Bytes, Window, rom_window, vga_window}
-use Rattle.board_prelude.proofs.Common.{reg_after}
+use Rattle.board_prelude.proofs.Common.{common_steps, nat_tests, AllByRecursion, option_map_or, cases_Bool, Reg}
+use Rattle.board_prelude.proofs.Common.{bytes_of, MapChange, Store, Reset, FittedCard, Setup, card_at, Bytes, Window}
+use Rattle.board_prelude.proofs.Common.{rom_window, vga_window, reg_after}
+use Rattle.std.proofs.Common.{◌≡◌, ℕ, zero, suc, ◌/◌, ◌≤◌, inl, inr, List, [], ◌∷◌, ◌++◌, map, Option, Some, None, refl}
+use Rattle.std.proofs.Common.{◌∙◌, ap, arith, ◌==◌, flat_map, filter, get_or}
 use Rattle.map_ranges.specs.declared.range.Changed.{Changed}
 use Rattle.addr_decode.specs.declared.register.MapRegister.{MapRegister}
 use Rattle.addr_decode.specs.declared.register.MapRegister.TheVariants.{Pam, RowBoundary, Single, Card}
@@ -12,7 +12,7 @@ use Rattle.addr_decode.specs.declared.register.CardRegister.TheVariants.{Command
 use Rattle.addr_decode.specs.MapRegister.{map_register}
 use Rattle.addr_decode.proofs.NameLemmas.{offsets}
 use Rattle.map_builder.specs.Changed.{decoded, base_windows, pam_windows, card_windows, register_windows, name_windows}
-use Rattle.map_builder.specs.Changed.{windows_of, windows_covered, after, changed_windows, both, joined, bounds}
+use Rattle.map_builder.specs.Changed.{windows_of, windows_covered, changed_windows, both, joined, bounds}
 use Rattle.map_builder.specs.Changed.{windows_of_singles}
 
 abbrev pub IsOrdered : Changed → Type 0
@@ -76,15 +76,11 @@ pub covered_ordered : (setup : Setup) (bytes : Bytes) (change : MapChange) →
 unfolding windows_covered
 covered_ordered setup bytes Reset = (omega arith, tt)
 covered_ordered setup bytes (Store reg width value) =
-    ordered_flat_map (λ k. windows_of setup bytes (reg_after reg k)) (take (bytes_of width) offsets)
-    (λ k. windows_ordered setup bytes (reg_after reg k))
+    grind (arith, nat_tests, common_steps, ordered_flat_map, reg_after, bytes_of, offsets, windows_ordered)
 
 pub changed_ordered : (setup : Setup) (bytes : Bytes) (change : MapChange) →
     Ordered (changed_windows setup bytes change)
-changed_ordered setup bytes change =
-    let new : Bytes = after setup change bytes in
-    ordered_append (windows_covered setup bytes change) (windows_covered setup new change)
-    (covered_ordered setup bytes change) (covered_ordered setup new change)
+changed_ordered setup bytes change = grind (arith, nat_tests, common_steps, ordered_append, covered_ordered)
 
 -- ---- the bounds of two lists
 
@@ -93,10 +89,7 @@ joined_maybe None there = there
 joined_maybe (Some here) there = Some (joined here there)
 
 both_on : (a b c : Changed) → both a (both b c) ≡ both (both a b) c
-both_on a b c =
-    let lows : min a.lo (min b.lo c.lo) ≡ min (min a.lo b.lo) c.lo = omega arith in
-    let highs : max a.hi (max b.hi c.hi) ≡ max (max a.hi b.hi) c.hi = omega arith in
-    rw (lows, highs) refl
+both_on a b c = grind (arith, nat_tests)
 
 joined_on : (window : Changed) (here there : Option Changed) →
     joined window (joined_maybe here there) ≡ joined (joined window here) there
@@ -111,10 +104,7 @@ bounds_two (window ∷ xs) ys = rw (bounds_two xs ys) (ap Some (joined_on window
 
 joined_same : (it : Option Changed) → joined_maybe it it ≡ it
 joined_same None = refl
-joined_same (Some window) =
-    let low : min window.lo window.lo ≡ window.lo = omega arith in
-    let high : max window.hi window.hi ≡ window.hi = omega arith in
-    rw (low, high) refl
+joined_same (Some window) = grind (arith, nat_tests)
 
 pub bounds_twice : (xs : List Changed) → bounds (xs ++ xs) ≡ bounds xs
 bounds_twice xs = bounds_two xs xs ∙ joined_same (bounds xs)

@@ -1,10 +1,10 @@
 -- The ranges as they are built, from the first address on: the last of them may still go on. A step goes to a later
 -- address, which need not be an edge.
+use Rattle.board_prelude.proofs.Common.{common_steps, cases_lt, length-append, All-nil, All-cons, All-append, Area}
+use Rattle.board_prelude.proofs.Common.{Setup, Bytes, address_count, six_areas, MapRange, Tiles, NeighboursDiffer}
+use Rattle.board_prelude.proofs.Common.{IsRight, IsFlatMapOf, Contains, nat_tests, length-map, length_push}
 use Rattle.std.proofs.Common.{◌≡◌, ◌≢◌, ℕ, ◌+◌, ◌-◌, ◌<◌, ◌≤◌, inl, inr, List, [], ◌∷◌, ◌++◌, length, refl, sym, ◌∙◌}
-use Rattle.std.proofs.Common.{ap, arith, append_assoc, map, nat_lt, filter}
-use Rattle.board_prelude.proofs.Common.{cases_lt, length-append, All-nil, All-cons, All-append, Area, Setup, Bytes}
-use Rattle.board_prelude.proofs.Common.{address_count, six_areas, MapRange, Tiles, NeighboursDiffer, IsRight}
-use Rattle.board_prelude.proofs.Common.{IsFlatMapOf, Contains, nat_tests, length-map, length_push}
+use Rattle.std.proofs.Common.{arith, append_assoc, map, nat_lt, filter}
 use Rattle.addr_decode.specs.Edges.{SameAreas}
 use Rattle.map_builder.specs.Common.{most_ranges, ContinuesAt, Built, BuiltOf, range_of, IsOfSomeBoard, IsBuilt}
 use Rattle.map_builder.specs.Common.{IsWhole}
@@ -38,46 +38,22 @@ differ_cut (here ∷ next ∷ later) last addr areas other differ =
 -- ---- what holds at each step
 
 pub built_first : (areas : List Area) → Built [] (range 0 0xFFFF_FFFF areas) 0
-built_first areas = record {
-  tiles = (refl, omega arith, refl);
-  least = (tt, tt);
-  begun = omega arith;
-  open_end = refl;
-}
+built_first areas = grind (arith, nat_tests)
 
 pub built_of_first : (setup : Setup) (bytes : Bytes) (areas : List Area) → areas ≡ six_areas setup bytes 0 →
     BuiltOf setup bytes [] (range 0 0xFFFF_FFFF areas) 0
-built_of_first setup bytes areas is = record {
-  right = All-nil (IsRight setup bytes);
-  so_far = λ x low high. let zero_is : x ≡ 0 = omega arith in ap (six_areas setup bytes) zero_is ∙ sym is;
-}
+built_of_first setup bytes areas is = grind (arith, nat_tests)
 
 built_cut : (ranges : List MapRange) (last : MapRange) (addr edge : ℕ) (areas : List Area) →
     Built ranges last addr → addr < edge → edge ≤ 0xFFFF_FFFF → areas ≢ last.areas →
     Built (ranges ++ range last.lo (edge - 1) last.areas ∷ []) (range edge 0xFFFF_FFFF areas) edge
 built_cut ranges last addr edge areas built above below other =
-    let joined : (ranges ++ range last.lo (edge - 1) last.areas ∷ []) ++ range edge 0xFFFF_FFFF areas ∷ []
-    ≡ ranges ++ cut_at edge areas last =
-    rw built.open_end (append_assoc ranges (range last.lo (edge - 1) last.areas ∷ [])
-    (range edge 0xFFFF_FFFF areas ∷ [])) in
-    record {
-      tiles = rw joined (tiles_cut 0 ranges last edge areas (omega (arith, built.begun))
-          (omega (arith, built.open_end)) built.tiles);
-      least = rw joined (differ_cut ranges last edge areas other built.least);
-      begun = omega arith;
-      open_end = refl;
-    }
+    grind (arith, nat_tests, common_steps, append_assoc, tiles_cut, differ_cut)
 
 pub built_on : {ranges ranges' : List MapRange} {last last' : MapRange} {addr edge : ℕ} (areas : List Area) →
     Built ranges last addr → addr < edge → edge ≤ 0xFFFF_FFFF → ContinuesAt ranges ranges' last last' edge areas →
     Built ranges' last' edge
-built_on areas built above below (inl (same, is, last_is)) =
-    rw (is, last_is) (record {
-      tiles = built.tiles;
-      least = built.least;
-      begun = omega (arith, built.begun);
-      open_end = built.open_end;
-    })
+built_on areas built above below (inl (same, is, last_is)) = grind (arith, nat_tests)
 built_on {ranges} {last = last} {addr = addr} {edge = edge} areas built above below (inr (other, is, last_is)) =
     rw (is, last_is) (built_cut ranges last addr edge areas built above below other)
 
@@ -86,11 +62,7 @@ pub up_to_edge : (setup : Setup) (bytes : Bytes) (last : MapRange) (addr edge : 
     SameAreas setup bytes addr edge →
     ((x : ℕ) → last.lo ≤ x → x ≤ addr → six_areas setup bytes x ≡ last.areas) →
     (x : ℕ) → last.lo ≤ x → x < edge → six_areas setup bytes x ≡ last.areas
-up_to_edge setup bytes last addr edge begun same so_far x low high =
-    elim (cases_lt addr x) [
-      | inl beyond ↦ same x (omega arith) high ∙ so_far addr begun (omega arith)
-      | inr not_beyond ↦ so_far x low not_beyond
-    ]
+up_to_edge setup bytes last addr edge begun same so_far x low high = grind (arith, nat_tests)
 
 pub built_of_on :
     (setup : Setup) (bytes : Bytes) {ranges ranges' : List MapRange} {last last' : MapRange} {addr edge : ℕ}
@@ -133,17 +105,7 @@ pub built_all : (setup : Setup) (bytes : Bytes) (ranges : List MapRange) (last :
     Built ranges last addr → BuiltOf setup bytes ranges last addr → SameAreas setup bytes addr address_count →
     IsFlatMapOf setup bytes (ranges ++ last ∷ [])
 built_all setup bytes ranges last addr built of_board same =
-    let one : IsRight setup bytes last =
-    record {
-      at_each = λ x low high. up_to_edge setup bytes last addr address_count built.begun same of_board.so_far x low
-          (omega (arith, built.open_end));
-    } in
-    record {
-      tiles = built.tiles;
-      right = All-append (IsRight setup bytes) ranges (last ∷ []) of_board.right
-          (All-cons (IsRight setup bytes) last [] one (All-nil (IsRight setup bytes)));
-      least = built.least;
-    }
+    grind (arith, nat_tests, common_steps, up_to_edge, address_count)
 
 -- ---- edges above an address
 
@@ -192,11 +154,7 @@ one_address regs addr end next setup bytes stands x low high = let one : x ≡ a
 
 pub is_built_first : {regs : MapBytes} (areas : List Area) → AreasAt regs 0 areas →
     IsBuilt regs [] (range 0 0xFFFF_FFFF areas) 0
-is_built_first areas at_first = record {
-  built = built_first areas;
-  of_board = λ setup bytes stands. built_of_first setup bytes areas (at_first setup bytes stands);
-  few = λ board. omega (arith, few_edges_after board.setup board.bytes 0 board.cards);
-}
+is_built_first areas at_first = grind (arith, nat_tests, common_steps, built_first, built_of_first, few_edges_after)
 
 pub built_step : {regs : MapBytes} {ranges ranges' : List MapRange} {last last' : MapRange} {addr next : ℕ}
     (areas : List Area) → addr < next → next < address_count → StaySame regs addr next → AreasAt regs next areas →

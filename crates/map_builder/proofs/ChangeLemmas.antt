@@ -1,22 +1,21 @@
 -- After a change the ranges of a map are right again for each address outside the bounds of the changed windows.
 use Rattle.std.proofs.Common.{◌≡◌, ℕ, zero, suc, ◌+◌, ◌<◌, ◌≤◌, Bool, true, false, inl, inr, List, [], ◌∷◌, ◌++◌}
-use Rattle.std.proofs.Common.{length, get_or, take, Option, Some, refl, sym, ◌∙◌, ap, arith, IfSome, ◌||◌, not}
-use Rattle.std.proofs.Common.{flat_map, is_some, map, subst}
+use Rattle.std.proofs.Common.{length, get_or, Option, Some, refl, sym, ◌∙◌, ap, arith, IfSome, ◌||◌, not, flat_map}
+use Rattle.std.proofs.Common.{is_some, map, subst}
 use Rattle.board_spec.proofs.FlatMapLaws.{tiles_below}
 use Rattle.board_prelude.proofs.Common.{cases_Bool, true≢false, append-nil, list_any, Width, One, Reg, MapChange, Store}
-use Rattle.board_prelude.proofs.Common.{Reset, FittedCard, Setup, touches_map, reg_after, bytes_of, Bytes}
-use Rattle.board_prelude.proofs.Common.{address_count, six_areas, MapRange, Tiles, entry_limit, nat_tests, false≢true}
+use Rattle.board_prelude.proofs.Common.{Reset, FittedCard, Setup, touches_map, Bytes, address_count, six_areas}
+use Rattle.board_prelude.proofs.Common.{MapRange, Tiles, nat_tests, false≢true}
 use Rattle.pci_bars.specs.Cards.{CardBytes, AreFitted, cards_of}
 use Rattle.addr_decode.proofs.Common.{no_low_card, names_touch}
 use Rattle.addr_decode.specs.declared.register.MapRegister.{MapRegister}
 use Rattle.addr_decode.specs.declared.register.MapRegister.TheVariants.{Card}
-use Rattle.addr_decode.specs.Common.{is_of_card, map_register, names_from, names_of, MapBytes, StandsFor, edges_after}
+use Rattle.addr_decode.specs.Common.{is_of_card, names_from, names_of, MapBytes, StandsFor, edges_after}
 use Rattle.map_ranges.specs.declared.range.Changed.{Changed}
 use Rattle.map_builder.specs.Changed.{register_windows}
-use Rattle.map_builder.specs.Common.{next_version, IsOfSomeBoard, IsMapOf, IsMapWhere, IsBeside, sorted, Rise, rows_in}
-use Rattle.map_builder.specs.Common.{AreChanged, after, bounds, is_card_name, rest_on_registers, name_windows}
-use Rattle.map_builder.specs.Common.{windows_covered, changed_windows, most_rows, AreMoved, IsHeldAt, IsSameByte}
-use Rattle.map_builder.specs.Common.{Mapped}
+use Rattle.map_builder.specs.Common.{IsOfSomeBoard, IsMapOf, IsMapWhere, IsBeside, sorted, Rise, rows_in, AreChanged}
+use Rattle.map_builder.specs.Common.{after, bounds, is_card_name, rest_on_registers, name_windows, windows_covered}
+use Rattle.map_builder.specs.Common.{changed_windows, most_rows, AreMoved, IsHeldAt, IsSameByte, Mapped}
 use Rattle.map_builder.proofs.BoundsLemmas.{covered_ordered, changed_ordered, bounds_twice}
 use Rattle.map_builder.proofs.SortedLemmas.{rise_sorted, outside_sorted, beside_sorted, rows_few, sorted_twice}
 use Rattle.map_builder.proofs.MovedRows.{covers_rows, rows_keep, moved_rise, moved_within, moved_few}
@@ -119,9 +118,7 @@ fixed_same : (setup : Setup) (bytes bytes' : Bytes) (change : MapChange) →
     windows_covered setup bytes change ≡ windows_covered setup bytes' change
 unfolding windows_covered
 fixed_same setup bytes bytes' Reset fixed = refl
-fixed_same setup bytes bytes' (Store reg width value) fixed =
-    all_fixed setup bytes bytes' (λ k. map_register setup.cards (reg_after reg k))
-    (take (bytes_of width) (0 ∷ 1 ∷ 2 ∷ 3 ∷ [])) fixed
+fixed_same setup bytes bytes' (Store reg width value) fixed = grind (arith, nat_tests)
 
 kept_same : (old new : MapBytes) (setup : Setup) (bytes : Bytes) (change : MapChange) → StandsFor setup bytes old →
     StandsFor setup (after setup change bytes) new → KeepsByte old new change →
@@ -317,7 +314,3 @@ stored_if changed touched = record {
   same_windows = λ setup same not. absurd (false≢true (sym not ∙ touched setup same));
   map = changed.map;
 }
-
--- below the limit of a history's entries the next version is one more
-pub next_below : (version : ℕ) → version < entry_limit → next_version version ≡ version + 1
-next_below version below = omega (arith, below)

@@ -1,7 +1,7 @@
 -- The windows that the registers of a card govern are those that the code finds by the values of its bases.
 use Rattle.std.proofs.Common.{◌≡◌, ◌≢◌, ℕ, zero, suc, ◌+◌, ◌/◌, ◌<◌, ◌≤◌, inl, inr, Bool, List, [], ◌∷◌, ◌++◌, length}
-use Rattle.std.proofs.Common.{map, filter, Option, Some, None, refl, arith, ◌==◌, All, find, flat_map, slice_get}
-use Rattle.std.proofs.Common.{slice_index}
+use Rattle.std.proofs.Common.{map, filter, Option, Some, None, refl, ap, ◌∙◌, arith, ◌==◌, All, find, flat_map}
+use Rattle.std.proofs.Common.{slice_get, slice_index}
 use Rattle.board_prelude.proofs.Common.{option_map_or, enumerate_from, cases_Bool, eq-eqb, ne_eqb, map-append, All-head}
 use Rattle.board_prelude.proofs.Common.{All-tail, Reg, Base, IoBase, FittedCard, Setup, IsCard, card_at, Bytes, Window}
 use Rattle.board_prelude.proofs.Common.{base_value, memory_window, rom_window, rom_window_of, vga_window}
@@ -56,20 +56,18 @@ none_below bytes dev k first (IoBase bits ∷ later) below = none_below bytes de
 none_below bytes dev k first (base ∷ later) below =
     rw (ne_eqb first k (omega arith)) (none_below bytes dev k (first + 1) later (omega arith))
 
-one_held : (bytes : Bytes) (dev : ℕ) (values : List ℕ) (k j first : ℕ) (bases : List Base) → Hold bytes dev values →
-    k < 6 → first + j ≡ k →
+pub one_held : (bytes : Bytes) (dev k j first : ℕ) (bases : List Base) → first + j ≡ k →
     map decoded (filter (numbered k) (from_base bytes dev first bases))
-    ≡ option_map_or (λ base. held_by base (slice_index values k)) (slice_get bases j) []
-one_held bytes dev values k j first [] hold below at = refl
-one_held bytes dev values k zero first (IoBase bits ∷ later) hold below at =
+    ≡ option_map_or (λ base. held_by base (base_value bytes dev k)) (slice_get bases j) []
+one_held bytes dev k j first [] at = refl
+one_held bytes dev k zero first (IoBase bits ∷ later) at =
     rw (none_below bytes dev k (first + 1) later (omega arith)) refl
-one_held bytes dev values k zero first (base ∷ later) hold below at =
+one_held bytes dev k zero first (base ∷ later) at =
     let here : first ≡ k = omega arith in
-    rw (here, eq-eqb k k refl, none_below bytes dev k (k + 1) later (omega arith), hold k below) refl
-one_held bytes dev values k (suc j) first (IoBase bits ∷ later) hold below at =
-    one_held bytes dev values k j (first + 1) later hold below (omega arith)
-one_held bytes dev values k (suc j) first (base ∷ later) hold below at =
-    rw (ne_eqb first k (omega arith)) (one_held bytes dev values k j (first + 1) later hold below (omega arith))
+    rw (here, eq-eqb k k refl, none_below bytes dev k (k + 1) later (omega arith)) refl
+one_held bytes dev k (suc j) first (IoBase bits ∷ later) at = one_held bytes dev k j (first + 1) later (omega arith)
+one_held bytes dev k (suc j) first (base ∷ later) at =
+    rw (ne_eqb first k (omega arith)) (one_held bytes dev k j (first + 1) later (omega arith))
 
 -- ---- a card
 
@@ -89,7 +87,9 @@ card_is bytes card Command number few hold hold_rom =
       vga_is card.card,
     ) refl
 card_is bytes card (BaseByte k) number few hold hold_rom =
-    one_held bytes card.card.dev card.bases (k / 4) (k / 4) 0 card.card.bases hold (omega (arith, number)) (omega arith)
+    one_held bytes card.card.dev (k / 4) (k / 4) 0 card.card.bases (omega arith)
+    ∙ ap (λ (value : ℕ). option_map_or (λ base. held_by base value) (slice_get card.card.bases (k / 4)) [])
+    (hold (k / 4) (omega (arith, number)))
 card_is bytes card (ExpansionRom k) number few hold hold_rom = hold_rom
 
 cards_are : (setup : Setup) (bytes : Bytes) (cards : List CardBytes) (dev : ℕ) (register : CardRegister) →

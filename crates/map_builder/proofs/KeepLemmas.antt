@@ -1,11 +1,11 @@
 -- The ranges of a map between two addresses, and those that follow the last window, as they follow those that were
 -- built.
+use Rattle.board_prelude.proofs.Common.{common_steps, nat_tests, append-nil, drop_more, map-append, Area, address_count}
+use Rattle.board_prelude.proofs.Common.{MapRange, AllByRecursion, length_push, length-map, get_or-map, length-append}
+use Rattle.board_prelude.proofs.Common.{length-drop, take_all, recursion_from_All, All-drop, Setup, Bytes, Tiles}
+use Rattle.board_prelude.proofs.Common.{Differs, NeighboursDiffer, IsFlatMapOf}
 use Rattle.std.proofs.Common.{◌≡◌, ◌≢◌, ℕ, zero, suc, ◌+◌, ◌-◌, ◌<◌, ◌≤◌, inl, inr, List, [], ◌∷◌, ◌++◌, length, map}
 use Rattle.std.proofs.Common.{take, drop, refl, sym, ◌∙◌, arith, append_assoc, min, get_or}
-use Rattle.board_prelude.proofs.Common.{append-nil, drop_more, map-append, Area, address_count, MapRange}
-use Rattle.board_prelude.proofs.Common.{AllByRecursion, length_push, length-map, get_or-map, length-append, length-drop}
-use Rattle.board_prelude.proofs.Common.{take_all, recursion_from_All, All-drop, Setup, Bytes, Tiles, Differs}
-use Rattle.board_prelude.proofs.Common.{NeighboursDiffer, IsFlatMapOf}
 use Rattle.addr_decode.specs.MapRegs.{MapBytes, StandsFor}
 use Rattle.map_ranges.specs.declared.range.Range.{Range}
 use Rattle.map_builder.specs.Common.{range_of, no_range, range_at, Holds, ContinuesAt, IsBuilt, IsMapWhere, IsBetween}
@@ -34,10 +34,7 @@ module _ (regs : MapBytes) (after until : ℕ) (address : until < address_count)
 
   -- a later range begins after an earlier one ends
   rises : (d k j : ℕ) → j ≡ k + d + 1 → j < length old → (range_at old k).hi < (range_at old j).lo
-  rises zero k j place within =
-      let next : k + 1 ≡ j = omega arith in
-      let joined = rw next at (is.next k (omega arith)) in
-      omega arith
+  rises zero k j place within = grind (arith, nat_tests, common_steps, is)
   rises (suc d) k j place within =
       omega (arith, is.next k (omega arith), is.whole (k + 1) (omega arith), rises d (k + 1) j (omega arith) within)
 
@@ -116,8 +113,7 @@ pub tiles_drop : (from : ℕ) (ranges : List MapRange) (k : ℕ) (d : MapRange) 
 tiles_drop from [] k d tiles within = absurd (omega arith)
 tiles_drop from (here ∷ later) zero d tiles within = tiles.2
 tiles_drop from (here ∷ later) (suc k) d tiles within =
-    let place : suc k + 1 ≡ suc (k + 1) = omega arith in
-    rw place (tiles_drop (here.hi + 1) later k d tiles.2 (omega arith))
+    grind (arith, nat_tests, common_steps, tiles, tiles_drop (here.hi + 1) later k d tiles.2 (omega arith))
 
 pub differ_drop : (ranges : List MapRange) (k : ℕ) (d : MapRange) → NeighboursDiffer ranges → k < length ranges →
     Differs (get_or ranges k d) (drop (k + 1) ranges) × NeighboursDiffer (drop (k + 1) ranges)

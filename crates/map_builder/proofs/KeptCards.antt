@@ -1,24 +1,21 @@
 -- The card that answers at an address is the same before and after a change that moves no window round it.
-use Rattle.std.proofs.Common.{◌≡◌, ℕ, zero, suc, ◌+◌, ◌-◌, ◌*◌, ◌/◌, ◌<◌, ◌≤◌, ◌⊎◌, inl, inr, Bool, true, false, List}
-use Rattle.std.proofs.Common.{[], ◌∷◌, ◌++◌, length, map, get_or, Option, Some, None, refl, sym, ◌∙◌, ap, arith, ◌&&◌}
-use Rattle.std.proofs.Common.{All, find, flat_map, slice_get, if◌then◌else◌, is_some, option_map, lit<, rules}
-use Rattle.std.proofs.Common.{slice_index}
-use Rattle.board_prelude.proofs.Common.{and-true, AllByRecursion, cases_Bool, and-false, ne_eqb, nat_tests}
+use Rattle.board_prelude.proofs.Common.{common_steps, AllByRecursion, cases_Bool, and-false, nat_tests}
 use Rattle.board_prelude.proofs.Common.{recursion_from_All, find-append, Reg, Base, MemoryBase, IoBase, OutsideBase}
-use Rattle.board_prelude.proofs.Common.{FittedCard, Setup, IsCard, IsCardList, card_at, is_bit, is_within, Bytes}
-use Rattle.board_prelude.proofs.Common.{Window, base_value, is_covered, rom_value, rom_window, rom_window_of, is_rom_on}
-use Rattle.board_prelude.proofs.Common.{vga_window, memory_windows, is_enabled_for, memory_claim, card_register}
-use Rattle.board_prelude.proofs.Common.{each_below}
+use Rattle.board_prelude.proofs.Common.{FittedCard, Setup, IsCard, IsCardList, card_at, is_bit, Bytes, Window}
+use Rattle.board_prelude.proofs.Common.{base_value, is_covered, rom_window, rom_window_of, is_rom_on, vga_window}
+use Rattle.board_prelude.proofs.Common.{memory_windows, is_enabled_for, memory_claim, card_register}
+use Rattle.std.proofs.Common.{◌≡◌, ℕ, zero, suc, ◌+◌, ◌-◌, ◌*◌, ◌/◌, ◌<◌, ◌≤◌, ◌⊎◌, inl, inr, Bool, false, List, []}
+use Rattle.std.proofs.Common.{◌∷◌, ◌++◌, length, map, get_or, Option, Some, None, refl, sym, ◌∙◌, ap, arith, ◌&&◌, All}
+use Rattle.std.proofs.Common.{find, flat_map, slice_get, if◌then◌else◌, is_some, option_map, lit<}
 use Rattle.std.proofs.lemmas.Option.{slice_get_within}
-use Rattle.pci_bars.specs.Cards.{CardBytes}
 use Rattle.addr_decode.specs.declared.register.CardRegister.{CardRegister}
 use Rattle.addr_decode.specs.declared.register.CardRegister.TheVariants.{Command, Base as BaseByte, ExpansionRom}
 use Rattle.addr_decode.specs.declared.register.MapRegister.TheVariants.{Card}
-use Rattle.addr_decode.specs.MapRegister.{IsCardNumber, in_card}
+use Rattle.addr_decode.specs.MapRegister.{in_card}
 use Rattle.addr_decode.proofs.CardLemmas.{find_at}
-use Rattle.map_builder.specs.Common.{decoded, base_windows, card_windows, name_windows, windows_of, held_by, card_held}
+use Rattle.map_builder.specs.Common.{decoded, base_windows, card_windows, name_windows, windows_of, held_by}
 use Rattle.map_builder.proofs.OutsideLemmas.{Outside, not_covered, none_covered, outside_decoded}
-use Rattle.map_builder.proofs.DeviceLemmas.{from_base, Hold, HoldRom, card_is, windows_of_card}
+use Rattle.map_builder.proofs.DeviceLemmas.{from_base, one_held, windows_of_card}
 use borrow.Author.Count.{below_more}
 use Rattle.map_ranges.specs.declared.range.Changed.{Changed}
 
@@ -42,58 +39,14 @@ each_or P Q (suc n) each =
           ]
     ]
 
--- ---- what the bases of a card hold
-
-values : Bytes → ℕ → List ℕ
-values bytes dev =
-    base_value bytes dev 0 ∷ base_value bytes dev 1 ∷ base_value bytes dev 2 ∷ base_value bytes dev 3
-    ∷ base_value bytes dev 4 ∷ base_value bytes dev 5 ∷ []
-
-values_hold : (bytes : Bytes) (dev : ℕ) → Hold bytes dev (values bytes dev)
-unfolding values
-values_hold bytes dev k below =
-    each_below (λ k. base_value bytes dev k ≡ slice_index (values bytes dev) k) 6 k (search rules) below
-
-state : Bytes → FittedCard → CardBytes
-state bytes card = record {
-  card = card;
-  command = 0;
-  line = 0;
-  bases = values bytes card.dev;
-  rom = rom_value bytes card.dev;
-}
-
-rom_holds : (bytes : Bytes) (dev : ℕ) (rom : Option ℕ) → HoldRom bytes dev (rom_value bytes dev) rom
-rom_holds bytes dev None = refl
-rom_holds bytes dev (Some bits) = refl
-
-state_is : (bytes : Bytes) (card : FittedCard) (register : CardRegister) → IsCardNumber register →
-    length card.bases ≤ 6 →
-    card_windows bytes register card ≡ card_held register (state bytes card)
-unfolding state
-state_is bytes card register number few =
-    card_is bytes (state bytes card) register number few (values_hold bytes card.dev)
-    (rom_holds bytes card.dev card.rom)
-
-base_held : (bytes : Bytes) (card : FittedCard) (j k : ℕ) (base : Base) → j / 4 ≡ k → k < 6 →
-    slice_get card.bases k ≡ Some base →
-    card_held (BaseByte j) (state bytes card) ≡ held_by base (base_value bytes card.dev k)
-unfolding state
-base_held bytes card j k base number below at = rw (number, at, sym (values_hold bytes card.dev k below)) refl
-
 -- ---- the names of a card's registers
 
 named_base : (card : FittedCard) (off : ℕ) → 0x10 ≤ off → off ≤ 0x27 → in_card off card ≡ Some (BaseByte (off - 0x10))
-named_base card off from to =
-    let bases : is_within 0x10 0x27 off ≡ true = grind (arith, nat_tests) in
-    rw (ne_eqb off 0x04 (omega arith), bases) refl
+named_base card off from to = grind (arith, nat_tests)
 
 named_rom : (card : FittedCard) (off : ℕ) → 0x30 ≤ off → off ≤ 0x33 →
     in_card off card ≡ (if is_some card.rom then Some (ExpansionRom (off - 0x30)) else None)
-named_rom card off from to =
-    let bases : is_within 0x10 0x27 off ≡ false = grind (arith, nat_tests) in
-    let rom : is_within 0x30 0x33 off ≡ true = grind (arith, nat_tests) in
-    rw (ne_eqb off 0x04 (omega arith), bases, rom, and-true (is_some card.rom)) refl
+named_rom card off from to = grind (arith, nat_tests)
 
 no_rom_window : (bytes : Bytes) (dev : ℕ) (rom : Option ℕ) → is_some rom ≡ false →
     map decoded (rom_window_of bytes dev rom) ≡ []
@@ -152,25 +105,19 @@ module _ (setup : Setup) (bytes new : Bytes) (addr : ℕ)
   rom_governed : (registers : Bytes) (card : FittedCard) (off : ℕ) → IsFitted setup card → 0x30 ≤ off → off ≤ 0x33 →
       windows_of setup registers (card_register card.dev off) ≡ map decoded (rom_window registers card)
   rom_governed registers card off is from to =
-      elim (cases_Bool (is_some card.rom)) [
-        | inl some ↦
-            let named : in_card off card ≡ Some (ExpansionRom (off - 0x30)) =
-            named_rom card off from to ∙ rw some refl in
-            windows_named registers card off (ExpansionRom (off - 0x30)) is named
-        | inr none ↦
-            let named : in_card off card ≡ None = named_rom card off from to ∙ rw none refl in
-            windows_at registers card off None is named ∙ sym (no_rom_window registers card.dev card.rom none)
-      ]
+      grind (arith, nat_tests, common_steps, cases_Bool, is_some, named_rom, windows_named, windows_at, no_rom_window)
 
   outside_base : (registers : Bytes) (card : FittedCard) (off k : ℕ) (base : Base) → IsFitted setup card →
       0x10 + 4 * k ≤ off → off ≤ 0x13 + 4 * k → k < 6 →
       slice_get card.bases k ≡ Some base → Outside addr (windows_of setup registers (card_register card.dev off)) →
       Outside addr (held_by base (base_value registers card.dev k))
   outside_base registers card off k base is from to below at out =
+      let number : (off - 0x10) / 4 ≡ k = omega arith in
       rw (
         windows_named registers card off (BaseByte (off - 0x10)) is (named_base card off (omega arith) (omega arith)),
-        state_is registers card (BaseByte (off - 0x10)) (omega arith) is.few,
-        base_held registers card (off - 0x10) k base (omega arith) below at,
+        number,
+        one_held registers card.dev k k 0 card.bases (omega arith),
+        at,
       ) at out
 
   base_kept : (card : FittedCard) (k : ℕ) (base : Base) → IsFitted setup card → k < 6 →
@@ -252,11 +199,8 @@ module _ (setup : Setup) (bytes new : Bytes) (addr : ℕ)
   rom_outside : (registers : Bytes) (card : FittedCard) → Outside addr (map decoded (rom_window registers card)) →
       find (claims registers) (rom_part registers card) ≡ None
   rom_outside registers card out =
-      elim (cases_Bool (is_rom_on registers card.dev)) [
-        | inl selected ↦ rw selected (none_covered addr (rom_window registers card)
-            (λ dev. is_enabled_for 1 registers dev) out)
-        | inr unselected ↦ rw unselected refl
-      ]
+      let none = none_covered addr (rom_window registers card) (λ dev. is_enabled_for 1 registers dev) out in
+      grind (arith, nat_tests)
 
   rom_alike : (dev : ℕ) (rom : Option ℕ) → is_enabled_for 1 new dev ≡ is_enabled_for 1 bytes dev →
       find (claims new) (rom_window_of bytes dev rom) ≡ find (claims bytes) (rom_window_of bytes dev rom)
@@ -274,16 +218,7 @@ module _ (setup : Setup) (bytes new : Bytes) (addr : ℕ)
       is_enabled_for 1 new card.dev ≡ is_enabled_for 1 bytes card.dev →
       find (claims new) (rom_part new card) ≡ find (claims bytes) (rom_part bytes card)
   rom_same card is enabled =
-      elim (rom_kept card is) [
-        | inr out ↦ rom_outside new card out.1 ∙ sym (rom_outside bytes card out.0)
-        | inl same ↦
-            let windows = rom_windows card.dev card.rom same in
-            rw (same 0 (lit< tt), windows)
-            (elim (cases_Bool (is_rom_on bytes card.dev)) [
-              | inl on ↦ rw on (rom_alike card.dev card.rom enabled)
-              | inr off ↦ rw off refl
-            ])
-      ]
+      grind (arith, nat_tests, common_steps, rom_kept, rom_outside, rom_windows, lit<, cases_Bool, is_rom_on, rom_alike)
 
   vga_same : (card : FittedCard) → is_enabled_for 1 new card.dev ≡ is_enabled_for 1 bytes card.dev →
       find (claims new) (vga_window card) ≡ find (claims bytes) (vga_window card)
@@ -329,12 +264,7 @@ module _ (setup : Setup) (bytes new : Bytes) (addr : ℕ)
       ≡ find (claims bytes) (flat_map (memory_windows bytes) cards)
   cards_same [] each = refl
   cards_same (card ∷ later) each =
-      rw (
-        find-append (claims new) (memory_windows new card) (flat_map (memory_windows new) later),
-        find-append (claims bytes) (memory_windows bytes card) (flat_map (memory_windows bytes) later),
-        card_same card each.0,
-        cards_same later each.1,
-      ) refl
+      grind (arith, nat_tests, common_steps, find-append, memory_windows, flat_map, card_same, cards_same later each.1)
 
   pub claim_same : IsCardList setup.cards → memory_claim setup new addr ≡ memory_claim setup bytes addr
   unfolding memory_claim

@@ -1,12 +1,11 @@
 -- The areas of an address are the same before and after a change that moves nothing round it.
+use Rattle.board_prelude.proofs.Common.{common_steps, cases_Bool, ne_eqb, nat_tests, Kind, Reg, Setup, IsCardList}
+use Rattle.board_prelude.proofs.Common.{is_within, Bytes, top_of, row_of, is_in, hole_of, is_high_window, nibble}
+use Rattle.board_prelude.proofs.Common.{is_open, is_shadow_range, is_shadowed, is_smram_range, is_rom_selected}
+use Rattle.board_prelude.proofs.Common.{pam_register, area_of, bridge, isa, card_register, six_areas, each_below}
 use Rattle.std.proofs.Common.{◌≡◌, ℕ, ◌+◌, ◌-◌, ◌/◌, ◌<◌, ◌≤◌, ◌⊎◌, inl, inr, Bool, true, false, [], ◌∷◌, None, refl}
 use Rattle.std.proofs.Common.{sym, ◌∙◌, ap, arith, ◌==◌, ◌&&◌, ◌||◌, nat_le, nat_lt, if◌then◌else◌, find, List, zero}
 use Rattle.std.proofs.Common.{suc, map, slice_index, rules}
-use Rattle.board_prelude.proofs.Common.{cases_Bool, ne_eqb, nat_tests, Kind, Fetch, Read, Write, Reg, Setup, IsCardList}
-use Rattle.board_prelude.proofs.Common.{is_bit, is_within, Bytes, top_of, row_of, is_in, hole_of, is_high_window}
-use Rattle.board_prelude.proofs.Common.{nibble, is_open, is_shadow_range, is_shadowed, is_smram_range, is_rom_selected}
-use Rattle.board_prelude.proofs.Common.{pam_register, area_of, bridge, isa, card_register, six_areas, or-false}
-use Rattle.board_prelude.proofs.Common.{and-false, each_below}
 use Rattle.addr_decode.specs.MapRegister.{map_register}
 use Rattle.map_builder.specs.Changed.{from_to, pam_windows, windows_of, IsOutside}
 use Rattle.map_builder.proofs.OutsideLemmas.{Outside}
@@ -22,10 +21,7 @@ outside_range addr lo hi (inr above) = grind (arith, nat_tests)
 in_no_hole : (fdhc addr : ℕ) → IsOutside addr (from_to 0x8_0000 0x9_FFFF) →
     IsOutside addr (from_to 0xF0_0000 0xFF_FFFF) →
     is_in (hole_of fdhc) addr ≡ false
-in_no_hole fdhc addr low high =
-    let first = outside_range addr 0x8_0000 0x9_FFFF low in
-    let second = outside_range addr 0xF0_0000 0xFF_FFFF high in
-    grind (arith, nat_tests)
+in_no_hole fdhc addr low high = grind (arith, nat_tests)
 
 always_rom : ℕ → Bool
 always_rom addr = is_within 0xF_0000 0xF_FFFF addr || is_within 0xFFFF_0000 0xFFFF_FFFF addr
@@ -34,13 +30,7 @@ rom_outside : (xbcs addr : ℕ) → IsOutside addr (from_to 0xE_0000 0xE_FFFF) �
     IsOutside addr (from_to 0xFFF8_0000 0xFFFE_FFFF) →
     is_rom_selected xbcs addr ≡ always_rom addr
 unfolding always_rom
-rom_outside xbcs addr low high =
-    let outside : is_within 0xE_0000 0xE_FFFF addr ≡ false = outside_range addr 0xE_0000 0xE_FFFF low in
-    let last : is_within 0xFFFE_0000 0xFFFE_FFFF addr ≡ false =
-    outside_range addr 0xFFFE_0000 0xFFFE_FFFF (elim high [ inl below ↦ inl (omega arith) | inr above ↦ inr above ]) in
-    let rest : is_within 0xFFF8_0000 0xFFFD_FFFF addr ≡ false =
-    outside_range addr 0xFFF8_0000 0xFFFD_FFFF (elim high [ inl below ↦ inl below | inr above ↦ inr (omega arith) ]) in
-    rw (outside, last, rest, and-false (is_bit xbcs 6), and-false (is_bit xbcs 7)) (simp or-false)
+rom_outside xbcs addr low high = grind (arith, nat_tests)
 
 -- ---- the windows of PAM
 
@@ -59,37 +49,20 @@ pam_window setup bytes off from to = let within : is_within 0x59 0x5F off ≡ tr
 
 pam_window_low : (number addr : ℕ) → number ≡ 1 + (addr - 0xC_0000) / 0x8000 → 0xC_0000 ≤ addr → addr < 0xF_0000 →
     Outside addr (pam_windows number ∷ []) → ⊥
-pam_window_low number addr is above below out =
-    let here = rw (ne_eqb number 0 (omega arith)) at out in
-    elim here.0 [ inl lower ↦ omega arith | inr higher ↦ omega arith ]
+pam_window_low number addr is above below out = grind (arith, nat_tests)
 
 in_pam_window : (setup : Setup) (bytes : Bytes) (addr : ℕ) → is_shadow_range addr ≡ true →
     Outside addr (windows_of setup bytes (bridge (pam_offset addr))) → ⊥
 unfolding pam_offset
 in_pam_window setup bytes addr shadow out =
-    let above : 0xC_0000 ≤ addr = grind (arith, nat_tests) in
-    let below : addr ≤ 0xF_FFFF = grind (arith, nat_tests) in
-    elim (cases_Bool (nat_le 0xF_0000 addr)) [
-      | inl high ↦
-          let from : 0xF_0000 ≤ addr = grind (arith, nat_tests) in
-          let here = rw (high, pam_window setup bytes 0x59 (omega arith) (omega arith)) at out in
-          elim here.0 [ inl lower ↦ omega arith | inr higher ↦ omega arith ]
-      | inr low ↦
-          let from : addr < 0xF_0000 = grind (arith, nat_tests) in
-          let off : ℕ = 0x5A + (addr - 0xC_0000) / 0x8000 in
-          pam_window_low (off - 0x59) addr (omega arith) above from
-          (rw (low, pam_window setup bytes off (omega arith) (omega arith)) at out)
-    ]
+    grind (arith, nat_tests, common_steps, cases_Bool, nat_le, pam_window, pam_window_low)
 
 -- ---- rows of DRAM
 
 pub row_window : (setup : Setup) (bytes : Bytes) (row : ℕ) → row < 8 →
     windows_of setup bytes (bridge (0x60 + row)) ≡ from_to 0 0x7F7F_FFFF ∷ []
 unfolding map_register
-row_window setup bytes row below =
-    let not_pam : is_within 0x59 0x5F (0x60 + row) ≡ false = grind (arith, nat_tests) in
-    let within : is_within 0x60 0x67 (0x60 + row) ≡ true = grind (arith, nat_tests) in
-    rw (not_pam, within) refl
+row_window setup bytes row below = grind (arith, nat_tests)
 
 no_row : (bytes : Bytes) (addr : ℕ) → top_of bytes ≤ 0x7F80_0000 → 0x7F80_0000 ≤ addr → row_of bytes addr ≡ None
 unfolding row_of
@@ -120,21 +93,10 @@ row_stays bytes new addr same =
 module _ (setup : Setup) (bytes new : Bytes) (addr : ℕ) (kept : (reg : Reg) → Kept setup bytes new addr reg) where
   row_kept : (row : ℕ) → row < 8 →
       (new (bridge (0x60 + row)) ≡ bytes (bridge (0x60 + row))) ⊎ (0x7F80_0000 ≤ addr)
-  row_kept row below =
-      elim (kept (bridge (0x60 + row))) [
-        | inl same ↦ inl same
-        | inr out ↦
-            let here = rw (row_window setup bytes row below) at out.0 in
-            elim here.0 [ inl lower ↦ absurd (omega arith) | inr higher ↦ inr (omega arith) ]
-      ]
+  row_kept row below = grind (arith, nat_tests, common_steps, bridge, row_window)
 
   pub row_same : top_of bytes ≤ 0x7F80_0000 → top_of new ≤ 0x7F80_0000 → row_of new addr ≡ row_of bytes addr
-  row_same top top' =
-      elim (each_or (λ row. new (bridge (0x60 + row)) ≡ bytes (bridge (0x60 + row))) (0x7F80_0000 ≤ addr) 8
-      row_kept) [
-        | inr high ↦ no_row new addr top' high ∙ sym (no_row bytes addr top high)
-        | inl same ↦ row_stays bytes new addr same
-      ]
+  row_same top top' = grind (arith, nat_tests, common_steps, each_or, bridge, row_kept, no_row, row_stays)
 
 -- a register is the boundary of a row
 abbrev pub is_boundary : Reg → Bool
@@ -145,9 +107,7 @@ not_of_card dev off above = let not : (dev == 0) ≡ false = ne_eqb dev 0 (omega
 
 not_of_pam : (addr : ℕ) → is_shadow_range addr ≡ true → is_boundary (bridge (pam_offset addr)) ≡ false
 unfolding pam_offset
-not_of_pam addr shadow =
-    let below : addr ≤ 0xF_FFFF = grind (arith, nat_tests) in
-    elim (cases_Bool (nat_le 0xF_0000 addr)) [ inl high ↦ rw high refl | inr low ↦ rw low (grind (arith, nat_tests)) ]
+not_of_pam addr shadow = grind (arith, nat_tests)
 
 -- where the row of an address stays, and every other register is kept
 module _ (setup : Setup) (bytes new : Bytes) (addr : ℕ) (kept : (reg : Reg) → is_boundary reg ≡ false →
@@ -155,29 +115,15 @@ module _ (setup : Setup) (bytes new : Bytes) (addr : ℕ) (kept : (reg : Reg) �
     (row_same : row_of new addr ≡ row_of bytes addr) where
   hole_same : is_in (hole_of (new (bridge 0x68))) addr ≡ is_in (hole_of (bytes (bridge 0x68))) addr
   unfolding map_register
-  hole_same =
-      elim (kept (bridge 0x68) refl) [
-        | inl same ↦ ap (λ fdhc. is_in (hole_of fdhc) addr) same
-        | inr out ↦ in_no_hole (new (bridge 0x68)) addr out.0.0 out.0.1.0
-            ∙ sym (in_no_hole (bytes (bridge 0x68)) addr out.0.0 out.0.1.0)
-      ]
+  hole_same = grind (arith, nat_tests)
 
   rom_same : is_rom_selected (new (isa 0x4E)) addr ≡ is_rom_selected (bytes (isa 0x4E)) addr
   unfolding map_register
-  rom_same =
-      elim (kept (isa 0x4E) refl) [
-        | inl same ↦ ap (λ xbcs. is_rom_selected xbcs addr) same
-        | inr out ↦ rom_outside (new (isa 0x4E)) addr out.0.0 out.0.1.0
-            ∙ sym (rom_outside (bytes (isa 0x4E)) addr out.0.0 out.0.1.0)
-      ]
+  rom_same = grind (arith, nat_tests)
 
   smram_same : (new (bridge 0x72) ≡ bytes (bridge 0x72)) ⊎ (is_smram_range addr ≡ false)
   unfolding map_register
-  smram_same =
-      elim (kept (bridge 0x72) refl) [
-        | inl same ↦ inl same
-        | inr out ↦ inr (outside_range addr 0xA_0000 0xB_FFFF out.0.0)
-      ]
+  smram_same = grind (arith, nat_tests)
 
   shadow_same : (kind : Kind) → is_shadowed new addr kind ≡ is_shadowed bytes addr kind
   shadow_same kind =
@@ -206,12 +152,4 @@ module _ (setup : Setup) (bytes new : Bytes) (addr : ℕ) (kept : (reg : Reg) �
         ]
 
     pub areas_same : six_areas setup new addr ≡ six_areas setup bytes addr
-    areas_same =
-        rw (
-          area_same Fetch false,
-          area_same Read false,
-          area_same Write false,
-          area_same Fetch true,
-          area_same Read true,
-          area_same Write true,
-        ) refl
+    areas_same = grind (arith, nat_tests, common_steps, area_same)

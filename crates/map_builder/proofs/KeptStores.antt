@@ -1,15 +1,15 @@
 -- A change keeps each register whose windows lie elsewhere, and a store of one byte to a register that keeps its byte
 -- changes no area.
+use Rattle.board_prelude.proofs.Common.{common_steps, cases_Bool, nat_tests, recursion_from_All, Width, Reg, bytes_of}
+use Rattle.board_prelude.proofs.Common.{MapChange, Store, Reset, Setup, IsCardList, byte, host_bridge, reset_byte}
+use Rattle.board_prelude.proofs.Common.{writable_bits, covers, byte_after, Bytes, top_of, bridge, reg_after}
+use Rattle.board_prelude.proofs.Common.{address_count, six_areas, merged-all, One, FittedCard}
 use Rattle.std.proofs.Common.{◌≡◌, ℕ, zero, suc, ◌+◌, ◌-◌, ◌<◌, ◌≤◌, inl, inr, true, List, [], ◌∷◌, length, get_or}
-use Rattle.std.proofs.Common.{take, refl, arith, flat_map, Option, None, sym, ◌∙◌, ap, IfSome, subst}
-use Rattle.board_prelude.proofs.Common.{cases_Bool, nat_tests, recursion_from_All, Width, Reg, bytes_of, MapChange}
-use Rattle.board_prelude.proofs.Common.{Store, Reset, Setup, IsCardList, byte, host_bridge, reset_byte, writable_bits}
-use Rattle.board_prelude.proofs.Common.{covers, byte_after, Bytes, top_of, bridge, reg_after, address_count, six_areas}
-use Rattle.board_prelude.proofs.Common.{merged-all, One, FittedCard}
+use Rattle.std.proofs.Common.{take, refl, arith, flat_map, Option, None, sym, ◌∙◌, IfSome, subst}
 use Rattle.addr_decode.proofs.NameLemmas.{offsets, covered_offset}
 use Rattle.addr_decode.proofs.StoreLemmas.{same_register}
 use Rattle.map_ranges.specs.declared.range.Changed.{Changed}
-use Rattle.map_builder.specs.Common.{windows_of, windows_covered, after, changed_windows, IsOutside, WindowsHoldChanges}
+use Rattle.map_builder.specs.Common.{windows_of, windows_covered, after, changed_windows, WindowsHoldChanges}
 use Rattle.map_builder.specs.Common.{BoundsHoldChanges, IsHeldAt}
 use Rattle.map_builder.proofs.OutsideLemmas.{Outside, outside_bounds, outside_parts}
 use Rattle.map_builder.proofs.KeptCards.{Kept}
@@ -82,11 +82,7 @@ pub top_after : (setup : Setup) (bytes : Bytes) (change : MapChange) → top_of 
     top_of (after setup change bytes) ≤ 0x7F80_0000
 top_after setup bytes Reset top = rw (last_row_at_reset setup) (omega arith)
 top_after setup bytes (Store at width value) top =
-    elim (cases_Bool (covers at width (bridge 0x67))) [
-      | inr beside ↦ rw beside top
-      | inl over ↦ rw (over, last_row_after setup (bytes (bridge 0x67)) (byte value (0x67 - at.off)) (omega arith))
-          (omega arith)
-    ]
+    grind (arith, nat_tests, common_steps, cases_Bool, covers, bridge, last_row_after, byte)
 
 -- outside all changed windows nothing changes
 pub changes_keep : (setup : Setup) (bytes : Bytes) (change : MapChange) (addr : ℕ) → IsCardList setup.cards →
@@ -104,8 +100,7 @@ changes_keep setup bytes (Store at width value) addr list top address out =
 
 pub windows_hold_changes : WindowsHoldChanges
 windows_hold_changes setup bytes change addr list top address out =
-    changes_keep setup bytes change addr list top address
-    (recursion_from_All (IsOutside addr) (changed_windows setup bytes change) out)
+    grind (arith, nat_tests, common_steps, changes_keep, recursion_from_All)
 
 pub bounds_hold_changes : BoundsHoldChanges
 bounds_hold_changes setup bytes change addr list top address out =
@@ -130,9 +125,7 @@ pub unchanged_keep : (setup : Setup) (bytes : Bytes) (change : MapChange) (addr 
     IsHeldAt change (after setup change bytes) held →
     six_areas setup (after setup change bytes) addr ≡ six_areas setup bytes addr
 unchanged_keep setup bytes change addr held list before later =
-    let same = same_bytes setup bytes change held before later in
-    areas_same setup bytes (after setup change bytes) addr (λ reg other. inl (same reg))
-    (row_stays bytes (after setup change bytes) addr (λ row below. same (bridge (0x60 + row)))) list
+    grind (arith, nat_tests, common_steps, same_bytes, areas_same, row_stays, bridge)
 
 -- the byte of the one register that a change names is the byte that it stores to
 pub held_alone : (bytes : Bytes) (change : MapChange) (cards : List FittedCard) (names : List (Option MapRegister))
@@ -142,8 +135,4 @@ pub held_alone : (bytes : Bytes) (change : MapChange) (cards : List FittedCard) 
     IfSome found (IsHeldAt change bytes)
 held_alone bytes (Store at One value) cards names found one named is =
     let place : at.off + 0 ≡ at.off = omega arith in is at (rw (named, place) refl)
-held_alone bytes _ cards names found one named is = absurd (omega (
-  arith,
-  ap (λ (list : List (Option MapRegister)).
-      length list) named,
-))
+held_alone bytes _ cards names found one named is = grind (arith, nat_tests)

@@ -1,11 +1,12 @@
 -- What a store to the boundaries of the rows of DRAM moves, and that no more rows are looked up for it than the bound
 -- says.
+use Rattle.board_prelude.proofs.Common.{common_steps, AllByRecursion, list_any, cases_Bool, cases_lt, false≢true}
+use Rattle.board_prelude.proofs.Common.{and_parts, nat_tests, Width, One, Reg, bytes_of, some_bytes, MapChange, Store}
+use Rattle.board_prelude.proofs.Common.{Reset, FittedCard, Setup, IsCardList, covers, Bytes, row_of, reg_after}
+use Rattle.board_prelude.proofs.Common.{six_areas}
 use Rattle.std.proofs.Common.{◌≡◌, ℕ, zero, suc, ◌⊎◌, Bool, ◌+◌, ◌-◌, ◌*◌, ◌<◌, ◌≤◌, inl, inr, true, false, List, []}
 use Rattle.std.proofs.Common.{◌∷◌, ◌++◌, take, refl, sym, ◌∙◌, ap, arith, ◌==◌, ◌&&◌, nat_le, if◌then◌else◌, Option}
 use Rattle.std.proofs.Common.{Some, None, min, max, slice_index, find, flat_map}
-use Rattle.board_prelude.proofs.Common.{AllByRecursion, list_any, cases_Bool, cases_lt, false≢true, and_parts}
-use Rattle.board_prelude.proofs.Common.{nat_tests, Width, One, Reg, bytes_of, some_bytes, MapChange, Store, Reset}
-use Rattle.board_prelude.proofs.Common.{FittedCard, Setup, IsCardList, covers, Bytes, row_of, reg_after, six_areas}
 use Rattle.board_base.specs.declared.access.Width.TheVariants.{Two, Four}
 use Rattle.addr_decode.specs.declared.register.MapRegister.{MapRegister}
 use Rattle.addr_decode.specs.declared.register.MapRegister.TheVariants.{RowBoundary}
@@ -13,8 +14,8 @@ use Rattle.addr_decode.specs.Common.{map_register, names_of, MapBytes, StandsFor
 use Rattle.addr_decode.proofs.Common.{is_name, in_function_0}
 use Rattle.map_ranges.specs.declared.range.Changed.{Changed}
 use Rattle.map_builder.specs.Common.{from_to, windows_of, windows_covered, after, changed_windows, is_above_first}
-use Rattle.map_builder.specs.Common.{is_inside, edges_inside, is_window, count_of, IsOutside, is_row_name, stores_rows}
-use Rattle.map_builder.specs.Common.{is_below, IsHidden, StaysOrHidden, RowStays, IsInRows, AreMoved, Rise, rows_in}
+use Rattle.map_builder.specs.Common.{is_inside, edges_inside, count_of, IsOutside, is_row_name, stores_rows, is_below}
+use Rattle.map_builder.specs.Common.{IsHidden, StaysOrHidden, RowStays, IsInRows, AreMoved, Rise, rows_in}
 use Rattle.map_builder.proofs.KeptLemmas.{is_boundary, areas_same, row_window, row_by, rows_from}
 use Rattle.map_builder.proofs.SortedLemmas.{filter_more, one_window}
 use borrow.Author.Count.{below_more}
@@ -33,9 +34,10 @@ record IsRowAt (at : Reg) (k : ℕ) : Type 0 where
   pub from : 0x60 ≤ at.off + k
   pub to : at.off + k < 0x68
 
-row_placed : (cards : List FittedCard) (at : Reg) (k row : ℕ) →
-    map_register cards (reg_after at k) ≡ Some (RowBoundary row) → IsRowAt at k
-row_placed cards at k row is =
+row_named : (cards : List FittedCard) (at : Reg) (k : ℕ) (name : Option MapRegister) →
+    map_register cards (reg_after at k) ≡ name →
+    is_row_name name ≡ true → IsRowAt at k
+row_named cards at k (Some (RowBoundary row)) is row_is =
     let name = is_name cards (reg_after at k) (RowBoundary row) is in
     let number : row < 8 = name.number in
     let off : 0x60 + row ≡ at.off + k = ap (λ (reg : Reg). reg.off) name.place in
@@ -45,11 +47,6 @@ row_placed cards at k row is =
       from = omega arith;
       to = omega arith;
     }
-
-row_named : (cards : List FittedCard) (at : Reg) (k : ℕ) (name : Option MapRegister) →
-    map_register cards (reg_after at k) ≡ name →
-    is_row_name name ≡ true → IsRowAt at k
-row_named cards at k (Some (RowBoundary row)) is row_is = row_placed cards at k row is
 row_named cards at k _ is row_is = absurd (false≢true row_is)
 
 row_at : (cards : List FittedCard) (at : Reg) (k : ℕ) → is_row_name (map_register cards (reg_after at k)) ≡ true →
@@ -59,10 +56,7 @@ row_at cards at k is = row_named cards at k (map_register cards (reg_after at k)
 rows_between : (at : Reg) (width : Width) (value last : ℕ) → last + 1 ≡ bytes_of width → IsRowAt at 0 →
     IsRowAt at last →
     covers_rows (Store at width value) ≡ true
-rows_between at width value last count first end =
-    let from : nat_le 0x60 at.off ≡ true = let low = first.from in grind (arith, nat_tests) in
-    let to : nat_le (at.off + bytes_of width) 0x68 ≡ true = let high = end.to in grind (arith, nat_tests) in
-    rw (first.dev, first.fun, from, to) refl
+rows_between at width value last count first end = grind (arith, nat_tests)
 
 -- where the names of the registers that it covers are of rows alone
 pub rows_by_names : (cards : List FittedCard) (change : MapChange) → stores_rows (names_of cards change) ≡ true →
@@ -173,11 +167,7 @@ begins setup bytes (Store at width value) rows =
 count_some : (window : Changed) (later : List Changed) → 1 ≤ count_of (window ∷ later)
 unfolding count_of
 count_some window [] = omega arith
-count_some window (other ∷ later) =
-    elim (cases_Bool (list_any (is_window window) (other ∷ later))) [
-      | inl again ↦ rw again (omega (arith, count_some other later))
-      | inr once ↦ rw once (omega arith)
-    ]
+count_some window (other ∷ later) = grind (arith, nat_tests, common_steps, cases_Bool, list_any, count_some other later)
 
 inside_rows : (window : Changed) (rest : List Changed) (edge : ℕ) → IsInRows window →
     is_inside (from_to 0 0x7F7F_FFFF ∷ rest) edge ≡ false → is_above_first edge window ≡ false
@@ -204,10 +194,7 @@ pub moved_few : (setup : Setup) (bytes new : Bytes) (change : MapChange) {old_ro
     (changed_windows setup bytes change)
 moved_few setup bytes new change {windows = []} rows moved = omega arith
 moved_few setup bytes new change {windows = window ∷ []} rows moved =
-    omega (
-      arith,
-      few_in_rows setup new window (changed_windows setup bytes change) moved.each.0 (begins setup bytes change rows),
-    )
+    grind (arith, nat_tests, common_steps, few_in_rows, begins)
 moved_few setup bytes new change {windows = window ∷ other ∷ later} rows moved = absurd (omega (arith, moved.one))
 
 -- what moves lies in the windows that change

@@ -1,7 +1,8 @@
 -- Addresses outside windows and outside their bounds.
-use Rattle.std.proofs.Common.{◌≡◌, ℕ, ◌*◌, ◌/◌, ◌^◌, inl, inr, Bool, false, List, [], ◌∷◌, ◌++◌, map, Option, Some}
-use Rattle.std.proofs.Common.{None, refl, ap, arith, ◌&&◌, unwrap_or, find}
-use Rattle.board_prelude.proofs.Common.{AllByRecursion, ne_eqb, pow_pos, Window, is_covered, and-false, map-append}
+use Rattle.board_prelude.proofs.Common.{common_steps, nat_tests, AllByRecursion, ne_eqb, pow_pos, Window, is_covered}
+use Rattle.board_prelude.proofs.Common.{and-false, map-append}
+use Rattle.std.proofs.Common.{◌≡◌, ℕ, inl, inr, Bool, false, List, [], ◌∷◌, ◌++◌, map, Option, Some, None, refl, arith}
+use Rattle.std.proofs.Common.{◌&&◌, unwrap_or, find}
 use Rattle.std.proofs.Math.Pow.{split}
 use Rattle.map_ranges.specs.declared.range.Changed.{Changed}
 use Rattle.map_builder.specs.Changed.{from_to, decoded, bounds, bounds_or_zero, both, joined, IsOutside}
@@ -54,13 +55,7 @@ pub outside_decoded : (addr : ℕ) (xs ys : List Window) → Outside addr (map d
 outside_decoded addr xs ys out = outside_parts addr (map decoded xs) (map decoded ys) (rw map-append at out)
 
 pub not_covered : (addr : ℕ) (window : Window) → IsOutside addr (decoded window) → is_covered addr window ≡ false
-not_covered addr window out =
-    ne_eqb (window.inside / 2 ^ window.bits) (addr / 2 ^ window.bits)
-    (λ same.
-    let parts = split addr window.bits in
-    let positive = pow_pos window.bits in
-    let first = ap (λ (q : ℕ). q * 2 ^ window.bits) same in
-    elim out [ inl below ↦ omega arith | inr above ↦ omega arith ])
+not_covered addr window out = grind (arith, nat_tests, common_steps, ne_eqb, split, pow_pos)
 
 pub none_covered : (addr : ℕ) (windows : List Window) (counts : ℕ → Bool) → Outside addr (map decoded windows) →
     find (λ window. counts window.dev && is_covered addr window) windows ≡ None

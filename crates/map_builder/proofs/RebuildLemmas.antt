@@ -1,8 +1,8 @@
 -- What stays of a map that differs in some windows alone: the ranges below them, between them and above them.
+use Rattle.board_prelude.proofs.Common.{nat_tests, get_or-map, length-map, drop_more, drop_all, Area, Setup, Bytes}
+use Rattle.board_prelude.proofs.Common.{address_count, MapRange, NeighboursDiffer, IsFlatMapOf}
 use Rattle.std.proofs.Common.{◌≡◌, ◌≢◌, ℕ, zero, suc, ◌+◌, ◌-◌, ◌<◌, ◌≤◌, inl, inr, List, [], ◌∷◌, ◌++◌, length, map}
 use Rattle.std.proofs.Common.{take, drop, get_or, refl, sym, ap, subst, arith, min}
-use Rattle.board_prelude.proofs.Common.{get_or-map, length-map, drop_more, drop_all, cases_lt, Area, Setup, Bytes}
-use Rattle.board_prelude.proofs.Common.{address_count, MapRange, NeighboursDiffer, IsFlatMapOf}
 use Rattle.std.proofs.lemmas.List.{map_more}
 use Rattle.addr_decode.specs.MapRegs.{MapBytes, StandsFor}
 use Rattle.map_ranges.specs.declared.range.Changed.{Changed}
@@ -98,11 +98,7 @@ module _ (regs : MapBytes) (lo : ℕ) (address : lo < address_count) (ranges : L
 -- where the range at an index ends below an address, the next begins at it or below it
 pub begins_next : {ranges : List Range} {k addr : ℕ} → Placed 0 ranges → BeginsBelow ranges k addr →
     (range_at ranges k).hi < addr → addr < address_count → BeginsBelow ranges (k + 1) addr
-begins_next {ranges} {k} is begins low address =
-    elim (cases_lt (k + 1) (length ranges)) [
-      | inl more ↦ record { within = more; above = omega (arith, is.next k more) }
-      | inr last ↦ absurd (omega (arith, is.last k (omega (arith, begins.within))))
-    ]
+begins_next {ranges} {k} is begins low address = grind (arith, nat_tests)
 
 -- and so at or below a later address
 pub begins_later : {ranges : List Range} {k addr later : ℕ} → BeginsBelow ranges k addr → addr ≤ later →

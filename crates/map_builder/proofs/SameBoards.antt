@@ -1,4 +1,5 @@
 -- Boards that have the same registers have the same areas at each address.
+use Rattle.board_prelude.proofs.Common.{common_steps}
 use Rattle.std.proofs.Common.{◌≡◌, ℕ, ◌+◌, ◌-◌, ◌*◌, ◌/◌, ◌%◌, ◌<◌, ◌≤◌, inl, inr, Bool, true, false, List, [], ◌∷◌}
 use Rattle.std.proofs.Common.{Option, Some, None, refl, sym, ◌∙◌, arith, ◌==◌, ◌&&◌, ◌||◌, is_some, find}
 use Rattle.board_prelude.proofs.Common.{AllByRecursion, cases_Bool, false≢true, nat_tests, recursion_from_All, Kind}
@@ -24,9 +25,7 @@ module _ (regs : MapBytes) (setup setup' : Setup) (bytes bytes' : Bytes) (stands
 
   register_same : (register : MapRegister) → IsNumbered register → (place_of register).dev < 2 →
       bytes (place_of register) ≡ bytes' (place_of register)
-  register_same (Pam k) number low =
-      sym (stands.windows (0x59 + k) (omega arith, omega arith))
-      ∙ stands'.windows (0x59 + k) (omega arith, omega arith)
+  register_same (Pam k) number low = grind (arith, nat_tests)
   register_same (RowBoundary row) number low = sym (stands.rows row number) ∙ stands'.rows row number
   register_same (Single k) number low = sym (stands.singles k number) ∙ stands'.singles k number
   register_same (Card dev register) number low = absurd (omega (arith, number.0))
@@ -164,6 +163,4 @@ pub untouched_areas : (setup : Setup) (bytes : Bytes) (change : MapChange) → I
     touches_map setup change ≡ false →
     (addr : ℕ) → six_areas setup (after setup change bytes) addr ≡ six_areas setup bytes addr
 untouched_areas setup bytes change list not addr =
-    six_same setup setup (after setup change bytes) bytes addr
-    (λ kind smm. (map_bytes_decide setup (after setup change bytes) bytes list
-    (λ reg is. untouched setup change reg (bytes reg) is not) addr kind smm).0)
+    grind (arith, nat_tests, common_steps, six_same, map_bytes_decide, untouched)

@@ -1,8 +1,8 @@
 -- Windows in rising order hold the addresses of those that were sorted, and are no more than there are different ones.
+use Rattle.board_prelude.proofs.Common.{common_steps, AllByRecursion, list_any, cases_Bool, or_cases, false≢true}
+use Rattle.board_prelude.proofs.Common.{nat_tests, Setup, Bytes, each_below}
 use Rattle.std.proofs.Common.{◌≡◌, ℕ, ◌+◌, ◌<◌, ◌≤◌, ◌⊎◌, inl, inr, Bool, true, false, List, [], ◌∷◌, ◌++◌, length}
 use Rattle.std.proofs.Common.{refl, arith, nat_lt, min, max, filter, rules}
-use Rattle.board_prelude.proofs.Common.{AllByRecursion, list_any, cases_Bool, or_cases, false≢true, nat_tests, Setup}
-use Rattle.board_prelude.proofs.Common.{Bytes, each_below}
 use Rattle.addr_decode.specs.Edges.{edges_of, edges_after}
 use Rattle.addr_decode.specs.Singles.{single_count}
 use Rattle.map_ranges.specs.declared.range.Changed.{Changed}
@@ -19,16 +19,7 @@ with_step : (P : List Changed → Type 0) (window other : Changed) (later : List
     (window.lo ≤ other.hi → other.lo ≤ window.hi → P (with_window (both other window) later)) →
     P (with_window window (other ∷ later))
 unfolding with_window
-with_step P window other later behind before overlap =
-    elim (cases_Bool (nat_lt other.hi window.lo)) [
-      | inl is ↦ rw is (behind (grind (arith, nat_tests)))
-      | inr not_behind ↦
-          elim (cases_Bool (nat_lt window.hi other.lo)) [
-            | inl is ↦ rw (not_behind, is) (before (grind (arith, nat_tests)))
-            | inr not_before ↦
-                rw (not_behind, not_before) (overlap (grind (arith, nat_tests)) (grind (arith, nat_tests)))
-          ]
-    ]
+with_step P window other later behind before overlap = grind (arith, nat_tests)
 
 -- ---- what holds of each of them
 
@@ -97,13 +88,14 @@ outside_with : (addr : ℕ) (window : Changed) (windows : List Changed) → Outs
 unfolding with_window
 outside_with addr window [] out = out
 outside_with addr window (other ∷ later) out =
-    with_step (λ made. Outside addr made → IsOutside addr window × Outside addr (other ∷ later)) window other later
-    (λ behind out. let rest = outside_with addr window later out.1 in (rest.0, (out.0, rest.1)))
-    (λ before out. (out.0, outside_with addr other later out.1))
-    (λ low high out.
-    let rest = outside_with addr (both other window) later out in
-    let each = outside_both addr other window rest.0 in
-    (each.1, (each.0, rest.1))) out
+    grind (
+      arith,
+      nat_tests,
+      outside_with addr window later,
+      outside_with addr other later,
+      outside_with addr (both other window) later,
+      outside_both,
+    )
 
 pub outside_sorted : (addr : ℕ) (windows : List Changed) → Outside addr (sorted windows) → Outside addr windows
 unfolding sorted
@@ -133,8 +125,7 @@ not_in_both addr other window low high one two = grind (arith, nat_tests)
 inside_sorted : (windows : List Changed) (addr : ℕ) → is_inside windows addr ≡ false →
     is_inside (sorted windows) addr ≡ false
 inside_sorted windows addr none =
-    not_inside addr (sorted windows)
-    (each_sorted (IsNotIn addr) (not_in_both addr) windows (each_not_in addr windows none))
+    grind (arith, nat_tests, common_steps, not_inside, each_sorted, not_in_both, each_not_in)
 
 -- ---- how many they are
 
@@ -201,10 +192,7 @@ with_first : (window : Changed) (windows : List Changed) → window.lo ≤ windo
 unfolding with_window
 with_first window [] order above rise = refl
 with_first window (other ∷ later) order above rise =
-    with_step (λ made. made ≡ window ∷ other ∷ later) window other later
-    (λ behind. absurd (omega (arith, above.0, rise.0)))
-    (λ before. rw (with_first other later rise.0 rise.1 rise.2) refl)
-    (λ low high. absurd (omega (arith, above.0)))
+    grind (arith, nat_tests, common_steps, with_step, with_first other later rise.0 rise.1 rise.2)
 
 -- one that lies in another changes nothing
 with_covered : (window : Changed) (windows : List Changed) → window.lo ≤ window.hi → Rise windows →

@@ -1,20 +1,18 @@
 -- The windows that registers govern, as the code finds them.
+use Rattle.board_prelude.proofs.Common.{common_steps, nat_tests, AllByRecursion, option_map_or, drop_all, drop_more}
+use Rattle.board_prelude.proofs.Common.{take_all, take_more, append-nil, pow-add, pow_pos, div-lt_iff_lt-mul, Width}
+use Rattle.board_prelude.proofs.Common.{Reg, FittedCard, Setup, Bytes, MapChange, Store}
 use Rattle.std.proofs.Common.{◌≡◌, ℕ, zero, suc, ◌+◌, ◌-◌, ◌*◌, ◌/◌, ◌^◌, ◌<◌, ◌≤◌, List, [], ◌∷◌, ◌++◌, length, map}
 use Rattle.std.proofs.Common.{drop, get_or, refl, sym, ◌∙◌, ap, arith, mul_comm, append_assoc, Option, None, slice_get}
 use Rattle.std.proofs.Common.{slice_index, flat_map, take}
-use Rattle.board_prelude.proofs.Common.{AllByRecursion, option_map_or, drop_all, drop_more, take_all, take_more}
-use Rattle.board_prelude.proofs.Common.{append-nil, pow-add, pow_pos, div-lt_iff_lt-mul, Width, Reg, bytes_of}
-use Rattle.board_prelude.proofs.Common.{FittedCard, Setup, Bytes, reg_after, MapChange, Store}
 use Rattle.std.proofs.lemmas.Option.{slice_get-map, slice_get_past}
 use Rattle.std.proofs.lemmas.Nat.{mul-add-lt}
 use Rattle.pci_bars.specs.declared.spec.BaseSpec.{BaseSpec}
 use Rattle.pci_bars.specs.Bases.{base_of}
 use Rattle.map_ranges.specs.declared.range.Changed.{Changed}
 use Rattle.addr_decode.specs.declared.register.MapRegister.{MapRegister}
-use Rattle.addr_decode.specs.MapRegister.{IsNumberedName, map_register, names_of}
-use Rattle.addr_decode.proofs.NameLemmas.{offsets}
+use Rattle.addr_decode.specs.MapRegister.{IsNumberedName, names_of}
 use Rattle.map_builder.specs.Common.{name_windows, windows_covered, held_by, held_from, held_at}
-use Rattle.std.proofs.lemmas.List.Folds.{flat_map-map}
 use Rattle.std.proofs.lemmas.List.{flat_map_more}
 
 -- the last address of a block is an address
@@ -36,18 +34,14 @@ pub covered_by_names : (setup : Setup) (bytes : Bytes) (change : MapChange) (reg
     setup.cards ≡ cards →
     names ≡ names_of cards change → flat_map (name_windows setup bytes) names ≡ windows_covered setup bytes change
 unfolding windows_covered
-covered_by_names setup bytes change reg width value cards names is same named =
-    rw (named, ← same, is)
-    (flat_map-map (name_windows setup bytes) (λ k. map_register setup.cards (reg_after reg k))
-    (take (bytes_of width) offsets))
+covered_by_names setup bytes change reg width value cards names is same named = grind (arith, nat_tests)
 
 -- one more name
 pub pushed_on : (windows : Option MapRegister → List Changed) (names : List (Option MapRegister)) (k : ℕ)
     (first found next : List Changed) → k < length names → found ≡ first ++ flat_map windows (take k names) →
     next ≡ found ++ windows (get_or names k None) → next ≡ first ++ flat_map windows (take (k + 1) names)
 pushed_on windows names k first found next below found_is next_is =
-    rw (next_is, found_is, take_more names k None below)
-    (flat_map_more windows first (take k names) (get_or names k None))
+    grind (arith, nat_tests, common_steps, take_more, flat_map_more)
 
 -- all of them
 pub pushed_all : (windows : Option MapRegister → List Changed) (names : List (Option MapRegister)) (k : ℕ)
@@ -68,9 +62,7 @@ pub held_on : (bases : List BaseSpec) (values : List ℕ) (k : ℕ) (d : BaseSpe
     next ++ held_from values (k + 1) (map base_of (drop (k + 1) bases))
     ≡ found ++ held_from values k (map base_of (drop k bases))
 held_on bases values k d found next within is =
-    rw (is, drop_more bases k d within)
-    (append_assoc found (held_by (base_of (get_or bases k d)) (slice_index values k))
-    (held_from values (k + 1) (map base_of (drop (k + 1) bases))))
+    grind (arith, nat_tests, common_steps, drop_more, append_assoc, slice_index)
 
 -- no base is left
 pub held_all : (bases : List BaseSpec) (values : List ℕ) (k : ℕ) (found : List Changed) → length bases ≤ k →
@@ -88,9 +80,7 @@ held_one value (base ∷ later) (suc k) d within = held_one value later k d (ome
 pub held_here : (values : List ℕ) (bases : List BaseSpec) (k : ℕ) (base : BaseSpec) → k < length bases →
     base ≡ get_or bases k base →
     held_by (base_of base) (slice_index values k) ≡ held_at values (map base_of bases) k
-held_here values bases k base within is =
-    ap (λ (it : BaseSpec). held_by (base_of it) (slice_index values k)) is
-    ∙ sym (held_one (slice_index values k) bases k base within)
+held_here values bases k base within is = grind (arith, nat_tests, common_steps, slice_index, held_one)
 
 -- there is no such base
 pub held_past : (values : List ℕ) (bases : List BaseSpec) (k : ℕ) → length bases ≤ k →

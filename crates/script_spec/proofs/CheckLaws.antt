@@ -41,36 +41,28 @@ pub compared :
     All IsOneLine lines → All IsOneLine others → text_of_lines lines ++ rest ≡ text_of_lines others ++ after →
     Compared lines rest others after
 compared [] rest [] after each all same = inl refl
-compared [] rest (line ∷ others) after each all same =
-    inr (inl (record {
-      this = line;
-      more = others;
-      is = refl;
-      one = All-head IsOneLine line others all;
-      whole = same ∙ line_parts line (text_of_lines others) after;
-    }))
-compared (line ∷ lines) rest [] after each all same =
-    inr (inr (record {
-      this = line;
-      more = lines;
-      is = refl;
-      one = All-head IsOneLine line lines each;
-      whole = sym same ∙ line_parts line (text_of_lines lines) rest;
-    }))
+compared [] rest (line ∷ others) after each all same = inr (inl (record {
+  this = line;
+  more = others;
+  is = refl;
+  one = All-head IsOneLine line others all;
+  whole = same ∙ line_parts line (text_of_lines others) after;
+}))
+compared (line ∷ lines) rest [] after each all same = inr (inr (record {
+  this = line;
+  more = lines;
+  is = refl;
+  one = All-head IsOneLine line lines each;
+  whole = sym same ∙ line_parts line (text_of_lines lines) rest;
+}))
 compared (line ∷ lines) rest (other ∷ others) after each all same =
-    let cut : line ++ line_feed ∷ (text_of_lines lines ++ rest) ≡ other ++ line_feed ∷ (text_of_lines others ++ after) =
-    sym (line_parts line (text_of_lines lines) rest) ∙ same ∙ line_parts other (text_of_lines others) after
-    in
-    let lack : lacks line_feed line ≡ true = lacks-line line (All-head IsOneLine line lines each) in
-    let lacking : lacks line_feed other ≡ true = lacks-line other (All-head IsOneLine other others all) in
-    let first : line ≡ other =
-    sym (front-field line_feed line (text_of_lines lines ++ rest) lack) ∙ ap (front line_feed) cut
-    ∙ front-field line_feed other (text_of_lines others ++ after) lacking
-    in
-    let later : text_of_lines lines ++ rest ≡ text_of_lines others ++ after =
-    sym (back-field line_feed line (text_of_lines lines ++ rest) lack) ∙ ap (back line_feed) cut
-    ∙ back-field line_feed other (text_of_lines others ++ after) lacking
-    in
+    let cut = rw (line_parts line (text_of_lines lines) rest, line_parts other (text_of_lines others) after) at same in
+    let lack = lacks-line line (All-head IsOneLine line lines each) in
+    let lacking = lacks-line other (All-head IsOneLine other others all) in
+    let first =
+    rw (front-field line_feed line _ lack, front-field line_feed other _ lacking) at (ap (front line_feed) cut) in
+    let later =
+    rw (back-field line_feed line _ lack, back-field line_feed other _ lacking) at (ap (back line_feed) cut) in
     rw first (compared_more other lines rest others after
     (compared lines rest others after (All-tail IsOneLine line lines each) (All-tail IsOneLine other others all) later))
 
@@ -79,16 +71,14 @@ begun_front :
     (IsText : List ℕ → Type 0) (lines : List (List ℕ)) (this : List ℕ) (more : List (List ℕ)) →
     AreBegun IsText (lines ++ this ∷ more) → AreBegun IsText (lines ++ this ∷ [])
 begun_front IsText lines this more begun =
-    let parts : text_of_lines (lines ++ this ∷ more) ≡ text_of_lines (lines ++ this ∷ []) ++ text_of_lines more =
-    ap text_of_lines (sym (append_assoc lines (this ∷ []) more))
-    ∙ flat_map-append (λ line. line ++ line_feed ∷ []) (lines ++ this ∷ []) more
-    in
-    let text = rw (
-      parts,
-      append_assoc (text_of_lines (lines ++ this ∷ []))
-          (text_of_lines more) begun.later,
-    ) at begun.text in
-    record { later = text_of_lines more ++ begun.later; text = text }
+    record {
+      later = text_of_lines more ++ begun.later;
+      text = rw (
+        ← append_assoc lines (this ∷ []) more,
+        flat_map-append,
+        append_assoc (text_of_lines (lines ++ this ∷ [])) (text_of_lines more) begun.later,
+      ) at begun.text;
+    }
 
 not_longer :
     (IsText : List ℕ → Type 0) (bytes : List ℕ) (line place : ℕ) (one : LeavesAt IsText bytes line)

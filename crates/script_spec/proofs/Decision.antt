@@ -1,8 +1,7 @@
 -- What a text says is found line by line: the items of a script, or the first bad line and the least reason.
 use Rattle.board_prelude.proofs.Common.{nat_tests, digits, lt-ltb, le-ltb, bytes_eq-Decides}
 use Rattle.std.proofs.Common.{ℕ, ◌≡◌, ◌⊎◌, ◌+◌, false, Option, Some, None, Result, Ok, Err, List, [], ◌∷◌, ◌++◌, length}
-use Rattle.std.proofs.Common.{refl, sym, ap, ◌∙◌, inl, inr, append-nil, arith, ◌<◌, nat_lt, if◌then◌else◌, bytes_eq}
-use Rattle.std.proofs.Common.{◌≤◌}
+use Rattle.std.proofs.Common.{refl, ap, ◌∙◌, inl, inr, append-nil, arith, nat_lt, if◌then◌else◌, bytes_eq, ◌≤◌}
 use Rattle.script_spec.specs.Common.{lines_of, Item, HasForm, parse_line, lacks_setup, least_reason, most_bytes}
 use Rattle.script_spec.specs.Common.{is_skipped, IsBadLine, AreRead, EndsBadly, IsVersion, first_line, BeginsBadly}
 use Rattle.script_spec.specs.Common.{IsBadLater, Script, IsScriptText}
@@ -136,10 +135,6 @@ judged_is lines = grind (arith, nat_tests, not_nil, version_is, bytes_eq-Decides
 
 -- ---- what holds is decided so
 
-long_line : (version : ℕ) (before : List Item) (line : List ℕ) → most_bytes < length line →
-    judged_line version before line ≡ Err 2
-long_line version before line long = rw (lt-ltb most_bytes (length line) long) refl
-
 read_so : (version : ℕ) (before : List Item) (line : List ℕ) → length line ≤ most_bytes → is_skipped line ≡ false →
     judged_line version before line ≡ judged_form before (parse_line version line)
 read_so version before line short read = rw (le-ltb most_bytes (length line) short, read) refl
@@ -159,19 +154,18 @@ line_decided : (version : ℕ) (before items : List Item) (line : List ℕ) → 
     judged_line version before line ≡ Ok items
 line_decided version before items line (inl skipped) = grind (arith, nat_tests)
 line_decided version before items line (inr one) =
-    item_so version before line one.0 one.1.short one.1.read one.1.has
-    ∙ ap (judged_item before one.0) one.1.none ∙ ap (λ is. Ok is) (sym one.2)
+    rw (item_so version before line one.0 one.1.short one.1.read one.1.has, one.1.none, one.2) refl
 
 bad_line : (version : ℕ) (before : List Item) (line : List ℕ) (why : ℕ) → IsBadLine version before line why →
     judged_line version before line ≡ Err why
-bad_line version before line why (inl long) = long_line version before line long.0 ∙ ap (λ w. Err w) (sym long.1)
-bad_line version before line why (inr (inl none)) =
-    read_so version before line none.0.short none.0.read
-    ∙ ap (judged_form before) (no_form version line (parse_line version line) refl none.0.none)
-    ∙ ap (λ w. Err w) (sym none.1)
+bad_line version before line why (inl long) = rw (lt-ltb most_bytes (length line) long.0, long.1) refl
+bad_line version before line why (inr (inl none)) = rw (
+  read_so version before line none.0.short none.0.read,
+  no_form version line (parse_line version line) refl none.0.none,
+  none.1,
+) refl
 bad_line version before line why (inr (inr refused)) =
-    item_so version before line refused.item refused.short refused.read refused.has
-    ∙ ap (judged_item before refused.item) refused.least
+    rw (item_so version before line refused.item refused.short refused.read refused.has, refused.least) refl
 
 -- a line that is read first
 first_read : (version : ℕ) (line : List ℕ) (later : List (List ℕ)) (before items : List Item) →
@@ -208,10 +202,8 @@ pub text_decided : (bytes : List ℕ) (script : Script) → (text : IsScriptText
     judged (lines_of bytes) ≡ Ok (script.version, text.items)
 unfolding judged_lines
 text_decided bytes script text =
-    let whole : judged_lines script.version [] 2 text.later ≡ Ok text.items =
-    ap (judged_lines script.version [] 2) (sym (append-nil text.later))
-    ∙ front_decided script.version 2 text.later [] [] text.items text.read ∙ rw text.whole refl
-    in
+    let front = front_decided script.version 2 text.later [] [] text.items text.read in
+    let whole = rw (append-nil text.later, text.whole) at front in
     ap judged text.lines ∙ first_decided script.version text.later text.version
     ∙ ap (with_version script.version) whole
 

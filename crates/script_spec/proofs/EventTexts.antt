@@ -47,11 +47,8 @@ access_read : (version : ℕ) (kind : Kind) (bytes addr value : ℕ) (smm : Bool
     → IsSize version bytes → addr < 2 ^ 32 → FitsBytes (is_write kind) bytes value
     → Reads fields (access_words kind bytes addr value smm)
     → IsRead version fields (memory_event version kind bytes addr value smm)
-access_read version kind bytes addr value smm fields size small fits reads = (
-  rw (access_is version kind bytes addr value smm size) reads,
-  access_form version kind bytes addr value smm size
-      small fits,
-)
+access_read version kind bytes addr value smm fields size small fits reads =
+    grind (arith, nat_tests, access_is, access_form)
 
 pub read_read : (version : ℕ) (kind : Kind) (words : List (List ℕ)) (event : Event) → is_write kind ≡ false
     → parse_read version kind words ≡ Some event → IsRead version (kind_text kind ∷ words) event

@@ -1,4 +1,5 @@
 -- The worked texts of scripts, decided by computation.
+use Rattle.board_prelude.proofs.Common.{nat_tests}
 use Rattle.std.proofs.Common.{ℕ, ◌≡◌, ◌<◌, Bool, true, false, List, [], ◌∷◌, map, All, Result, Ok, Err, refl, arith}
 use Rattle.std.proofs.Common.{subst}
 use Rattle.board_prelude.proofs.Common.{digits, false≢true, All-nil, All-cons, weekday_of, days_since_1980}
@@ -76,15 +77,7 @@ version_in (Err end) = 0
 judged_so : (bytes : List ℕ) (script : Script) (result : Judged) → AreJudged (lines_of bytes) result →
     is_good result ≡ true → version_in result ≡ script.version → IsSaidBy script (items_in result)
     → IsScriptText bytes script
-judged_so bytes script (Ok found) good e same said = record {
-  version = rw (← same) good.known;
-  later = good.later;
-  lines = rw (← same) good.cut;
-  items = found.1;
-  read = rw (← same) good.read;
-  whole = good.whole;
-  said = said;
-}
+judged_so bytes script (Ok found) good e same said = grind (arith, nat_tests)
 judged_so bytes script (Err end) bad e same said = absurd (false≢true e)
 
 says : (bytes : List ℕ) (script : Script) → is_good (judge bytes) ≡ true → version_in (judge bytes) ≡ script.version →

@@ -1,7 +1,6 @@
 -- What holds of items that were read.
-use Rattle.board_prelude.proofs.Common.{nat_tests, option_map, find, not-false, cases_Bool, none-some}
-use Rattle.std.proofs.Common.{arith, ℕ, ◌≡◌, Bool, true, false, ◌&&◌, Some, None, List, [], ◌∷◌, ap, inl, inr}
-use Rattle.std.proofs.Common.{unwrap_or}
+use Rattle.board_prelude.proofs.Common.{nat_tests, option_map, find, not-false, none-some}
+use Rattle.std.proofs.Common.{arith, ℕ, ◌≡◌, Bool, true, false, ◌&&◌, Some, None, List, [], ◌∷◌, inl, inr}
 use Rattle.script_spec.specs.Common.{Item, IsForm, Reason, reasons, is_phase, is_misplaced, is_repeated, lacks_setup}
 use Rattle.script_spec.specs.Common.{is_in_range, is_placed, is_there, passes_limits, least_reason, AreRead}
 
@@ -26,16 +25,7 @@ none_holds (r ∷ later) none = grind (arith, nat_tests, none_holds later)
 pub no_reason : (before : List Item) (item : Item) → least_reason before item ≡ None → NoReason before item
 unfolding least_reason
 no_reason before item none =
-    let fails = none_holds (reasons before item) none in
-    record {
-      place = fails.0;
-      first = fails.1.0;
-      begun = fails.1.1.0;
-      range = not-false (is_in_range item) fails.1.1.1.0;
-      aligned = not-false (is_placed item) fails.1.1.1.1.0;
-      there = not-false (is_there before item) fails.1.1.1.1.1.0;
-      limits = fails.1.1.1.1.1.1.0;
-    }
+    let fails = none_holds (reasons before item) none in grind (arith, nat_tests, not-false)
 
 -- each item has a form, and there was no reason to refuse it
 abbrev pub AreGood : (version : ℕ) → List Item → Type 0
@@ -57,12 +47,4 @@ pub found_good :
     IsForm version item × (is_in_range item ≡ true)
 found_good version [] test item good found = absurd (none-some item found)
 found_good version (first ∷ before) test item good found =
-    elim (cases_Bool (test first)) [
-      | inl passes ↦
-          let here = rw passes at found in
-          let same : first ≡ item = ap (λ o. unwrap_or o first) here in
-          (rw (← same) good.0, rw (← same) good.1.range)
-      | inr fails ↦
-          let later = rw fails at found in
-          found_good version before test item good.2 later
-    ]
+    grind (arith, nat_tests, found_good version before test item good.2)

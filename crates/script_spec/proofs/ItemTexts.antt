@@ -160,9 +160,7 @@ key_read : {X : Type 0} (version : ℕ) (key : List ℕ) (words : List (List ℕ
     → ((x : X) → found ≡ Some x → (words ≡ texts x) × IsGood x)
     → ((x : X) → IsGood x → IsSaid version (key ∷ texts x) (make x))
     → option_map make found ≡ Some item → IsSaid version (key ∷ words) item
-key_read version key words found make item IsGood texts read has =
-    made_item (IsSaid version (key ∷ words)) found make item
-    (λ x e. let is = read x e in rw is.0 (has x is.1))
+key_read version key words found make item IsGood texts read has = grind (arith, nat_tests)
 
 with_read : (version : ℕ) (key : List ℕ) (words : List (List ℕ)) (item : Item)
     → parse_by_key version key words ≡ Some item → IsSaid version (key ∷ words) item

@@ -59,13 +59,11 @@ nothing_more (c ∷ cs) after e = not_nil c (cs ++ line_feed ∷ after) e
 -- whole lines say where they are cut
 same_lines : (lines others : List (List ℕ)) → All IsOneLine lines → All IsOneLine others →
     text_of_lines lines ≡ text_of_lines others → lines ≡ others
-same_lines lines others each all same =
-    elim (compared lines [] others [] each all (append-nil (text_of_lines lines) ∙ same
-    ∙ sym (append-nil (text_of_lines others)))) [
-      | inl is ↦ is
-      | inr (inl on) ↦ absurd (nothing_more on.this (text_of_lines on.more ++ []) on.whole)
-      | inr (inr on) ↦ absurd (nothing_more on.this (text_of_lines on.more ++ []) on.whole)
-    ]
+same_lines lines others each all same = elim (compared lines [] others [] each all (rw (append-nil, append-nil) same)) [
+  | inl is ↦ is
+  | inr (inl on) ↦ absurd (nothing_more on.this _ on.whole)
+  | inr (inr on) ↦ absurd (nothing_more on.this _ on.whole)
+]
 
 -- the entry of a line that has one
 abbrev from_some : Option Entry → Entry
@@ -81,27 +79,22 @@ entry_is version n entry formed = ap from_some (entry_read version n entry forme
 history_read : (version : ℕ) (history : List Entry) → All (IsWellFormed version) history →
     map (entry_of version) (log_lines history) ≡ reverse history
 history_read version [] each = refl
-history_read version (entry ∷ before) each =
-    let line : List ℕ = line_text (length before + 1) entry in
-    map-append (entry_of version) (log_lines before) (line ∷ [])
-    ∙ ap (λ (entries : List Entry). entries ++ entry_of version line ∷ [])
-    (history_read version before (All-tail (IsWellFormed version) entry before each))
-    ∙ ap (λ (e : Entry). reverse before ++ e ∷ [])
-    (entry_is version (length before + 1) entry (All-head (IsWellFormed version) entry before each))
-    ∙ sym (reverse-append (entry ∷ []) before)
+history_read version (entry ∷ before) each = simp (
+  map-append,
+  reverse-append (entry ∷ []) before,
+  history_read version before (All-tail (IsWellFormed version) entry before each),
+  entry_is version (length before + 1) entry (All-head (IsWellFormed version) entry before each),
+)
 
 same_history : (version : ℕ) (left right : List Entry) → All (IsWellFormed version) left →
     All (IsWellFormed version) right →
     lines_text left ≡ lines_text right → left ≡ right
 same_history version left right one two same =
-    let lines : log_lines left ≡ log_lines right =
-    same_lines (log_lines left) (log_lines right) (lines_whole left) (lines_whole right)
-    (sym (lines_joined left) ∙ same ∙ lines_joined right)
-    in
-    sym (reverse-reverse left)
-    ∙ ap reverse (sym (history_read version left one) ∙ ap (map (entry_of version)) lines
-    ∙ history_read version right two)
-    ∙ reverse-reverse right
+    let lines = same_lines (log_lines left) (log_lines right) (lines_whole left) (lines_whole right)
+    (sym (lines_joined left) ∙ same ∙ lines_joined right) in
+    let read = sym (history_read version left one) ∙ ap (map (entry_of version)) lines
+    ∙ history_read version right two in
+    sym (reverse-reverse left) ∙ ap reverse read ∙ reverse-reverse right
 
 versions_differ : (left right : List Entry) → log_text 1 left ≡ log_text 2 right → ⊥
 unfolding digits
@@ -124,8 +117,7 @@ same_rest version left right given same = grind (arith, nat_tests)
 
 pub log_says_all : LogSaysAll
 log_says_all bytes version other left right one two =
-    let texts : log_text version left ≡ log_text other right = sym one.text ∙ two.text in
-    let same : version ≡ other = same_version version other left right one.known two.known texts in
-    let each = rw same at one.each in
+    let texts = sym one.text ∙ two.text in
+    let same = same_version version other left right one.known two.known texts in
     let whole = rw same at texts in
-    (same, same_history other left right each two.each (same_rest other left right two.known whole))
+    (same, same_history other left right (rw same at one.each) two.each (same_rest other left right two.known whole))

@@ -1,11 +1,10 @@
 -- A line of the log is taken apart, and its entry is read from it.
+use Rattle.script_spec.specs.Common.{but_last, Item, Ask, HasForm, item_text, IsWellFormed, fields_of, ◌>>=◌, ask}
+use Rattle.script_spec.specs.Common.{parse_line, parse_spaced_reply, Pieces, parse_pieces, parse_actor}
 use Rattle.board_prelude.proofs.Common.{nat_tests, lt-ltb, common_steps, Event, Statement, Entry, space, event_text}
 use Rattle.board_prelude.proofs.Common.{value_bytes, reply_text, line_text}
-use Rattle.std.proofs.Common.{◌≡◌, ℕ, ◌<◌, true, Option, Some, None, List, [], ◌∷◌, ◌++◌, refl, ap, ◌∙◌, inl, inr}
-use Rattle.std.proofs.Common.{append_assoc, arith, codes, decimal}
-use Rattle.script_spec.specs.Common.{Item, Ask, HasForm, item_text, IsWellFormed, fields_of, ◌>>=◌, ask, parse_line}
-use Rattle.script_spec.specs.Common.{cut, parse_spaced_reply, Pieces, parse_pieces, parse_actor}
-use Rattle.script_spec.proofs.Digits.{lacks}
+use Rattle.std.proofs.Common.{◌≡◌, ℕ, ◌<◌, Option, Some, None, List, [], ◌∷◌, ◌++◌, refl, inl, inr, append_assoc, arith}
+use Rattle.std.proofs.Common.{codes, decimal}
 use Rattle.script_spec.proofs.Fields.{lacks-append, lacks-decimal}
 use Rattle.script_spec.proofs.PlainText.{lacks-word, lacks-plain, decimal_word}
 use Rattle.script_spec.proofs.PlainLines.{event_plain}
@@ -32,11 +31,8 @@ pieces entry = record {
   replied = replied_text entry;
 }
 
-pieces_said : (line number rest actor later asked replied : List ℕ) → cut space line ≡ Some (number, rest)
-    → cut 0x2E rest ≡ Some (actor, later) → cut 0x3D later ≡ Some (asked ++ space ∷ [], replied)
-    → parse_pieces line ≡ Some (record { actor = actor; asked = asked; replied = replied })
-unfolding parse_pieces
-pieces_said line number rest actor later asked replied one two three = grind (arith, nat_tests, common_steps)
+but_last_push : (xs : List ℕ) (c : ℕ) → but_last (xs ++ c ∷ []) ≡ xs
+but_last_push xs c = grind (arith, common_steps)
 
 -- what stands after the point, cut before its `=`
 later_parts : (seq event reply : List ℕ)
@@ -45,28 +41,27 @@ later_parts seq event reply = simp append_assoc
 
 pub line_pieces : (version n : ℕ) (entry : Entry) → IsWellFormed version entry
     → parse_pieces (line_text n entry) ≡ Some (pieces entry)
-unfolding line_text
+unfolding line_text parse_pieces
 line_pieces version n entry formed =
     let event : List ℕ = event_text entry.event in
     let reply : List ℕ = reply_text (value_bytes entry.event) entry.reply in
     let asked : List ℕ = asked_text entry.seq entry.event in
     let later : List ℕ = decimal entry.seq ++ (space ∷ event ++ (codes " = " ++ reply)) in
     let rest : List ℕ = decimal entry.actor ++ 0x2E ∷ later in
-    let lack : lacks 0x3D (asked ++ space ∷ []) ≡ true =
-    lacks-append 0x3D asked (space ∷ [])
+    let lack = lacks-append 0x3D asked (space ∷ [])
     (lacks-append 0x3D (decimal entry.seq) (space ∷ event) (lacks-decimal 0x3D entry.seq (inr (omega arith)) formed.seq)
     (lacks-plain 0x3D event refl (event_plain entry.event)))
-    refl
-    in
-    ap parse_pieces
-    (seven_parts (decimal n) (space ∷ decimal entry.actor) (codes ".") (decimal entry.seq) (space ∷ event)
-    (codes " = ") reply)
-    ∙ pieces_said (decimal n ++ space ∷ rest) (decimal n) rest (decimal entry.actor) later asked (space ∷ reply)
-    (cut_field space (decimal n) rest (lacks-word space (decimal n) refl (decimal_word n)))
-    (cut_field 0x2E (decimal entry.actor) later (lacks-decimal 0x2E entry.actor (inl (omega arith))
-    (omega (arith, formed.actor))))
-    (ap (cut 0x3D) (later_parts (decimal entry.seq) event reply) ∙ cut_field 0x3D (asked ++ space ∷ [])
-    (space ∷ reply) lack)
+    refl in
+    rw (
+      seven_parts (decimal n) (space ∷ decimal entry.actor) (codes ".") (decimal entry.seq) (space ∷ event)
+          (codes " = ") reply,
+      cut_field space (decimal n) rest (lacks-word space (decimal n) refl (decimal_word n)),
+      cut_field 0x2E (decimal entry.actor) later
+          (lacks-decimal 0x2E entry.actor (inl (omega arith)) (omega (arith, formed.actor))),
+      later_parts (decimal entry.seq) event reply,
+      cut_field 0x3D (asked ++ space ∷ []) (space ∷ reply) lack,
+      but_last_push asked space,
+    ) refl
 
 pub actor_said : (actor : ℕ) → actor < 0x100 → parse_actor (decimal actor) ≡ Some actor
 unfolding parse_actor
@@ -92,18 +87,12 @@ entry_in version line = do
   reply ← parse_spaced_reply asked.event (fields_of pieces.replied)
   Some (record { actor = actor; seq = asked.actor; event = asked.event; reply = reply })
 
-entry_said : (version : ℕ) (entry : Entry) (line : List ℕ) → parse_pieces line ≡ Some (pieces entry)
-    → parse_actor (decimal entry.actor) ≡ Some entry.actor
-    → parse_line version (asked_text entry.seq entry.event) ≡ Some (ask entry.seq entry.event)
-    → parse_spaced_reply entry.event (fields_of (replied_text entry)) ≡ Some entry.reply
-    → entry_in version line ≡ Some entry
-unfolding entry_in
-entry_said version entry line one two three four = rw (one, two, three, four) refl
-
 pub entry_read : (version n : ℕ) (entry : Entry) → IsWellFormed version entry
     → entry_in version (line_text n entry) ≡ Some entry
-entry_read version n entry formed =
-    entry_said version entry (line_text n entry) (line_pieces version n entry formed)
-    (actor_said entry.actor formed.actor)
-    (line_back version (asked_text entry.seq entry.event) (ask entry.seq entry.event) (asked_said version entry formed))
-    (reply_read entry.event entry.reply formed.shape)
+unfolding entry_in
+entry_read version n entry formed = rw (
+  line_pieces version n entry formed,
+  actor_said entry.actor formed.actor,
+  line_back version (asked_text entry.seq entry.event) (ask entry.seq entry.event) (asked_said version entry formed),
+  reply_read entry.event entry.reply formed.shape,
+) refl

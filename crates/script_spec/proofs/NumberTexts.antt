@@ -1,7 +1,8 @@
 -- The numbers that were read are those whose text a field is.
+use Rattle.script_spec.proofs.Chains.{then_read, some_is, guarded}
 use Rattle.std.proofs.Common.{Bool, true, ◌≡◌, ℕ, zero, suc, ◌+◌, ◌*◌, ◌/◌, ◌%◌, ◌^◌, ◌<◌, ◌≤◌, false, not, eqb, leb}
-use Rattle.std.proofs.Common.{◌&&◌, Some, List, [], ◌∷◌, length, get_or, refl, sym, ap, subst, ◌∙◌, arith, pow-suc}
-use Rattle.std.proofs.Common.{lit<, decimal}
+use Rattle.std.proofs.Common.{◌&&◌, Some, List, [], ◌∷◌, length, get_or, refl, sym, ap, ◌∙◌, arith, pow-suc, lit<}
+use Rattle.std.proofs.Common.{decimal}
 use Rattle.board_prelude.proofs.Common.{nat_tests, AllZip, AllDigits, digits_value, leb-true, eqb-true}
 use Rattle.board_prelude.proofs.Common.{pow-le-pow_right, byte, hex_digit, hex_number}
 use Rattle.std.specs.Char.{digit_value as value_of_digit}
@@ -13,7 +14,6 @@ use Rattle.board_spec.proofs.PartLawProofs.{some_power}
 use Rattle.script_spec.specs.Common.{IsDecimal, StandsFor, parse_digit, number_after, parse_digits, parse_hex}
 use Rattle.script_spec.specs.Common.{has_leading_zero, parse_decimal}
 use Rattle.script_spec.proofs.Digits.{own}
-use Rattle.script_spec.proofs.Chains.{some_is, guarded, then_said}
 
 -- ---- one digit
 
@@ -27,10 +27,9 @@ digits : (high n : ℕ) (ds : List ℕ) → number_after 10 high ds ≡ Some n
 unfolding number_after
 digits high n [] e = (tt, some_is high n e)
 digits high n (c ∷ cs) e =
-    let s = then_said (parse_digit 10 c) (λ digit. number_after 10 (high * 10 + digit) cs) n e in
-    let t = ten c s.0 s.1 in
+    let s = then_read (parse_digit 10 c) _ n (ten c) e in
     let later = digits (high * 10 + s.0) n cs s.2 in
-    ((t.0, later.0), ap (λ (d : ℕ). digits_value_after 10 (high * 10 + d) cs) (sym t.1) ∙ later.1)
+    ((s.1.0, later.0), rw (← s.1.1) later.1)
 
 no_zero : (field : List ℕ) → has_leading_zero field ≡ false → 1 ≤ length field → get_or field 0 0 ≡ 48
     → length field ≡ 1
@@ -81,24 +80,20 @@ hex_digits : (k high n : ℕ) (field : List ℕ) → length field ≡ k + k → 
     → (n / 256 ^ k ≡ high) × AllZip StandsFor field (hex_number k n)
 unfolding number_after
 hex_digits zero high n [] long e = (let is = some_is high n e in omega (arith, is), tt)
-hex_digits zero high n (c ∷ cs) long e = absurd (omega (arith, long))
-hex_digits (suc k) high n [] long e = absurd (omega (arith, long))
-hex_digits (suc k) high n (c ∷ []) long e = absurd (omega (arith, long))
 hex_digits (suc k) high n (c ∷ d ∷ cs) long e =
-    let s = then_said (parse_digit 16 c) (λ digit. number_after 16 (high * 16 + digit) (d ∷ cs)) n e in
-    let t = then_said (parse_digit 16 d) (λ digit. number_after 16 ((high * 16 + s.0) * 16 + digit) cs) n s.2 in
+    let s = then_read (parse_digit 16 c) _ n (digit_stands c) e in
+    let t = then_read (parse_digit 16 d) _ n (digit_stands d) s.2 in
     let later = hex_digits k ((high * 16 + s.0) * 16 + t.0) n cs (omega (arith, long)) t.2 in
-    let first = digit_stands c s.0 s.1 in
-    let second = digit_stands d t.0 t.1 in
-    let parts = two_digits high s.0 t.0 (n / 256 ^ k) first.1 second.1 later.0 in
+    let parts = two_digits high s.0 t.0 (n / 256 ^ k) s.1.1 t.1.1 later.0 in
     let whole : n / 256 ^ suc k ≡ n / 256 ^ k / 256 =
     ap (λ (p : ℕ). n / p) (pow-suc 256 k) ∙ quotient n (256 ^ k) in (
       whole ∙ parts.0,
       (
-        subst (StandsFor c) (sym (digit_again (byte n k / 16) s.0 parts.1.0)) first.0,
-        (subst (StandsFor d) (sym (digit_again (byte n k) t.0 parts.1.1)) second.0, later.1),
+        rw (digit_again (byte n k / 16) s.0 parts.1.0) s.1.0,
+        (rw (digit_again (byte n k) t.0 parts.1.1) t.1.0, later.1),
       ),
     )
+hex_digits _ high n field long e = absurd (omega (arith, long))
 
 pub hex_read : (k : ℕ) (field : List ℕ) (n : ℕ) → parse_hex (2 * k) field ≡ Some n
     → AllZip StandsFor field (hex_number k n) × (n < 256 ^ k)

@@ -74,9 +74,7 @@ value_back writes bytes value fits = grind (arith, nat_tests, hex_read)
 bus_back : (writes : Bool) (bytes : ℕ) (reply : Reply) → IsBusReply writes bytes reply
     → parse_bus_reply writes bytes (words_in bytes reply) ≡ Some reply
 unfolding parse_bus_reply bus_reply
-bus_back writes bytes (Bus value target denial) fits =
-    rw (value_back writes bytes value fits.0, target_back target fits.1, denial_back denial fits.2) refl
-bus_back writes bytes _ fits = absurd fits
+bus_back writes bytes reply fits = grind (arith, nat_tests, value_back, target_back, denial_back)
 
 part_back : (part : Part) → FitsPart part → parse_part (target_text part.target) (denial_text part.denial) ≡ Some part
 unfolding parse_part
@@ -113,12 +111,7 @@ wide_back : (access : WideAccess) (reply : Reply) → IsWideReply (is_write acce
     (length (parts_of access)) reply
     → parse_wide_reply access (words_in access.bytes reply) ≡ Some reply
 unfolding parse_wide_reply
-wide_back access (InParts parts value) fits = rw (
-  value_back (is_write access.kind) access.bytes value fits.0,
-  parts_back parts fits.1,
-  eq-eqb (length (parts_list parts)) _ (fits.2 ∙ counted access 4 access.addr access.bytes),
-) refl
-wide_back access _ fits = absurd fits
+wide_back access reply fits = grind (arith, nat_tests, value_back, parts_back, eq-eqb, counted)
 
 look_back : (bytes : ℕ) (reply : Reply) → IsLookReply reply → parse_look_reply (words_in bytes reply) ≡ Some reply
 unfolding parse_look_reply look_reply

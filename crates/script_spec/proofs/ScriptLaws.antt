@@ -1,8 +1,8 @@
 -- A text says at most one script.
 use Rattle.board_prelude.proofs.Common.{nat_tests, option_map, IsPermutation, All-head, All-tail, All-nil}
 use Rattle.board_prelude.proofs.Common.{All-permutation, IsPermutation-sym, Statement, FittedCard, Rises}
-use Rattle.std.proofs.Common.{ℕ, ◌≡◌, ◌<◌, ◌⊎◌, Option, Some, None, Result, Ok, List, [], ◌∷◌, ◌++◌, get_or, map, All}
-use Rattle.std.proofs.Common.{refl, sym, ap, ◌∙◌, inl, inr, append-nil, arith}
+use Rattle.std.proofs.Common.{ℕ, ◌≡◌, ◌<◌, ◌⊎◌, Option, Some, None, Result, Ok, List, [], ◌∷◌, ◌++◌, map, All, refl}
+use Rattle.std.proofs.Common.{sym, ap, ◌∙◌, inl, inr, append-nil, arith}
 use Rattle.script_spec.specs.Common.{Item, SetCpus, SetMemory, SetRom, SetDisk, BeginPhase, Ask, cards_of, Script}
 use Rattle.script_spec.specs.Common.{phase_items, IsSaidBy, OneScript}
 use Rattle.script_spec.proofs.Decision.{text_decided}
@@ -26,13 +26,7 @@ in_all P (first ∷ later) card all (inr is) = in_all P later card (All-tail P f
 -- cards above the first of a list are among those after it
 none_first : (x y : FittedCard) (xs ys : List FittedCard) → x ≡ y → All (λ other. x.dev < other.dev) xs
     → All (In (y ∷ ys)) xs → All (In ys) xs
-none_first x y xs ys same above all k d below = elim (all k d below) [
-  | inl is ↦
-      let up : x.dev < (get_or xs k d).dev = above k d below in
-      let equal : (get_or xs k d).dev ≡ x.dev = ap (λ card. card.dev) (is ∙ sym same) in
-      absurd (omega (arith, up, equal))
-  | inr after ↦ after
-]
+none_first x y xs ys same above all k d below = grind (arith, nat_tests)
 
 -- two lists that rise and have the same cards are one
 rising_same : (left right : List FittedCard) → Rises left → Rises right → All (In right) left →

@@ -81,11 +81,7 @@ look_joined k h smm = grind (arith, nat_tests, append-nil, append_assoc)
 
 pub event_joined : (event : Event) → join_with_byte space (event_words event) ≡ event_text event
 unfolding event_text
-event_joined (Memory access) = access_joined _ _ _ _ _ _ _
-event_joined (Wide access) = access_joined _ _ _ _ _ _ _
-event_joined (Port access) = port_joined _ _ _ _ _ _
-event_joined (LookAt kind addr smm) = look_joined _ _ _
-event_joined event = grind (arith, nat_tests)
+event_joined event = grind (arith, nat_tests, access_joined, port_joined, look_joined)
 
 -- ---- no space stands in them
 

@@ -1,5 +1,5 @@
-use Rattle.std.proofs.Common.{◌≡◌, ℕ, ◌∙◌, true, sym, ap, subst}
-use Rattle.board_prelude.proofs.Common.{IsCard, is_map_byte, card_register}
+use Rattle.std.proofs.Common.{sym}
+use Rattle.board_prelude.proofs.Common.{IsCard}
 use Rattle.pci_bars.specs.Cards.{DecodesAs}
 use Rattle.pci_bars.proofs.CardListLemmas.{found}
 use Rattle.addr_decode.proofs.change.byte_of.Goals as goal
@@ -14,10 +14,7 @@ read-requires c = record {
 pub returns-in-Some : goal.returns-in-Some
 returns-in-Some c = record {
   byte = λ setup bytes are is above.
-      let it : DecodesAs setup bytes c.in-Some.card.now × (c.in-Some.card.now.card.dev ≡ c.args.dev) =
-      found (DecodesAs setup bytes) c.args.cards.now c.args.dev c.in-Some.card.now are.1
-      (sym c.in-Some.ensures.found) in
-      c.read.ensures.decoded setup bytes it.0
-      (subst (λ (dev : ℕ). is_map_byte setup (card_register dev c.args.off) ≡ true) (sym it.1) is)
-      ∙ ap (λ (dev : ℕ). bytes (card_register dev c.args.off)) it.1;
+      let it =
+      found (DecodesAs setup bytes) c.args.cards.now c.args.dev _ are.1 (sym c.in-Some.ensures.found) in
+      rw (← it.1) (c.read.ensures.decoded setup bytes it.0 (rw (← it.1) at is));
 }

@@ -1,6 +1,5 @@
 use Rattle.std.proofs.Common.{sym, subst, ◌∙◌}
-use Rattle.board_prelude.proofs.Common.{Event, IsAnswer, IsInRange}
-use Rattle.board_chipset.specs.Common.{reply_of}
+use Rattle.board_prelude.proofs.Common.{IsInRange}
 use Rattle.board_chipset.proofs.OutsideSteps.{outside_done, applied_is, applied_answer, level_number}
 use Rattle.board_chipset.proofs.StateSteps.{sound_devices}
 use Rattle.board_chipset.proofs.outside.answer.Goals as goal
@@ -30,14 +29,6 @@ returns-in-Some-clause-board c = λ setup history entry kept event.
     outside_done (event ∙ is) (applied_answer setup history said.stimulus said.number said.on).0 kept
     (λ asks routes. c.apply.ensures.devices setup history entry kept.devices asks
     kept.registers.kept.south.routes routes)
-
-pub returns-in-Some-clause-answer : goal.returns-in-Some-clause-answer
-returns-in-Some-clause-answer c = λ setup history kept.
-    let said = c.in-Some.said in
-    let is = applied_is c.args.event.now said (sym c.in-Some.ensures.applied) in
-    let answer = applied_answer setup history said.stimulus said.number said.on in
-    subst (λ (event : Event). IsAnswer setup history event (reply_of c.answered-in-Some.result)) (sym is)
-    (rw (c.answered-in-Some.ensures.reply, c.answers.ensures.answers) answer.1)
 
 pub returns-in-Ack-clause-sound : goal.returns-in-Ack-clause-sound
 returns-in-Ack-clause-sound c = λ setup sound. sound_devices sound c.acknowledge-vector.ensures.fitted

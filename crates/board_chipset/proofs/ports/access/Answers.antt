@@ -1,99 +1,65 @@
-use Rattle.std.proofs.Common.{◌≡◌, Bool, ap, List, ℕ}
-use Rattle.board_prelude.proofs.Common.{PortAccess, IsBusAccess, port_target_of}
-use Rattle.board_spec.specs.Ports.{Decoded}
+use Rattle.std.proofs.Common.{◌≡◌, ap, List}
+use Rattle.board_prelude.proofs.Common.{Entry, Setup, Decoded}
 use Rattle.addr_decode.specs.declared.found.Found.{Found}
 use Rattle.addr_decode.specs.Found.{decoded_as}
-use Rattle.board_chipset.specs.declared.state.State.{State}
-use Rattle.board_chipset.specs.Kept.{IsState}
+use Rattle.board_chipset.specs.Common.{IsStateOf, reached}
 use Rattle.board_chipset.specs.Ports.{Reaching}
+use Rattle.board_chipset.proofs.ports.access.Goals.{After-find_port}
 use Rattle.board_chipset.proofs.ports.access.Goals as goal
 
--- a sound state, and what was found at the port
-reaching :
-    {state : State} {rom : List ℕ} {found shown : Found} (access : PortAccess) (kept : IsState state rom)
-    (disk : Bool) → IsBusAccess access.write access.port access.width access.value →
-    decoded_as found
-    ≡ port_target_of kept.setup kept.sound.registers.bytes state.registers.address disk access.port access.width →
-    found ≡ shown → Reaching state access (decoded_as shown).target
-reaching {rom = rom} access kept disk bus stands is = record {
-  rom = rom;
-  kept = kept;
-  bus = bus;
-  disk = disk;
-  target_is = ap (λ (d : Decoded). d.target) (rw is at stands);
-}
+-- what was found at the port
+module _ (c : After-find_port) {shown : Found} (is : c.find_port.result ≡ shown) where
+  reaching : Reaching c.args.state.now c.args.access.now (decoded_as shown).target
+  reaching =
+      let kept = c.requires.kept.1 in
+      let stands = c.find_port.ensures.stands kept.setup kept.sound.registers.bytes kept.sound.registers.kept in
+      record {
+        rom = c.requires.kept.0;
+        kept = kept;
+        bus = c.requires.bus;
+        disk = c.has_disk-disk.result;
+        target_is = ap (λ (d : Decoded). d.target) (rw is at stands);
+      }
+
+  decoded : (setup : Setup) (history : List Entry) → IsStateOf setup history c.args.state.now →
+      decoded_as shown ≡ reached setup history c.args.access.now
+  decoded setup history kept =
+      rw (c.has_disk-disk.ensures.fitted setup history kept.devices, is)
+      at (c.find_port.ensures.decoded setup history kept.registers)
 
 pub at_device-requires : goal.at_device-requires
-at_device-requires c =
-    let kept = c.requires.kept.1 in
-    let stands = c.find_port.ensures.stands kept.setup kept.sound.registers.bytes kept.sound.registers.kept in
-    record { reaching = reaching c.args.access.now kept c.has_disk-disk.result c.requires.bus stands c.in-Device.is }
-
-pub returns-in-Device-clause-answer : goal.returns-in-Device-clause-answer
-returns-in-Device-clause-answer c = λ setup history kept.
-    c.at_device.ensures.answer setup history kept
-    (rw (c.has_disk-disk.ensures.fitted setup history kept.devices, c.in-Device.is)
-    at (c.find_port.ensures.decoded setup history kept.registers))
+at_device-requires c = record { reaching = reaching (goal.at.at_device-requires c).After-find_port c.in-Device.is }
 
 pub returns-in-Device-clause-board : goal.returns-in-Device-clause-board
 returns-in-Device-clause-board c = λ setup history entry kept.
     c.at_device.ensures.board setup history entry kept
-    (rw (c.has_disk-disk.ensures.fitted setup history kept.devices, c.in-Device.is)
-    at (c.find_port.ensures.decoded setup history kept.registers))
+    (decoded (goal.at.returns-in-Device-clause-board c).After-find_port c.in-Device.is setup history kept)
 
 pub at_register-requires-clause-reaching : goal.at_register-requires-clause-reaching
 at_register-requires-clause-reaching c =
-    let kept = c.requires.kept.1 in
-    let stands = c.find_port.ensures.stands kept.setup kept.sound.registers.bytes kept.sound.registers.kept in
-    reaching c.args.access.now kept c.has_disk-disk.result c.requires.bus stands c.in-Register.is
-
-pub returns-in-Register-clause-answer : goal.returns-in-Register-clause-answer
-returns-in-Register-clause-answer c = λ setup history kept.
-    c.at_register.ensures.answer setup history kept
-    (rw (c.has_disk-disk.ensures.fitted setup history kept.devices, c.in-Register.is)
-    at (c.find_port.ensures.decoded setup history kept.registers))
+    reaching (goal.at.at_register-requires-clause-reaching c).After-find_port c.in-Register.is
 
 pub returns-in-Register-clause-board : goal.returns-in-Register-clause-board
 returns-in-Register-clause-board c = λ setup history entry kept.
     c.at_register.ensures.board setup history entry kept
-    (rw (c.has_disk-disk.ensures.fitted setup history kept.devices, c.in-Register.is)
-    at (c.find_port.ensures.decoded setup history kept.registers))
+    (decoded (goal.at.returns-in-Register-clause-board c).After-find_port c.in-Register.is setup history kept)
 
 pub at_card-requires-clause-reaching : goal.at_card-requires-clause-reaching
 at_card-requires-clause-reaching c =
-    let kept = c.requires.kept.1 in
-    let stands = c.find_port.ensures.stands kept.setup kept.sound.registers.bytes kept.sound.registers.kept in
-    reaching c.args.access.now kept c.has_disk-disk.result c.requires.bus stands c.in-Card.is
-
-pub returns-in-Card-clause-answer : goal.returns-in-Card-clause-answer
-returns-in-Card-clause-answer c = λ setup history kept.
-    c.at_card.ensures.answer setup history kept
-    (rw (c.has_disk-disk.ensures.fitted setup history kept.devices, c.in-Card.is)
-    at (c.find_port.ensures.decoded setup history kept.registers))
+    reaching (goal.at.at_card-requires-clause-reaching c).After-find_port c.in-Card.is
 
 pub returns-in-Card-clause-board : goal.returns-in-Card-clause-board
 returns-in-Card-clause-board c = λ setup history entry kept.
     c.at_card.ensures.board setup history entry kept
-    (rw (c.has_disk-disk.ensures.fitted setup history kept.devices, c.in-Card.is)
-    at (c.find_port.ensures.decoded setup history kept.registers))
+    (decoded (goal.at.returns-in-Card-clause-board c).After-find_port c.in-Card.is setup history kept)
 
 pub at_nobody-requires : goal.at_nobody-requires
-at_nobody-requires c =
-    let kept = c.requires.kept.1 in
-    let stands = c.find_port.ensures.stands kept.setup kept.sound.registers.bytes kept.sound.registers.kept in
-    record { reaching = reaching c.args.access.now kept c.has_disk-disk.result c.requires.bus stands c.in-Nobody.is }
-
-pub returns-in-Nobody-clause-answer : goal.returns-in-Nobody-clause-answer
-returns-in-Nobody-clause-answer c = λ setup history kept.
-    c.at_nobody.ensures.answer setup history kept
-    (rw (c.has_disk-disk.ensures.fitted setup history kept.devices, c.in-Nobody.is)
-    at (c.find_port.ensures.decoded setup history kept.registers))
+at_nobody-requires c = record { reaching = reaching (goal.at.at_nobody-requires c).After-find_port c.in-Nobody.is }
 
 pub returns-in-Nobody-clause-board : goal.returns-in-Nobody-clause-board
 returns-in-Nobody-clause-board c = λ setup history entry kept.
     c.at_nobody.ensures.board setup history entry kept
-    (rw (c.has_disk-disk.ensures.fitted setup history kept.devices, c.in-Nobody.is)
-    at (c.find_port.ensures.decoded setup history kept.registers))
+    (decoded (goal.at.returns-in-Nobody-clause-board c).After-find_port c.in-Nobody.is setup history kept)
 
 pub at_register-requires-clause-function : goal.at_register-requires-clause-function
 at_register-requires-clause-function c = rw c.in-Register.is at c.find_port.ensures.found

@@ -1,12 +1,9 @@
-use Rattle.std.proofs.Common.{ap, refl}
-use Rattle.board_spec.specs.Ports.{Decoded}
 use Rattle.board_chipset.proofs.PortSteps.{answer_is, entry_of}
 use Rattle.board_chipset.proofs.ports.at_device.Goals as goal
 
 pub returns-clause-answer : goal.returns-clause-answer
 returns-clause-answer c = λ setup history kept decoded.
-    answer_is setup history c.args.access.now _ _ decoded
-    (rw (c.device_value.ensures.value setup history kept (ap (λ (d : Decoded). d.target) decoded)) refl)
+    answer_is setup history c.args.access.now _ _ _ decoded (c.device_value.ensures.value setup history kept)
 
 pub returns-clause-board : goal.returns-clause-board
 returns-clause-board c = λ setup history entry kept decoded event replied.

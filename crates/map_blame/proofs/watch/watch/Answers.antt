@@ -1,23 +1,14 @@
-use Rattle.std.proofs.Common.{◌<◌, length, get_or, refl, ◌∙◌, arith, take, reverse}
-use Rattle.board_prelude.proofs.Common.{take_all, registers_after}
+use Rattle.board_prelude.proofs.Common.{nat_tests, take_all, registers_after}
+use Rattle.std.proofs.Common.{◌<◌, length, get_or, ◌∙◌, arith, take, reverse}
 use Rattle.map_blame.proofs.KeptLemmas.{no_change}
 use Rattle.map_blame.proofs.WatchLemmas.{taken_more, taken_count, after_change, holds_change}
 use Rattle.map_blame.proofs.watch.watch.Goals as goal
 
 pub loop-index-init : goal.loop-index-init
-loop-index-init c = record {
-  count = refl;
-  ranges = λ k d within. refl;
-  after = λ setup start. start;
-  watched = λ setup cards start all. all;
-}
+loop-index-init c = grind (arith, nat_tests)
 
 pub look_again-requires : goal.look_again-requires
-look_again-requires c = record {
-  ranges = λ k d within.
-      let known : k < length c.args.watched.now = omega (arith, within, c.loop-index.invariant.count) in
-      rw (c.loop-index.invariant.ranges k d known) (c.requires.ranges k d known);
-}
+look_again-requires c = grind (arith, nat_tests)
 
 pub loop-index-preserved : goal.loop-index-preserved
 loop-index-preserved c =

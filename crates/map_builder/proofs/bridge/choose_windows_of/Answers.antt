@@ -1,14 +1,10 @@
-use Rattle.std.proofs.Common.{sym, ◌∙◌, ap, [], ◌∷◌}
-use Rattle.map_ranges.specs.declared.range.Changed.{Changed}
-use Rattle.map_builder.specs.Sorted.{sorted}
+use Rattle.std.proofs.Common.{arith, sym}
+use Rattle.board_prelude.proofs.Common.{common_steps, nat_tests}
 use Rattle.map_builder.proofs.SortedLemmas.{one_sorted, singles_sorted}
 use Rattle.map_builder.proofs.bridge.choose_windows_of.Goals as goal
 
 pub returns-in-Pam-clause-others : goal.returns-in-Pam-clause-others
-returns-in-Pam-clause-others c =
-    rw (c.in-Pam.is, c.push.ensures.items, c.requires.none)
-    (λ other setup bytes. sym (one_sorted _) ∙ ap (λ (window : Changed). sorted (window ∷ []))
-    c.windows_of_pam.ensures.windows)
+returns-in-Pam-clause-others c = grind (arith, nat_tests, common_steps, one_sorted)
 
 pub returns-in-Single-clause-others : goal.returns-in-Single-clause-others
 returns-in-Single-clause-others c =

@@ -1,20 +1,11 @@
-use Rattle.std.proofs.Common.{List, length, ap, arith}
-use Rattle.board_prelude.proofs.Common.{length-take}
+use Rattle.board_prelude.proofs.Common.{common_steps, nat_tests, length-take}
+use Rattle.std.proofs.Common.{arith}
 use Rattle.addr_decode.specs.MapRegs.{map_bytes}
-use Rattle.map_ranges.specs.declared.range.Range.{Range}
 use Rattle.map_builder.proofs.RebuildLemmas.{built_to_interval}
 use Rattle.map_builder.proofs.build.cut_below.Goals as goal
 
 pub range_at-requires-clause-room : goal.range_at-requires-clause-room
-range_at-requires-clause-room g c =
-    omega (
-      arith,
-      c.requires.holds.within,
-      ap (λ (all : List Range). length all) c.requires.same,
-      ap (λ (all : List Range). length all) c.truncate-2.ensures.items,
-      length-take c.args.from c.args.ranges.now.items,
-      c.truncate-2.ensures.fits,
-    )
+range_at-requires-clause-room g c = grind (arith, nat_tests, common_steps, length-take)
 
 pub returns : goal.returns
 returns g c =

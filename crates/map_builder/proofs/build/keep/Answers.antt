@@ -8,6 +8,7 @@ use Rattle.map_builder.proofs.KeepLemmas.{kept_first, kept_later}
 use Rattle.map_builder.proofs.build.keep.Goals.{After-range_at-last}
 use Rattle.addr_decode.specs.Common.{MapBytes}
 use Rattle.map_builder.proofs.build.keep.Goals as goal
+use Rattle.board_prelude.proofs.Common.{common_steps, nat_tests}
 
 pub returns-then-after-until : goal.returns-then-after-until
 returns-then-after-until c =
@@ -47,9 +48,7 @@ push-requires c =
     (lit< tt, omega (arith, built.few kept.board, length-map c.range_at-last.new.ranges.items range_of))
 
 pub index_from-end-requires-clause-from : goal.index_from-end-requires-clause-from
-index_from-end-requires-clause-from c =
-    begins_next (placed 0 c.args.before.now (omega arith) c.requires.tiles)
-    (holds_begins c.index_from-index.ensures.holds (omega (arith, c.requires.order))) (omega arith) (omega arith)
+index_from-end-requires-clause-from c = grind (arith, nat_tests, common_steps, begins_next, placed, holds_begins)
 
 pub extend-requires : goal.extend-requires
 extend-requires c =

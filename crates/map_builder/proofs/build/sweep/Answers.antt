@@ -1,7 +1,8 @@
+use Rattle.board_prelude.proofs.Common.{nat_tests}
 use Rattle.std.proofs.Common.{arith}
 use Rattle.addr_decode.specs.Common.{map_bytes, edges_after}
 use Rattle.map_builder.proofs.RebuildLemmas.{holds_begins, begins_later, first_below, order_at, sweep_first, above}
-use Rattle.map_builder.proofs.RebuildLemmas.{sweep_agrees, sweep_next, sweep_end, rows_at, no_rows}
+use Rattle.map_builder.proofs.RebuildLemmas.{sweep_agrees, sweep_next, sweep_end, rows_at}
 use Rattle.map_builder.proofs.build.sweep.Goals as goal
 
 pub index_of-from-requires : goal.index_of-from-requires
@@ -95,9 +96,4 @@ returns-clause-whole g c =
     (sweep_end c.args.windows.now c.loop-index.index (omega arith) c.loop-index.invariant.sweep)
 
 pub returns-clause-rows : goal.returns-clause-rows
-returns-clause-rows g c = λ setup bytes stands.
-    omega (
-      arith,
-      c.loop-index.invariant.rows setup bytes stands,
-      no_rows (edges_after setup bytes) c.args.windows.now c.loop-index.index (omega arith),
-    )
+returns-clause-rows g c = grind (arith, nat_tests)

@@ -1,14 +1,11 @@
-use Rattle.std.proofs.Common.{None, arith}
+use Rattle.board_prelude.proofs.Common.{common_steps, nat_tests}
+use Rattle.std.proofs.Common.{arith}
 use Rattle.map_builder.specs.Changed.{name_windows}
 use Rattle.map_builder.proofs.WindowLemmas.{numbered_at, pushed_on, pushed_all}
 use Rattle.map_builder.proofs.changed.push_of_names.Goals as goal
 
 pub push_of_name-requires : goal.push_of_name-requires
-push_of_name-requires c = record {
-  cards = c.requires.cards;
-  number = numbered_at c.args.names.now c.loop-name.name-index None c.loop-name-test.true c.requires.names.each;
-  room = omega (arith, c.requires.names.few, c.requires.room, c.loop-name.invariant.few, c.loop-name-test.true);
-}
+push_of_name-requires c = grind (arith, nat_tests, common_steps, numbered_at)
 
 pub loop-name-preserved : goal.loop-name-preserved
 loop-name-preserved c = record {

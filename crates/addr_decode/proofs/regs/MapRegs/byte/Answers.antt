@@ -1,5 +1,3 @@
-use Rattle.std.proofs.Common.{List, sym, subst}
-use Rattle.pci_bars.specs.Cards.{CardBytes, AreDecoded}
 use Rattle.addr_decode.proofs.regs.MapRegs.byte.Goals as goal
 
 pub returns-in-Card : goal.returns-in-Card
@@ -7,7 +5,6 @@ returns-in-Card c = record {
   byte = rw c.in-Card.is
       (λ setup bytes stands is.
       rw (← c.offset.ensures.offset)
-      (c.byte_of.ensures.byte setup bytes
-      (subst (λ (cards : List CardBytes). AreDecoded setup bytes cards) (sym c.deref.ensures.0) stands.cards)
+      (c.byte_of.ensures.byte setup bytes (rw c.deref.ensures.0 stands.cards)
       (rw (← c.offset.ensures.offset) at is) (rw c.in-Card.is at c.requires.number).0));
 }

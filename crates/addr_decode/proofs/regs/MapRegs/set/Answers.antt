@@ -1,5 +1,5 @@
+use Rattle.board_prelude.proofs.Common.{nat_tests}
 use Rattle.std.proofs.Common.{◌+◌, inl, arith, rules}
-use Rattle.board_spec.specs.RegisterNames.{bridge, drb}
 use Rattle.addr_decode.specs.MapRegs.{map_bytes}
 use Rattle.addr_decode.specs.Singles.{single}
 use Rattle.addr_decode.proofs.CardLemmas.{cards_beside, of_registers}
@@ -15,10 +15,7 @@ returns-in-Pam-clause-stands c = λ setup bytes stands.
     (omega (arith, small), omega (arith, small)) (c.store_pam.ensures.stored setup bytes stands.windows))
 
 pub returns-in-Pam-clause-cards : goal.returns-in-Pam-clause-cards
-returns-in-Pam-clause-cards c = λ setup bytes are.
-    rw c.in-Pam.is
-    (cards_beside (of_registers setup) bytes _ are (bridge (0x59 + c.in-Pam.number)) c.args.byte
-    c.requires.cards.each (inl (omega arith)))
+returns-in-Pam-clause-cards c = grind (arith, nat_tests)
 
 pub returns-in-RowBoundary-clause-stands : goal.returns-in-RowBoundary-clause-stands
 returns-in-RowBoundary-clause-stands c = λ setup bytes stands.
@@ -27,10 +24,7 @@ returns-in-RowBoundary-clause-stands c = λ setup bytes stands.
     (search rules) (rw c.in-RowBoundary.is at c.requires.number) c.ranges.byte.fits)
 
 pub returns-in-RowBoundary-clause-cards : goal.returns-in-RowBoundary-clause-cards
-returns-in-RowBoundary-clause-cards c = λ setup bytes are.
-    rw c.in-RowBoundary.is
-    (cards_beside (of_registers setup) bytes _ are (drb c.in-RowBoundary.row) c.args.byte c.requires.cards.each
-    (inl (omega arith)))
+returns-in-RowBoundary-clause-cards c = grind (arith, nat_tests)
 
 pub returns-in-Single-clause-stands : goal.returns-in-Single-clause-stands
 returns-in-Single-clause-stands c = λ setup bytes stands.

@@ -1,6 +1,4 @@
 use Rattle.std.proofs.Common.{sym, ◌∙◌}
-use Rattle.board_prelude.proofs.Common.{reg_after}
-use Rattle.pci_bars.specs.Cards.{cards_of}
 use Rattle.addr_decode.proofs.NameLemmas.{is_name}
 use Rattle.addr_decode.proofs.regs.MapRegs.store_after.Goals as goal
 
@@ -9,10 +7,8 @@ set-requires-clause-number c = (is_name _ _ _ (sym c.requires.name ∙ c.in-Some
 
 pub returns-in-Some-clause-stands : goal.returns-in-Some-clause-stands
 returns-in-Some-clause-stands c = λ setup bytes stands.
-    rw (← (is_name (cards_of c.args.self.now.cards.items) (reg_after c.args.reg c.args.k) c.in-Some.register
-    (sym c.requires.name ∙ c.in-Some.is)).place) (c.set.ensures.stands setup bytes stands)
+    rw (← (is_name _ _ _ (sym c.requires.name ∙ c.in-Some.is)).place) (c.set.ensures.stands setup bytes stands)
 
 pub returns-in-Some-clause-cards : goal.returns-in-Some-clause-cards
 returns-in-Some-clause-cards c = λ setup bytes are.
-    rw (← (is_name (cards_of c.args.self.now.cards.items) (reg_after c.args.reg c.args.k) c.in-Some.register
-    (sym c.requires.name ∙ c.in-Some.is)).place) (c.set.ensures.cards setup bytes are)
+    rw (← (is_name _ _ _ (sym c.requires.name ∙ c.in-Some.is)).place) (c.set.ensures.cards setup bytes are)

@@ -1,7 +1,6 @@
 use Rattle.std.proofs.Common.{sym, refl}
 use Rattle.board_prelude.proofs.Common.{byte_of}
 use Rattle.board_chipset.proofs.HeldTargets.{stands}
-use Rattle.board_chipset.proofs.Held.{held_as}
 use Rattle.board_chipset.proofs.Lefts.{state_of}
 use Rattle.board_chipset.proofs.MasterSteps.{no_smram, outside_smram}
 use Rattle.board_chipset.proofs.chipset.Chipset.decode_master.Goals as goal
@@ -18,17 +17,6 @@ returns-clause-part c = λ history left.
       c.target_in.ensures.target setup stand.cards.0 (sym c.rom.ensures.bytes),
       c.decode_master-area.ensures.area setup (byte_of setup history) stand,
       c.decode_master-area.ensures.denial setup (byte_of setup history) stand,
-    ) refl
-
-pub returns-clause-held : goal.returns-clause-held
-returns-clause-held c = λ bytes held.
-    let setup = c.self.inside.setup in
-    let stand = held_as setup c.self.inside.state bytes c.self.view_is c.regs-regs.ensures.same held in
-    rw (
-      ← c.self.view_is,
-      c.target_in.ensures.target setup stand.cards.0 (sym c.rom.ensures.bytes),
-      c.decode_master-area.ensures.area setup bytes stand,
-      c.decode_master-area.ensures.denial setup bytes stand,
     ) refl
 
 pub returns-clause-no_smram : goal.returns-clause-no_smram

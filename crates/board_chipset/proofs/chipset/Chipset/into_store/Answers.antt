@@ -1,6 +1,5 @@
 use Rattle.std.proofs.Common.{ap, ◌∙◌}
 use Rattle.board_prelude.proofs.Common.{Setup}
-use Rattle.board_chipset.proofs.HeldTargets.{stands}
 use Rattle.board_chipset.proofs.Lefts.{state_of}
 use Rattle.board_chipset.proofs.chipset.Chipset.into_store.Goals as goal
 
@@ -31,18 +30,3 @@ returns-clause-store c = λ history left.
       contents = is.stores.contents.sizes;
       rom = ap (λ (setup : Setup). setup.rom) c.setup.view_is;
     })
-
-pub returns-clause-sound : goal.returns-clause-sound
-returns-clause-sound c =
-    let sound = c.self.invariant in (
-      c.self.inside.setup,
-      sound.registers.bytes,
-      record {
-        cards = sound.fits.cards;
-        rom_size = sound.fits.rom;
-        registers = stands sound (c.copy-regs.ensures.equal ∙ c.regs.ensures.same);
-        memory = sound.memory;
-        contents = sound.contents;
-        rom = ap (λ (setup : Setup). setup.rom) c.setup.view_is;
-      },
-    )

@@ -2,13 +2,6 @@ use Rattle.std.proofs.Common.{sym}
 use Rattle.board_chipset.proofs.Lefts.{left_by, state_of}
 use Rattle.board_chipset.proofs.chipset.Chipset.wide.Goals as goal
 
-pub access-requires-clause-kept : goal.access-requires-clause-kept
-access-requires-clause-kept c = record {
-  setup = c.self.inside.setup;
-  sound = c.self.invariant;
-  image = sym c.rom.ensures.bytes;
-}
-
 pub invariant_of-self : goal.invariant_of-self
 invariant_of-self c = c.access.ensures.sound c.self.inside.setup c.self.invariant
 

@@ -1,26 +1,8 @@
-use Rattle.std.proofs.Common.{◌+◌, ◌∙◌, length, arith}
-use Rattle.board_spec.specs.Setup.{installed}
+use Rattle.std.proofs.Common.{arith}
 use Rattle.board_devices.proofs.DeviceLemmas.{leaves_devices}
-use Rattle.board_chipset.proofs.LoadSteps.{load_left, load_kept, load_refused}
+use Rattle.board_chipset.proofs.LoadSteps.{load_left, load_kept}
 use Rattle.board_chipset.specs.Chipset.{IsLeftBy}
 use Rattle.board_chipset.proofs.chipset.Chipset.write_dram.Goals as goal
-
-pub invariant_of-self : goal.invariant_of-self
-invariant_of-self c =
-    let sound = c.self.invariant in
-    record {
-      fits = sound.fits;
-      registers = sound.registers;
-      memory = c.load.ensures.size ∙ sound.memory;
-      contents = sound.contents;
-      disk = sound.disk;
-    }
-
-pub returns-clause-refused : goal.returns-clause-refused
-returns-clause-refused c =
-    load_refused c.load.result (length c.self.inside.state.stores.dram) (installed c.args.self.now.setup)
-    (c.args.addr + length c.args.bytes.now)
-    (rw (← c.self.view_is) c.self.invariant.memory) c.load.ensures.fits c.load.ensures.refused
 
 pub returns-clause-left : goal.returns-clause-left
 unfolding IsLeftBy

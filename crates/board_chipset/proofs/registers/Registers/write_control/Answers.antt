@@ -19,11 +19,6 @@ returns-else-hard-clause-registers c = λ setup history entry put has.
     follows put has (rw soft refl) c.write-hard.ensures.byte (rw soft has.kept) (rw soft refl) (rw soft refl)
     has.flat
 
-pub returns-then-hard-clause-sound : goal.returns-then-hard-clause-sound
-returns-then-hard-clause-sound c = λ setup sound.
-    c.reset.ensures.sound setup
-    (record { bytes = sound.bytes; kept = sound.kept; address = sound.address; flat = sound.flat })
-
 pub returns-else-hard-clause-sound : goal.returns-else-hard-clause-sound
 returns-else-hard-clause-sound c = λ setup sound.
     record { bytes = sound.bytes; kept = sound.kept; address = sound.address; flat = sound.flat }

@@ -1,5 +1,5 @@
-use Rattle.std.proofs.Common.{rules, ◌≡◌, ◌∙◌, sym}
-use Rattle.board_prelude.proofs.Common.{false≢true, Setup, touches_map, Store}
+use Rattle.std.proofs.Common.{◌≡◌, ◌∙◌, sym, arith}
+use Rattle.board_prelude.proofs.Common.{false≢true, Setup, touches_map, Store, common_steps, nat_tests}
 use Rattle.pci_bars.specs.Cards.{cards_of}
 use Rattle.map_builder.proofs.ChangeLemmas.{names_touched, stored_if}
 use Rattle.map_builder.proofs.flat_map.FlatMap.store_named.Goals.{After-touch_map}
@@ -16,11 +16,7 @@ found c setup same =
     c.requires.names
 
 pub set_beside-requires : goal.set_beside-requires
-set_beside-requires c = record {
-  names = search rules;
-  beside = λ setup bytes stands. sym (found (goal.at.set_beside-requires c).After-touch_map setup stands.cards.0) ∙
-      c.if-touch_map.false;
-}
+set_beside-requires c = grind (arith, nat_tests, common_steps, found)
 
 pub returns-then-touch_map : goal.returns-then-touch_map
 returns-then-touch_map c = record {
@@ -31,19 +27,4 @@ returns-then-touch_map c = record {
 }
 
 pub returns-else-touch_map : goal.returns-else-touch_map
-returns-else-touch_map c = record {
-  stored =
-      let here = (goal.at.returns-else-touch_map c).After-touch_map in
-      let beside = c.set_beside.ensures in
-      let not = λ (setup : Setup) (same : setup.cards ≡ cards_of c.args.self.now.regs.cards).
-      sym (found here setup same) ∙ c.if-touch_map.false in
-      record {
-        stands = beside.stands;
-        cards = beside.cards;
-        same_cards = beside.same_cards;
-        version = λ setup same. rw (not setup same) beside.version;
-        windows = λ setup bytes stands touched. absurd (false≢true (sym (not setup stands.cards.0) ∙ touched));
-        same_windows = λ setup same is. beside.windows;
-        map = beside.map;
-      };
-}
+returns-else-touch_map c = grind (arith, nat_tests, common_steps, found, false≢true)
