@@ -25,9 +25,6 @@ record IsNext (sector : ℕ) (before now : Drive) : Type 0 where
   left : left_of now.registers + 1 ≡ left_of before.registers
   chosen : IsChosen now
 
-one_less : (n m : ℕ) → m ≡ n % 256 → 0 < n % 256 → (m + 255) % 256 + 1 ≡ n % 256
-one_less n m e h = omega arith
-
 goes_on : (drive : Drive) (sector : ℕ) → IsChosen drive → 0 < left_of drive.registers → sector + 1 ≤ 65536 →
     IsNext sector drive (next sector drive)
 goes_on drive sector h more l = grind (arith, nat_tests)

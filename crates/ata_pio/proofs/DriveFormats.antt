@@ -70,7 +70,8 @@ activity_from :
     length came ≡ came_size number word →
     IsActivity sectors (activity_with number sector word came)
     × (activity_bytes (activity_with number sector word came) ≡ spelled number sector word came)
-activity_from sectors number sector word came some few at_most small long = grind (arith, nat_tests, spelled_same, nil_from_length)
+activity_from sectors number sector word came some few at_most small long =
+    grind (arith, nat_tests, spelled_same, nil_from_length)
 
 sector_small : (there : Bool) (bound : ℕ) → bound < 2 ^ 32 → bound_where there bound < 2 ^ 32
 sector_small there bound few = grind (arith, nat_tests)

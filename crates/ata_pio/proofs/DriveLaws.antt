@@ -8,24 +8,6 @@ use Rattle.device_spec.proofs.Common.{after_activity_word, after_word, register_
 use Rattle.ata_pio.specs.Ata.Laws.{IsUnderWay}
 use Rattle.ata_pio.proofs.Verifies.{verified-fails, verified-end, verified-next}
 
--- a result that is a sector of the disk, or an error
-abbrev IsThere : ℕ → Result ℕ ℕ → Type 0
-IsThere n (Ok sector) = sector < n
-IsThere n (Err error) = Unit {0}
-
-found-there : (m : Medium) (o : Option ℕ) → IsThere (sectors_of m) (found m o)
-found-there m o = grind (arith, nat_tests)
-
-readable-there : (m : Medium) (o : Option ℕ) → IsThere (sectors_of m) (readable m o)
-readable-there m o = grind (arith, nat_tests)
-
-reads_found-under_way : (n : ℕ) (x : Result ℕ ℕ) (d : Drive) → IsThere n x → IsUnderWay n (reads_found x d).activity
-reads_found-under_way n x d h = grind (arith, nat_tests)
-
-writes_found-under_way : (n : ℕ) (x : Result ℕ ℕ) (q : Bool) (d : Drive) → IsThere n x →
-    IsUnderWay n (writes_found x q d).activity
-writes_found-under_way n x q d h = grind (arith, nat_tests)
-
 begin_read-under_way : (m : Medium) (d : Drive) → IsUnderWay (sectors_of m) (begin_read m d).activity
 unfolding begin_read
 begin_read-under_way m d = grind (arith, nat_tests)

@@ -27,19 +27,7 @@ either_keeps before b x y p q = grind (arith, nat_tests)
 bytes_written-keeps : (disk : Disk) (s : ℕ) (bytes : List ℕ) → IsSound disk → s < sectors_of disk.medium →
     Keeps disk (bytes_written s bytes disk)
 bytes_written-keeps disk s bytes h l =
-    grind (
-      arith,
-      nat_tests,
-      cases_Bool,
-      eqb,
-      length-set,
-      sector_written-under_way,
-      stored-whole,
-      eqb-true,
-      cond-true,
-      same_medium,
-      cond-false,
-    )
+    grind (arith, nat_tests, eqb, length-set, sector_written-under_way, stored-whole, eqb-true)
 
 activity_written-keeps : (a : Activity) (word : ℕ) (disk : Disk) → IsSound disk →
     IsUnderWay (sectors_of disk.medium) a → Keeps disk (activity_written a word disk)
@@ -58,31 +46,11 @@ word_read-keeps disk h = grind (arith, nat_tests, same_medium, after_word-under_
 
 byte_written-keeps : (port byte : ℕ) (disk : Disk) → IsSound disk → Keeps disk (byte_written port byte disk)
 byte_written-keeps port byte disk h =
-    search (
-      rules,
-      either_keeps,
-      eqb,
-      same_medium,
-      commanded-under_way,
-      control_written-under_way,
-      register_written-under_way,
-    )
-
-then_keeps : (a b c : Disk) → Keeps a b → Keeps b c → Keeps a c
-then_keeps a b c p q = (q.0, q.1 ∙ p.1)
+    search (rules, either_keeps, same_medium, commanded-under_way, control_written-under_way, register_written-under_way)
 
 step_keeps : (access : Access) (disk : Disk) → IsSound disk → Keeps disk (stepped access disk)
-step_keeps (Read port One) disk h = grind (arith, nat_tests)
-step_keeps (Read port Two) disk h = word_read-keeps disk h
-step_keeps (Read port Four) disk h =
-    let first = word_read-keeps disk h in
-    then_keeps disk (word_read disk) _ first (word_read-keeps (word_read disk) first.0)
-step_keeps (Write port One value) disk h = byte_written-keeps port (value % 256) disk h
-step_keeps (Write port Two value) disk h = word_written-keeps (value % 65536) disk h
-step_keeps (Write port Four value) disk h =
-    let first = word_written-keeps (value % 65536) disk h in
-    then_keeps disk (word_written (value % 65536) disk) _ first
-    (word_written-keeps (value / 65536) (word_written (value % 65536) disk) first.0)
+step_keeps (Read port width) disk h = grind (arith, nat_tests, word_read-keeps)
+step_keeps (Write port width value) disk h = grind (arith, nat_tests, byte_written-keeps, word_written-keeps)
 step_keeps (Spoil s) disk h = grind (arith, nat_tests, length-set)
 step_keeps Restart disk h = same_medium disk _ h tt
 
@@ -120,7 +88,8 @@ word_written-same t word disk h n = grind (arith, nat_tests, cases_Bool, cond-tr
 
 step_same : (access : Access) (disk : Disk) (t : ℕ) → IsSound disk → stores access disk t ≡ false →
     SameBytes t disk (stepped access disk)
-step_same access disk t h n = grind (arith, nat_tests, either_same, eqb, word_written-same, or_parts, word_written-keeps)
+step_same access disk t h n =
+    grind (arith, nat_tests, either_same, eqb, word_written-same, or_parts, word_written-keeps)
 
 pub only_stores_change : OnlyStoresChange
 only_stores_change access disk t h n = step_same access disk t h n

@@ -22,9 +22,6 @@ disk_acting disk a = record disk { drive = acting disk.drive a }
 drq-reading : (d : Drive) (s w : ℕ) → IsChosen d → is_drq (acting d (Reading s w)) ≡ true
 drq-reading d s w h = rw (h.drive_zero, h.free) refl
 
-drq-writing : (d : Drive) (s : ℕ) (bytes : List ℕ) → IsChosen d → is_drq (acting d (Writing s bytes)) ≡ true
-drq-writing d s bytes h = rw (h.drive_zero, h.free) refl
-
 -- what was under way shows nowhere in what follows a sector that was read
 found-acting : (x : Result ℕ ℕ) (d : Drive) (a : Activity) → reads_found x (acting d a) ≡ reads_found x d
 found-acting x d a = grind (arith, nat_tests)
