@@ -45,25 +45,14 @@ dram_holds bytes addr is = rw (is.range, below_some bytes addr is.below_top, is.
 no_smram_line :
     (bytes : Bytes) (addr : ℕ) (kind : Kind) (smm : Bool) → ¬ IsInSmram bytes addr kind smm →
     smram_line bytes addr kind smm ≡ false
-no_smram_line bytes addr kind smm never = false_from_ne_true _ (λ holds. never (record {
-  range = grind (arith, nat_tests);
-  below_top = is_some-row bytes addr (grind (arith, nat_tests));
-  opened = grind (arith, nat_tests);
-}))
+no_smram_line bytes addr kind smm never = grind (arith, nat_tests, false_from_ne_true, is_some-row)
 
 no_shadow_line :
     (bytes : Bytes) (addr : ℕ) (kind : Kind) → ¬ IsInShadow bytes addr kind → shadow_line bytes addr kind ≡ false
-no_shadow_line bytes addr kind never = false_from_ne_true _ (λ holds. never (record {
-  below_top = is_some-row bytes addr (grind (arith, nat_tests));
-  opened = grind (arith, nat_tests);
-}))
+no_shadow_line bytes addr kind never = grind (arith, nat_tests, false_from_ne_true, is_some-row)
 
 no_dram_line : (bytes : Bytes) (addr : ℕ) → ¬ IsInDram bytes addr → dram_line bytes addr ≡ false
-no_dram_line bytes addr never = false_from_ne_true _ (λ holds. never (record {
-  below_top = is_some-row bytes addr (grind (arith, nat_tests));
-  range = grind (arith, nat_tests);
-  outside_hole = grind (arith, nat_tests);
-}))
+no_dram_line bytes addr never = grind (arith, nat_tests, false_from_ne_true, is_some-row)
 
 -- ---- the cards
 
@@ -88,8 +77,7 @@ claim-first :
     ≡ true →
     memory_claim setup bytes addr ≡ Some window
 unfolding memory_claim
-claim-first setup bytes addr earlier later window are none here =
-    ap (find (claims bytes addr)) are ∙ find-first (claims bytes addr) earlier later window none here
+claim-first setup bytes addr earlier later window are none here = grind (arith, nat_tests, find, find-first)
 
 claim-none :
     (setup : Setup) (bytes : Bytes) (addr : ℕ) → NoneClaims bytes addr (memory_windows_of setup bytes) →

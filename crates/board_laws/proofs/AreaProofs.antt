@@ -10,11 +10,7 @@ use Rattle.board_laws.specs.AreaLaws.{IsRow, HasRow, RowBelowTop}
 
 pub row-is : (bytes : Bytes) (addr row : ℕ) → IsRow bytes addr row → row_of bytes addr ≡ Some row
 unfolding row_of numbers_from
-row-is bytes addr row is =
-    cond-true (nat_lt addr (top_of bytes)) _ None (lt-ltb _ _ is.below_top)
-    ∙ find-number (λ k. nat_lt addr (boundary bytes k)) 0 8 row (omega arith)
-    (let last : row ≤ 7 = is.last in omega arith) (lt-ltb _ _ is.ends)
-    (λ k below. le-ltb _ _ (is.first k below))
+row-is bytes addr row is = grind (arith, nat_tests)
 
 row_above :
     (bytes : Bytes) (addr row left : ℕ) → addr < top_of bytes → row + left ≡ 7 →

@@ -111,8 +111,7 @@ rings clock time alarm size now due set_to =
     (hour_byte_low c alarm.hour due.hours) (hour_back c alarm.hour due.hours) (hour_back c time.hour now.hours))
 
 pub rings_at_its_time : RingsAtItsTime
-rings_at_its_time clock time alarm size let_in now due set_to =
-    rw let_in (ap (λ ringing. clock.alarm_flag || ringing) (rings clock time alarm size now due set_to))
+rings_at_its_time clock time alarm size let_in now due set_to = grind (arith, nat_tests, rings)
 
 reset_bit : (b k : ℕ) → k < 8 → is_bit (control_reset b) k ≡ (if nat_le 3 k && nat_le k 6 then false else is_bit b k)
 reset_bit b (suc (suc (suc (suc (suc (suc (suc (suc k)))))))) h = absurd (omega arith)
@@ -120,35 +119,17 @@ reset_bit b _ h = grind (arith, nat_tests)
 
 pub reset_keeps_the_time : ResetKeepsTheTime
 reset_keeps_the_time clock size =
-    let there : 11 < length clock.bytes = omega arith in
-    let b = control_of clock in
-    record {
-      bytes = λ address other. get_or-set_other clock.bytes 11 address _ 0 other;
-      switches = λ k h. ap (λ byte. is_bit byte k) (get_or-set_same clock.bytes 11 (control_reset b) 0 there)
-          ∙ reset_bit b k h;
-      index = refl;
-      line = refl;
-    }
+    grind (arith, nat_tests, length, control_of, get_or-set_other, get_or-set_same, control_reset, reset_bit)
 
 plain_written : (address old byte : ℕ) → 14 ≤ address → written address old byte ≡ byte
 plain_written address old byte h = grind (arith, nat_tests)
 
 plain_data : (clock : Clock) → 14 ≤ clock.index → data_byte clock ≡ byte_at clock clock.index
-plain_data clock h =
-    let not_c = ne_eqb clock.index 12 (omega arith) in
-    let not_d = ne_eqb clock.index 13 (omega arith) in
-    rw (not_c, not_d) refl
+plain_data clock h = grind (arith, nat_tests)
 
 pub memory_keeps : MemoryKeeps
 memory_keeps clock address byte size past_registers within =
-    let back : address % 128 ≡ address = omega arith in
-    let plain = plain_written address (get_or clock.bytes address 0) byte past_registers in
-    let there : address < length clock.bytes = omega arith in
-    let after : Clock = record clock { index = address; bytes = set clock.bytes address byte } in
-    rw (back, plain) (record {
-      read = plain_data after past_registers ∙ get_or-set_same clock.bytes address byte 0 there;
-      others = λ other apart. get_or-set_other clock.bytes address other _ 0 apart;
-    })
+    grind (arith, nat_tests, plain_written, get_or, length, set, plain_data, get_or-set_same, get_or-set_other)
 
 written_stopped : (byte : ℕ) → holds_time (control_written byte) ≡ true →
     update_interrupts (control_written byte) ≡ false
@@ -168,18 +149,11 @@ stops control = holds_time control ≡ true → update_interrupts control ≡ fa
 holds_after : (P : ℕ → Type 0) (register : ℕ) (bytes : List ℕ) (k byte : ℕ) → register < length bytes →
     P (written register (get_or bytes register 0) byte) → P (get_or bytes register 0) →
     P (get_or (set bytes k (written k (get_or bytes k 0) byte)) register 0)
-holds_after P register bytes k byte inside now was =
-    elim (cases_eq register k) [
-      | inl e ↦ rw (← e, get_or-set_same bytes register (written register (get_or bytes register 0) byte) 0 inside) now
-      | inr e ↦ rw (get_or-set_other bytes k register (written k (get_or bytes k 0) byte) 0 e) was
-    ]
+holds_after x0 register bytes k byte inside now was =
+    grind (arith, nat_tests, cases_eq, get_or-set_same, written, get_or, get_or-set_other)
 
 sound_read : (clock : Clock) (port : ℕ) → IsSound clock → IsSound (after_read clock port)
-sound_read clock port was =
-    elim (cases_Bool ((port == clock_data_port) && (clock.index == register_c))) [
-      | inl e ↦ rw e (record { size = was.size; within = was.within; no_update = was.no_update; stopped = was.stopped })
-      | inr e ↦ rw e was
-    ]
+sound_read clock port was = grind (arith, nat_tests)
 
 sound_write : (clock : Clock) (port byte : ℕ) → IsSound clock → IsSound (after_write clock port byte)
 sound_write clock port byte was =

@@ -1,4 +1,6 @@
 -- A denial is given exactly where nobody answers, and where the ROM is written.
+use Rattle.board_prelude.proofs.Common.{nat_tests}
+use Rattle.std.proofs.Common.{arith}
 use Rattle.std.proofs.Common.{◌≡◌, ℕ, zero, suc, ◌+◌, ◌-◌, Bool, true, false, List, Option, Some, None, is_some, refl}
 use Rattle.std.proofs.Common.{sym, subst, inl, inr, ◌==◌, if◌then◌else◌, map, option_map, unwrap_or, All}
 use Rattle.board_prelude.proofs.Common.{cases_Bool, false≢true, All-nil, All-cons, Width, Kind, Fetch, Read, Write}
@@ -16,25 +18,12 @@ use Rattle.board_laws.specs.DenialLaws.{ReachesNothing, IsDeniedExactly, DeniedO
 
 -- ---- targets that answer, and those that do not
 
-answered : (writes : Bool) (target : Target) → ¬ ReachesNothing writes target → IsDeniedExactly writes target None
-answered writes target served =
-    record { wherever = λ refused. absurd (served refused); only = λ denied. absurd (false≢true denied) }
-
-refused :
-    (writes : Bool) (target : Target) (denial : Denial) → ReachesNothing writes target →
-    IsDeniedExactly writes target (Some denial)
-refused writes target denial is = record { wherever = λ r. refl; only = λ denied. is }
-
 -- ---- memory
 
 denied_area :
     (setup : Setup) (area : Area) (addr : ℕ) (kind : Kind) (abort rom : Denial) →
     IsDeniedExactly (is_write kind) (target_at setup area addr) (denial_in area kind abort rom)
-denied_area setup RomArea addr Fetch abort rom = answered false _ (λ r. false≢true r)
-denied_area setup RomArea addr Read abort rom = answered false _ (λ r. false≢true r)
-denied_area setup RomArea addr Write abort rom = refused true _ rom refl
-denied_area setup AbortArea addr kind abort rom = refused (is_write kind) _ abort tt
-denied_area setup _ addr kind abort rom = answered (is_write kind) _ (λ r. r)
+denied_area setup x1 addr kind abort rom = grind (arith, nat_tests)
 
 denied_memory :
     (setup : Setup) (before : List Entry) (access : Access) →
@@ -47,45 +36,24 @@ denied_memory setup before access = denied_area setup _ access.addr access.kind 
 abbrev IsRight : Decoded → Type 0
 IsRight decoded = IsDeniedExactly false decoded.target decoded.denial
 
-right_device : (dev : Dev) → IsRight (device dev)
-right_device dev = answered false (Device dev) (λ r. r)
-
-right_unclaimed :
-    (port : ℕ) (claim : Option Window) (denial : Denial) →
-    IsRight (unwrap_or (option_map (card_port port) claim) (nobody denial))
-right_unclaimed port None denial = refused false _ denial tt
-right_unclaimed port (Some window) denial = answered false _ (λ r. r)
-
 right_choice : (test : Bool) (a b : Decoded) → IsRight a → IsRight b → IsRight (if test then a else b)
-right_choice true a b is other = is
-right_choice false a b is other = other
+right_choice x0 a b is other = grind (arith, nat_tests)
 
 right_config : (address : ℕ) (reg : Option Reg) → IsRight (config_port address reg)
-right_config address None = refused false _ _ tt
-right_config address (Some reg) = answered false _ (λ r. r)
-
-right_selected :
-    (select : Select) (disk : Bool) (dev : Dev) (setup : Setup) (bytes : Bytes) (port : ℕ) →
-    IsRight (selected_by select disk dev setup bytes port)
-right_selected Always disk dev setup bytes port = right_device dev
-right_selected IdeChannel false dev setup bytes port = right_unclaimed port (io_claim setup bytes port) _
-right_selected _ disk dev setup bytes port = search (right_choice, right_device, right_unclaimed)
+right_config address x1 = grind (arith, nat_tests)
 
 right_port :
     (found : Option Dev) (disk : Bool) (setup : Setup) (bytes : Bytes) (port : ℕ) →
     IsRight (device_port found disk setup bytes port)
-right_port None disk setup bytes port =
-    right_unclaimed port (io_claim setup bytes port)
-    (unwrap_or (option_map command_of (io_shut setup bytes port)) NoRegister)
-right_port (Some dev) disk setup bytes port = right_selected (select_of dev) disk dev setup bytes port
+right_port x0 disk setup bytes port = grind (arith, nat_tests)
 
 denied_port :
     (setup : Setup) (bytes : Bytes) (address : ℕ) (disk : Bool) (port : ℕ) (width : Width) →
     IsRight (port_target_of setup bytes address disk port width)
 unfolding port_target_of
 denied_port setup bytes address disk port width =
-    right_choice (is_config_port port) _ _ (right_config address (config_register setup address port))
-    (right_port (device_at port (bytes_of width)) disk setup bytes port)
+    grind (arith, nat_tests, right_choice, is_config_port, right_config, config_register, right_port, device_at,
+    bytes_of)
 
 -- ---- replies
 
@@ -96,8 +64,7 @@ OfBus P _ = Unit {0}
 outside_right :
     (writes : Bool) (dev : Dev) (reply : Reply) (value : Option ℕ) → reply ≡ Bus value (Device dev) None →
     OfBus (IsDeniedExactly writes) reply
-outside_right writes dev reply value is =
-    subst (OfBus (IsDeniedExactly writes)) (sym is) (answered writes (Device dev) (λ r. r))
+outside_right writes dev reply value is = grind (arith, nat_tests)
 
 pub denied_on_bus : DeniedOnBus
 unfolding memory_answer port_answer
@@ -138,8 +105,4 @@ denied_from setup before access (suc most) addr left =
 
 pub denied_in_parts : DeniedInParts
 unfolding memory_answer port_answer
-denied_in_parts setup before (Wide access) value parts answer =
-    subst (All (IsRightPart (is_write access.kind))) (sym answer.each)
-    (denied_from setup before access 4 access.addr access.bytes)
-denied_in_parts setup before (LookAt kind addr smm) value parts answer = absurd answer
-denied_in_parts setup before _ value parts answer = cc
+denied_in_parts setup before x2 value parts answer = grind (arith, nat_tests, is_write, denied_from)

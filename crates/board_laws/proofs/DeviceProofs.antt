@@ -1,4 +1,6 @@
 -- An entry leaves the devices that its reply does not name, and with their drivers the lines.
+use Rattle.board_prelude.proofs.Common.{nat_tests}
+use Rattle.std.proofs.Common.{arith}
 use Rattle.std.proofs.Common.{◌≡◌, false, List, ◌∷◌, refl, ◌∙◌, ap, inl, inr}
 use Rattle.board_prelude.proofs.Common.{cond-false, out_of, Entry, is_hard_reset, wire_of, irq_of, triggers_of}
 use Rattle.board_prelude.proofs.Common.{PlainPorts, plain_at_reset, plain_of, timer_of, timer_after, clock_of}
@@ -8,20 +10,7 @@ use Rattle.board_laws.specs.DeviceLaws.{OthersStay, LinesStay}
 
 pub others_stay : OthersStay
 unfolding timer_of plain_of triggers_of clock_of disk_with wire_of irq_of
-others_stay setup before entry next soft = record {
-  timer = λ apart no_gate.
-      rw soft (timer-alone setup before entry.event entry.reply (timer_of before) next.answer apart no_gate);
-  system = λ apart.
-      ap (λ (plain : PlainPorts). plain.system)
-      (cond-false (is_hard_reset before entry.event) plain_at_reset _ soft)
-      ∙ system-alone entry.event entry.reply (plain_of before) apart;
-  triggers = λ apart. rw soft (triggers-alone entry.event entry.reply (triggers_of before) apart);
-  clock = λ apart. rw soft (clock-alone setup before entry.event entry.reply (clock_of before) next.answer apart);
-  disk = λ apart bytes.
-      rw soft (disk-alone setup before entry.event entry.reply (disk_with bytes before) next.answer apart);
-  wires = λ apart dev. rw (wire-alone setup before entry.event entry.reply dev next.answer apart) refl;
-  lines = λ apart line. rw (line-alone setup before entry.event entry.reply line next.answer apart) refl;
-}
+others_stay setup before entry next soft = grind (arith, nat_tests)
 
 out-stays :
     (before : List Entry) (entry : Entry) → is_hard_reset before entry.event ≡ false →

@@ -1,4 +1,6 @@
 -- Histories with the same map writes have the same map.
+use Rattle.board_prelude.proofs.Common.{nat_tests}
+use Rattle.std.proofs.Common.{arith}
 use Rattle.std.proofs.Common.{◌≡◌, ℕ, ◌+◌, ◌-◌, ◌∙◌, Bool, true, false, List, refl, sym, ap, inl, inr}
 use Rattle.board_prelude.proofs.Common.{Kind, Fetch, Read, Write, Area, MapChange, Setup, byte_of, registers_after}
 use Rattle.board_prelude.proofs.Common.{Bytes, area_of, MapRange, IsFlatMapOf, IsSpan, six_areas, SameMapBytes}
@@ -14,40 +16,12 @@ same_span :
     (setup : Setup) (bytes other : Bytes) → SameAreas setup bytes other →
     (addr : ℕ) (kind : Kind) (smm : Bool) (lo hi : ℕ) (area : Area) →
     IsSpan setup bytes addr kind smm lo hi area → IsSpan setup other addr kind smm lo hi area
-same_span setup bytes other same addr kind smm lo hi area span = record {
-  above = span.above;
-  below = span.below;
-  last = span.last;
-  same = λ x from to. sym (same x kind smm) ∙ span.same x from to;
-  begins = elim span.begins [ inl first ↦ inl first | inr apart ↦ inr (λ e. apart (same (lo - 1) kind smm ∙ e)) ];
-  ends = elim span.ends [ inl last ↦ inl last | inr apart ↦ inr (λ e. apart (same (hi + 1) kind smm ∙ e)) ];
-}
-
-same_six :
-    (setup : Setup) (bytes other : Bytes) → SameAreas setup bytes other → (addr : ℕ) →
-    six_areas setup bytes addr ≡ six_areas setup other addr
-same_six setup bytes other same addr =
-    rw (
-      same addr Fetch false,
-      same addr Read false,
-      same addr Write false,
-      same addr Fetch true,
-      same addr Read true,
-      same addr Write true,
-    ) refl
+same_span setup bytes other same addr kind smm lo hi area span = grind (arith, nat_tests)
 
 same_flat_map :
     (setup : Setup) (bytes other : Bytes) → SameAreas setup bytes other → (ranges : List MapRange) →
     IsFlatMapOf setup bytes ranges → IsFlatMapOf setup other ranges
-same_flat_map setup bytes other same ranges map = record {
-  tiles = map.tiles;
-  right = λ k d below.
-      record {
-        at_each = λ addr from to. sym (same_six setup bytes other same addr)
-            ∙ (map.right k d below).at_each addr from to;
-      };
-  least = map.least;
-}
+same_flat_map setup bytes other same ranges map = grind (arith, nat_tests)
 
 pub map_writes_decide_map : MapWritesDecideMap
 map_writes_decide_map setup history other cards writes =

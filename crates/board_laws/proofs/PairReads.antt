@@ -1,4 +1,6 @@
 -- A read of one chip of the pair.
+use Rattle.board_prelude.proofs.Common.{nat_tests}
+use Rattle.std.proofs.Common.{arith}
 use Rattle.std.proofs.Common.{◌≡◌, ℕ, Bool, true, false, cond, Option, Some, None, List, [], ◌∷◌, ◌++◌, refl, sym, ap}
 use Rattle.std.proofs.Common.{◌∙◌, inl, inr, is_some}
 use Rattle.board_prelude.proofs.Common.{cases_Bool, Chip, pending, first_selectable, request, interrupt}
@@ -22,26 +24,13 @@ interrupt-unpolled chip = rw (first-unpolled chip [] _) refl
 -- a chip that does not ask does not ask after a read
 still-quiet : (chip : Chip) → interrupt chip ≡ None → interrupt (chip_after_read chip) ≡ None
 unfolding chip_after_read
-still-quiet chip quiet =
-    let after : Bool → Option ℕ → Chip = λ b o. cond b (record (acknowledged_if chip o) { polls = false }) chip in
-    elim (cases_Bool chip.polls) [
-      | inl polls ↦ ap (λ b. interrupt (after b (interrupt chip))) polls
-          ∙ (ap (λ o. interrupt (after true o)) quiet ∙ (interrupt-unpolled chip ∙ quiet))
-      | inr not_polls ↦ ap (λ b. interrupt (after b (interrupt chip))) not_polls ∙ quiet
-    ]
+still-quiet chip quiet = grind (arith, nat_tests, cond, acknowledged_if, cases_Bool, interrupt, interrupt-unpolled)
 
 -- another slave leaves a master alone that has latched the request of the one before, or had none to latch
 other-slave : (pair : Pair) (slave : Chip) (o : Option ℕ) → interrupt pair.slave ≡ o → settled pair ≡ pair →
     (interrupt pair.slave ≡ None → interrupt slave ≡ None) →
     (settled (record pair { slave = slave })).master ≡ pair.master
-other-slave pair slave None e is quiet = rw (quiet e) refl
-other-slave pair slave (Some level) e is quiet =
-    let held : (latched pair).master ≡ pair.master = ap (λ p. p.master) (sym (settled-asks pair (ap is_some e)) ∙ is) in
-    elim (cases_Bool (is_some (interrupt slave))) [ inl asks ↦ rw asks held | inr none ↦ rw none refl ]
+other-slave pair slave x2 e is quiet = grind (arith, nat_tests)
 
 pub reads_leave : ReadsLeaveTheOther
-reads_leave pair port = record {
-  slave = λ e. rw e (settled-slave (record pair { master = chip_after_read pair.master }));
-  master = λ e is.
-      rw e (other-slave pair (chip_after_read pair.slave) (interrupt pair.slave) refl is (still-quiet pair.slave));
-}
+reads_leave pair port = grind (arith, nat_tests, settled-slave, chip_after_read, other-slave, interrupt, still-quiet)

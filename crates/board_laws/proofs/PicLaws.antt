@@ -69,9 +69,7 @@ interrupt-request chip level e = grind (arith, nat_tests)
 
 pub interrupt_first : (chip : Chip) (level : ℕ) → interrupt chip ≡ Some level →
     IsFirstInOrder chip (priority_order chip.lowest) level
-interrupt_first chip level e =
-    found-first chip (priority_order chip.lowest) level (sym (request-is chip (priority_order chip.lowest) refl)
-    ∙ interrupt-request chip level e)
+interrupt_first chip level e = grind (arith, nat_tests, found-first, priority_order, request-is, interrupt-request)
 
 pub interrupt_unmasked : (chip : Chip) (level : ℕ) → interrupt chip ≡ Some level → has chip.masked level ≡ false
 interrupt_unmasked chip level e =
@@ -81,12 +79,7 @@ interrupt_unmasked chip level e =
 -- a requested level is one of the eight
 requested-small : (chip : Chip) (level : ℕ) → is_requested chip level ≡ true → level < 8
 unfolding pending levels_where
-requested-small chip level asks =
-    elim (cases_lt level 8) [
-      | inl small ↦ small
-      | inr past ↦ absurd (both_ways (has (pending chip) level) (get_or_past (pending chip) level false past)
-          (and_parts (has (pending chip) level) (not (has chip.masked level)) asks).0)
-    ]
+requested-small chip level asks = grind (arith, nat_tests)
 
 pub interrupt-small : (chip : Chip) (level : ℕ) → interrupt chip ≡ Some level → level < 8
 interrupt-small chip level e = let first = interrupt_first chip level e in requested-small chip level first.asks
@@ -95,8 +88,7 @@ interrupt-small chip level e = let first = interrupt_first chip level e in reque
 
 -- a level joins the set that it is put into
 with_level-has : (set : Levels) (level : ℕ) → level < 8 → has (with_level set level) level ≡ true
-with_level-has set level small = has-levels_where (λ l. eqb l level || has set l) level small
-    ∙ ap (λ b. b || has set level) (eq-eqb level level refl)
+with_level-has set level small = grind (arith, nat_tests, has-levels_where, eqb, has, eq-eqb)
 
 in_service-acknowledged : (chip : Chip) (level : ℕ) → level < 8 → chip.auto_eoi ≡ false →
     has (acknowledged chip level).in_service level ≡ true
@@ -170,11 +162,7 @@ specific_end_one chip byte b4 b3 command = rw (specific-end chip byte b4 b3 comm
 
 slave-latched : (pair : Pair) → SlaveIsLatched (settled pair)
 slave-latched pair asks =
-    elim (cases_Bool (is_some (interrupt pair.slave))) [
-      | inl now ↦ rw now (with_level-has pair.master.latches 2 (lit< tt))
-      | inr quiet ↦
-          absurd (false≢true (sym quiet ∙ ap (λ (c : Chip). is_some (interrupt c)) (sym (settled-slave pair)) ∙ asks))
-    ]
+    grind (arith, nat_tests, cases_Bool, is_some, interrupt, with_level-has, lit<, false≢true, settled-slave)
 
 acknowledged-latched : (pair : Pair) (o : Option ℕ) → interrupt pair.master ≡ o → SlaveIsLatched pair →
     SlaveIsLatched (pair_after_acknowledge pair)

@@ -5,5 +5,4 @@ use Rattle.board_laws.specs.PitLaws.{CountReadsAsWritten}
 
 pub count_reads_as_written : CountReadsAsWritten
 unfolding low_byte high_byte count_of_number
-count_reads_as_written mode Binary low high p l h = grind (arith, nat_tests)
-count_reads_as_written mode Decimal low high p l h = grind (arith, nat_tests)
+count_reads_as_written mode x1 low high p l h = grind (arith, nat_tests)

@@ -11,8 +11,7 @@ use Rattle.board_laws.specs.PitCounts.{PulseLoads, EndsOnce, CountsEndOnce, Stro
 
 pub pulse_loads : PulseLoads
 unfolding pulse pulse_by_mode load
-pulse_loads TerminalCount gate n c m e h = rw (m, e) (grind (arith, nat_tests))
-pulse_loads _ gate n c m e h = rw (m, e) (grind (arith, nat_tests))
+pulse_loads mode gate n c m e h = grind (arith, nat_tests)
 
 -- ONE END
 
@@ -30,8 +29,7 @@ counts : (mode : Mode) (gate : Bool) (n e : ℕ) (c : CounterState) → is_perio
     IsAtLoad mode n (level_of mode) c → 2 ≤ e →
     pulse gate (phase c e (level_of mode)) ≡ phase c (e - 1) (level_of mode)
 unfolding pulse pulse_by_mode count_to_end count_to_strobe count_down
-counts TerminalCount gate n e c p on s h = rw (s.mode, s.load_asked, s.trigger) (grind (arith, nat_tests))
-counts _ gate n e c p on s h = rw (s.mode, s.load_asked, s.trigger) (grind (arith, nat_tests))
+counts mode gate n e c p on s h = grind (arith, nat_tests)
 
 -- the count came to its end: OUT rose, or the strobe was given
 abbrev is_ended : Mode → CounterState → Bool
@@ -49,19 +47,16 @@ record HasEnded (of_mode : Mode) (level : Bool) (c : CounterState) : Type 0 wher
 ends : (mode : Mode) (gate : Bool) (n : ℕ) (c : CounterState) → is_periodic mode ≡ false → IsOn mode gate c →
     IsAtLoad mode n (level_of mode) c → HasEnded mode (not (level_of mode)) (pulse gate (phase c 1 (level_of mode)))
 unfolding pulse pulse_by_mode count_to_end count_to_strobe count_down
-ends TerminalCount gate n c p on s = rw (s.mode, s.load_asked, on.0) (grind (arith, nat_tests))
-ends _ gate n c p on s = rw (s.mode, s.load_asked) (grind (arith, nat_tests))
+ends mode gate n c p on s = grind (arith, nat_tests)
 
 stays : (mode : Mode) (gate level : Bool) (c : CounterState) → is_periodic mode ≡ false → HasEnded mode level c →
     HasEnded mode true (pulse gate c)
 unfolding pulse pulse_by_mode count_to_end count_to_strobe count_down
-stays TerminalCount gate level c p s = rw (s.mode, s.load_asked) (grind (arith, nat_tests))
-stays _ gate level c p s = rw (s.mode, s.load_asked) (grind (arith, nat_tests))
+stays mode gate level c p s = grind (arith, nat_tests)
 
 element_is : (mode : Mode) (n : ℕ) (level : Bool) (c : CounterState) → is_periodic mode ≡ false →
     IsAtLoad mode n level c → c.element ≡ n
-element_is SquareWave n level c p s = absurd (false≢true (sym p))
-element_is _ n level c p s = s.element
+element_is mode n level c p s = grind (arith, nat_tests)
 
 -- a counter that counts down from its load
 runs_down : (mode : Mode) (gate : Bool) (n : ℕ) (c : CounterState) → is_periodic mode ≡ false → IsOn mode gate c →

@@ -13,14 +13,12 @@ use Rattle.board_laws.specs.PitLaws.{LatchedCountIsRead}
 write-latch : (access : Access) (byte : ℕ) (c : CounterState) → c.access ≡ access →
     (write byte c).count_latch ≡ c.count_latch
 unfolding write take_byte take_low complete
-write-latch LowByte byte c is = rw is refl
-write-latch _ byte c is = rw is (grind (arith, nat_tests))
+write-latch x0 byte c is = grind (arith, nat_tests)
 
 pulse-latch : (mode : Mode) (gate : Bool) (c : CounterState) → c.mode ≡ mode →
     (pulse gate c).count_latch ≡ c.count_latch
 unfolding pulse pulse_by_mode load count_down count_to_end count_to_reload count_half count_to_strobe
-pulse-latch TerminalCount gate c is = rw is (grind (arith, nat_tests))
-pulse-latch _ gate c is = rw is (grind (arith, nat_tests))
+pulse-latch x0 gate c is = grind (arith, nat_tests)
 
 -- A LATCH THAT IS HELD
 
@@ -44,9 +42,7 @@ element_bytes-cons LowThenHigh c h = (low_byte c.notation c.element, high_byte c
 step_of-held : (s : Step) (c : CounterState) (b : ℕ) (bs : List ℕ) → c.count_latch ≡ b ∷ bs →
     (step_of s c).count_latch ≡ c.count_latch
 unfolding gate_rises gate_falls latch_status read_back
-step_of-held (Write byte) c b bs h = write-latch _ byte c refl
-step_of-held (Pulse gate) c b bs h = pulse-latch _ gate c refl
-step_of-held _ c b bs h = let e = latch_count-held c b bs h in grind (arith, nat_tests)
+step_of-held x0 c b bs h = grind (arith, nat_tests, write-latch, pulse-latch, latch_count-held)
 
 after-held : (steps : List Step) (c : CounterState) (b : ℕ) (bs : List ℕ) → c.count_latch ≡ b ∷ bs →
     (after steps c).count_latch ≡ b ∷ bs

@@ -22,9 +22,7 @@ is_latch = record { of_0 = λ p. refl; of_1 = λ p. refl; of_2 = λ p. refl }
 latches-commute : (l : List ℕ) (o : Option ℕ) (c : CounterState) → c.count_latch ≡ l → c.status_latch ≡ o →
     latch_status (latch_count c) ≡ latch_count (latch_status c)
 unfolding latch_count latch_status element_bytes status_byte
-latches-commute [] None c h s = rw (h, s) (grind (arith, nat_tests))
-latches-commute [] _ c h s = rw (h, s) (grind (arith, nat_tests))
-latches-commute _ _ c h s = rw (h, s) (grind (arith, nat_tests))
+latches-commute x0 x1 c h s = grind (arith, nat_tests)
 
 commute : (c : CounterState) → latch_status (latch_count c) ≡ latch_count (latch_status c)
 commute c = latches-commute c.count_latch c.status_latch c refl refl

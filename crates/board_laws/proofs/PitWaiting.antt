@@ -36,31 +36,18 @@ last_of _ c = half_end c
 next_by : (mode : Mode) (gate : Bool) (c : CounterState) (n m : ℕ) (null : Bool) (low : Option ℕ) → c.mode ≡ mode →
     Runs n c → Next gate c m null low
 unfolding pulse pulse_by_mode count_to_reload count_half count_down load
-next_by TerminalCount gate c n m null low mode r = absurd (false≢true (ap is_periodic (sym mode) ∙ r.periodic))
-next_by _ gate c n m null low mode r =
-    elim (cases_Bool (c.load_asked || (c.trigger && true))) [
-      | inl loads ↦ inr (rw mode (grind (arith, nat_tests)))
-      | inr goes ↦ elim (cases_Bool (c.started && gate)) [
-        | inl counting ↦ elim (cases_Bool (c.element == last_of c.mode c)) [
-          | inl last ↦ inr (rw mode (grind (arith, nat_tests)))
-          | inr not_last ↦ inl (rw mode (grind (arith, nat_tests)))
-        ]
-        | inr idle ↦ inl (rw mode (grind (arith, nat_tests)))
-      ]
-    ]
+next_by x0 gate c n m null low mode r = grind (arith, nat_tests)
 
 -- ---- what pulses keep
 
 runs_by : (mode : Mode) (gate : Bool) (n : ℕ) (c : CounterState) → c.mode ≡ mode → Runs n c → Runs n (pulse gate c)
 unfolding pulse pulse_by_mode count_to_reload count_half count_down load
-runs_by TerminalCount gate n c mode r = absurd (false≢true (ap is_periodic (sym mode) ∙ r.periodic))
-runs_by _ gate n c mode r = rw (mode, r.count) (grind (arith, nat_tests))
+runs_by x0 gate n c mode r = grind (arith, nat_tests)
 
 taken_by : (mode : Mode) (gate : Bool) (m : ℕ) (c : CounterState) → c.mode ≡ mode → HasTaken m c →
     HasTaken m (pulse gate c)
 unfolding pulse pulse_by_mode count_to_reload count_half count_down load
-taken_by TerminalCount gate m c mode t = absurd (false≢true (ap is_periodic (sym mode) ∙ t.runs.periodic))
-taken_by _ gate m c mode t = rw (mode, t.runs.count) (grind (arith, nat_tests))
+taken_by x0 gate m c mode t = grind (arith, nat_tests)
 
 -- ---- a write
 
@@ -71,9 +58,7 @@ record GoesRound (mode : Mode) : Type 0 where
 
 goes_round : (mode : Mode) → is_periodic mode ≡ true → GoesRound mode
 unfolding asks_for_load
-goes_round TerminalCount p = absurd (false≢true p)
-goes_round SoftwareStrobe p = absurd (false≢true p)
-goes_round _ p = record { ends = refl; asks = refl }
+goes_round x0 p = grind (arith, nat_tests)
 
 abbrev IsWaiting : CounterState → CounterState → Type 0
 IsWaiting c d = d ≡ waiting c (unwrap_or d.count 0) d.null_count d.low_written
@@ -81,10 +66,7 @@ IsWaiting c d = d ≡ waiting c (unwrap_or d.count 0) d.null_count d.low_written
 waits_by : (a : Access) (low : Option ℕ) (byte n : ℕ) (c : CounterState) → GoesRound c.mode → c.started ≡ true →
     c.count ≡ Some n → c.access ≡ a → c.low_written ≡ low → IsWaiting c (write byte c)
 unfolding write take_byte take_low complete
-waits_by LowThenHigh None byte n c round started count a l =
-    rw (a, l) (grind (arith, nat_tests, round.ends, round.asks))
-waits_by LowThenHigh _ byte n c round started count a l = rw (a, l) (grind (arith, nat_tests, round.ends, round.asks))
-waits_by _ low byte n c round started count a l = rw a (grind (arith, nat_tests, round.ends, round.asks))
+waits_by x0 low byte n c round started count a l = grind (arith, nat_tests)
 
 -- ---- any number of pulses
 

@@ -20,8 +20,7 @@ use Rattle.board_laws.proofs.StoredLaws.{stored-left}
 
 reset_value :
     (control : ℕ) (written : Option ℕ) → resets_hard control written ≡ true → control_after control written ≡ 0
-reset_value control None hard = absurd (false≢true hard)
-reset_value control (Some value) hard = cond-true (is_hard_value control value) 0 _ hard
+reset_value control x1 hard = grind (arith, nat_tests)
 
 -- ---- the pair
 
@@ -31,9 +30,7 @@ no_latches inputs = levels_where-same _ (λ level. false) (λ level small. grind
 chip-reset :
     (has_slave : Bool) (inputs : Levels) →
     chip_after_inputs (chip_at_reset has_slave inputs) inputs no_levels ≡ chip_at_reset has_slave inputs
-chip-reset has_slave inputs =
-    ap (λ (l : Levels). record
-    (chip_at_reset has_slave inputs) { latches = l; inputs = inputs; triggers = no_levels }) (no_latches inputs)
+chip-reset has_slave inputs = grind (arith, nat_tests, chip_at_reset, no_levels, no_latches)
 
 pair_made : Chip → Chip → Pair
 pair_made master slave = record { master = master; slave = slave }
@@ -54,8 +51,7 @@ stepped-hard :
     pair_stepped setup entry before event pair
     ≡ pair_after_lines (pair_reset_or_after setup entry before pair) (levels_of setup (entry ∷ before))
     (elcr_of (entry ∷ before))
-stepped-hard setup before entry (Pulses count) pair hard = absurd (false≢true hard)
-stepped-hard setup before entry event pair hard = refl
+stepped-hard setup before entry event pair hard = grind (arith, nat_tests)
 
 triggers-reset :
     (before : List Entry) (entry : Entry) → is_hard_reset before entry.event ≡ true →
@@ -78,19 +74,9 @@ pair-hard setup before entry hard =
 
 pub hard_reset_resets : HardResetResets
 unfolding byte_of config_address reset_control plain_of timer_of clock_of disk_with
-hard_reset_resets setup before entry hard = record {
-  registers = λ reg.
-      ap (λ (change : Option MapChange). byte_with setup change reg (byte_of setup before reg))
-      (cond-true (is_hard_reset before entry.event) (Some Reset) _ hard);
-  address = cond-true (is_hard_reset before entry.event) 0 _ hard;
-  control = reset_value (reset_control before) (control_written entry.event) hard;
-  triggers = triggers-reset before entry hard;
-  plain = cond-true (is_hard_reset before entry.event) _ _ hard;
-  timer = cond-true (is_hard_reset before entry.event) _ _ hard;
-  clock = cond-true (is_hard_reset before entry.event) _ _ hard;
-  disk = λ bytes. cond-true (is_hard_reset before entry.event) _ _ hard;
-  pair = pair-hard setup before entry hard;
-}
+hard_reset_resets setup before entry hard =
+    grind (arith, nat_tests, byte_with, byte_of, cond-true, is_hard_reset, reset_value, reset_control,
+    control_written, triggers-reset, pair-hard)
 
 -- ---- what stays
 
@@ -131,21 +117,14 @@ nothing_put setup before event reply cell answer hard = absurd (false≢true har
 
 wire-hard :
     (before : List Entry) (event : Event) (dev : ℕ) → is_hard_reset before event ≡ true → wire_set dev event ≡ None
-wire-hard before (Wire at on) dev hard = absurd (false≢true hard)
-wire-hard before event dev hard = refl
+wire-hard before event dev hard = grind (arith, nat_tests)
 
 line-hard :
     (before : List Entry) (event : Event) (line : ℕ) → is_hard_reset before event ≡ true →
     line_set line event ≡ None
-line-hard before (Line at on) line hard = absurd (false≢true hard)
-line-hard before event line hard = refl
+line-hard before event line hard = grind (arith, nat_tests)
 
 pub hard_reset_keeps : HardResetKeeps
 unfolding wire_of irq_of
-hard_reset_keeps setup before entry next hard = record {
-  cells = λ cell.
-      stored-left entry before cell (nothing_put setup before entry.event entry.reply cell next.answer hard);
-  wires = λ dev. ap (λ (set : Option Bool). unwrap_or set (wire_of before dev)) (wire-hard before entry.event dev hard);
-  lines = λ line.
-      ap (λ (set : Option Bool). unwrap_or set (irq_of before line)) (line-hard before entry.event line hard);
-}
+hard_reset_keeps setup before entry next hard =
+    grind (arith, nat_tests, stored-left, nothing_put, unwrap_or, wire_of, wire-hard, irq_of, line-hard)

@@ -1,4 +1,5 @@
 -- A cell holds the byte of the last entry that put one there.
+use Rattle.board_prelude.proofs.Common.{nat_tests}
 use Rattle.std.proofs.Common.{◌≡◌, ℕ, ◌+◌, List, [], ◌∷◌, ◌++◌, Some, None, ◌==◌, ◌<◌, false, Option, refl, ◌∙◌, ap}
 use Rattle.std.proofs.Common.{arith, unwrap_or}
 use Rattle.board_prelude.proofs.Common.{ne_eqb, le-ltb, All-head, All-tail, One, Entry, FittedCard, OutsideBase, Setup}
@@ -35,25 +36,5 @@ nothing_stored (entry ∷ before) cell left =
 
 -- ---- bases whose bytes the board does not keep
 
-none_kept : (card : Option FittedCard) (base bits : ℕ) → (base == 7) ≡ false →
-    base_of_card card base ≡ Some (OutsideBase bits) →
-    kept_size card base ≡ 0
-none_kept None base bits not_vga is = absurd (cc)
-none_kept (Some card) base bits not_vga is = rw (not_vga, is) refl
-
-byte_of_none : (setup : Setup) (before : List Entry) (dev base bits : ℕ) → base < 6 →
-    base_of_card (card_at setup dev) base ≡ Some (OutsideBase bits) → (off : ℕ) →
-    card_byte setup before dev base off ≡ 0xFF
-byte_of_none setup before dev base bits below is off =
-    let not_vga : (base == 7) ≡ false = ne_eqb base 7 (omega (arith, below)) in
-    let not_rom : (base == 6) ≡ false = ne_eqb base 6 (omega (arith, below)) in
-    rw (not_rom, none_kept (card_at setup dev) base bits not_vga is, le-ltb off 0 (omega arith)) refl
-
 pub outside_gives_ones : OutsideGivesOnes
-outside_gives_ones setup before dev base bits off place One below is =
-    byte_of_none setup before dev base bits below is off
-outside_gives_ones setup before dev base bits off place Two below is =
-    let byte = byte_of_none setup before dev base bits below is in rw (byte off, byte (off + 1)) refl
-outside_gives_ones setup before dev base bits off place Four below is =
-    let byte = byte_of_none setup before dev base bits below is in
-    rw (byte off, byte (off + 1), byte (off + 2), byte (off + 3)) refl
+outside_gives_ones setup before dev base bits off place x7 below is = grind (arith, nat_tests)

@@ -20,11 +20,7 @@ value_at-dram :
     (setup : Setup) (before : List Entry) (target : Target) (addr : ℕ) (width : Width) → first_cell target addr
     ≡ Some (DramCell addr) →
     value_at setup before target addr width ≡ wide (dram_byte setup before) addr width
-value_at-dram setup before (Card dev base off) addr width lands = grind (arith, nat_tests)
-value_at-dram setup before (Dram row) addr width lands = refl
-value_at-dram setup before (Shadow row) addr width lands = refl
-value_at-dram setup before Smram addr width lands = refl
-value_at-dram setup before _ addr width lands = cc
+value_at-dram setup before x2 addr width lands = grind (arith, nat_tests)
 
 joined-same :
     (f g : Access → ℕ) (parts : List Access) → All (λ part. f part ≡ g part) parts → joined f parts ≡ joined g parts
@@ -86,17 +82,13 @@ IsApart from to _ = Unit {0}
 apart-parts :
     (cell : Cell) (from near far : ℕ) → IsApart from (from + (near + far)) cell →
     IsApart from (from + near) cell × IsApart (from + near) (from + near + far) cell
-apart-parts (DramCell addr) from near far (inl below) = (inl below, inl (omega arith))
-apart-parts (DramCell addr) from near far (inr past) = (inr (omega arith), inr (omega arith))
-apart-parts (CardCell dev base off) from near far apart = (tt, tt)
+apart-parts x0 from near far apart = grind (arith, nat_tests)
 
 memory_put-apart :
     (access : Access) (target : Target) (cell : Cell) → is_write access.kind ≡ true → first_cell target access.addr
     ≡ Some (DramCell access.addr) →
     IsApart access.addr (access.addr + bytes_of access.width) cell → memory_put access target cell ≡ None
-memory_put-apart access target (DramCell addr) writes lands (inl below) = rw (writes, lands) (grind (arith, nat_tests))
-memory_put-apart access target (DramCell addr) writes lands (inr past) = rw (writes, lands) (grind (arith, nat_tests))
-memory_put-apart access target (CardCell dev base off) writes lands apart = rw (writes, lands) refl
+memory_put-apart access target x2 writes lands apart = grind (arith, nat_tests)
 
 -- byte k of the low bytes of a number is its own byte k
 byte-low : (width : Width) (n k : ℕ) → k < bytes_of width → byte (n % 256 ^ bytes_of width) k ≡ byte n k
@@ -167,10 +159,7 @@ put-answered :
     (setup : Setup) (before : List Entry) (access : WideAccess) (reply : Reply) (cell : Cell) →
     IsAnswer setup before (Wide access) reply →
     entry_put (Wide access) reply cell ≡ put_by_parts setup before (parts_of access) cell
-put-answered setup before access (Bus value target denial) cell answer = absurd answer
-put-answered setup before access (Saw look) cell answer = absurd answer
-put-answered setup before access (Parts parts value) cell answer =
-    ap (λ (replies : List Part). parts_put (parts_of access) replies cell) answer.each
+put-answered setup before access x3 cell answer = grind (arith, nat_tests)
 
 pub wide_stored : WideStored
 wide_stored setup before entry access next is legal writes lands =

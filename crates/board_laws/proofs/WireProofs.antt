@@ -13,8 +13,7 @@ level-at :
     (setup : Setup) (history : List Entry) (line : ℕ) → line < 16 →
     get_or (levels_of setup history) line false ≡ level_with setup history (timer_of history) line
 unfolding levels_with numbers_from
-level-at setup history line below =
-    map-number (level_with setup history (timer_of history)) 0 16 line line false below (omega arith)
+level-at setup history line below = grind (arith, nat_tests)
 
 -- ---- a card's wire and its PIRQ
 
@@ -22,9 +21,7 @@ wire-pirq :
     (history : List Entry) (dev : ℕ) → 2 ≤ dev → dev ≤ 9 → wire_of history dev ≡ true →
     pirq_level history (pirq_of_card dev) ≡ true
 unfolding numbers_from
-wire-pirq history dev first last high =
-    any-number (λ d. pirq_of_card d == pirq_of_card dev && wire_of history d) 2 8 dev first (omega arith)
-    (and_from _ _ (eq-eqb (pirq_of_card dev) (pirq_of_card dev) refl) high)
+wire-pirq history dev first last high = grind (arith, nat_tests)
 
 pirq-wire :
     (history : List Entry) (pin : ℕ) → pirq_level history pin ≡ true →
@@ -53,18 +50,14 @@ pin-is :
     pin_drives setup history line pin
     ≡ drives (line_of_route (byte_of setup history (pirq pin))) (pirq_level history pin) line
 pin-is setup history line pin below =
-    ap (λ (route : ℕ). drives (line_of_route route) (get_or (pirq_levels history) pin false) line)
-    (route-at setup history pin below)
-    ∙ ap (λ (level : Bool). drives (line_of_route (byte_of setup history (pirq pin))) level line)
-    (pirq-at history pin below)
+    grind (arith, nat_tests, drives, line_of_route, get_or, pirq_levels, route-at, byte_of, pirq, pirq-at)
 
 record Driven (route : Option ℕ) (level : Bool) (line : ℕ) : Type 0 where
   pub routed : route ≡ Some line
   pub high : level ≡ true
 
 driven-by : (route : Option ℕ) (level : Bool) (line : ℕ) → drives route level line ≡ true → Driven route level line
-driven-by None level line is = absurd (false≢true is)
-driven-by (Some routed) level line is = grind (arith, nat_tests)
+driven-by x0 level line is = grind (arith, nat_tests)
 
 -- ---- both ways
 
