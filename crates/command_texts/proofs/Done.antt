@@ -41,8 +41,7 @@ done_one old new statement reply spare answer is = record {
   same =
       ap (λ (board : Standing). statements_of board.entries) is
       ∙ statements-newest (next_entry old.entries statement.actor statement.event reply) old.entries;
-  legal = λ legal. subst (λ (board : Standing). IsLegal board.setup board.entries) (sym is)
-      (record { number = refl; answer = answer }, legal);
+  legal = λ legal. rw is (record { number = refl; answer = answer }, legal);
 }
 
 -- ---- replays
@@ -53,9 +52,7 @@ pub replay_goes_on :
     IsReplayOf setup steps old.entries → DidStatements old statements new
     → IsReplayOf setup (steps ++ statements) new.entries
 replay_goes_on setup old new steps statements is replay done = record {
-  legal =
-      subst (λ (setup : Setup). IsLegal setup new.entries) (done.setup ∙ is)
-      (done.legal (subst (λ (setup : Setup). IsLegal setup old.entries) (sym is) replay.legal));
+  legal = rw (done.setup ∙ is) at (done.legal (rw is replay.legal));
   same = done.same ∙ ap (λ (before : List Statement). before ++ statements) replay.same;
 }
 

@@ -54,12 +54,9 @@ unfolding entry_of_version
 entry_within setup [] version = omega arith
 entry_within setup (entry ∷ before) version = elim (cases_lt (version_of setup before) version) [
   | inl above ↦
-      let now = entry_now setup entry before version above in
-      subst (λ (n : ℕ). n ≤ length (entry ∷ before)) (sym now) (omega arith)
+      omega (arith, entry_now setup entry before version above)
   | inr below ↦
-      let same = entry_before setup entry before version below in
-      let within = entry_within setup before version in
-      subst (λ (n : ℕ). n ≤ length (entry ∷ before)) (sym same) (omega (arith, within))
+      omega (arith, entry_before setup entry before version below, entry_within setup before version)
 ]
 
 -- ---- the law

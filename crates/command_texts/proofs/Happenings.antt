@@ -25,19 +25,18 @@ pub sent-append : (port : Sending) (first second : List Happening) →
     bytes_sent port (first ++ second) ≡ bytes_sent port first ++ bytes_sent (after_all port first) second
 sent-append port [] second = refl
 sent-append port (happening ∷ first) second =
-    ap (λ (bytes : List ℕ). sent_by port happening ++ bytes) (sent-append (sending_after port happening) first second)
-    ∙ sym (append_assoc (sent_by port happening) (bytes_sent (sending_after port happening) first)
-    (bytes_sent (after_all (sending_after port happening) first) second))
+    rw (sent-append (sending_after port happening) first second)
+    (sym (append_assoc (sent_by port happening) (bytes_sent (sending_after port happening) first)
+    (bytes_sent (after_all (sending_after port happening) first) second)))
 
 pub steps-append : (actor : ℕ) (port : Sending) (first second : List Happening) →
     steps_for_all actor port (first ++ second)
     ≡ steps_for_all actor port first ++ steps_for_all actor (after_all port first) second
 steps-append actor port [] second = refl
 steps-append actor port (happening ∷ first) second =
-    ap (λ (steps : List Statement). steps_for actor port happening ++ steps)
-    (steps-append actor (sending_after port happening) first second)
-    ∙ sym (append_assoc (steps_for actor port happening) (steps_for_all actor (sending_after port happening) first)
-    (steps_for_all actor (after_all (sending_after port happening) first) second))
+    rw (steps-append actor (sending_after port happening) first second)
+    (sym (append_assoc (steps_for actor port happening) (steps_for_all actor (sending_after port happening) first)
+    (steps_for_all actor (after_all (sending_after port happening) first) second)))
 
 -- bytes that come send none
 pub none_sent : (port : Sending) (bytes : List ℕ) → bytes_sent port (map Comes bytes) ≡ []

@@ -45,11 +45,7 @@ rounds_total : (n : ℕ) → total (lines_of_rounds n) ≡ 180 * n
 unfolding lines_of_rounds
 rounds_total zero = refl
 rounds_total (suc i) =
-    let front : total (lines_of_rounds i) ≡ 180 * i = rounds_total i in
-    let more : total (round_lines i) ≡ 180 = round_total i in
-    let whole : total (lines_of_rounds i ++ round_lines i) ≡ total (lines_of_rounds i) + total (round_lines i) =
-    total_append (lines_of_rounds i) (round_lines i) in
-    omega arith
+    omega (arith, rounds_total i, round_total i, total_append (lines_of_rounds i) (round_lines i))
 
 text_total : (n : ℕ) → length (make_text n) ≡ total (make_lines n)
 unfolding make_text

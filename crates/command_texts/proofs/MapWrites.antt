@@ -112,4 +112,4 @@ pub writes_after :
     new ≡ record { setup = old.setup; entries = entry ∷ old.entries; spare = spare } →
     AreWritesOf old.setup (entry ∷ old.entries) writes → AreWritesOf new.setup new.entries writes
 writes_after old new entry spare writes is are =
-    subst (λ (board : Standing). AreWritesOf board.setup board.entries writes) (sym is) are
+    rw is are

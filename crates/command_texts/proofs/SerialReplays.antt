@@ -38,9 +38,8 @@ sent_of : (port : Sending) (bytes : List ℕ) (statement : Statement) →
     ≡ sent_by (after_all port (map Comes bytes)) (Happens statement.event)
 sent_of port bytes statement =
     let middle = after_all port (map Comes bytes) in
-    sent-append port (map Comes bytes) (Happens statement.event ∷ [])
-    ∙ ap (λ (front : List ℕ). front ++ bytes_sent middle (Happens statement.event ∷ [])) (none_sent port bytes)
-    ∙ append-nil (sent_by middle (Happens statement.event))
+    rw (sent-append port (map Comes bytes) (Happens statement.event ∷ []), none_sent port bytes)
+    (append-nil (sent_by middle (Happens statement.event)))
 
 pub went_nowhere : (place : SerialPlace) → IsStanding place.serial → WentOn place [] place
 went_nowhere place standing = record {
@@ -96,10 +95,7 @@ pub went_on_step : (statement : Statement) (old middle new : Serial Standing) (i
     WentOn (record { serial = old; input = input; sent = sent }) (statement ∷ [])
     (record { serial = new; input = left; sent = after })
 went_on_step statement old middle new input left sent after gone received done added one two =
-    subst
-    (λ (rest : List ℕ). WentOn (record { serial = old; input = input; sent = sent }) (statement ∷ [])
-    (record { serial = new; input = rest; sent = after }))
-    (sym gone) (went_on_once statement old middle new input sent after received done added one two)
+    rw gone (went_on_once statement old middle new input sent after received done added one two)
 
 pub went_on_twice : (old middle new : SerialPlace) (first second : List Statement) →
     WentOn old first middle → WentOn middle second new → WentOn old (first ++ second) new
@@ -109,16 +105,9 @@ went_on_twice old middle new first second one two =
       setup = two.setup ∙ one.setup;
       standing = two.standing;
       sent = λ later.
-          ap (λ (statements : List Statement). old.sent ++ sent_in (port_of old.serial) old.input statements)
-          (append_assoc first second later)
-          ∙ one.sent (second ++ later)
-          ∙ two.sent later;
+          rw (append_assoc first second later) (one.sent (second ++ later) ∙ two.sent later);
       steps = λ later.
-          ap (λ (statements : List Statement). statements_of old.serial.board.entries ++ steps_in (port_of old.serial)
-          old.input statements)
-          (append_assoc first second later)
-          ∙ one.steps (second ++ later)
-          ∙ two.steps later;
+          rw (append_assoc first second later) (one.steps (second ++ later) ∙ two.steps later);
       spare = omega (arith, one.spare, two.spare);
     }
 
@@ -127,7 +116,7 @@ pub went_on_more : (statements : List Statement) (i : ℕ) (statement : Statemen
     i < length statements → WentOn old (take i statements) middle →
     WentOn middle (get_or statements i statement ∷ []) new → WentOn old (take (i + 1) statements) new
 went_on_more statements i statement old middle new within so_far next =
-    subst (λ (done : List Statement). WentOn old done new) (sym (take_more statements i statement within))
+    rw (take_more statements i statement within)
     (went_on_twice old middle new (take i statements) (get_or statements i statement ∷ []) so_far next)
 
 -- the room that is left is enough for the statements that are left
@@ -146,10 +135,7 @@ pub went_on_phase : (phases : List (Vec Statement Global)) (i : ℕ) (phase : Ve
     WentOn old (in_file_order (lists_of (take (i + 1) phases))) new
 went_on_phase phases i phase old middle new within is so_far next =
     let before : List (List Statement) = lists_of (take i phases) in
-    let more : in_file_order (lists_of (take (i + 1) phases)) ≡ in_file_order before ++ phase.items =
-    ap in_file_order (phases_more phases i phase within is) ∙ statements_cut before phase.items []
-    ∙ ap (λ (statements : List Statement). in_file_order before ++ statements) (append-nil phase.items) in
-    subst (λ (done : List Statement). WentOn old done new) (sym more)
+    rw (phases_more phases i phase within is, statements_cut before phase.items [], append-nil phase.items)
     (went_on_twice old middle new (in_file_order before) phase.items so_far next)
 
 pub room_for_phase : (phases : List (Vec Statement Global)) (i : ℕ) (phase : Vec Statement Global)
@@ -164,24 +150,22 @@ room_for_phase phases i phase old middle within is room so_far =
 
 pub for_port_as : (setup other : Setup) (statement : Statement) → setup ≡ other → IsForPort other statement →
     IsForPort setup statement
-for_port_as setup other statement same is = subst (λ (s : Setup). IsForPort s statement) (sym same) is
+for_port_as setup other statement same is = rw same is
 
 pub all_for_port_as : (setup other : Setup) (statements others : List Statement) → setup ≡ other → statements ≡ others →
     All (IsForPort other) others → All (IsForPort setup) statements
 all_for_port_as setup other statements others same equal all =
-    subst (λ (s : Setup). All (IsForPort s) statements) (sym same)
-    (subst (λ (list : List Statement). All (IsForPort other) list) (sym equal) all)
+    rw (same, equal) all
 
 pub phase_for_port : (setup : Setup) (phases : List (Vec Statement Global)) (i : ℕ) (phase : Vec Statement Global) →
     i < length phases → phase ≡ get_or phases i phase → All (IsForPort setup) (in_file_order (lists_of phases)) →
     All (IsForPort setup) phase.items
 phase_for_port setup phases i phase within is all =
     all_of_phase (IsForPort setup) (lists_of (take i phases)) phase.items (lists_of (drop (i + 1) phases))
-    (subst (λ (ps : List (List Statement)). All (IsForPort setup) (in_file_order ps))
-    (phases_cut phases i phase within is) all)
+    (rw (phases_cut phases i phase within is) at all)
 
 -- the same under another name of the statements
 pub went_on_as : (old new : SerialPlace) (statements others : List Statement) → statements ≡ others
     → WentOn old statements new →
     WentOn old others new
-went_on_as old new statements others same went = subst (λ (list : List Statement). WentOn old list new) same went
+went_on_as old new statements others same went = rw same at went

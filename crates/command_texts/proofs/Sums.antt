@@ -15,10 +15,9 @@ pub sum_below-same : (count : ℕ) (byte_at other : ℕ → ℕ) → ((k : ℕ) 
 unfolding sum_below
 sum_below-same zero byte_at other same = refl
 sum_below-same (suc count) byte_at other same =
-    let front : sum_below count byte_at ≡ sum_below count other =
-    sum_below-same count byte_at other (λ k below. same k (omega (arith, below))) in
+    let front = sum_below-same count byte_at other (λ k below. same k (omega (arith, below))) in
     let last : byte_at count ≡ other count = same count (omega arith) in
-    ap (λ (n : ℕ). n + byte_at count) front ∙ ap (λ (n : ℕ). sum_below count other + n) last
+    rw (front, last) refl
 
 -- the bytes below, and those from there on
 sum_below-append : (first more : ℕ) (byte_at : ℕ → ℕ) →
@@ -44,9 +43,7 @@ sum_below-zeros : (count : ℕ) (byte_at : ℕ → ℕ) → ((k : ℕ) → byte_
 unfolding sum_below
 sum_below-zeros zero byte_at zeros = refl
 sum_below-zeros (suc count) byte_at zeros =
-    let front : sum_below count byte_at ≡ 0 = sum_below-zeros count byte_at zeros in
-    let last : byte_at count ≡ 0 = zeros count in
-    omega arith
+    omega (arith, sum_below-zeros count byte_at zeros, zeros count)
 
 -- bytes past the end of a list count nothing
 sum_below-past : (bytes : List ℕ) (size : ℕ) → length bytes ≤ size →

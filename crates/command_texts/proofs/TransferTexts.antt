@@ -88,9 +88,5 @@ pub abort_added : {T E : Type 0} (result : Result T E) (old one two three new fi
     one ≡ old ++ first → two ≡ one ++ second → three ≡ two ++ space ∷ [] → OnOk result (new ≡ three ++ last) →
     OnOk result (new ≡ old ++ (first ++ second ++ space ∷ last))
 abort_added (Ok done) old one two three new first second last a b c d =
-    d ∙ ap (λ (t : List ℕ). t ++ last)
-    (c ∙ ap (λ (t : List ℕ). t ++ space ∷ []) (b ∙ ap (λ (t : List ℕ). t ++ second) a))
-    ∙ append_assoc (old ++ first ++ second) (space ∷ []) last
-    ∙ ap (λ (t : List ℕ). t ++ space ∷ last) (append_assoc old first second)
-    ∙ append_assoc old (first ++ second) (space ∷ last)
+    rw (d, c, b, a) (simp append_assoc)
 abort_added (Err fault) old one two three new first second last a b c d = tt
