@@ -3,13 +3,13 @@
 ghost use Rattle.library_examples.specs.Seconds.{MomentsShown, SecondsPass};
 
 /// What the registers of the clock say, in each of their forms.
-#[tactic(auto, using(crate::proofs::SecondRuns::moments_shown))]
+#[tactic(auto, using(crate::proofs::SecondRuns::seconds))]
 pub fn moments_shown()
     ensures shown { MomentsShown }
 {}
 
 /// What comes a second later.
-#[tactic(auto, using(crate::proofs::SecondRuns::seconds_pass))]
+#[tactic(auto, using(crate::proofs::SecondRuns::seconds))]
 pub fn seconds_pass()
     ensures pass { SecondsPass }
 {}
