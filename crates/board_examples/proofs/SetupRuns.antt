@@ -1,8 +1,8 @@
 -- The borders of a setup, from the definitions.
 use Rattle.std.proofs.Common.{refl, arith, rules}
-use Rattle.board_prelude.proofs.Common.{All-nil, All-cons, All-head, leb-true, IsCard, IsCardList}
-use Rattle.board_examples.specs.Setups.{eight_cards, MemoryBorders, DiskBorders, CardBorders, CardListBorders}
-use Rattle.board_examples.specs.Setups.{WindowBorders, SetupBorders}
+use Rattle.board_prelude.proofs.Common.{All-nil, All-cons, All-head}
+use Rattle.board_examples.specs.Setups.{MemoryBorders, DiskBorders, CardBorders, CardListBorders, WindowBorders}
+use Rattle.board_examples.specs.Setups.{SetupBorders}
 use Rattle.std.proofs.lemmas.List.Elements.{All-from_recursion}
 use Rattle.board_examples.proofs.Histories.{rom_size}
 
@@ -32,18 +32,11 @@ card = record {
 
 cards : CardListBorders
 cards = record {
-  all = record {
-    count = leb-true _ _ refl;
-    each = All-from_recursion IsCard eight_cards (search (rules, arith, All-nil));
-    rises = search (rules, arith, All-from_recursion);
-  };
+  all = search (rules, arith, All-nil, All-from_recursion);
   nine = grind arith;
   twice = grind (arith, All-head);
   falling = grind (arith, All-head);
 }
-
-allc : IsCardList eight_cards
-allc = search (rules, arith, All-nil, All-from_recursion)
 
 windows : WindowBorders
 windows = grind (arith, All-nil, All-cons, rom_size)
