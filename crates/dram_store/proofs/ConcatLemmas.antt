@@ -4,7 +4,9 @@ use Rattle.std.proofs.Common.{replicate, inl, inr, ◌∙◌, refl, arith, slice
 use Rattle.board_prelude.proofs.Common.{concat, length-append, length-set, get_or_append_left, get_or-append_right}
 use Rattle.board_prelude.proofs.Common.{get_or_past, get_or-set_same, get_or-set_other, All-head, All-tail, cases_lt}
 use Rattle.board_prelude.proofs.Common.{cases_eq, lt-ltb, nat_tests, Width, One, bytes_of, wide}
+use Rattle.board_prelude.proofs.Common.{All-get_or}
 use Rattle.std.proofs.Math.ListN.{get_or}
+use Rattle.std.proofs.lemmas.List.{get_or_read}
 use Rattle.std.proofs.lemmas.List.Elements.{All-set}
 use Rattle.board_base.specs.declared.access.Width.TheVariants.{Two, Four}
 use Rattle.dram_store.specs.Common.{bank_size, IsBank, IsZero, IsPut, dram_at, IsWritten}
@@ -22,7 +24,7 @@ banks_length (bank ∷ later) each =
     let here : length bank ≡ bank_size = All-head IsBank bank later each in
     omega (arith, length-append bank (concat later), banks_length later (All-tail IsBank bank later each))
 
-pub same_length : (banks : List (List ℕ)) (addr : ℕ) (new : List ℕ) → All IsBank banks → IsBank new →
+same_length : (banks : List (List ℕ)) (addr : ℕ) (new : List ℕ) → All IsBank banks → IsBank new →
     length (concat (with_bank banks addr new)) ≡ length (concat banks)
 same_length banks addr new each is =
     let all : All IsBank (with_bank banks addr new) = All-set IsBank banks (addr / bank_size) new is each in
@@ -69,37 +71,15 @@ put_byte banks new addr count put each is inside fits is_put at =
     let new_byte =
     bank_byte (with_bank banks addr new) at (All-set IsBank banks (addr / bank_size) new is each) in
     let written = is_put (at % bank_size) in
-    rw (new_byte, old_byte) (elim (cases_eq (at / bank_size) (addr / bank_size)) [
-      | inl here ↦
-          let apart : at % bank_size - addr % bank_size ≡ at - addr = omega arith in
-          rw (here, get_or-set_same banks (addr / bank_size) new [] inside)
-          (in_bank (bank_at banks addr) new addr count at put here written)
-      | inr there ↦
-          rw (get_or-set_other banks (addr / bank_size) (at / bank_size) new [] there)
-          (beside (bank_at banks at) addr count at put fits there)
-    ])
-  where
-    -- a place of that bank is written where it is in the bank
-    in_bank :
-        (old new : List ℕ) (addr count at : ℕ) (put : ℕ → ℕ) → at / bank_size ≡ addr / bank_size →
-        slice_index new (at % bank_size)
-        ≡ (if nat_le (addr % bank_size) (at % bank_size) && nat_lt (at % bank_size) (addr % bank_size + count)
-        then put (at % bank_size - addr % bank_size) else slice_index old (at % bank_size)) →
-        slice_index new (at % bank_size)
-        ≡ (if nat_le addr at && nat_lt at (addr + count) then put (at - addr) else slice_index old (at % bank_size))
-    in_bank old new addr count at put here is =
-        let apart : at % bank_size - addr % bank_size ≡ at - addr = omega arith in
-        grind (arith, nat_tests)
+    grind (
+      arith,
+      nat_tests,
+      cases_eq (at / bank_size) (addr / bank_size),
+      get_or-set_same banks (addr / bank_size) new [] inside,
+      get_or-set_other banks (addr / bank_size) (at / bank_size) new [],
+    )
 
-    -- no place of another bank is written
-    beside :
-        (old : List ℕ) (addr count at : ℕ) (put : ℕ → ℕ) → addr % bank_size + count ≤ bank_size →
-        at / bank_size ≢ addr / bank_size →
-        slice_index old (at % bank_size)
-        ≡ (if nat_le addr at && nat_lt at (addr + count) then put (at - addr) else slice_index old (at % bank_size))
-    beside old addr count at put fits there = grind (arith, nat_tests)
-
-pub changed :
+changed :
     (banks : List (List ℕ)) (new : List ℕ) (addr count : ℕ) (put : ℕ → ℕ) → All IsBank banks → IsBank new →
     addr / bank_size < length banks → addr % bank_size + count ≤ bank_size →
     IsPut (bank_at banks addr) (addr % bank_size) count put new →
@@ -108,6 +88,33 @@ changed banks new addr count put each is inside fits is_put at =
     let same = same_length banks addr new each is in
     let byte = put_byte banks new addr count put each is inside fits is_put at in
     grind (arith, nat_tests)
+
+-- a DRAM after so many bytes were written, which is as long as before
+abbrev pub AreWritten : (old : List ℕ) → (addr count : ℕ) → (put : ℕ → ℕ) → (new : List ℕ) → Type 0
+AreWritten old addr count put new = IsWritten old addr count put new × (length new ≡ length old)
+
+-- so it is where they were put into the bank of the address
+pub bank_written :
+    (banks : List (List ℕ)) (bank new : List ℕ) (addr count : ℕ) (put : ℕ → ℕ) → All IsBank banks →
+    addr / bank_size < length banks → bank ≡ get_or banks (addr / bank_size) bank → length new ≡ length bank →
+    addr % bank_size + count ≤ bank_size → IsPut bank (addr % bank_size) count put new →
+    AreWritten (concat banks) addr count put (concat (with_bank banks addr new))
+bank_written banks bank new addr count put each inside value long fits is_put =
+    let found : bank ≡ bank_at banks addr = get_or_read banks (addr / bank_size) bank inside value [] in
+    let is : IsBank new = long ∙ rw found (All-get_or IsBank banks (addr / bank_size) [] inside each) in
+    (changed banks new addr count put each is inside fits (rw found at is_put), same_length banks addr new each is)
+
+-- past the banks nothing is written
+pub past_banks : (banks : List (List ℕ)) (addr : ℕ) → All IsBank banks → length banks ≤ addr / bank_size →
+    length (concat banks) ≤ addr
+past_banks banks addr each none = omega (arith, none, banks_length banks each)
+
+pub lost :
+    (banks : List (List ℕ)) (addr count : ℕ) (put : ℕ → ℕ) → All IsBank banks → length banks ≤ addr / bank_size →
+    AreWritten (concat banks) addr count put (concat banks)
+lost banks addr count put each none =
+    let past = past_banks banks addr each none in
+    (λ at. grind (arith, nat_tests), refl)
 
 -- ---- a value that is read from the bank of its address
 

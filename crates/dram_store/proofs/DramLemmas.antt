@@ -49,10 +49,6 @@ put_cell :
     slice_index new at ≡ unwrap_or (byte_put (Dram 0) addr width value (DramCell at)) (slice_index old at)
 put_cell old new addr width value at before within is = grind (arith, nat_tests)
 
--- what is written past the end is lost
-pub lost : (dram : List ℕ) (addr count : ℕ) (put : ℕ → ℕ) → length dram ≤ addr → IsWritten dram addr count put dram
-lost dram addr count put past at = grind (arith, nat_tests)
-
 -- ---- one entry more
 
 pub stored :
