@@ -290,17 +290,11 @@ front_bytes n bytes are k =
 cut_ok : {A : Type 0} (short : Bool) (value : Option A) (bytes after : List ℕ) (given : A) (rest : List ℕ) →
     cond short (Err (length bytes)) (said value bytes after) ≡ Ok (given, rest) →
     (short ≡ false) × (value ≡ Some given) × (after ≡ rest)
-cut_ok true value bytes after given rest is = absurd cc
-cut_ok false None bytes after given rest is = absurd cc
-cut_ok {A} false (Some value) bytes after given rest is =
-    let same = ok_is (value, after) (given, rest) is in
-    (refl, ap (λ (got : A × List ℕ). Some got.0) same, ap (λ (got : A × List ℕ). got.1) same)
+cut_ok short value bytes after given rest is = grind arith
 
 cut_bad : {A : Type 0} (short : Bool) (value : Option A) (bytes after : List ℕ) (left : ℕ) →
     cond short (Err (length bytes)) (said value bytes after) ≡ Err left → length bytes ≡ left
-cut_bad {A} true value bytes after left is = err_is {X = A × List ℕ} _ _ is
-cut_bad {A} false None bytes after left is = err_is {X = A × List ℕ} _ _ is
-cut_bad false (Some value) bytes after left is = absurd cc
+cut_bad short value bytes after left is = grind arith
 
 -- bytes of a fixed number that say a value, or are bad
 abbrev pub cut_field : {A : Type 0} → (size : ℕ) → (List ℕ → Option A) → Reading A

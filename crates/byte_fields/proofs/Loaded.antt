@@ -8,65 +8,56 @@ use Rattle.byte_fields.specs.Loads.{Loads, LoadsWith, OneSpelling}
 use Rattle.byte_fields.proofs.Formats.{IsFormat, ok_is, not_err}
 
 module _ {A : Type 0} {n : ℕ} {reads : Reading A} {spelled : A → List ℕ} {IsSound : A → Type 0}
-    (is : IsFormat n reads spelled IsSound) (before : List ℕ) where
-  -- what is read is what was spelled
-  read_ok : (value got : A) (rest after : List ℕ) → reads before ≡ Ok (got, after) → IsSound value →
-      before ≡ spelled value ++ rest → (got ≡ value) × (after ≡ rest)
-  read_ok value got rest after read sound begins =
-      let same = ok_is (got, after) (value, rest) (sym read ∙ rw begins (is.back value rest sound)) in
-      (ap (λ (pair : A × List ℕ). pair.0) same, ap (λ (pair : A × List ℕ). pair.1) same)
+    (is : IsFormat n reads spelled IsSound) where
+  module _ (before : List ℕ) where
+    -- what is read is what was spelled
+    read_ok : (value got : A) (rest after : List ℕ) → reads before ≡ Ok (got, after) → IsSound value →
+        before ≡ spelled value ++ rest → (got ≡ value) × (after ≡ rest)
+    read_ok value got rest after read sound begins =
+        let same = ok_is (got, after) (value, rest) (sym read ∙ rw begins (is.back value rest sound)) in
+        (ap (λ (pair : A × List ℕ). pair.0) same, ap (λ (pair : A × List ℕ). pair.1) same)
 
-  read_err : (value : A) (rest : List ℕ) (left : ℕ) → reads before ≡ Err left → IsSound value →
-      before ≡ spelled value ++ rest → ⊥
-  read_err value rest left read sound begins =
-      not_err (value, rest) left (sym (rw begins (is.back value rest sound)) ∙ read)
+    read_err : (value : A) (rest : List ℕ) (left : ℕ) → reads before ≡ Err left → IsSound value →
+        before ≡ spelled value ++ rest → ⊥
+    read_err value rest left read sound begins =
+        not_err (value, rest) left (sym (rw begins (is.back value rest sound)) ∙ read)
 
-pub loads :
-    {A : Type 0} {n : ℕ} {reads : Reading A} {spelled : A → List ℕ} {IsSound : A → Type 0} →
-    IsFormat n reads spelled IsSound → (before after : List ℕ) (result : Result A Bad) → AreBytes before →
-    Took (λ value. value) result after (reads before) → Loads reads spelled IsSound before after result
-loads is before after (Ok got) are took = record {
-  loaded =
-      let told = is.taken before got after are took in
-      (told.1, told.0);
-  exact = λ value rest sound begins.
-      let same = read_ok is before value got rest after took sound begins in
-      (rw same.0 refl, same.1);
-  bad = took;
-}
-loads is before after (Err bad) are took = record {
-  loaded = tt;
-  exact = λ value rest sound begins. absurd (read_err is before value rest _ took sound begins);
-  bad = took;
-}
+    pub loads : (after : List ℕ) (result : Result A Bad) → AreBytes before →
+        Took (λ value. value) result after (reads before) → Loads reads spelled IsSound before after result
+    loads after (Ok got) are took = record {
+      loaded = let told = is.taken before got after are took in (told.1, told.0);
+      exact = λ value rest sound begins.
+          let same = read_ok value got rest after took sound begins in
+          (rw same.0 refl, same.1);
+      bad = took;
+    }
+    loads after (Err bad) are took = record {
+      loaded = tt;
+      exact = λ value rest sound begins. absurd (read_err value rest _ took sound begins);
+      bad = took;
+    }
 
-pub loads_with :
-    {A : Type 0} {n : ℕ} {reads : Reading A} {spelled : A → List ℕ} {IsSound : A → Type 0} →
-    IsFormat n reads spelled IsSound → (before after : List ℕ) (result : Result A Fault) → AreBytes before →
-    Filled (λ value. value) result after (reads before) → LoadsWith reads spelled IsSound before after result
-loads_with is before after (Ok got) are filled = record {
-  loaded =
-      let told = is.taken before got after are filled in
-      (told.1, told.0);
-  exact = λ value rest sound begins.
-      let same = read_ok is before value got rest after filled sound begins in
-      inr (rw same.0 refl, same.1);
-  bad = filled;
-}
-loads_with is before after (Err faults.Bad) are filled = record {
-  loaded = tt;
-  exact = λ value rest sound begins. absurd (read_err is before value rest _ filled sound begins);
-  bad = filled;
-}
-loads_with is before after (Err faults.NoMemory) are filled = record {
-  loaded = tt;
-  exact = λ value rest sound begins. inl refl;
-  bad = tt;
-}
+    pub loads_with : (after : List ℕ) (result : Result A Fault) → AreBytes before →
+        Filled (λ value. value) result after (reads before) → LoadsWith reads spelled IsSound before after result
+    loads_with after (Ok got) are filled = record {
+      loaded = let told = is.taken before got after are filled in (told.1, told.0);
+      exact = λ value rest sound begins.
+          let same = read_ok value got rest after filled sound begins in
+          inr (rw same.0 refl, same.1);
+      bad = filled;
+    }
+    loads_with after (Err faults.Bad) are filled = record {
+      loaded = tt;
+      exact = λ value rest sound begins. absurd (read_err value rest _ filled sound begins);
+      bad = filled;
+    }
+    loads_with after (Err faults.NoMemory) are filled = record {
+      loaded = tt;
+      exact = λ value rest sound begins. inl refl;
+      bad = tt;
+    }
 
-pub one_spelling :
-    {A : Type 0} {n : ℕ} {reads : Reading A} {spelled : A → List ℕ} {IsSound : A → Type 0} →
-    IsFormat n reads spelled IsSound → OneSpelling spelled IsSound
-one_spelling {A} {spelled = spelled} is left right of_left of_right same =
-    ap (λ (pair : A × List ℕ). pair.0)
-    (ok_is (left, []) (right, []) (sym (is.back left [] of_left) ∙ rw same (is.back right [] of_right)))
+  pub one_spelling : OneSpelling spelled IsSound
+  one_spelling left right of_left of_right same =
+      ap (λ (pair : A × List ℕ). pair.0)
+      (ok_is (left, []) (right, []) (sym (is.back left [] of_left) ∙ rw same (is.back right [] of_right)))

@@ -209,17 +209,25 @@ after_page size done count bytes is =
           rw same (drop-drop size done bytes)
     ]
 
-pub push_begins : (size : ℕ) (into plain bytes : List ℕ) →
-    into ++ pages_bytes size (drop 0 plain) (drop 0 bytes) ≡ into ++ pages_bytes size plain bytes
-push_begins size into plain bytes = refl
+-- a part of a slice from a place on
+pub page_is : (done count : ℕ) (now old : List ℕ) → drop done now ≡ drop done old →
+    take (done + count - done) (drop done now) ≡ take count (drop done old)
+page_is done count now old same =
+    let long : done + count - done ≡ count = omega arith in
+    rw (long, same) refl
+
+pub zeros_page : (done count n : ℕ) (zeros : List ℕ) → count ≤ n - done → zeros ≡ replicate count 0 →
+    zeros ≡ take count (drop done (replicate n 0))
+zeros_page done count n zeros fits is =
+    is ∙ sym (ap (take count) (drop-replicate {X = ℕ} done n 0) ∙ take-replicate {X = ℕ} count (n - done) 0 fits)
 
 pub push_goes_on :
-    (size done count : ℕ) (into now plain bytes total : List ℕ) → 0 < size → length plain ≡ length bytes →
+    (size done count : ℕ) (into now plain bytes total before page : List ℕ) → 0 < size → length plain ≡ length bytes →
     done < length bytes → count ≡ min size (length bytes - done) →
-    into ++ pages_bytes size (drop done plain) (drop done bytes) ≡ total →
-    now ≡ into ++ page_bytes (take count (drop done plain)) (take count (drop done bytes)) →
+    into ++ pages_bytes size (drop done plain) (drop done bytes) ≡ total → before ≡ take count (drop done plain) →
+    page ≡ take count (drop done bytes) → now ≡ into ++ page_bytes before page →
     now ++ pages_bytes size (drop (done + count) plain) (drop (done + count) bytes) ≡ total
-push_goes_on size done count into now plain bytes total some same below is so_far added =
+push_goes_on size done count into now plain bytes total before page some same below is so_far old new added =
     let of_plain : count ≡ min size (length plain - done) = omega (arith, is, same) in
     let long : length (take size (drop done plain)) ≡ count =
     omega (arith, is, same, length-take size (drop done plain), length-drop done plain) in
@@ -232,46 +240,18 @@ push_goes_on size done count into now plain bytes total some same below is so_fa
     ) at so_far in
     rw (
       added,
+      old,
+      new,
       append_assoc into (page_bytes (take count (drop done plain)) (take count (drop done bytes)))
           (pages_bytes size (drop (done + count) plain) (drop (done + count) bytes)),
     ) first
-
--- the same of parts of slices
-pub push_page_on :
-    (size done count : ℕ) (into now plain bytes total : List ℕ) → 0 < size → length plain ≡ length bytes →
-    done < length bytes → count ≡ min size (length bytes - done) →
-    into ++ pages_bytes size (drop done plain) (drop done bytes) ≡ total →
-    now
-    ≡ into ++ page_bytes (take (done + count - done) (drop done plain)) (take (done + count - done) (drop done bytes)) →
-    now ++ pages_bytes size (drop (done + count) plain) (drop (done + count) bytes) ≡ total
-push_page_on size done count into now plain bytes total some same below is so_far added =
-    let long : done + count - done ≡ count = omega arith in
-    push_goes_on size done count into now plain bytes total some same below is so_far (rw long at added)
-
--- the same beside zeros
-pub push_zeros_on :
-    (size done count : ℕ) (into now zeros bytes total : List ℕ) → 0 < size → done < length bytes →
-    count ≡ min size (length bytes - done) →
-    into ++ pages_bytes size (drop done (replicate (length bytes) 0)) (drop done bytes) ≡ total →
-    zeros ≡ replicate count 0 →
-    now ≡ into ++ page_bytes zeros (take (done + count - done) (drop done bytes)) →
-    now ++ pages_bytes size (drop (done + count) (replicate (length bytes) 0)) (drop (done + count) bytes) ≡ total
-push_zeros_on size done count into now zeros bytes total some below is so_far zeros_is added =
-    let plain : List ℕ = replicate {A = ℕ} (length bytes) 0 in
-    let long : done + count - done ≡ count = omega arith in
-    let same : take count (drop done plain) ≡ zeros =
-    ap (take count) (drop-replicate {X = ℕ} done (length bytes) 0)
-    ∙ take-replicate {X = ℕ} count (length bytes - done) 0 (omega (arith, is)) ∙ sym zeros_is in
-    push_goes_on size done count into now plain bytes total some (length-replicate {A = ℕ} (length bytes) 0) below is
-    so_far (rw same (rw long at added))
 
 pub push_ends :
     (size done : ℕ) (into plain bytes total : List ℕ) → length plain ≡ length bytes → length bytes ≤ done →
     into ++ pages_bytes size (drop done plain) (drop done bytes) ≡ total → into ≡ total
 push_ends size done into plain bytes total same over so_far =
     let none : drop done plain ≡ [] = drop_all done plain (omega (arith, over, same)) in
-    sym (ap (λ (rest : List ℕ). into ++ rest) (ap (λ (p : List ℕ). pages_bytes size p (drop done bytes)) none
-    ∙ no_pages size (drop done bytes)) ∙ append-nil into) ∙ so_far
+    sym (append-nil into) ∙ rw (none, no_pages size (drop done bytes)) at so_far
 
 -- what is still read, after these bytes
 
@@ -280,32 +260,28 @@ pub joined : (front page : List ℕ) (read : Result (List ℕ × List ℕ) ℕ) 
 joined front page (Ok got) = ap (λ (bytes : List ℕ). Ok (bytes, got.1)) (sym (append_assoc front page got.0))
 joined front page (Err left) = refl
 
-fields_at : (size done count : ℕ) (plain bytes : List ℕ) → 0 < size → done < length plain →
-    count ≡ min size (length plain - done) →
-    pages_fields size (drop done plain) bytes
-    ≡ then_read (page_field (take count (drop done plain)) bytes)
-    (λ page. pages_fields size (drop (done + count) plain) >>= λ rest. gives (page ++ rest))
-fields_at size done count plain bytes some below is =
-    fields_first size (drop done plain) bytes some (omega (arith, below, length-drop done plain))
-    ∙ rw (page_at size done count plain is, after_page size done count plain is) refl
+module _ (size done count : ℕ) (plain front bytes : List ℕ) (total : Result (List ℕ × List ℕ) ℕ) (some : 0 < size)
+    (below : done < length plain) (is : count ≡ min size (length plain - done))
+    (so_far : with_front front (pages_fields size (drop done plain) bytes) ≡ total) where
+  first_read :
+      with_front front
+      (then_read (page_field (take count (drop done plain)) bytes)
+      (λ page. pages_fields size (drop (done + count) plain) >>= λ rest. gives (page ++ rest)))
+      ≡ total
+  first_read =
+      rw (
+        fields_first size (drop done plain) bytes some (omega (arith, below, length-drop done plain)),
+        page_at size done count plain is,
+        after_page size done count plain is,
+      ) at so_far
 
-pub pages_go_on :
-    (size done count : ℕ) (plain front page bytes after : List ℕ) (total : Result (List ℕ × List ℕ) ℕ) → 0 < size →
-    done < length plain → count ≡ min size (length plain - done) →
-    with_front front (pages_fields size (drop done plain) bytes) ≡ total →
-    page_field (take count (drop done plain)) bytes ≡ Ok (page, after) →
-    with_front (front ++ page) (pages_fields size (drop (done + count) plain) after) ≡ total
-pages_go_on size done count plain front page bytes after total some below is so_far read =
-    sym (joined front page (pages_fields size (drop (done + count) plain) after))
-    ∙ rw (fields_at size done count plain bytes some below is, read) at so_far
+  pub pages_go_on : (page after : List ℕ) → page_field (take count (drop done plain)) bytes ≡ Ok (page, after) →
+      with_front (front ++ page) (pages_fields size (drop (done + count) plain) after) ≡ total
+  pages_go_on page after read =
+      sym (joined front page (pages_fields size (drop (done + count) plain) after)) ∙ rw read at first_read
 
-pub pages_stop :
-    (size done count : ℕ) (plain front bytes : List ℕ) (left : ℕ) (total : Result (List ℕ × List ℕ) ℕ) → 0 < size →
-    done < length plain → count ≡ min size (length plain - done) →
-    with_front front (pages_fields size (drop done plain) bytes) ≡ total →
-    page_field (take count (drop done plain)) bytes ≡ Err left → total ≡ Err left
-pages_stop size done count plain front bytes left total some below is so_far read =
-    sym (rw (fields_at size done count plain bytes some below is, read) at so_far)
+  pub pages_stop : (left : ℕ) → page_field (take count (drop done plain)) bytes ≡ Err left → total ≡ Err left
+  pages_stop left read = sym (rw read at first_read)
 
 pub pages_end :
     (size done : ℕ) (plain front bytes : List ℕ) (total : Result (List ℕ × List ℕ) ℕ) → length plain ≤ done →
@@ -315,34 +291,27 @@ pages_end size done plain front bytes total over so_far =
 
 -- a page that replaces its place
 
-pub page_is : (done count : ℕ) (now old : List ℕ) → drop done now ≡ drop done old →
-    take (done + count - done) (drop done now) ≡ take count (drop done old)
-page_is done count now old same =
-    let long : done + count - done ≡ count = omega arith in
-    rw (long, same) refl
+module _ (done count : ℕ) (now page : List ℕ) (within : done ≤ length now) (same : length page ≡ count) where
+  front_long : length (take done now ++ page) ≡ done + count
+  front_long = omega (arith, length-append (take done now) page, length-take done now)
 
-pub front_put : (done count : ℕ) (now page rest : List ℕ) → done ≤ length now → length page ≡ count →
-    take (done + count) (take done now ++ (page ++ rest)) ≡ take done now ++ page
-front_put done count now page rest within same =
-    rw (← append_assoc (take done now) page rest)
-    (take_at (take done now ++ page) rest (done + count)
-    (omega (arith, length-append (take done now) page, length-take done now)))
+  pub front_put : (rest : List ℕ) → take (done + count) (take done now ++ (page ++ rest)) ≡ take done now ++ page
+  front_put rest =
+      rw (← append_assoc (take done now) page rest)
+      (take_at (take done now ++ page) rest (done + count) front_long)
 
-pub rest_put : (done count : ℕ) (now old page : List ℕ) → done ≤ length now → length page ≡ count →
-    drop done now ≡ drop done old →
-    drop (done + count) (take done now ++ (page ++ drop (done + count - done) (drop done now)))
-    ≡ drop (done + count) old
-rest_put done count now old page within same is =
-    let rest : List ℕ = drop (done + count - done) (drop done now) in
-    let long : done + count - done ≡ count = omega arith in
-    rw (← append_assoc (take done now) page rest)
-    (drop_at (take done now ++ page) rest (done + count)
-    (omega (arith, length-append (take done now) page, length-take done now))
-    ∙ rw (long, is) (drop-drop count done old))
+  pub rest_put : (old : List ℕ) → drop done now ≡ drop done old →
+      drop (done + count) (take done now ++ (page ++ drop (done + count - done) (drop done now)))
+      ≡ drop (done + count) old
+  rest_put old is =
+      let rest : List ℕ = drop (done + count - done) (drop done now) in
+      let long : done + count - done ≡ count = omega arith in
+      rw (← append_assoc (take done now) page rest)
+      (drop_at (take done now ++ page) rest (done + count) front_long ∙ rw (long, is) (drop-drop count done old))
 
-pub length_put : (done count : ℕ) (now page : List ℕ) → done + count ≤ length now → length page ≡ count →
-    length (take done now ++ (page ++ drop (done + count - done) (drop done now))) ≡ length now
-length_put done count now page within same = simp (length-append, length-take, length-drop) (omega arith)
+  pub length_put : done + count ≤ length now →
+      length (take done now ++ (page ++ drop (done + count - done) (drop done now))) ≡ length now
+  length_put fits = simp (length-append, length-take, length-drop) (omega arith)
 
 -- the same over zeros
 
@@ -355,7 +324,7 @@ zeros_go_on size n front page bytes after total some fits so_far read =
     let zeros = length-replicate {A = ℕ} n 0 in
     let rest : 0 + size ≡ size = omega arith in
     rw (rest, drop-replicate {X = ℕ} size n 0) at
-    (pages_go_on size 0 size (replicate n 0) front page bytes after total some (omega arith) (omega arith) so_far
+    (pages_go_on size 0 size (replicate n 0) front bytes total some (omega arith) (omega arith) so_far page after
     (rw (take-replicate {X = ℕ} size n 0 fits) read))
 
 pub zeros_stop :
@@ -364,7 +333,7 @@ pub zeros_stop :
     page_field (replicate size 0) bytes ≡ Err left → total ≡ Err left
 zeros_stop size n front bytes left total some fits so_far read =
     let zeros = length-replicate {A = ℕ} n 0 in
-    pages_stop size 0 size (replicate n 0) front bytes left total some (omega arith) (omega arith) so_far
+    pages_stop size 0 size (replicate n 0) front bytes total some (omega arith) (omega arith) so_far left
     (rw (take-replicate {X = ℕ} size n 0 fits) read)
 
 pub zeros_end :

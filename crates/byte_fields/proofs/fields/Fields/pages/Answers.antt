@@ -1,7 +1,6 @@
-use Rattle.std.proofs.Common.{◌≡◌, ◌≤◌, ◌+◌, ◌-◌, ◌∙◌, ℕ, List, length, take, drop, ap, arith}
+use Rattle.std.proofs.Common.{◌≡◌, ◌≤◌, ◌+◌, ◌∙◌, ℕ, List, length, take, drop, ap, arith}
 use Rattle.std.proofs.lemmas.List.{take_all, length-take, length-drop}
 use Rattle.std.proofs.lemmas.Result.{err_from_is_err_and}
-use Rattle.byte_fields.specs.Pages.{pages_fields}
 use Rattle.byte_fields.proofs.PageFormats.{pages_stop, pages_go_on, pages_end, page_is, front_put, rest_put, length_put}
 use Rattle.byte_fields.proofs.fields.Fields.pages.Goals as goal
 
@@ -9,11 +8,9 @@ pub returns-in_err-page_into-clause-took : goal.returns-in_err-page_into-clause-
 returns-in_err-page_into-clause-took c =
     let p = err_from_is_err_and c.from_residual.result c.from_residual.ensures.1 in
     let page = page_is c.loop-done.done c.min.result c.loop-done.into c.args.into.now c.loop-done.invariant.rest in
-    let front = take c.loop-done.done c.loop-done.into in
-    rw p.1 (pages_stop c.args.size c.loop-done.done c.min.result c.args.into.now front c.loop-done.self
-    (length c.page_into.new.self) (pages_fields c.args.size c.args.into.now c.args.self.now) c.requires.some
+    rw p.1 (pages_stop c.args.size c.loop-done.done c.min.result c.args.into.now _ _ _ c.requires.some
     (omega (arith, c.loop-done-test.true, c.loop-done.invariant.long))
-    (omega (arith, c.min.ensures, c.loop-done.invariant.long)) c.loop-done.invariant.read
+    (omega (arith, c.min.ensures, c.loop-done.invariant.long)) c.loop-done.invariant.read _
     (rw page at c.in_err-page_into.ensures.took))
 
 pub loop-done-preserved : goal.loop-done-preserved
@@ -27,17 +24,16 @@ loop-done-preserved c =
     let fits : done + count ≤ length now = omega (arith, c.min.ensures, c.loop-done.invariant.within) in
     let size : length page ≡ count =
     c.page_into.ensures.length ∙ ap length at_page ∙ page_size done count now old c.loop-done.invariant.long fits in
-    let same = length_put done count now page fits size in
-    let rest = drop (done + count - done) (drop done now) in
+    let within = c.loop-done.invariant.within in
+    let same = length_put done count now page within size fits in
     record {
       read =
-          rw (front_put done count now page rest c.loop-done.invariant.within size)
-          (pages_go_on c.args.size done count old (take done now) page c.loop-done.self c.page_into.new.self
-          (pages_fields c.args.size old c.args.self.now) c.requires.some
+          rw (front_put done count now page within size)
+          (pages_go_on c.args.size done count old _ _ _ c.requires.some
           (omega (arith, c.loop-done-test.true, c.loop-done.invariant.long))
-          (omega (arith, c.min.ensures, c.loop-done.invariant.long)) c.loop-done.invariant.read
+          (omega (arith, c.min.ensures, c.loop-done.invariant.long)) c.loop-done.invariant.read page _
           (rw at_page at c.in_ok-page_into.ensures.took));
-      rest = rest_put done count now old page c.loop-done.invariant.within size c.loop-done.invariant.rest;
+      rest = rest_put done count now page within size old c.loop-done.invariant.rest;
       long = same ∙ c.loop-done.invariant.long;
       within = omega (arith, same, fits);
     }
@@ -51,6 +47,5 @@ pub returns-clause-took : goal.returns-clause-took
 returns-clause-took c =
     let all : take c.loop-done.done c.loop-done.into ≡ c.loop-done.into =
     take_all c.loop-done.done c.loop-done.into c.loop-done-test.false in
-    rw all at (pages_end c.args.size c.loop-done.done c.args.into.now (take c.loop-done.done c.loop-done.into)
-    c.loop-done.self (pages_fields c.args.size c.args.into.now c.args.self.now)
+    rw all at (pages_end c.args.size c.loop-done.done c.args.into.now _ _ _
     (omega (arith, c.loop-done-test.false, c.loop-done.invariant.long)) c.loop-done.invariant.read)
