@@ -1,9 +1,9 @@
 -- Stores of one byte to the registers of the host bridge.
-use Rattle.std.proofs.Common.{◌≡◌, ◌≢◌, ℕ, ◌+◌, ◌<◌, ◌⊎◌, List, [], length, set, false, None, ◌∙◌, refl, sym, ap, subst}
-use Rattle.std.proofs.Common.{arith, inl, inr, get_or-set_other, get_or-set_same, slice_index}
+use Rattle.std.proofs.Common.{◌≡◌, ◌≢◌, ℕ, ◌+◌, ◌<◌, ◌⊎◌, List, [], length, set, None, ◌∙◌, refl, sym, ap, subst, arith}
+use Rattle.std.proofs.Common.{inl, inr, get_or-set_other, get_or-set_same}
 use Rattle.board_prelude.proofs.Common.{cases_lt, cases_eq, ne_eqb, One, Store, Setup, merged, reset_byte}
-use Rattle.board_prelude.proofs.Common.{writable_bits, changed_byte, Bytes, bridge, fdhc, smram, is_same, merged-all}
-use Rattle.board_prelude.proofs.Common.{merged-none, changed_byte-one_same, changed_byte-one_other}
+use Rattle.board_prelude.proofs.Common.{writable_bits, changed_byte, Bytes, bridge, fdhc, merged-all, merged-none}
+use Rattle.board_prelude.proofs.Common.{changed_byte-one_same, changed_byte-one_other}
 use Rattle.pmc_regs.specs.Pmc.{PmcBytes, IsFixedOffset, IsRowsOf, IsPmcOf}
 use Rattle.pmc_regs.proofs.TableLemmas.{header_byte, row_bytes, rows_are, writable_bits-row, reset_byte-header}
 use Rattle.pmc_regs.proofs.TableLemmas.{reset_byte-blank, writable_bits-fixed}
@@ -30,22 +30,15 @@ pmc_at_reset setup drb hole rows is =
 abbrev pub after_store : Setup → Bytes → (off written : ℕ) → Bytes
 after_store setup bytes off written reg = changed_byte setup (Store (bridge off) One written) reg (bytes reg)
 
-pub elsewhere :
-    (setup : Setup) (bytes : Bytes) (off written at : ℕ) → at ≢ off →
-    after_store setup bytes off written (bridge at) ≡ bytes (bridge at)
-elsewhere setup bytes off written at apart =
-    changed_byte-one_other setup (bridge at) off (bytes (bridge at)) written apart
+module _ (setup : Setup) (bytes : Bytes) (off written : ℕ) where
+  pub elsewhere : (at : ℕ) → at ≢ off → after_store setup bytes off written (bridge at) ≡ bytes (bridge at)
+  elsewhere at apart = changed_byte-one_other setup (bridge at) off (bytes (bridge at)) written apart
 
-plain_register : (off : ℕ) → off ≢ 0x72 → is_same (bridge off) smram ≡ false
-plain_register off apart = ne_eqb off 0x72 apart
-
-pub there :
-    (setup : Setup) (bytes : Bytes) (off written mask : ℕ) → written < 256 → off ≢ 0x72 →
-    writable_bits setup (bridge off) ≡ mask →
-    after_store setup bytes off written (bridge off) ≡ merged mask (bytes (bridge off)) written
-there setup bytes off written mask below apart is_mask =
-    changed_byte-one_same setup (bridge off) (bytes (bridge off)) written below (plain_register off apart)
-    ∙ ap (λ m. merged m (bytes (bridge off)) written) is_mask
+  pub there : (mask : ℕ) → written < 256 → off ≢ 0x72 → writable_bits setup (bridge off) ≡ mask →
+      after_store setup bytes off written (bridge off) ≡ merged mask (bytes (bridge off)) written
+  there mask below apart is_mask =
+      rw (← is_mask)
+      (changed_byte-one_same setup (bridge off) (bytes (bridge off)) written below (ne_eqb off 0x72 apart))
 
 -- ---- the fixed registers stay
 
@@ -59,23 +52,16 @@ reset_byte-small setup off fixed =
 abbrev IsFixedIn : Bytes → Type 0
 IsFixedIn bytes = (setup : Setup) (off : ℕ) → IsFixedOffset off → bytes (bridge off) ≡ reset_byte setup (bridge off)
 
-fixed_there :
-    (setup : Setup) (bytes : Bytes) (off written : ℕ) → written < 256 → IsFixedIn bytes → (other : Setup) →
-    IsFixedOffset off → after_store setup bytes off written (bridge off) ≡ reset_byte other (bridge off)
-fixed_there setup bytes off written below fixed other is_fixed =
-    let apart : off ≢ 0x72 = omega arith in
-    there setup bytes off written 0 below apart (writable_bits-fixed setup off is_fixed)
-    ∙ ap (λ old. merged 0 old written) (fixed other off is_fixed)
-    ∙ merged-none (reset_byte other (bridge off)) written (reset_byte-small other off is_fixed)
-
 pub fixed_stay :
     (setup : Setup) (bytes : Bytes) (off written : ℕ) → written < 256 → IsFixedIn bytes →
     IsFixedIn (after_store setup bytes off written)
 fixed_stay setup bytes off written below fixed other at is_fixed =
     elim (cases_eq at off) [
       | inl same ↦
-          subst (λ o. after_store setup bytes o written (bridge at) ≡ reset_byte other (bridge at)) same
-          (fixed_there setup bytes at written below fixed other is_fixed)
+          rw (← same)
+          (there setup bytes at written 0 below (omega arith) (writable_bits-fixed setup at is_fixed)
+          ∙ rw (fixed other at is_fixed)
+          (merged-none (reset_byte other (bridge at)) written (reset_byte-small other at is_fixed)))
       | inr apart ↦ elsewhere setup bytes off written at apart ∙ fixed other at is_fixed
     ]
 
@@ -88,9 +74,7 @@ pub rows_after_store :
 rows_after_store setup bytes drb row written eight within below is_rows at at_within =
     elim (cases_eq at row) [
       | inl same ↦
-          subst
-          (λ k. slice_index (set drb row written) k ≡ after_store setup bytes (0x60 + row) written (bridge (0x60 + k)))
-          (sym same)
+          rw same
           (get_or-set_same drb row written 0 (omega arith)
           ∙ sym (there setup bytes (0x60 + row) written 0xFF below (omega arith) (writable_bits-row setup row within)
           ∙ merged-all (bytes (bridge (0x60 + row))) written below))
@@ -131,15 +115,8 @@ pub stored_nowhere :
     ((off < 0x60) ⊎ (0x68 < off)) → IsPmcOf bytes pmc → IsPmcOf (after_store setup bytes off written) pmc
 stored_nowhere setup bytes pmc off written below outside is_pmc =
     record {
-      rows =
-          λ at at_within.
-          is_pmc.rows at at_within
-          ∙ sym (elsewhere setup bytes off written (0x60 + at)
-          (elim outside [ inl low ↦ omega arith | inr high ↦ omega arith ]));
-      hole =
-          is_pmc.hole
-          ∙ sym
-          (elsewhere setup bytes off written 0x68 (elim outside [ inl low ↦ omega arith | inr high ↦ omega arith ]));
+      rows = λ at within. is_pmc.rows at within ∙ sym (elsewhere setup bytes off written (0x60 + at) (λ e. grind arith));
+      hole = is_pmc.hole ∙ sym (elsewhere setup bytes off written 0x68 (λ e. grind arith));
       fixed = fixed_stay setup bytes off written below is_pmc.fixed;
     }
 

@@ -1,9 +1,8 @@
 -- The registers of the host bridge in the table of registers.
-use Rattle.std.proofs.Common.{◌≡◌, ℕ, ◌+◌, ◌<◌, ◌≤◌, List, [], ◌∷◌, length, ◌∙◌, refl, arith, inl, inr, lit<, map}
-use Rattle.std.proofs.Common.{slice_index, Bool, true, nat_lt, nat_le, ◌&&◌, ◌||◌}
+use Rattle.std.proofs.Common.{◌≡◌, ℕ, ◌+◌, ◌<◌, ◌≤◌, List, [], ◌∷◌, length, ◌∙◌, refl, arith, inl, inr, map}
+use Rattle.std.proofs.Common.{slice_index, Bool, true, nat_lt, nat_le, ◌&&◌, ◌||◌, rules}
 use Rattle.board_prelude.proofs.Common.{cases_lt, Setup, host_bridge, listed, reset_byte, writable_bits, Bytes, bridge}
-use Rattle.board_prelude.proofs.Common.{drb, listed-past, listed-before, Each, each_below, and_parts, or_cases}
-use Rattle.board_prelude.proofs.Common.{nat_tests}
+use Rattle.board_prelude.proofs.Common.{drb, listed-past, listed-before, each_below, and_parts, or_cases, nat_tests}
 use Rattle.board_spec.specs.RegisterTable.{Line}
 use Rattle.pmc_regs.specs.Pmc.{IsFixedOffset, IsRowsOf}
 
@@ -16,14 +15,12 @@ row_bytes bytes = map (λ row. bytes (drb row)) (0 ∷ 1 ∷ 2 ∷ 3 ∷ 4 ∷ 5
 pub rows_are : (bytes : Bytes) (ends : List ℕ) → ends ≡ row_bytes bytes → IsRowsOf bytes ends
 rows_are bytes ends are row below =
     rw are
-    (each_below (λ row. slice_index (row_bytes bytes) row ≡ bytes (drb row)) 8 row
-    (refl, (refl, (refl, (refl, (refl, (refl, (refl, (refl, tt)))))))) below)
+    (each_below (λ row. slice_index (row_bytes bytes) row ≡ bytes (drb row)) 8 row (search rules) below)
 
 pub writable_bits-row : (setup : Setup) (row : ℕ) → row < 8 → writable_bits setup (bridge (0x60 + row)) ≡ 0xFF
 unfolding writable_bits host_bridge
 writable_bits-row setup row below =
-    each_below (λ row. writable_bits setup (bridge (0x60 + row)) ≡ 0xFF) 8 row
-    (refl, (refl, (refl, (refl, (refl, (refl, (refl, (refl, tt)))))))) below
+    each_below (λ row. writable_bits setup (bridge (0x60 + row)) ≡ 0xFF) 8 row (search rules) below
 
 -- ---- the fixed registers
 
@@ -34,21 +31,15 @@ header = 0x86 ∷ 0x80 ∷ 0x37 ∷ 0x12 ∷ 0x06 ∷ 0x00 ∷ 0x80 ∷ 0x02 ∷
 pub reset_byte-header : (setup : Setup) (off : ℕ) → off < 12 → slice_index header off ≡ reset_byte setup (bridge off)
 unfolding reset_byte host_bridge
 reset_byte-header setup off below =
-    each_below (λ off. slice_index header off ≡ reset_byte setup (bridge off)) 12 off
-    (refl, (refl, (refl, (refl, (refl, (refl, (refl, (refl, (refl, (refl, (refl, (refl, tt)))))))))))) below
+    each_below (λ off. slice_index header off ≡ reset_byte setup (bridge off)) 12 off (search rules) below
 
 writable_bits-header : (setup : Setup) (off : ℕ) → off < 12 → writable_bits setup (bridge off) ≡ 0
 unfolding writable_bits host_bridge
 writable_bits-header setup off below =
-    each_below (λ off. writable_bits setup (bridge off) ≡ 0) 12 off
-    (refl, (refl, (refl, (refl, (refl, (refl, (refl, (refl, (refl, (refl, (refl, (refl, tt)))))))))))) below
+    each_below (λ off. writable_bits setup (bridge off) ≡ 0) 12 off (search rules) below
 
 pub header_byte : (off : ℕ) → off < 12 → slice_index header off < 256
-header_byte off below =
-    let later : Each (λ off. slice_index header off < 256) 6 6 =
-    (lit< tt, (lit< tt, (lit< tt, (lit< tt, (lit< tt, (lit< tt, tt)))))) in
-    each_below (λ off. slice_index header off < 256) 12 off
-    (lit< tt, (lit< tt, (lit< tt, (lit< tt, (lit< tt, (lit< tt, later)))))) below
+header_byte off below = each_below (λ off. slice_index header off < 256) 12 off (search rules) below
 
 -- an offset lies outside all lines
 abbrev is_outside : ℕ → List Line → Bool

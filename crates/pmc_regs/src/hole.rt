@@ -25,6 +25,7 @@ pub fn hole_of(fdhc: u8) -> Option<(u32, u32)>
 }
 
 /// FDHC after a byte is written to it. Reserved bits stay as they were.
+#[tactic(auto, unfolding(board_spec::specs::Common::host_bridge, board_spec::specs::Common::writable_bits))]
 pub fn fdhc_after(old: u8, written: u8) -> u8
     ensures merged { (setup : Setup) → result ≡ merged (writable_bits setup hole_register) old written }
 {

@@ -15,17 +15,13 @@ returns-in-104 c =
 pub returns-then-off-lt96 : goal.returns-then-off-lt96
 returns-then-off-lt96 c =
     record {
-      written = λ setup bytes is_pmc.
-          stored_nowhere setup bytes c.args.self.now c.args.off c.args.byte c.ranges.byte.fits (inl (omega arith))
-          is_pmc;
+      written = λ setup bytes. stored_nowhere setup bytes _ _ c.args.byte c.ranges.byte.fits (inl (omega arith));
     }
 
 pub returns-else-off-lt104 : goal.returns-else-off-lt104
 returns-else-off-lt104 c =
     record {
-      written = λ setup bytes is_pmc.
-          stored_nowhere setup bytes c.args.self.now c.args.off c.args.byte c.ranges.byte.fits (inr (omega arith))
-          is_pmc;
+      written = λ setup bytes. stored_nowhere setup bytes _ _ c.args.byte c.ranges.byte.fits (inr (omega arith));
     }
 
 pub returns-in-96-to-103 : goal.returns-in-96-to-103
