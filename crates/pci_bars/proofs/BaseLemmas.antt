@@ -1,9 +1,9 @@
 -- Base registers as four bytes, and the bases of a card by their numbers.
-use Rattle.std.proofs.Common.{◌≡◌, ◌≢◌, ℕ, zero, suc, ◌^◌, ◌<◌, ◌≤◌, List, length, get_or, set, map, Some, inl, inr}
-use Rattle.std.proofs.Common.{◌∙◌, sym, ap, Option, option_map, arith, lit<, length-set, get_or-set_same}
-use Rattle.std.proofs.Common.{get_or-set_other, All, slice_get}
+use Rattle.std.proofs.Common.{◌≡◌, ◌≢◌, ℕ, ◌^◌, ◌<◌, ◌≤◌, List, length, get_or, set, map, Some, inl, inr, ◌∙◌, sym, ap}
+use Rattle.std.proofs.Common.{Option, option_map, arith, lit<, length-set, get_or-set_same, get_or-set_other, All}
+use Rattle.std.proofs.Common.{slice_get}
 use Rattle.board_prelude.proofs.Common.{w32, from_le_bytes, to_le_bytes, cases_eq, cases_lt, get_or_past, All-get_or}
-use Rattle.board_prelude.proofs.Common.{get_or-map, length-map, Base, IsBase, byte}
+use Rattle.board_prelude.proofs.Common.{get_or-map, length-map, Base, IsBase, byte, each_below}
 use Rattle.std.proofs.lemmas.Nat.{le_bytes_4}
 use Rattle.std.proofs.Math.Pow.{pow_mono}
 use Rattle.std.proofs.lemmas.Option.{slice_get_within, get_or_from_slice_get}
@@ -13,11 +13,9 @@ use Rattle.pci_bars.specs.Bases.{base_of}
 -- ---- four bytes
 
 pub long_byte : (n j : ℕ) → j < 4 → get_or (to_le_bytes w32 n) j 0 ≡ byte n j
-long_byte n zero below = omega arith
-long_byte n (suc zero) below = omega arith
-long_byte n (suc (suc zero)) below = omega arith
-long_byte n (suc (suc (suc zero))) below = omega arith
-long_byte n (suc (suc (suc (suc j)))) below = absurd (omega arith)
+long_byte n j below =
+    each_below (λ j. get_or (to_le_bytes w32 n) j 0 ≡ byte n j) 4 j
+    (omega arith, (omega arith, (omega arith, (omega arith, tt)))) below
 
 small_long : (n i : ℕ) → get_or (to_le_bytes w32 n) i 0 < 256
 small_long n i =

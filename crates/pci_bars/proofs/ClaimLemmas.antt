@@ -191,8 +191,7 @@ flat_map-same :
 flat_map-same f g same [] = refl
 flat_map-same f g same (card ∷ later) = rw (same card, flat_map-same f g same later) refl
 
-device_alone :
-    (found : Option Window) →
+device_alone : (found : Option Window) →
     option_map {T = ℕ × ℕ} (λ named. named.0) (named found) ≡ option_map (λ window. window.dev) found
 device_alone None = refl
 device_alone (Some window) = refl
@@ -204,20 +203,19 @@ module _ (setup : Setup) (bytes : Bytes) (cards : List CardBytes) (place : ℕ) 
   pub windows_are : flat_map (windows_in windows bytes) (cards_of cards) ≡ flat_map windows_of setup.cards
   windows_are = rw are.0 (flat_map-same (windows_in windows bytes) windows_of same (cards_of cards))
 
-  -- the claim of the cards' registers is that of the setup's windows
-  pub claim_is :
-      first_claim windows gate place cards
-      ≡ named (first_window (λ dev. is_gate gate (is_enabled_for (enable_bit windows) bytes dev)) place
-      (flat_map windows_of setup.cards))
+  abbrev claim : Option Window
+  claim =
+      first_window (λ dev. is_gate gate (is_enabled_for (enable_bit windows) bytes dev)) place
+      (flat_map windows_of setup.cards)
+
+  -- the claim of the cards' registers is that of the setup's windows, and so is its device
+  pub claim_is : first_claim windows gate place cards ≡ named claim
   claim_is =
       rw (← windows_are)
       (sym (pick_cards (λ dev. is_gate gate (is_enabled_for (enable_bit windows) bytes dev)) bytes place windows gate
       setup (λ card is. ap (is_gate gate) (enabled_is windows setup bytes card is)) cards fit are.1))
 
-  -- and so is its device
   pub device_is :
       option_map {T = ℕ × ℕ} (λ named. named.0) (first_claim windows gate place cards)
-      ≡ option_map (λ window. window.dev)
-      (first_window (λ dev. is_gate gate (is_enabled_for (enable_bit windows) bytes dev)) place
-      (flat_map windows_of setup.cards))
-  device_is = ap (option_map {T = ℕ × ℕ} (λ named. named.0)) claim_is ∙ device_alone _
+      ≡ option_map (λ window. window.dev) claim
+  device_is = ap (option_map {T = ℕ × ℕ} (λ named. named.0)) claim_is ∙ device_alone claim

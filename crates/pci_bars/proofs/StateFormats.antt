@@ -118,8 +118,7 @@ pub slot_failed :
     Failed fault after (slot_field cards slot bytes) →
     Failed fault after total
 slot_failed cards faults.Bad front slot bytes after total below so_far read =
-    stops (slot_field cards) next_slot (slots_fields cards) (slots_loop cards) front slot 64 slot bytes (length after)
-    total below read so_far
+    stops _ _ _ (slots_loop cards) front slot 64 slot bytes (length after) total below read so_far
 slot_failed cards faults.NoMemory front slot bytes after total below so_far read = tt
 
 -- ---- the buffers that are still to be added

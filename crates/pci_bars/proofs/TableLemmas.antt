@@ -1,8 +1,7 @@
 -- A card in the table of registers.
-use Rattle.std.proofs.Common.{◌≡◌, ◌≢◌, ◌⊎◌, ℕ, zero, suc, ◌+◌, ◌-◌, ◌*◌, ◌<◌, ◌≤◌, Bool, true, false, Option, None}
-use Rattle.std.proofs.Common.{List, [], ◌∷◌, length, get_or, Some, inl, inr, ◌∙◌, refl, sym, ap, subst, arith, lit<}
-use Rattle.std.proofs.Common.{lit≤, ◌==◌, ◌&&◌, ◌||◌, flat_map, if◌then◌else◌, is_some, replicate, get_or-set_other}
-use Rattle.std.proofs.Common.{rules}
+use Rattle.std.proofs.Common.{◌≡◌, ◌≢◌, ◌⊎◌, ℕ, zero, suc, ◌+◌, ◌-◌, ◌*◌, ◌<◌, ◌≤◌, Bool, false, Option, None, List, []}
+use Rattle.std.proofs.Common.{◌∷◌, length, get_or, Some, inl, inr, ◌∙◌, refl, sym, ap, subst, arith, lit<, lit≤, ◌==◌}
+use Rattle.std.proofs.Common.{◌&&◌, ◌||◌, flat_map, if◌then◌else◌, is_some, replicate, get_or-set_other, rules}
 use Rattle.std.proofs.lemmas.Option.{slice_get_past}
 use Rattle.board_prelude.proofs.Common.{ne_eqb, cases_lt, cases_eq, nat_tests, get_or_append_left, get_or-append_right}
 use Rattle.board_prelude.proofs.Common.{get_or-replicate, Base, FittedCard, Setup, IsCard, card_at, byte, is_within}
@@ -164,8 +163,7 @@ pub record IsFixed (card : FittedCard) (off : ℕ) : Type 0 where
   pub writable : listed (λ entry. entry.writable) (card_function card) off ≡ 0
 
 class_byte : (vga : Bool) → (if vga then 0x03 else 0xFF) < 256
-class_byte true = lit< tt
-class_byte false = lit< tt
+class_byte vga = grind arith
 
 fixed-header : (card : FittedCard) → card.dev ≤ 9 → (off : ℕ) → off < 16 → off ≢ 4 → IsFixed card off
 unfolding card_function
@@ -220,8 +218,7 @@ fixed-rom card off count none from to =
 no_rom_here : (rom : Option ℕ) (off : ℕ) → 0x30 ≤ off → off < 0x34 →
     (off == 0x04 || is_within 0x10 0x27 off || is_some rom && is_within 0x30 0x33 off || off == 0x3C) ≡ false →
     rom ≡ None
-no_rom_here None off from to not_kept = refl
-no_rom_here (Some bits) off from to not_kept = absurd (grind (arith, nat_tests))
+no_rom_here rom off from to not_kept = grind (arith, nat_tests)
 
 pub is_fixed : (card : FittedCard) → IsCard card → (off : ℕ) → is_kept_offset card off ≡ false → IsFixed card off
 is_fixed card fit off not_kept =

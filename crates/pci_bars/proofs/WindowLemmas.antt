@@ -3,10 +3,10 @@ use Rattle.std.proofs.Common.{◌≡◌, ◌≢◌, ◌⊎◌, ℕ, suc, ◌+◌
 use Rattle.std.proofs.Common.{◌∷◌, ◌++◌, if◌then◌else◌, length, Option, None, Some, inl, inr, ◌∙◌, refl, ap, subst}
 use Rattle.std.proofs.Common.{arith, lit<, lit≤, ◌==◌, All, find, flat_map, slice_get}
 use Rattle.board_prelude.proofs.Common.{cases_Bool, ne_eqb, nil_from_length, pow-add, pow_pos, All-nil, All-cons}
-use Rattle.board_prelude.proofs.Common.{All-head, All-tail, All-append, Base, MemoryBase, IoBase, OutsideBase}
-use Rattle.board_prelude.proofs.Common.{FittedCard, Setup, IsBase, IsExpansionRom, IsCard, card_at, kept_of_base}
-use Rattle.board_prelude.proofs.Common.{kept_size, Width, One, bytes_of, window_bits, bits_of_base, Bytes, Window}
-use Rattle.board_prelude.proofs.Common.{rom_window_of, is_rom_on, io_windows, memory_claim, io_claim}
+use Rattle.board_prelude.proofs.Common.{All-head, All-tail, All-append, Base, IoBase, FittedCard, Setup, IsBase}
+use Rattle.board_prelude.proofs.Common.{IsExpansionRom, IsCard, card_at, kept_of_base, kept_size, Width, bytes_of}
+use Rattle.board_prelude.proofs.Common.{window_bits, bits_of_base, Bytes, Window, rom_window_of, is_rom_on, io_windows}
+use Rattle.board_prelude.proofs.Common.{memory_claim, io_claim}
 use Rattle.std.proofs.lemmas.Nat.{mod-pow-add}
 use Rattle.std.proofs.Math.Nat.{mod-lt}
 use Rattle.pci_bars.specs.declared.claims.Gate.TheVariants.{Open}
@@ -40,13 +40,10 @@ All-find P test (first ∷ later) window each found =
     ]
 
 pub least_bits : (base : Base) → IsBase base → 2 ≤ bits_of_base (Some base)
-least_bits (MemoryBase bits) fit = omega (arith, fit.0)
-least_bits (IoBase bits) fit = fit.0
-least_bits (OutsideBase bits) fit = omega (arith, fit.0)
+least_bits base fit = grind arith
 
 size_of_bits : (base : Base) → IsKeptAs (kept_of_base base) (bits_of_base (Some base))
-size_of_bits (OutsideBase bits) = inl refl
-size_of_bits _ = inr refl
+size_of_bits base = grind arith
 
 module _ (setup : Setup) where
   no_windows : All (IsSized setup) []
@@ -183,8 +180,7 @@ low_two place bits above =
 fits_below :
     (place off size : ℕ) (width : Width) → off < size * 4 → off % 4 ≡ place % 4 → place % bytes_of width ≡ 0 →
     off + bytes_of width ≤ size * 4
-fits_below place off size One below same aligned = omega arith
-fits_below place off size _ below same aligned = omega arith
+fits_below place off size width below same aligned = grind arith
 
 -- an access that a window claims lies in the contents of its base
 pub lies_in_window :

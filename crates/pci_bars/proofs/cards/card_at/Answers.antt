@@ -4,9 +4,8 @@ use Rattle.pci_bars.proofs.cards.card_at.Goals as goal
 
 pub returns : goal.returns
 returns c =
-    let found = at_index c.args.cards.now c.in_ok-card_index.field-0 c.get.result c.get.ensures.lookup.0
-    c.get.ensures.lookup.1
-    ∙ at_position c.args.cards.now c.args.dev c.in_ok-card_index.field-0 c.in_ok-card_index.ensures.index in
+    let found = at_index c.args.cards.now c.in_ok-card_index.field-0 _ c.get.ensures.lookup.0 c.get.ensures.lookup.1
+    ∙ at_position c.args.cards.now c.args.dev _ c.in_ok-card_index.ensures.index in
     record {
       found = found;
       fitted = λ setup same. map_twice c.get.result ∙ card_is setup c.args.cards.now c.args.dev _ same found;

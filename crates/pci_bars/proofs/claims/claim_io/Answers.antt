@@ -10,6 +10,5 @@ unfolding io_claim
 returns c = record {
   claim = λ setup bytes are.
       rw c.from.ensures at c.first.ensures.first
-      ∙ claim_is setup bytes c.args.cards.now c.args.port c.requires.cards are Ports Open (io_windows bytes)
-      (io_windows_are bytes);
+      ∙ claim_is setup bytes _ _ c.requires.cards are Ports Open (io_windows bytes) (io_windows_are bytes);
 }

@@ -10,6 +10,5 @@ unfolding memory_claim
 returns c = record {
   claim = λ setup bytes are.
       c.first.ensures.first
-      ∙ claim_is setup bytes c.args.cards.now c.args.addr c.requires.cards are Memory Open (memory_windows bytes)
-      (λ card. refl);
+      ∙ claim_is setup bytes _ _ c.requires.cards are Memory Open (memory_windows bytes) (λ card. refl);
 }

@@ -10,6 +10,5 @@ unfolding io_shut
 returns c = record {
   shut = λ setup bytes are.
       rw c.from.ensures at c.first_device.ensures.device
-      ∙ device_is setup bytes c.args.cards.now c.args.port c.requires.cards are Ports Shut (io_windows bytes)
-      (io_windows_are bytes);
+      ∙ device_is setup bytes _ _ c.requires.cards are Ports Shut (io_windows bytes) (io_windows_are bytes);
 }

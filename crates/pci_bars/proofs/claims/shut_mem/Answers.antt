@@ -10,6 +10,5 @@ unfolding memory_shut
 returns c = record {
   shut = λ setup bytes are.
       c.first_device.ensures.device
-      ∙ device_is setup bytes c.args.cards.now c.args.addr c.requires.cards are Memory Shut (memory_windows bytes)
-      (λ card. refl);
+      ∙ device_is setup bytes _ _ c.requires.cards are Memory Shut (memory_windows bytes) (λ card. refl);
 }

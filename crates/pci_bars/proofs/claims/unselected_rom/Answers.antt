@@ -10,6 +10,6 @@ unfolding rom_unselected
 returns c = record {
   unselected = λ setup bytes are.
       c.first_device.ensures.device
-      ∙ device_is setup bytes c.args.cards.now c.args.addr c.requires.cards are UnselectedRom Open
+      ∙ device_is setup bytes _ _ c.requires.cards are UnselectedRom Open
       (unselected_windows bytes) (rom_windows_are bytes);
 }

@@ -5,11 +5,5 @@ use Rattle.pci_bars.proofs.contents.Contents.size.Goals as goal
 pub returns : goal.returns
 returns c =
     let at : IsBuffer c.self.inside.buffers.items c.args.self.now c.slot_of.result c.args.dev c.args.base
-    c.index.result.now = record {
-      view = c.self.view_is;
-      count = omega arith;
-      below = c.slot_of.ensures.below;
-      number = c.slot_of.ensures.slot;
-      is = c.index.ensures;
-    } in
+    c.index.result.now = grind arith in
     record { size = rw (buffer_held at) (omega arith) }

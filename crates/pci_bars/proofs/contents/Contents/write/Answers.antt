@@ -7,13 +7,7 @@ use Rattle.pci_bars.proofs.contents.Contents.write.Goals as goal
 pub returns-then-base-ne-ROM_BASE : goal.returns-then-base-ne-ROM_BASE
 returns-then-base-ne-ROM_BASE c =
     let at : IsBuffer c.self.inside.buffers.items c.args.self.now c.slot_of.result c.args.dev c.args.base
-    c.index_mut.result.now = record {
-      view = c.self.view_is;
-      count = omega arith;
-      below = c.slot_of.ensures.below;
-      number = c.slot_of.ensures.slot;
-      is = c.index_mut.ensures.value;
-    } in
+    c.index_mut.result.now = grind arith in
     let old : held c.args.self.now c.args.dev c.args.base ≡ c.deref_mut.result.now = buffer_held at
     ∙ sym c.deref_mut.ensures.value in
     let long : length c.put_value.new.kept ≡ length (held c.args.self.now c.args.dev c.args.base) =

@@ -9,13 +9,7 @@ use Rattle.pci_bars.proofs.contents.Contents.write_bytes.Goals as goal
 
 there : (c : After-copy_from_slice) → IsBuffer c.self.inside.buffers.items c.args.self.now c.slot_of.result c.args.dev
     c.args.base c.index_mut.result.now
-there c = record {
-  view = c.self.view_is;
-  count = omega arith;
-  below = c.slot_of.ensures.below;
-  number = c.slot_of.ensures.slot;
-  is = c.index_mut.ensures.value;
-}
+there c = grind arith
 
 old : (c : After-copy_from_slice) → held c.args.self.now c.args.dev c.args.base ≡ c.deref_mut.result.now
 old c = buffer_held (there c) ∙ sym c.deref_mut.ensures.value

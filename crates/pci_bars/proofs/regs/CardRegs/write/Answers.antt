@@ -1,4 +1,4 @@
-use Rattle.std.proofs.Common.{inl, inr, arith, rules}
+use Rattle.std.proofs.Common.{arith, rules}
 use Rattle.board_spec.specs.RegisterTable.{card_function}
 use Rattle.pci_bars.proofs.CardLemmas.{unwritten, line-written, command-written}
 use Rattle.pci_bars.proofs.regs.CardRegs.write.Goals as goal
@@ -19,18 +19,18 @@ returns-in-60 c =
 
 pub returns-then-off-lt16 : goal.returns-then-off-lt16
 returns-then-off-lt16 c =
-    let both = unwritten c.args.self.now c.args.off c.args.byte c.requires.card c.ranges.byte.fits
-    (record { command = λ e. omega arith; bases = inl (omega arith); rom = inl (omega arith) }) (λ e. omega arith) in
+    let both = unwritten c.args.self.now c.args.off c.args.byte c.requires.card c.ranges.byte.fits (grind arith)
+    (λ e. omega arith) in
     record { written = both.1; decodes = both.0; same_card = search rules }
 
 pub returns-else-off-lt52 : goal.returns-else-off-lt52
 returns-else-off-lt52 c =
-    let both = unwritten c.args.self.now c.args.off c.args.byte c.requires.card c.ranges.byte.fits
-    (record { command = λ e. omega arith; bases = inr (omega arith); rom = inr (omega arith) }) (λ e. omega arith) in
+    let both = unwritten c.args.self.now c.args.off c.args.byte c.requires.card c.ranges.byte.fits (grind arith)
+    (λ e. omega arith) in
     record { written = both.1; decodes = both.0; same_card = search rules }
 
 pub returns-then-off-lt48 : goal.returns-then-off-lt48
 returns-then-off-lt48 c =
-    let both = unwritten c.args.self.now c.args.off c.args.byte c.requires.card c.ranges.byte.fits
-    (record { command = λ e. omega arith; bases = inr (omega arith); rom = inl (omega arith) }) (λ e. omega arith) in
+    let both = unwritten c.args.self.now c.args.off c.args.byte c.requires.card c.ranges.byte.fits (grind arith)
+    (λ e. omega arith) in
     record { written = both.1; decodes = both.0; same_card = search rules }
