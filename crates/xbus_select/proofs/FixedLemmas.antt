@@ -1,10 +1,11 @@
 -- The registers of the 82371SB that cannot be written, in the table of registers.
 use Rattle.std.proofs.Common.{◌≡◌, ◌≢◌, ℕ, ◌-◌, ◌<◌, ◌≤◌, List, [], ◌∷◌, false, None, ◌∙◌, ap, sym, refl, subst, arith}
-use Rattle.std.proofs.Common.{inl, inr, lit<, slice_index}
+use Rattle.std.proofs.Common.{inl, inr, slice_index}
 use Rattle.board_prelude.proofs.Common.{cases_lt, cases_eq, cases_Bool, cond-true, cond-false, nat_tests, get_or_past}
 use Rattle.board_prelude.proofs.Common.{Width, Reg, Store, Setup, is_within, byte, merged, isa_bridge, ide_function}
 use Rattle.board_prelude.proofs.Common.{reset_byte, writable_bits, isa, ide, smram, is_same, covers, byte_after}
 use Rattle.board_prelude.proofs.Common.{changed_byte, merged-none, Each, each_below}
+use Rattle.board_prelude.proofs.Common.{common_steps}
 
 -- a register has this byte at all times
 pub record IsFixedAt (setup : Setup) (reg : Reg) (byte : ℕ) : Type 0 where
@@ -21,27 +22,17 @@ abbrev pub ide_header : List ℕ
 ide_header =
     0x86 ∷ 0x80 ∷ 0x10 ∷ 0x70 ∷ 0x00 ∷ 0x00 ∷ 0x80 ∷ 0x02 ∷ 0x00 ∷ 0x80 ∷ 0x01 ∷ 0x01 ∷ 0x00 ∷ 0x00 ∷ 0x00 ∷ 0x00 ∷ []
 
-reset_byte-isa_past :
+isa_past :
     (setup : Setup) (off : ℕ) → 16 ≤ off → off ≢ 0x4E → off ≢ 0x4F → is_within 0x60 0x63 off ≡ false →
-    reset_byte setup (isa off) ≡ 0
-unfolding reset_byte isa_bridge
-reset_byte-isa_past setup off above xbcs high pirq = grind (arith, nat_tests)
+    (reset_byte setup (isa off) ≡ 0) × (writable_bits setup (isa off) ≡ 0)
+unfolding reset_byte writable_bits isa_bridge
+isa_past setup off above xbcs high pirq = (grind (arith, nat_tests), grind (arith, nat_tests))
 
-writable_bits-isa_past :
-    (setup : Setup) (off : ℕ) → 16 ≤ off → off ≢ 0x4E → off ≢ 0x4F → is_within 0x60 0x63 off ≡ false →
-    writable_bits setup (isa off) ≡ 0
-unfolding writable_bits isa_bridge
-writable_bits-isa_past setup off above xbcs high pirq = grind (arith, nat_tests)
-
-reset_byte-ide_past :
-    (setup : Setup) (off : ℕ) → 16 ≤ off → is_within 0x40 0x41 off ≡ false → reset_byte setup (ide off) ≡ 0
-unfolding reset_byte ide_function
-reset_byte-ide_past setup off above timing = grind (arith, nat_tests)
-
-writable_bits-ide_past :
-    (setup : Setup) (off : ℕ) → 16 ≤ off → is_within 0x40 0x41 off ≡ false → writable_bits setup (ide off) ≡ 0
-unfolding writable_bits ide_function
-writable_bits-ide_past setup off above timing = grind (arith, nat_tests)
+ide_past :
+    (setup : Setup) (off : ℕ) → 16 ≤ off → is_within 0x40 0x41 off ≡ false →
+    (reset_byte setup (ide off) ≡ 0) × (writable_bits setup (ide off) ≡ 0)
+unfolding reset_byte writable_bits ide_function
+ide_past setup off above timing = (grind (arith, nat_tests), grind (arith, nat_tests))
 
 isa_fixed-past :
     (setup : Setup) (off : ℕ) → off ≢ 0x4E → is_within 0x60 0x63 off ≡ false → 16 ≤ off →
@@ -53,26 +44,15 @@ isa_fixed-past setup off xbcs pirq above =
           subst (λ k. IsFixedAt setup (isa k) 0) (sym high)
           (record { reset = refl; read_only = refl; fits = omega arith })
       | inr low ↦
-          record {
-            reset = sym (reset_byte-isa_past setup off above xbcs low pirq);
-            read_only = writable_bits-isa_past setup off above xbcs low pirq;
-            fits = omega arith;
-          }
+          let past = isa_past setup off above xbcs low pirq in
+          record { reset = sym past.0; read_only = past.1; fits = omega arith }
     ]
 
 isa_header_byte : (off : ℕ) → off < 16 → slice_index isa_header off < 256
-isa_header_byte off below =
-    let later : Each (λ k. slice_index isa_header k < 256) 8 8 =
-    (lit< tt, (lit< tt, (lit< tt, (lit< tt, (lit< tt, (lit< tt, (lit< tt, (lit< tt, tt)))))))) in
-    each_below (λ k. slice_index isa_header k < 256) 16 off
-    (lit< tt, (lit< tt, (lit< tt, (lit< tt, (lit< tt, (lit< tt, (lit< tt, (lit< tt, later)))))))) below
+isa_header_byte off below = grind (arith, nat_tests)
 
 ide_header_byte : (off : ℕ) → off < 16 → slice_index ide_header off < 256
-ide_header_byte off below =
-    let later : Each (λ k. slice_index ide_header k < 256) 8 8 =
-    (lit< tt, (lit< tt, (lit< tt, (lit< tt, (lit< tt, (lit< tt, (lit< tt, (lit< tt, tt)))))))) in
-    each_below (λ k. slice_index ide_header k < 256) 16 off
-    (lit< tt, (lit< tt, (lit< tt, (lit< tt, (lit< tt, (lit< tt, (lit< tt, (lit< tt, later)))))))) below
+ide_header_byte off below = grind (arith, nat_tests)
 
 -- all registers of the ISA bridge but XBCS and those that route interrupts
 pub isa_fixed :
@@ -124,12 +104,9 @@ ide_fixed setup off command timing =
         fits = ide_header_byte off below;
       }
       | inr above ↦
+          let past = ide_past setup off above timing in
           rw (get_or_past {X = ℕ} ide_header off 0 above)
-          (record {
-            reset = sym (reset_byte-ide_past setup off above timing);
-            read_only = writable_bits-ide_past setup off above timing;
-            fits = omega arith;
-          })
+          (record { reset = sym past.0; read_only = past.1; fits = omega arith })
     ]
 
 -- a board with nothing on it: the chip's registers are those of every board
@@ -141,13 +118,4 @@ pub kept_byte :
     (setup : Setup) (at : Reg) (width : Width) (written : ℕ) (reg : Reg) (old fixed : ℕ) → is_same reg smram ≡ false →
     IsFixedAt setup reg fixed → old ≡ fixed → changed_byte setup (Store at width written) reg old ≡ fixed
 kept_byte setup at width written reg old fixed plain is_fixed is_old =
-    let put : ℕ = byte written (reg.off - at.off) in
-    elim (cases_Bool (covers at width reg)) [
-      | inl covered ↦
-          cond-true (covers at width reg) (byte_after setup reg old put) old covered
-          ∙ cond-false (is_same reg smram) _ _ plain
-          ∙ ap (λ mask. merged mask old put) is_fixed.read_only
-          ∙ merged-none old put (rw is_old is_fixed.fits)
-          ∙ is_old
-      | inr apart ↦ cond-false (covers at width reg) (byte_after setup reg old put) old apart ∙ is_old
-    ]
+    grind (arith, nat_tests, common_steps, cases_Bool, merged-none)

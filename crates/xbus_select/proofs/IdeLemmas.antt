@@ -5,6 +5,7 @@ use Rattle.board_prelude.proofs.Common.{writable_bits, changed_byte, Bytes, ide,
 use Rattle.board_prelude.proofs.Common.{merged-all, changed_byte-one_same, changed_byte-one_other}
 use Rattle.xbus_select.specs.Ide.{IdeBytes, IsIdeFixed, IsIdeOf}
 use Rattle.xbus_select.proofs.FixedLemmas.{IsFixedAt, ide_header, ide_fixed, kept_byte, bare}
+use Rattle.board_prelude.proofs.Common.{common_steps}
 
 fixed_at : (setup : Setup) (off : ℕ) → IsIdeFixed off → IsFixedAt setup (ide off) (slice_index ide_header off)
 fixed_at setup off is_fixed =
@@ -54,7 +55,7 @@ pub command_stored :
     (record old { command = merged 0x05 old.command written })
 unfolding writable_bits ide_function
 command_stored setup bytes old written below is_ide =
-    ide_stored_at setup bytes old (record old { command = merged 0x05 old.command written }) ide_command written is_ide
+    ide_stored_at setup bytes old _ ide_command written is_ide
     (sym (changed_byte-one_same setup ide_command old.command written below refl)) refl refl
 
 pub timing_low_stored :
@@ -63,7 +64,7 @@ pub timing_low_stored :
     (record old { timing_low = written })
 unfolding writable_bits ide_function
 timing_low_stored setup bytes old written below is_ide =
-    ide_stored_at setup bytes old (record old { timing_low = written }) idetim written is_ide refl
+    ide_stored_at setup bytes old _ idetim written is_ide refl
     (sym
     (changed_byte-one_same setup idetim old.timing_low written below refl ∙ merged-all old.timing_low written below))
     refl

@@ -4,15 +4,15 @@ use Rattle.std.proofs.Common.{◌≡◌, ◌≢◌, ℕ, ◌↔◌, Bool, true, 
 use Rattle.std.proofs.Common.{not, if◌then◌else◌, unwrap_or, option_map, ◌∙◌}
 use Rattle.board_prelude.proofs.Common.{cases_Bool, cond-true, cond-false, false≢true, nat_tests, Width, One, Dev}
 use Rattle.board_prelude.proofs.Common.{Keyboard, Ata, Target, Device, Denial, Register, bytes_of, is_port_of}
-use Rattle.board_prelude.proofs.Common.{device_at}
-use Rattle.board_prelude.proofs.Common.{Setup, is_bit, Bytes, Window, io_claim, xbcs as select_register, ide_command}
-use Rattle.board_prelude.proofs.Common.{idetim, idetim_high, device, nobody, card_port, unselected, device_port}
-use Rattle.board_prelude.proofs.Common.{is_config_port, port_target_of}
+use Rattle.board_prelude.proofs.Common.{device_at, Setup, is_bit, Bytes, Window, io_claim, xbcs as select_register}
+use Rattle.board_prelude.proofs.Common.{ide_command, idetim, idetim_high, device, nobody, card_port, unselected}
+use Rattle.board_prelude.proofs.Common.{device_port, is_config_port, port_target_of}
 use Rattle.board_base.specs.declared.target.Dev.TheVariants.{Clock}
 use Rattle.device_spec.specs.Common.{PortsApart, ConfigApart}
 use Rattle.xbus_select.specs.Ide.{is_ide_decoded}
 use Rattle.xbus_select.specs.Piix.{is_keyboard_port, is_clock_port, is_disk_port, is_selected}
 use Rattle.xbus_select.specs.PortSelects.{KeyboardAnswers, ClockAnswers, DiskAnswers}
+use Rattle.board_prelude.proofs.Common.{common_steps}
 
 -- ---- a device is no card and not nobody
 
@@ -23,8 +23,7 @@ is_device _ = false
 card_or_nobody :
     (claim : Option Window) (port : ℕ) (denial : Denial) →
     is_device (unwrap_or (option_map (card_port port) claim) (nobody denial)).target ≡ false
-card_or_nobody None port denial = refl
-card_or_nobody (Some window) port denial = refl
+card_or_nobody claim port denial = grind (arith, nat_tests)
 
 not_device :
     (setup : Setup) (bytes : Bytes) (port : ℕ) (denial : Denial) (dev : Dev) →
@@ -37,9 +36,7 @@ not_device setup bytes port denial dev is =
 by_bit :
     (setup : Setup) (bytes : Bytes) (port : ℕ) (denial : Denial) (dev : Dev) (selected : Bool) →
     ((if selected then device dev else unselected setup bytes port denial).target ≡ Device dev) ↔ (selected ≡ true)
-by_bit setup bytes port denial dev true = (λ _. refl, λ _. refl)
-by_bit setup bytes port denial dev false =
-    (λ is. absurd (not_device setup bytes port denial dev is), λ no. absurd (false≢true no))
+by_bit setup bytes port denial dev selected = grind (arith, nat_tests, common_steps, not_device)
 
 by_bits :
     (setup : Setup) (bytes : Bytes) (port : ℕ) (dev : Dev) (first second : Bool) →

@@ -28,6 +28,7 @@ impl Ide {
 
     /// The registers whose state is at the front of the bytes. Refused where a field is not whole: the bytes left then
     /// begin with it.
+    #[tactic(auto, using(byte_fields::proofs::Loaded::loads, crate::proofs::StateFormat::ide_format))]
     pub fn load_state(fields: &mut Fields) -> Result<Ide, Bad>
         ensures loaded { Loads ide_fields ide_bytes IsIde fields.old fields.new result }
     {
@@ -52,6 +53,7 @@ impl Ide {
 }
 
 /// One state has one spelling, and one spelling is of one state.
+#[tactic(auto, using(byte_fields::proofs::Loaded::one_spelling, crate::proofs::StateFormat::ide_format))]
 pub fn law_one_ide()
     ensures one { OneSpelling ide_bytes IsIde }
 {}
