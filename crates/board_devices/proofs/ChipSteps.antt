@@ -1,10 +1,13 @@
 -- What a chip of the pair does by itself leaves its inputs, and latches nothing.
 use Rattle.std.proofs.Common.{arith, ◌≡◌, ℕ, ◌/◌, ◌%◌, ◌<◌, ◌==◌, ◌&&◌, not, Bool, true, false, cond, List, [], ◌∷◌}
 use Rattle.std.proofs.Common.{Option, Some, None, length, refl, ap, ◌∙◌}
-use Rattle.board_prelude.proofs.Common.{common_steps, nat_tests, Levels, has, levels_where, Chip, Word, Icw2, Icw3}
-use Rattle.board_prelude.proofs.Common.{Icw4, interrupt, acknowledged, acknowledged_if, first_blocking, chip_after_word}
+use Rattle.board_prelude.proofs.Common.{common_steps, nat_tests, Levels, has, levels_where, Chip, Word, interrupt}
+use Rattle.board_prelude.proofs.Common.{acknowledged, acknowledged_if, first_blocking, chip_after_word}
 use Rattle.board_prelude.proofs.Common.{chip_after_odd_write, is_complete, chip_after_ocw2, chip_after_even_write}
-use Rattle.board_prelude.proofs.Common.{chip_after_write, chip_after_read, has-levels_where}
+use Rattle.board_prelude.proofs.Common.{chip_after_write, chip_after_read, has-levels_where, Pair, settled}
+use Rattle.board_prelude.proofs.Common.{pair_after_write, pair_after_read, pair_acknowledged, pair_acknowledged_at}
+use Rattle.board_prelude.proofs.Common.{pair_after_acknowledge, is_slave_port, is_odd_port, PortAccess, Dev, Pic0, Pic1}
+use Rattle.board_prelude.proofs.Common.{Event, Port, Ack, Reply, device_reached, pair_accessed, pair_after}
 use Rattle.board_base.specs.Bits.{is_bit}
 use Rattle.device_spec.specs.Pic.{ended}
 
@@ -48,7 +51,7 @@ cleared old new kept inputs triggers latches = record {
   whole = λ whole. ap (λ (set : Levels). length set) latches ∙ eight (λ level. kept level && has old.latches level);
 }
 
-by_cond : (P : Chip → Type 0) (b : Bool) (x y : Chip) → P x → P y → P (cond b x y)
+pub by_cond : {A : Type 0} (P : A → Type 0) (b : Bool) (x y : A) → P x → P y → P (cond b x y)
 by_cond P true x y p q = p
 by_cond P false x y p q = q
 
@@ -59,9 +62,7 @@ ended_keeps rotates chip None = unmoved chip
 ended_keeps rotates chip (Some level) = all_kept chip (ended rotates chip (Some level)) refl refl refl
 
 word_keeps : (old chip : Chip) (word : Word) (byte : ℕ) → Keeps old chip → Keeps old (chip_after_word chip word byte)
-word_keeps old chip Icw2 byte is = grind (arith, nat_tests)
-word_keeps old chip Icw3 byte is = is
-word_keeps old chip Icw4 byte is = grind (arith, nat_tests)
+word_keeps old chip word byte is = grind (arith, nat_tests)
 
 odd_keeps : (chip : Chip) (words : List Word) (byte : ℕ) → Keeps chip (chip_after_odd_write chip words byte)
 odd_keeps chip [] byte = all_kept chip (chip_after_odd_write chip [] byte) refl refl refl
@@ -105,3 +106,44 @@ read_keeps chip =
     by_cond (Keeps chip) chip.polls _ _ (unpolled chip (acknowledged_if chip (interrupt chip))
     (acknowledged_if_keeps chip (interrupt chip)))
     (unmoved chip)
+
+-- ---- what an event makes of the pair
+
+pub same_chips : (a b slave other : Chip) → a ≡ b → slave ≡ other →
+    ◌≡◌ {A = Pair} (record { master = a; slave = slave }) (record { master = b; slave = other })
+same_chips a b slave other p q = rw (p, q) refl
+
+-- what a pair keeps as its chips step and the slave is then heard, it keeps at every event
+module _ (P : Pair → Type 0)
+    (settles : (old new : Pair) → Keeps old.master new.master → Keeps old.slave new.slave → P old → P (settled new)) where
+  one_steps : (at_slave : Bool) (pair : Pair) (master slave : Chip) → Keeps pair.master master →
+      Keeps pair.slave slave → P pair →
+      P (settled (cond at_slave (record pair { slave = slave }) (record pair { master = master })))
+  one_steps true pair master slave m s is = settles pair (record pair { slave = slave }) (unmoved pair.master) s is
+  one_steps false pair master slave m s is = settles pair (record pair { master = master }) m (unmoved pair.slave) is
+
+  ported : (write : Bool) (access : PortAccess) (pair : Pair) → P pair →
+      P (cond write (pair_after_write pair access.port access.value) (pair_after_read pair access.port))
+  ported true access pair is =
+      one_steps (is_slave_port access.port) pair _ _ (write_keeps pair.master (is_odd_port access.port) access.value)
+      (write_keeps pair.slave (is_odd_port access.port) access.value) is
+  ported false access pair is =
+      one_steps (is_slave_port access.port) pair _ _ (read_keeps pair.master) (read_keeps pair.slave) is
+
+  accessed : (reached : Option Dev) (access : PortAccess) (pair : Pair) → P pair → P (pair_accessed reached access pair)
+  accessed (Some Pic0) access pair is = ported access.write access pair is
+  accessed (Some Pic1) access pair is = ported access.write access pair is
+  accessed _ access pair is = is
+
+  acknowledged_at : (pair : Pair) (level : Option ℕ) → P pair → P (pair_acknowledged_at pair level)
+  acknowledged_at pair None is = is
+  acknowledged_at pair (Some level) is =
+      settles pair (pair_acknowledged pair level) (acknowledged_keeps pair.master level)
+      (by_cond (Keeps pair.slave) (level == 2) _ _ (acknowledged_if_keeps pair.slave (interrupt pair.slave))
+      (unmoved pair.slave)) is
+
+  pub event_keeps : (event : Event) (reply : Reply) (pair : Pair) → P pair → P (pair_after event reply pair)
+  unfolding pair_after_acknowledge
+  event_keeps (Port access) reply pair is = accessed (device_reached reply) access pair is
+  event_keeps Ack reply pair is = acknowledged_at pair (interrupt pair.master) is
+  event_keeps _ reply pair is = is

@@ -17,8 +17,8 @@ use Rattle.board_prelude.proofs.Common.{pair_reset_or_after, pair_stepped, pair_
 use Rattle.board_prelude.proofs.Common.{elcr-same, is_line_driven, list_any, map-same, true≢false}
 use Rattle.std.proofs.Common.{◌≡◌, ℕ, ◌<◌, ◌≤◌, Bool, true, false, ◌||◌, ◌&&◌, List, [], ◌∷◌, Option, Some, None}
 use Rattle.std.proofs.Common.{length, get_or, refl, sym, ◌∙◌, ap, subst, arith, inl, inr, ◌*◌, ◌/◌, ◌%◌, replicate}
-use Rattle.std.proofs.Common.{eq-eqb, ne_eqb, get_or-set_same, get_or-set_other, length-set, ◌↔◌, is_some, Result, Err}
-use Rattle.std.proofs.Common.{◌==◌, unwrap_or, map, option_map, slice_index_or, slice_set, if◌then◌else◌}
+use Rattle.std.proofs.Common.{eq-eqb, ne_eqb, get_or-set_same, get_or-set_other, length-set, ◌↔◌, Result, Err, ◌==◌}
+use Rattle.std.proofs.Common.{unwrap_or, map, option_map, slice_index_or, slice_set, if◌then◌else◌}
 use Rattle.board_prelude.specs.Common.{is_interrupt}
 use Rattle.board_devices.specs.Common.{LeavesDevices, DevicesValue, AreIrqsOf, AreAfter, AreDevicesOf, ReachesDevice}
 use Rattle.board_devices.specs.Common.{Asks, is_chip, PassesBy, Leaves, value_read, after_read, after_write}
@@ -564,8 +564,3 @@ pub fault_named : (result : Result Disk AtaOpen) (fault : AtaOpen) (size : ℕ) 
     ↔ (is_disk_length size ≡ false) → result ≡ Err fault →
     (fault ≡ AtaOpen.BadLength → ¬ IsDiskSize size) × (¬ IsDiskSize size → fault ≡ AtaOpen.BadLength)
 fault_named result fault size exact is = grind (arith, nat_tests, common_steps, refused_length, length_refused)
-
-pub some_disk : (bytes : Option (List ℕ)) (history : List Entry) →
-    is_some (option_map (λ bytes. disk_with bytes history) bytes) ≡ is_some bytes
-some_disk None history = refl
-some_disk (Some bytes) history = refl

@@ -6,8 +6,7 @@ use Rattle.std.proofs.Common.{Some, None, refl, sym, ◌∙◌, ap, arith, optio
 use Rattle.board_base.specs.declared.access.Width.TheVariants.{Two, Four}
 use Rattle.device_spec.proofs.Common.{length-replicate, Activity, Writing, sectors_of, is_drq, bytes_written}
 use Rattle.device_spec.proofs.Common.{activity_written, word_written, byte_written, disk_status_port}
-use Rattle.device_spec.specs.Ata.Steps.{after_read as disk_after_read, after_write as disk_after_write}
-use Rattle.device_spec.specs.Ata.Steps.{after_reset as disk_after_reset, after_bad}
+use Rattle.device_spec.specs.Ata.Steps.{after_read as disk_after_read, after_write as disk_after_write, after_bad}
 use Rattle.board_devices.specs.Devices.{DevicesValue, HasDisk, sectors_fitted}
 use Rattle.board_devices.specs.Steps.{after_read, after_write, devices_accessed, fitted_accessed}
 
@@ -54,11 +53,6 @@ read_has port Two disk = refl
 read_has port Four disk = refl
 
 -- ---- where one is fitted
-
-pub fitted_reset : (disk : Option Disk) →
-    sectors_fitted (option_map (λ disk. disk_after_reset disk) disk) ≡ sectors_fitted disk
-fitted_reset None = refl
-fitted_reset (Some disk) = refl
 
 pub fitted_spoiled : (sector : ℕ) (disk : Option Disk) →
     sectors_fitted (option_map (λ disk. after_bad sector disk) disk) ≡ sectors_fitted disk

@@ -1,22 +1,18 @@
 -- Many pulses of the timer leave the pair as two sets of levels do.
 use Rattle.board_prelude.proofs.Common.{common_steps, cases_Bool, or_parts, true≢false, nat_tests, Levels, has}
-use Rattle.board_prelude.proofs.Common.{levels_where, no_levels, with_level, levels_of_byte, Chip, interrupt}
-use Rattle.board_prelude.proofs.Common.{latches_after, chip_after_inputs, acknowledged, chip_after_write}
-use Rattle.board_prelude.proofs.Common.{chip_after_read, Pair, settled, master_inputs, pair_at_reset}
-use Rattle.board_prelude.proofs.Common.{levels_at_power_on, pair_after_lines, pair_after_write, pair_after_read}
-use Rattle.board_prelude.proofs.Common.{pair_acknowledged, pair_acknowledged_at, pair_after_acknowledge, is_slave_port}
-use Rattle.board_prelude.proofs.Common.{is_odd_port, PitState, out_of, pulses, rises, PortAccess, Dev, Pic0, Pic1}
-use Rattle.board_prelude.proofs.Common.{Event, Port, Ack, Pulses, Reply, Entry, Setup, is_hard_reset, device_reached}
-use Rattle.board_prelude.proofs.Common.{timer_of, routes_of, levels_with, levels_of, elcr_of, elcr-same, timer-pulsed}
-use Rattle.board_prelude.proofs.Common.{triggers-pulsed, levels-pulsed, pair_pulsed, pair_accessed, pair_after}
-use Rattle.board_prelude.proofs.Common.{pair_reset_or_after, pair_stepped, pair_of, pair_has_seen, levels_where-same}
-use Rattle.board_prelude.proofs.Common.{has-levels_where, same-levels, inputs-again, settled-asks, settled-quiet}
-use Rattle.board_prelude.proofs.Common.{latched, pair-pulsed}
+use Rattle.board_prelude.proofs.Common.{levels_where, with_level, levels_of_byte, Chip, interrupt, latches_after}
+use Rattle.board_prelude.proofs.Common.{chip_after_inputs, Pair, settled, master_inputs, pair_at_reset}
+use Rattle.board_prelude.proofs.Common.{levels_at_power_on, pair_after_lines, PitState, out_of, pulses, rises, Event}
+use Rattle.board_prelude.proofs.Common.{Pulses, Entry, Setup, is_hard_reset, timer_of, routes_of, levels_with}
+use Rattle.board_prelude.proofs.Common.{levels_of, elcr_of, elcr-same, timer-pulsed, triggers-pulsed, levels-pulsed}
+use Rattle.board_prelude.proofs.Common.{pair_pulsed, pair_reset_or_after, pair_stepped, pair_of, pair_has_seen}
+use Rattle.board_prelude.proofs.Common.{levels_where-same, has-levels_where, same-levels, inputs-again, settled-asks}
+use Rattle.board_prelude.proofs.Common.{settled-quiet, latched, pair-pulsed}
 use Rattle.std.proofs.Common.{◌≡◌, ℕ, zero, suc, ◌+◌, ◌/◌, ◌%◌, ◌<◌, ◌==◌, nat_lt, ◌&&◌, ◌||◌, not, Bool, true, false}
-use Rattle.std.proofs.Common.{cond, List, [], ◌∷◌, Option, Some, None, is_some, take, drop, inl, inr, refl, ap, sym}
-use Rattle.std.proofs.Common.{subst, ◌∙◌, arith, lit<, slice_set}
+use Rattle.std.proofs.Common.{cond, List, [], ◌∷◌, is_some, take, drop, inl, inr, refl, ap, sym, subst, ◌∙◌, arith}
+use Rattle.std.proofs.Common.{lit<, slice_set}
 use Rattle.board_devices.specs.Common.{DevicesValue, AreAfter, AreDevicesOf, Asks, lines_at, pair_after_run}
-use Rattle.board_devices.proofs.ChipSteps.{Keeps, write_keeps, acknowledged_keeps, read_keeps}
+use Rattle.board_devices.proofs.ChipSteps.{Keeps, by_cond, same_chips, event_keeps}
 use Rattle.board_devices.proofs.DeviceLemmas.{with_pair, routes_stand, others_asked, levels_pulsed}
 
 -- ---- the latch of line 0 at the master
@@ -44,13 +40,7 @@ settled_fresh pair is = record { fresh = settled_stale pair ∙ is.fresh }
 
 edge_fresh : (latch before now : Bool) → (latch && not before) ≡ false →
     (((latch || (now && not before)) && not (before && not now)) && not now) ≡ false
-edge_fresh true true true h = refl
-edge_fresh true true false h = refl
-edge_fresh true false now h = absurd (true≢false h)
-edge_fresh false true true h = refl
-edge_fresh false true false h = refl
-edge_fresh false false true h = refl
-edge_fresh false false false h = refl
+edge_fresh latch before now h = grind (arith, nat_tests)
 
 inputs_fresh : (chip : Chip) (inputs triggers : Levels) → is_stale chip ≡ false →
     is_stale (chip_after_inputs chip inputs triggers) ≡ false
@@ -70,58 +60,22 @@ lines_fresh pair levels elcr is =
     (record { fresh = inputs_fresh pair.master low triggers is.fresh })
 
 fewer_fresh : (kept latch before : Bool) → (latch && not before) ≡ false → ((kept && latch) && not before) ≡ false
-fewer_fresh true latch before h = h
-fewer_fresh false latch before h = refl
+fewer_fresh kept latch before h = grind (arith, nat_tests)
 
 -- a step of the chip itself makes no latch stale
 keeps_fresh : (old new : Chip) → Keeps old new → is_stale old ≡ false → is_stale new ≡ false
 keeps_fresh old new keeps h =
     rw (keeps.latches 0 (lit< tt), keeps.inputs) (fewer_fresh (keeps.kept 0) (has old.latches 0) (has old.inputs 0) h)
 
-by_pair : (b : Bool) (x y : Pair) → IsFresh x → IsFresh y → IsFresh (cond b x y)
-by_pair true x y p q = p
-by_pair false x y p q = q
+-- nor does what follows it
+steps_fresh : (old new : Pair) → Keeps old.master new.master → Keeps old.slave new.slave → IsFresh old →
+    IsFresh (settled new)
+steps_fresh old new master slave is =
+    settled_fresh new (record { fresh = keeps_fresh old.master new.master master is.fresh })
 
-pub pair_write_fresh : (pair : Pair) (port byte : ℕ) → IsFresh pair → IsFresh (pair_after_write pair port byte)
-pair_write_fresh pair port byte is =
-    let slave = record pair { slave = chip_after_write pair.slave (is_odd_port port) byte } in
-    let master = record pair { master = chip_after_write pair.master (is_odd_port port) byte } in
-    settled_fresh (cond (is_slave_port port) slave master)
-    (by_pair (is_slave_port port) slave master (record { fresh = is.fresh })
-    (record {
-      fresh = keeps_fresh pair.master (chip_after_write pair.master (is_odd_port port) byte)
-          (write_keeps pair.master (is_odd_port port) byte) is.fresh;
-    }))
-
-pub pair_read_fresh : (pair : Pair) (port : ℕ) → IsFresh pair → IsFresh (pair_after_read pair port)
-pair_read_fresh pair port is =
-    let slave = record pair { slave = chip_after_read pair.slave } in
-    let master = record pair { master = chip_after_read pair.master } in
-    settled_fresh (cond (is_slave_port port) slave master)
-    (by_pair (is_slave_port port) slave master (record { fresh = is.fresh })
-    (record {
-      fresh = keeps_fresh pair.master (chip_after_read pair.master)
-          (read_keeps pair.master) is.fresh;
-    }))
-
-at_fresh : (pair : Pair) (level : Option ℕ) → IsFresh pair → IsFresh (pair_acknowledged_at pair level)
-at_fresh pair None is = is
-at_fresh pair (Some level) is = settled_fresh (pair_acknowledged pair level)
-    (record {
-      fresh = keeps_fresh pair.master (acknowledged pair.master level)
-          (acknowledged_keeps pair.master level) is.fresh;
-    })
-
-pub pair_acknowledge_fresh : (pair : Pair) → IsFresh pair → IsFresh (pair_after_acknowledge pair)
-unfolding pair_after_acknowledge
-pair_acknowledge_fresh pair is = at_fresh pair (interrupt pair.master) is
-
-none_fresh : (level : Bool) → (has no_levels 0 && not level) ≡ false
+reset_fresh : (levels : List Bool) → IsFresh (pair_at_reset levels)
 unfolding levels_where
-none_fresh level = refl
-
-pub pair_reset_fresh : (levels : List Bool) → IsFresh (pair_at_reset levels)
-pair_reset_fresh levels = record { fresh = none_fresh _ }
+reset_fresh levels = record { fresh = refl }
 
 -- ---- line 0 rises and falls
 
@@ -139,17 +93,11 @@ abbrev after_at : Bool → Bool → Bool → Bool
 after_at latch before now = (latch || (now && not before)) && not (before && not now)
 
 stays_put : (latch now : Bool) → after_at latch now now ≡ latch
-stays_put true true = refl
-stays_put true false = refl
-stays_put false true = refl
-stays_put false false = refl
+stays_put latch now = grind (arith, nat_tests)
 
 rises_and_falls : (latch input : Bool) → (latch && not input) ≡ false →
     after_at (after_at latch input true) true false ≡ after_at latch input false
-rises_and_falls true true h = refl
-rises_and_falls true false h = absurd (true≢false h)
-rises_and_falls false true h = refl
-rises_and_falls false false h = refl
+rises_and_falls latch input h = grind (arith, nat_tests)
 
 module _ (rest : List Bool) (latches inputs : Levels) (fresh : (has latches 0 && not (has inputs 0)) ≡ false) where
   abbrev high_at : Levels
@@ -201,10 +149,6 @@ given pair low triggers high high_triggers = record {
   slave = chip_after_inputs pair.slave high high_triggers;
 }
 
-chips : (a b : Chip) (slave other : Chip) → a ≡ b → slave ≡ other →
-    ◌≡◌ {A = Pair} (record { master = a; slave = slave }) (record { master = b; slave = other })
-chips a b slave other p q = rw (p, q) refl
-
 forget_given : (pair : Pair) (rest : List Bool) (triggers high high_triggers : Levels) → IsFresh pair →
     settled (given (settled (given pair (master_inputs (take 8 (true ∷ rest))) triggers high high_triggers))
     (master_inputs (take 8 (false ∷ rest))) triggers high high_triggers)
@@ -217,7 +161,7 @@ forget_given pair rest triggers high high_triggers is =
     elim (cases_Bool (is_some (interrupt up.slave))) [
       | inr quiet ↦
           ap (λ (p : Pair). settled (given p low triggers high high_triggers)) (settled-quiet up quiet)
-          ∙ ap settled (chips _ _ _ _
+          ∙ ap settled (same_chips _ _ _ _
           (ap (λ (l : Levels). record pair.master { latches = l; inputs = low; triggers = triggers })
           (forgets rest pair.master.latches pair.master.inputs is.fresh))
           same_slave)
@@ -228,7 +172,7 @@ forget_given pair rest triggers high high_triggers is =
           ∙ asks in
           ap (λ (p : Pair). settled (given p low triggers high high_triggers)) (settled-asks up asks)
           ∙ (settled-asks again asks_again
-          ∙ (chips _ _ _ _
+          ∙ (same_chips _ _ _ _
           (ap (λ (l : Levels). record pair.master { latches = l; inputs = low; triggers = triggers })
           (forgets_latched rest pair.master.latches pair.master.inputs is.fresh))
           same_slave
@@ -262,8 +206,7 @@ next levels elcr pair true true false is high =
 next levels elcr pair true true true is high = low_again levels elcr true (lines_at levels elcr false pair)
 
 more_rises : (n : ℕ) (b : Bool) → nat_lt 0 (n + cond b 1 0) ≡ (nat_lt 0 n || b)
-more_rises n true = grind (arith, nat_tests)
-more_rises n false = grind (arith, nat_tests)
+more_rises n b = grind (arith, nat_tests)
 
 -- where OUT 0 did not rise and is 1, it was 1 from the start
 was_high : (timer : PitState) (n : ℕ) → nat_lt 0 (rises n timer) ≡ false → out_of 0 (pulses n timer) ≡ true →
@@ -313,30 +256,14 @@ pulsed_fresh setup history (suc k) pair is =
     lines_fresh (pair_pulsed setup history k pair) (levels_with setup history (pulses (suc k) (timer_of history)))
     (elcr_of history) (pulsed_fresh setup history k pair is)
 
-accessed_fresh : (access : PortAccess) (pair : Pair) → IsFresh pair →
-    IsFresh (cond access.write (pair_after_write pair access.port access.value) (pair_after_read pair access.port))
-accessed_fresh access pair is = by_pair access.write _ _ (pair_write_fresh pair access.port access.value is)
-    (pair_read_fresh pair access.port is)
-
-device_fresh : (device : Option Dev) (access : PortAccess) (pair : Pair) → IsFresh pair →
-    IsFresh (pair_accessed device access pair)
-device_fresh (Some Pic0) access pair is = accessed_fresh access pair is
-device_fresh (Some Pic1) access pair is = accessed_fresh access pair is
-device_fresh _ access pair is = is
-
-after_fresh : (event : Event) (reply : Reply) (pair : Pair) → IsFresh pair → IsFresh (pair_after event reply pair)
-after_fresh (Port access) reply pair is = device_fresh (device_reached reply) access pair is
-after_fresh Ack reply pair is = pair_acknowledge_fresh pair is
-after_fresh _ reply pair is = is
-
 other_fresh : (setup : Setup) (entry : Entry) (before : List Entry) (pair : Pair) → IsFresh pair →
     IsFresh (pair_after_lines (pair_reset_or_after setup entry before pair) (levels_of setup (entry ∷ before))
     (elcr_of (entry ∷ before)))
 other_fresh setup entry before pair is =
     lines_fresh (pair_reset_or_after setup entry before pair) (levels_of setup (entry ∷ before))
     (elcr_of (entry ∷ before))
-    (by_pair (is_hard_reset before entry.event) _ _ (pair_reset_fresh (levels_of setup (entry ∷ before)))
-    (after_fresh entry.event entry.reply pair is))
+    (by_cond IsFresh (is_hard_reset before entry.event) _ _ (reset_fresh (levels_of setup (entry ∷ before)))
+    (event_keeps IsFresh steps_fresh entry.event entry.reply pair is))
 
 stepped_fresh : (setup : Setup) (entry : Entry) (before : List Entry) (event : Event) (pair : Pair) → IsFresh pair →
     IsFresh (pair_stepped setup entry before event pair)
@@ -345,7 +272,7 @@ stepped_fresh setup entry before _ pair is = other_fresh setup entry before pair
 
 pub always_fresh : (setup : Setup) (history : List Entry) → IsFresh (pair_of setup history)
 unfolding pair_of
-always_fresh setup [] = pair_reset_fresh levels_at_power_on
+always_fresh setup [] = reset_fresh levels_at_power_on
 always_fresh setup (entry ∷ before) = stepped_fresh setup entry before entry.event (pair_of setup before)
     (always_fresh setup before)
 

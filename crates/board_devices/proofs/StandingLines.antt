@@ -1,17 +1,14 @@
 -- Events that move no line: the lines reach the pair as it saw them, and leave it.
 use Rattle.board_prelude.proofs.Common.{common_steps, cases_Bool, and-true, and-false, nat_tests, true≢false, is_bit}
 use Rattle.board_prelude.proofs.Common.{Levels, has, levels_of_byte, levels_where-same, Chip, interrupt, latches_after}
-use Rattle.board_prelude.proofs.Common.{chip_after_inputs, acknowledged, acknowledged_if, chip_after_write}
-use Rattle.board_prelude.proofs.Common.{chip_after_read, Pair, settled, master_inputs, pair_after_lines, pair_written}
-use Rattle.board_prelude.proofs.Common.{pair_read, pair_after_write, pair_after_read, pair_acknowledged}
-use Rattle.board_prelude.proofs.Common.{pair_acknowledged_at, pair_after_acknowledge, is_slave_port, is_odd_port}
-use Rattle.board_prelude.proofs.Common.{same-levels, settled-asks, settled-quiet, latched, PortAccess, Dev, Pic0, Pic1}
-use Rattle.board_prelude.proofs.Common.{Pit, System, Elcr, Ata, bytes_of, PitState, out_of, set_gate2, port_read, Event}
-use Rattle.board_prelude.proofs.Common.{Port, Ack, Reply, Entry, Setup, is_hard_reset, is_config_port, device_reached}
-use Rattle.board_prelude.proofs.Common.{timer_accessed, triggers_of, config_store, levels_of, elcr_of, pair_accessed}
-use Rattle.board_prelude.proofs.Common.{pair_after, pair_of, pair_has_seen, Triggers, triggers_accessed}
-use Rattle.std.proofs.Common.{◌≡◌, ℕ, ◌/◌, ◌%◌, ◌==◌, ◌&&◌, ◌||◌, not, Bool, true, false, cond, List, [], ◌∷◌, Option}
-use Rattle.std.proofs.Common.{Some, None, length, take, drop, refl, sym, ap, subst, ◌∙◌, inl, inr, is_some, arith}
+use Rattle.board_prelude.proofs.Common.{chip_after_inputs, Pair, settled, master_inputs, pair_after_lines, same-levels}
+use Rattle.board_prelude.proofs.Common.{settled-asks, settled-quiet, latched, PortAccess, Dev, Pit, System, Elcr, Ata}
+use Rattle.board_prelude.proofs.Common.{bytes_of, PitState, out_of, set_gate2, port_read, Event, Port, Ack, Entry}
+use Rattle.board_prelude.proofs.Common.{Setup, is_hard_reset, is_config_port, timer_accessed, triggers_of, config_store}
+use Rattle.board_prelude.proofs.Common.{levels_of, elcr_of, pair_accessed, pair_after, pair_of, pair_has_seen, Triggers}
+use Rattle.board_prelude.proofs.Common.{triggers_accessed}
+use Rattle.std.proofs.Common.{◌≡◌, ℕ, ◌/◌, ◌%◌, ◌&&◌, ◌||◌, not, Bool, true, false, List, [], ◌∷◌, Option, Some, None}
+use Rattle.std.proofs.Common.{length, take, drop, refl, sym, ap, subst, ◌∙◌, inl, inr, is_some, arith}
 use Rattle.device_spec.specs.Pit.{Access, LowByte, HighByte, LowThenHigh, CounterState, read, read_live}
 use Rattle.device_spec.proofs.Common.{levels_where-has}
 use Rattle.board_spec.specs.Registers.{config_address}
@@ -19,8 +16,7 @@ use Rattle.board_base.specs.declared.target.Dev.TheVariants.{Clock}
 use Rattle.board_devices.specs.Common.{DevicesValue, AreAfter, AreDevicesOf, driven, level_driven, sets_triggers}
 use Rattle.board_devices.specs.Common.{AccessLeavesLines, StillLeavesLines, AcknowledgeLeavesLines, is_chip_port}
 use Rattle.board_devices.specs.Common.{moves_lines, ReachesDevice, devices_accessed}
-use Rattle.board_devices.proofs.ChipSteps.{Keeps, eight, unmoved, write_keeps, read_keeps, acknowledged_keeps}
-use Rattle.board_devices.proofs.ChipSteps.{acknowledged_if_keeps}
+use Rattle.board_devices.proofs.ChipSteps.{Keeps, eight, same_chips, event_keeps}
 use Rattle.board_devices.proofs.DeviceLemmas.{stood_as, pair_soft, with_pair, SetsNoLevel, Stays, stays_as, passing}
 use Rattle.board_devices.proofs.DeviceLemmas.{lines_stand, routes_stand, others_asked, port_asked, reached_as}
 use Rattle.board_devices.proofs.DeviceLemmas.{devices_after, devices_of, they_are, driven_is}
@@ -34,10 +30,7 @@ record Holds (inputs triggers : Levels) (chip : Chip) : Type 0 where
   whole : length chip.latches ≡ 8
 
 no_edge : (latch level : Bool) → ((latch || (level && not level)) && not (level && not level)) ≡ latch
-no_edge true true = refl
-no_edge true false = refl
-no_edge false true = refl
-no_edge false false = refl
+no_edge latch level = grind (arith, nat_tests)
 
 latches_stay : (latches inputs : Levels) → length latches ≡ 8 → latches_after latches inputs inputs ≡ latches
 latches_stay latches inputs whole =
@@ -87,59 +80,13 @@ module _ (levels : List Bool) (elcr : ℕ) where
     slave = given_holds pair.slave (drop 8 levels) (levels_of_byte (elcr / 256));
   })
 
-  pairs : (a b c d : Chip) → a ≡ c → b ≡ d → ◌≡◌ {A = Pair} (record { master = a; slave = b })
-      (record { master = c; slave = d })
-  pairs a b c d p q = rw (p, q) refl
-
   -- the lines change nothing of a pair that sees them so, once its slave is heard
   stands : (pair : Pair) → Sees levels elcr pair → pair_after_lines (settled pair) levels elcr ≡ settled pair
   stands pair sees =
       let once : pair_after_lines pair levels elcr ≡ settled pair =
-      ap settled (pairs _ _ pair.master pair.slave (given_again pair.master _ _ sees.master)
+      ap settled (same_chips _ pair.master _ pair.slave (given_again pair.master _ _ sees.master)
       (given_again pair.slave _ _ sees.slave)) in
       ap (λ (p : Pair). pair_after_lines p levels elcr) (sym once) ∙ (same-levels pair levels elcr ∙ once)
-
-  by_side : (b : Bool) (x y : Pair) → Sees levels elcr x → Sees levels elcr y → Sees levels elcr (cond b x y)
-  by_side true x y p q = p
-  by_side false x y p q = q
-
-  master_sees : (pair : Pair) (chip : Chip) → Keeps pair.master chip → Sees levels elcr pair →
-      Sees levels elcr (record pair { master = chip })
-  master_sees pair chip keeps sees = grind (arith, nat_tests)
-
-  slave_sees : (pair : Pair) (chip : Chip) → Keeps pair.slave chip → Sees levels elcr pair →
-      Sees levels elcr (record pair { slave = chip })
-  slave_sees pair chip keeps sees = grind (arith, nat_tests)
-
-  written_sees : (pair : Pair) (port byte : ℕ) → Sees levels elcr pair → Sees levels elcr (pair_written pair port byte)
-  written_sees pair port byte sees =
-      by_side (is_slave_port port) _ _
-      (slave_sees pair (chip_after_write pair.slave (is_odd_port port) byte)
-      (write_keeps pair.slave (is_odd_port port) byte) sees)
-      (master_sees pair (chip_after_write pair.master (is_odd_port port) byte)
-      (write_keeps pair.master (is_odd_port port) byte) sees)
-
-  read_sees : (pair : Pair) (port : ℕ) → Sees levels elcr pair → Sees levels elcr (pair_read pair port)
-  read_sees pair port sees =
-      by_side (is_slave_port port) _ _
-      (slave_sees pair (chip_after_read pair.slave) (read_keeps pair.slave) sees)
-      (master_sees pair (chip_after_read pair.master) (read_keeps pair.master) sees)
-
-  by_chip : (b : Bool) (old x y : Chip) → Keeps old x → Keeps old y → Keeps old (cond b x y)
-  by_chip true old x y p q = p
-  by_chip false old x y p q = q
-
-  acknowledged_sees : (pair : Pair) (level : ℕ) → Sees levels elcr pair →
-      Sees levels elcr (pair_acknowledged pair level)
-  acknowledged_sees pair level sees = record {
-    master = keeps_holds _ _ pair.master (acknowledged pair.master level)
-        (acknowledged_keeps pair.master level) sees.master;
-    slave =
-        keeps_holds _ _ pair.slave (pair_acknowledged pair level).slave
-        (by_chip (level == 2) pair.slave (acknowledged_if pair.slave (interrupt pair.slave)) pair.slave
-        (acknowledged_if_keeps pair.slave (interrupt pair.slave)) (unmoved pair.slave))
-        sees.slave;
-  }
 
   -- ---- what an event itself makes of the pair
 
@@ -150,37 +97,14 @@ module _ (levels : List Bool) (elcr : ℕ) where
   abbrev Again : Pair → Type 0
   Again pair = pair_after_lines pair levels elcr ≡ pair
 
-  by_again : (b : Bool) (x y : Pair) → Again x → Again y → Again (cond b x y)
-  by_again true x y p q = p
-  by_again false x y p q = q
-
-  ported_again : (access : PortAccess) (pair : Pair) → Again pair →
-      Again (cond access.write (pair_after_write pair access.port access.value) (pair_after_read pair access.port))
-  ported_again access pair seen =
-      let sees = seen_sees pair seen in
-      by_again access.write _ _
-      (stands (pair_written pair access.port access.value) (written_sees pair access.port access.value sees))
-      (stands (pair_read pair access.port) (read_sees pair access.port sees))
-
-  accessed_again : (reached : Option Dev) (access : PortAccess) (pair : Pair) → Again pair →
-      Again (pair_accessed reached access pair)
-  accessed_again (Some Pic0) access pair seen = ported_again access pair seen
-  accessed_again (Some Pic1) access pair seen = ported_again access pair seen
-  accessed_again _ access pair seen = seen
-
-  acknowledged_at_again : (pair : Pair) (level : Option ℕ) → Again pair → Again (pair_acknowledged_at pair level)
-  acknowledged_at_again pair None seen = seen
-  acknowledged_at_again pair (Some level) seen = stands (pair_acknowledged pair level)
-      (acknowledged_sees pair level (seen_sees pair seen))
-
-  acknowledged_again : (pair : Pair) → Again pair → Again (pair_after_acknowledge pair)
-  unfolding pair_after_acknowledge
-  acknowledged_again pair seen = acknowledged_at_again pair (interrupt pair.master) seen
-
-  event_again : (event : Event) (reply : Reply) (pair : Pair) → Again pair → Again (pair_after event reply pair)
-  event_again (Port access) reply pair seen = accessed_again (device_reached reply) access pair seen
-  event_again Ack reply pair seen = acknowledged_again pair seen
-  event_again _ reply pair seen = seen
+  steps_again : (old new : Pair) → Keeps old.master new.master → Keeps old.slave new.slave → Again old →
+      Again (settled new)
+  steps_again old new master slave seen =
+      let sees = seen_sees old seen in
+      stands new (record {
+        master = keeps_holds _ _ old.master new.master master sees.master;
+        slave = keeps_holds _ _ old.slave new.slave slave sees.slave;
+      })
 
 -- ---- OUT of counter 0 after a read of the timer, and after its gate 2 moved
 
@@ -212,7 +136,8 @@ pair_stands setup history entry soft sets none stays =
     pair_soft setup history entry soft sets.still
     ∙ (lines_stand setup history entry sets stays (routes_stand setup history entry soft none)
     (pair_after entry.event entry.reply (pair_of setup history))
-    ∙ event_again (levels_of setup history) (elcr_of history) entry.event entry.reply (pair_of setup history)
+    ∙ event_keeps (Again (levels_of setup history) (elcr_of history))
+    (steps_again (levels_of setup history) (elcr_of history)) entry.event entry.reply (pair_of setup history)
     (pair_has_seen same-levels setup history))
 
 -- ---- accesses
@@ -247,13 +172,11 @@ triggers_stay Elcr access triggers none =
 triggers_stay _ access triggers none = refl
 
 triggers_none : (dev : Dev) (write : Bool) → moves_lines dev write ≡ false → (write && sets_triggers dev) ≡ false
-triggers_none Elcr write reads = and-true write ∙ reads
-triggers_none _ write none = and-false write
+triggers_none dev write none = grind (arith, nat_tests, and-true, and-false)
 
 -- a port of a device is none of configuration data
 no_config_port : (dev : Dev) (port bytes : ℕ) → is_chip_port dev port bytes ≡ true → is_config_port port ≡ false
-no_config_port Pic0 port bytes is = grind (arith, nat_tests)
-no_config_port _ port bytes is = grind (arith, nat_tests)
+no_config_port dev port bytes is = grind (arith, nat_tests)
 
 no_store : (setup : Setup) (address : ℕ) (access : PortAccess) → is_config_port access.port ≡ false →
     config_store setup address (Port access) ≡ None

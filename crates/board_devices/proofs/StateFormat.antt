@@ -1,8 +1,8 @@
 -- The state of the devices is spelled and read back.
 use Rattle.board_prelude.proofs.Common.{nat_tests}
-use Rattle.std.proofs.Common.{◌≡◌, ℕ, ◌+◌, List, [], Option, Some, None, refl, ap, arith}
-use Rattle.board_prelude.specs.Common.{Disk, PlainPorts, IsDisk}
-use Rattle.byte_fields.proofs.Formats.{IsFormat, format_as, then_format, last_format, made_format}
+use Rattle.std.proofs.Common.{◌≡◌, ℕ, ◌+◌, List, Option, Some, None, refl, ap, arith}
+use Rattle.board_prelude.specs.Common.{Disk, IsDisk}
+use Rattle.byte_fields.proofs.Formats.{IsFormat, fields_format, ◌then◌, ◌&◌, last_field}
 use Rattle.pic_pair.proofs.StateFormat.{pair_format, lines_format}
 use Rattle.pit_8254.proofs.StateFormat.{pit_format}
 use Rattle.cmos_clock.proofs.StateFormat.{clock_format}
@@ -23,84 +23,47 @@ system_format = grind (arith, nat_tests)
 
 -- ---- the plain ports
 
-abbrev plain_most : ℕ
-plain_most = 2
-
-plain_format : IsFormat plain_most plain_fields plain_bytes IsPlain
+plain_format : IsFormat 2 plain_fields plain_bytes IsPlain
 unfolding plain_fields
-plain_format =
-    format_as plain_most plain_bytes IsPlain
-    (last_format (λ (p : PlainPorts). p.system) (λ system. record { system = system }) system_format
-    (λ system good. refl))
-    (omega arith)
-    (λ p is. (is, refl))
-    (λ p good. good.0)
-    (λ p good. refl)
+plain_format = fields_format (last_field _ system_format) (λ p is. ((p.system, is), refl)) (λ t. (t.1, refl))
 
 -- ---- all but the disk
-
-abbrev machines_most : ℕ
-machines_most = 261 + plain_most
 
 abbrev AreBareMachines : DevicesValue → Type 0
 AreBareMachines devices = AreMachines devices × (devices.disk ≡ None)
 
-machines_format : IsFormat machines_most machines_fields machines_bytes AreBareMachines
+machines_format : IsFormat 263 machines_fields machines_bytes AreBareMachines
 unfolding machines_fields machines_bytes
 machines_format =
-    format_as machines_most machines_bytes AreBareMachines
-    (then_format (λ (d : DevicesValue). d.pair) pair_format (λ pair good.
-    then_format (λ (d : DevicesValue). d.timer) pit_format (λ timer good.
-    then_format (λ (d : DevicesValue). d.clock) clock_format (λ clock good.
-    then_format (λ (d : DevicesValue). d.triggers) triggers_format (λ triggers good.
-    then_format (λ (d : DevicesValue). d.plain) plain_format (λ plain good.
-    then_format (λ (d : DevicesValue). d.wires) lines_format (λ wires good.
-    last_format (λ (d : DevicesValue). d.irqs)
-    (λ irqs. record {
-      pair = pair;
-      timer = timer;
-      clock = clock;
-      disk = None;
-      triggers = triggers;
-      plain = plain;
-      wires = wires;
-      irqs = irqs;
-    })
-    lines_format (λ irqs good. refl))
-    (λ wires d any good. ap (λ (d : DevicesValue). d.wires) good.1))
-    (λ plain d any good. ap (λ (d : DevicesValue). d.plain) good.1.1))
-    (λ triggers d any good. ap (λ (d : DevicesValue). d.triggers) good.1.1.1))
-    (λ clock d any good. ap (λ (d : DevicesValue). d.clock) good.1.1.1.1))
-    (λ timer d any good. ap (λ (d : DevicesValue). d.timer) good.1.1.1.1.1))
-    (λ pair d any good. ap (λ (d : DevicesValue). d.pair) good.1.1.1.1.1.1))
-    (omega arith)
+    fields_format
+    (pair_format then λ pair good.
+    pit_format then λ timer good.
+    clock_format then λ clock good.
+    triggers_format then λ triggers good.
+    plain_format then λ plain good.
+    lines_format then λ wires good.
+    last_field _ lines_format)
     (λ d is.
     let m = is.0 in (
-      m.pair,
+      (d.pair, m.pair) & (d.timer, m.timer) & (d.clock, m.clock) & (d.triggers, m.triggers) & (d.plain, m.plain)
+          & (d.wires, m.wires) & (d.irqs, m.irqs),
+      ap (λ (disk : Option Disk). record d { disk = disk }) is.1,
+    ))
+    (λ t. (
       (
-        m.timer,
-        (
-          m.clock,
-          (
-            m.triggers,
-            (m.plain, (m.wires, (m.irqs, ap (λ (disk : Option Disk). record d { disk = disk }) is.1))),
-          ),
-        ),
+        record {
+          pair = t.1;
+          timer = t.2.1;
+          clock = t.2.2.1;
+          triggers = t.2.2.2.1;
+          plain = t.2.2.2.2.1;
+          wires = t.2.2.2.2.2.1;
+          irqs = t.2.2.2.2.2.2.1;
+        },
+        refl,
       ),
+      refl,
     ))
-    (λ d good. (
-      record {
-        pair = good.0;
-        timer = good.1.0;
-        clock = good.1.1.0;
-        triggers = good.1.1.1.0;
-        plain = good.1.1.1.1.0;
-        wires = good.1.1.1.1.1.0;
-        irqs = good.1.1.1.1.1.1.0;
-      },
-      ap (λ (d : DevicesValue). d.disk) good.1.1.1.1.1.1.1,
-    ))
-    (λ d good. refl)
 
 -- ---- the disk, where one is fitted
 
@@ -108,80 +71,37 @@ abbrev fitted_most : Option (List ℕ) → ℕ
 fitted_most None = 0
 fitted_most (Some bytes) = most_bytes bytes
 
-none_is : (disk : Option Disk) → IsFittedDisk None disk → disk ≡ None
-none_is None is = refl
-none_is (Some disk) is = absurd is
-
-none_from : (disk : Option Disk) → disk ≡ None → IsFittedDisk None disk
-none_from None is = tt
-none_from (Some disk) is = absurd cc
-
-none_spelled : (disk : Option Disk) → disk ≡ None → [] ≡ fitted_bytes None disk
-unfolding fitted_bytes
-none_spelled disk is = refl
-
-some_is : (bytes : List ℕ) (disk : Option Disk) → IsFittedDisk (Some bytes) disk →
-    (over : Disk) × IsDiskOver bytes over × (disk ≡ Some over)
-some_is bytes None is = absurd is
-some_is bytes (Some disk) is = (disk, is, refl)
-
-some_from : (bytes : List ℕ) (disk : Option Disk) (over : Disk) → IsDiskOver bytes over → disk ≡ Some over →
-    IsFittedDisk (Some bytes) disk
-some_from bytes disk over good is = rw is good
+some_fitted : (bytes : List ℕ) (disk : Option Disk) → IsFittedDisk (Some bytes) disk →
+    (t : (over : Disk) × IsDiskOver bytes over) × (disk ≡ Some t.0)
+some_fitted bytes None is = absurd is
+some_fitted bytes (Some disk) is = ((disk, is), refl)
 
 fitted_format : (fitted : Option (List ℕ)) → IsDisk fitted →
     IsFormat (fitted_most fitted) (fitted_fields fitted) (fitted_bytes fitted) (IsFittedDisk fitted)
 unfolding fitted_fields fitted_bytes
 fitted_format None is = grind (arith, nat_tests)
 fitted_format (Some bytes) is =
-    format_as (most_bytes bytes) (fitted_bytes (Some bytes)) (IsFittedDisk (Some bytes))
-    (made_format (λ (disk : Disk). Some disk) (fitted_bytes (Some bytes)) (disk_format bytes (disk_length bytes is))
-    (λ disk. refl))
-    (omega arith)
-    (λ disk is. some_is bytes disk is) (λ disk good. some_from bytes disk good.0 good.1 good.2) (λ disk good. refl)
+    fields_format (last_field _ (disk_format bytes (disk_length bytes is))) (some_fitted bytes) (λ t. (t.1, refl))
 
 -- ---- all devices
 
 abbrev pub most_of : Option (List ℕ) → ℕ
-most_of fitted = machines_most + fitted_most fitted
+most_of fitted = 263 + fitted_most fitted
 
-with_disk : (machines devices : DevicesValue) → machines.disk ≡ None →
-    devices ≡ record machines { disk = devices.disk } →
-    record devices { disk = None } ≡ machines
-with_disk machines devices none is = grind (arith, nat_tests)
+-- the machines are the same with any disk
+with_disk : (devices : DevicesValue) (disk : Option Disk) → AreMachines devices →
+    AreMachines (record devices { disk = disk })
+with_disk devices disk are = grind (arith, nat_tests)
 
 pub devices_format : (fitted : Option (List ℕ)) → IsDisk fitted →
     IsFormat (most_of fitted) (devices_fields fitted) (devices_bytes fitted) (AreDevices fitted)
 unfolding devices_fields devices_bytes machines_bytes
 devices_format fitted is =
-    format_as (most_of fitted) (devices_bytes fitted) (AreDevices fitted)
-    (then_format (λ (d : DevicesValue). record d { disk = None }) machines_format (λ machines good.
-    last_format (λ (d : DevicesValue). d.disk) (λ disk. record machines { disk = disk }) (fitted_format fitted is)
-    (λ disk good. refl))
-    (λ machines d any good. with_disk machines d any.1 good.1))
-    (omega arith)
-    (λ d are. ((bare are.machines, refl), (are.disk, refl)))
-    (λ d good. record { machines = whole good.0.0; disk = good.1.0 })
-    (λ d good. refl)
-  where
-    bare : {d : DevicesValue} → AreMachines d → AreMachines (record d { disk = None })
-    bare are = record {
-      pair = are.pair;
-      timer = are.timer;
-      clock = are.clock;
-      triggers = are.triggers;
-      plain = are.plain;
-      wires = are.wires;
-      irqs = are.irqs;
-    }
-
-    whole : {d : DevicesValue} → AreMachines (record d { disk = None }) → AreMachines d
-    whole are = record {
-      pair = are.pair;
-      timer = are.timer;
-      clock = are.clock;
-      triggers = are.triggers;
-      plain = are.plain;
-      wires = are.wires;
-      irqs = are.irqs;
-    }
+    fields_format
+    (machines_format then λ machines good.
+    last_field _ (fitted_format fitted is))
+    (λ d are. (
+      (record d { disk = None }, (with_disk d None are.machines, refl)) & (d.disk, are.disk),
+      refl,
+    ))
+    (λ t. (record { machines = with_disk t.0 t.2.0 t.1.0; disk = t.2.1 }, refl))
