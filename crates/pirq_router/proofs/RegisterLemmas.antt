@@ -18,9 +18,6 @@ abbrev IsStoredAt : Setup → Bytes → (byte off : ℕ) → Type 0
 IsStoredAt setup bytes byte off = routes_after_write (map (λ k. bytes (pirq k)) pirqs) off byte
     ≡ routes_stored setup bytes off byte
 
-abbrev IsHere : Setup → Bytes → (byte k : ℕ) → Type 0
-IsHere setup bytes byte k = IsStoredAt setup bytes byte (0x60 + k)
-
 here : (setup : Setup) (bytes : Bytes) (byte k : ℕ) → byte < 256 → k < 4 → IsStoredAt setup bytes byte (0x60 + k)
 unfolding writable_bits isa_bridge
 here setup bytes byte k small within = grind (arith, nat_tests)

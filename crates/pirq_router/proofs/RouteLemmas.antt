@@ -1,9 +1,7 @@
 -- One pin more, and one line set.
 use Rattle.board_base.proofs.Common.{nat_tests}
-use Rattle.std.proofs.Common.{arith, zero, suc, ◌≡◌, ℕ, ◌+◌, ◌<◌, Bool, true, false, eqb, ◌||◌, ◌&&◌, List, length}
-use Rattle.std.proofs.Common.{get_or, set, Option, refl, sym, ap, ◌∙◌, add-one, get_or-set_same, get_or-set_other}
-use Rattle.board_prelude.proofs.Common.{or-false, cases_eq, eq-eqb, ne_eqb, Routes, drives, line_of_route}
-use Rattle.board_prelude.proofs.Common.{is_line_driven}
+use Rattle.std.proofs.Common.{arith, zero, suc, ◌≡◌, ℕ, ◌+◌, Bool, false, ◌||◌, List, get_or, set, refl, add-one}
+use Rattle.board_prelude.proofs.Common.{Routes, drives, line_of_route, is_line_driven}
 
 -- whether one of the first pins holds the line at 1
 unfoldable pub drives_among : ℕ → Routes → List Bool → ℕ → Bool
@@ -31,19 +29,3 @@ pub drives_among-more : (k : ℕ) (routes : Routes) (pins : List Bool) (line : �
     ≡ (drives_among k routes pins line || drives (line_of_route (get_or routes k 0)) (get_or pins k false) line)
 unfolding drives_among
 drives_among-more k routes pins line = rw (add-one k) refl
-
--- a pin at 0 drives no line
-drives-none : (routed : Option ℕ) (line : ℕ) → drives routed false line ≡ false
-drives-none routed line = grind (arith, nat_tests)
-
-pub drives-low : (on : Bool) (routed : Option ℕ) (line : ℕ) → on ≡ (on || drives routed false line)
-drives-low on routed line = sym (ap (λ (b : Bool). on || b) (drives-none routed line) ∙ or-false on)
-
-or-true : (b : Bool) → true ≡ (b || true)
-or-true b = grind (arith, nat_tests)
-
--- and one at 1 the line that it is routed to
-pub line-raised : (lines : List Bool) (routed line : ℕ) → routed < length lines →
-    get_or (set lines routed true) line false ≡ (get_or lines line false || (true && eqb routed line))
-line-raised lines routed line h =
-    grind (arith, nat_tests, cases_eq, get_or-set_same, eq-eqb, or-true, get_or-set_other, ne_eqb, or-false)
