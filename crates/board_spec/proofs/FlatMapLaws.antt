@@ -6,67 +6,52 @@ use Rattle.device_spec.proofs.Common.{recursion_from_All, cases_lt}
 
 pub tiles_below : (from : ℕ) (ranges : List MapRange) → Tiles from ranges → from ≤ address_count
 tiles_below from [] h = omega arith
-tiles_below from (range ∷ later) h = let after : range.hi + 1 ≤ address_count = tiles_below (range.hi + 1) later h.2 in
-    omega arith
-
--- a range that ends before another that begins at the same address has a next one with the other's areas
-ends_no_sooner :
-    (setup : Setup) (bytes : Bytes) (from : ℕ) (x y : MapRange) (xs ys : List MapRange) →
-    Tiles from (x ∷ xs) → Tiles from (y ∷ ys) →
-    IsRight setup bytes x → AllByRecursion (IsRight setup bytes) xs → IsRight setup bytes y →
-    Differs x xs → x.hi < y.hi → ⊥
-ends_no_sooner setup bytes from x y [] ys tx ty rx rxs ry dx lt =
-    let below : y.hi + 1 ≤ address_count = tiles_below (y.hi + 1) ys ty.2 in omega (arith, tx.2)
-ends_no_sooner setup bytes from x y (x' ∷ xs) ys tx ty rx rxs ry dx lt =
-    let here : six_areas setup bytes (x.hi + 1) ≡ x'.areas = rxs.0.at_each (x.hi + 1) (omega (arith, tx.2.0))
-    (omega (arith, tx.2.0, tx.2.1)) in
-    let there : six_areas setup bytes (x.hi + 1) ≡ y.areas = ry.at_each (x.hi + 1) (omega (arith, tx.0, tx.1, ty.0))
-    (omega arith) in
-    let first : six_areas setup bytes from ≡ x.areas =
-    rx.at_each from (omega (arith, tx.0)) (omega (arith, tx.0, tx.1)) in
-    let first' : six_areas setup bytes from ≡ y.areas =
-    ry.at_each from (omega (arith, ty.0)) (omega (arith, ty.0, ty.1)) in
-    dx (sym first ∙ first' ∙ sym there ∙ here)
-
-same_end :
-    (setup : Setup) (bytes : Bytes) (from : ℕ) (x y : MapRange) (xs ys : List MapRange) →
-    Tiles from (x ∷ xs) → Tiles from (y ∷ ys) →
-    IsRight setup bytes x → AllByRecursion (IsRight setup bytes) xs →
-    IsRight setup bytes y → AllByRecursion (IsRight setup bytes) ys →
-    Differs x xs → Differs y ys → x.hi ≡ y.hi
-same_end setup bytes from x y xs ys tx ty rx rxs ry rys dx dy =
-    elim (cases_lt x.hi y.hi) [
-      | inl sooner ↦ absurd (ends_no_sooner setup bytes from x y xs ys tx ty rx rxs ry dx sooner)
-      | inr not_sooner ↦
-          elim (cases_lt y.hi x.hi) [
-            | inl later ↦ absurd (ends_no_sooner setup bytes from y x ys xs ty tx ry rys rx dy later)
-            | inr not_later ↦ omega arith
-          ]
-    ]
+tiles_below from (range ∷ later) h = omega (arith, h.0, h.1, tiles_below (range.hi + 1) later h.2)
 
 same_range : (x y : MapRange) → x.lo ≡ y.lo → x.hi ≡ y.hi → x.areas ≡ y.areas → x ≡ y
 same_range x y p q r = grind arith
 
-one_tiling :
-    (setup : Setup) (bytes : Bytes) (from : ℕ) (xs ys : List MapRange) →
-    Tiles from xs → Tiles from ys →
-    AllByRecursion (IsRight setup bytes) xs → AllByRecursion (IsRight setup bytes) ys →
-    NeighboursDiffer xs → NeighboursDiffer ys → xs ≡ ys
-one_tiling setup bytes from [] [] tx ty rx ry dx dy = refl
-one_tiling setup bytes from [] (y ∷ ys) tx ty rx ry dx dy =
-    let below : y.hi + 1 ≤ address_count = tiles_below (y.hi + 1) ys ty.2 in absurd (omega (arith, ty.0, ty.1))
-one_tiling setup bytes from (x ∷ xs) [] tx ty rx ry dx dy =
-    let below : x.hi + 1 ≤ address_count = tiles_below (x.hi + 1) xs tx.2 in absurd (omega (arith, tx.0, tx.1))
-one_tiling setup bytes from (x ∷ xs) (y ∷ ys) tx ty rx ry dx dy =
-    let ends : x.hi ≡ y.hi = same_end setup bytes from x y xs ys tx ty rx.0 rx.1 ry.0 ry.1 dx.0 dy.0 in
-    let first : six_areas setup bytes from ≡ x.areas = rx.0.at_each from (omega (arith, tx.0))
-    (omega (arith, tx.0, tx.1)) in
-    let first' : six_areas setup bytes from ≡ y.areas = ry.0.at_each from (omega (arith, ty.0))
-    (omega (arith, ty.0, ty.1)) in
-    let head : x ≡ y = same_range x y (tx.0 ∙ sym ty.0) ends (sym first ∙ first') in
-    let there : Tiles (x.hi + 1) ys = subst (λ (hi : ℕ). Tiles (hi + 1) ys) (sym ends) ty.2 in
-    let tail : xs ≡ ys = one_tiling setup bytes (x.hi + 1) xs ys tx.2 there rx.1 ry.1 dx.1 dy.1 in
-    cc
+module _ (setup : Setup) (bytes : Bytes) where
+  abbrev AreRight : List MapRange → Type 0
+  AreRight ranges = AllByRecursion (IsRight setup bytes) ranges
+
+  -- the areas of a range are those of its first address
+  first_areas : (from : ℕ) (x : MapRange) (xs : List MapRange) → Tiles from (x ∷ xs) → IsRight setup bytes x →
+      six_areas setup bytes from ≡ x.areas
+  first_areas from x xs tiles right = right.at_each from (omega (arith, tiles.0)) (omega (arith, tiles.0, tiles.1))
+
+  -- a range that ends before another that begins at the same address has a next one with the other's areas
+  ends_no_sooner : (from : ℕ) (x y : MapRange) (xs ys : List MapRange) → Tiles from (x ∷ xs) → Tiles from (y ∷ ys) →
+      AreRight (x ∷ xs) → IsRight setup bytes y → Differs x xs → x.hi < y.hi → ⊥
+  ends_no_sooner from x y [] ys tx ty rx ry dx lt = omega (arith, tx.2, tiles_below (y.hi + 1) ys ty.2)
+  ends_no_sooner from x y (x' ∷ xs) ys tx ty rx ry dx lt =
+      let there = ry.at_each (x.hi + 1) (omega (arith, tx.0, tx.1, ty.0)) (omega arith) in
+      dx (sym (first_areas from x (x' ∷ xs) tx rx.0) ∙ first_areas from y ys ty ry ∙ sym there
+      ∙ first_areas (x.hi + 1) x' xs tx.2 rx.1.0)
+
+  same_end : (from : ℕ) (x y : MapRange) (xs ys : List MapRange) → Tiles from (x ∷ xs) → Tiles from (y ∷ ys) →
+      AreRight (x ∷ xs) → AreRight (y ∷ ys) → Differs x xs → Differs y ys → x.hi ≡ y.hi
+  same_end from x y xs ys tx ty rx ry dx dy =
+      elim (cases_lt x.hi y.hi) [
+        | inl sooner ↦ absurd (ends_no_sooner from x y xs ys tx ty rx ry.0 dx sooner)
+        | inr not_sooner ↦ elim (cases_lt y.hi x.hi) [
+          | inl later ↦ absurd (ends_no_sooner from y x ys xs ty tx ry rx.0 dy later)
+          | inr not_later ↦ omega arith
+        ]
+      ]
+
+  one_tiling : (from : ℕ) (xs ys : List MapRange) → Tiles from xs → Tiles from ys → AreRight xs → AreRight ys →
+      NeighboursDiffer xs → NeighboursDiffer ys → xs ≡ ys
+  one_tiling from [] [] tx ty rx ry dx dy = refl
+  one_tiling from [] (y ∷ ys) tx ty rx ry dx dy = absurd (omega (arith, ty.0, ty.1, tiles_below (y.hi + 1) ys ty.2))
+  one_tiling from (x ∷ xs) [] tx ty rx ry dx dy = absurd (omega (arith, tx.0, tx.1, tiles_below (x.hi + 1) xs tx.2))
+  one_tiling from (x ∷ xs) (y ∷ ys) tx ty rx ry dx dy =
+      let ends : x.hi ≡ y.hi = same_end from x y xs ys tx ty rx ry dx.0 dy.0 in
+      let areas = sym (first_areas from x xs tx rx.0) ∙ first_areas from y ys ty ry.0 in
+      let head : x ≡ y = same_range x y (tx.0 ∙ sym ty.0) ends areas in
+      let there : Tiles (x.hi + 1) ys = subst (λ (hi : ℕ). Tiles (hi + 1) ys) (sym ends) ty.2 in
+      let tail : xs ≡ ys = one_tiling (x.hi + 1) xs ys tx.2 there rx.1 ry.1 dx.1 dy.1 in
+      cc
 
 pub one_flat_map : OneFlatMap
 one_flat_map setup bytes xs ys mx my =

@@ -78,11 +78,11 @@ begins_again phase part first taken begins actor =
     let here = begins actor in
     record { rest = here.rest; whole = grind (arith, nat_tests, taken.own, taken.others actor, here.whole) }
 
--- a front that is shorter than its phase has a next statement
-record Next (phase part : List Statement) : Type 0 where
+-- what has a statement more
+record Next (Has : List Statement → Type 0) (part : List Statement) : Type 0 where
   pub statement : Statement
   pub addressed : IsAddressed statement.event
-  pub begins : Begins phase (part ++ statement ∷ [])
+  pub begins : Has (part ++ statement ∷ [])
 
 alone_begins : (first : Statement) (later : List Statement) → Begins (first ∷ later) (first ∷ [])
 alone_begins first later actor =
@@ -91,18 +91,18 @@ alone_begins first later actor =
       | inr other ↦ record { rest = events_by actor (first ∷ later); whole = grind (arith, nat_tests) }
     ]
 
+-- a front that is shorter than its phase has a next statement
 next_of :
     (part phase : List Statement) → AllAddressed phase → Begins phase part → length part < length phase →
-    Next phase part
+    Next (Begins phase) part
 next_of [] [] addressed begins short = absurd (omega arith)
 next_of [] (first ∷ later) addressed begins short =
     record { statement = first; addressed = addressed.0; begins = alone_begins first later }
 next_of (first ∷ part) phase addressed begins short =
     let taken = first_taken phase part first begins in
-    let size : length phase ≡ suc (length taken.rest) = taken.size in
     let more =
     next_of part taken.rest (taken.addressed addressed) (begins_left phase part first taken begins)
-    (omega arith) in
+    (omega (arith, taken.size)) in
     record {
       statement = more.statement;
       addressed = more.addressed;
@@ -136,22 +136,8 @@ none_so_far [] = refl
 none_so_far (phase ∷ later) =
     inl (record { size = omega arith; each = λ actor. record { rest = events_by actor phase; whole = refl } })
 
-pub record NextSoFar (phases : List (List Statement)) (statements : List Statement) : Type 0 where
-  pub statement : Statement
-  pub addressed : IsAddressed statement.event
-  pub begun : HasPhasesSoFar phases (statements ++ statement ∷ [])
-
-in_front :
-    (phase : List Statement) (later : List (List Statement)) (statements : List Statement) →
-    length statements < length phase → Next phase statements → NextSoFar (phase ∷ later) statements
-in_front phase later statements short next = record {
-  statement = next.statement;
-  addressed = next.addressed;
-  begun = inl (record {
-    size = omega (arith, length-append statements (next.statement ∷ []));
-    each = next.begins;
-  });
-}
+abbrev NextSoFar : List (List Statement) → List Statement → Type 0
+NextSoFar phases statements = Next (HasPhasesSoFar phases) statements
 
 past_phase :
     (phase : List Statement) (later : List (List Statement)) (statements : List Statement) →
@@ -160,9 +146,9 @@ past_phase :
 past_phase phase later statements full whole more = record {
   statement = more.statement;
   addressed = more.addressed;
-  begun = inr (
+  begins = inr (
     rw (take-append-le (length phase) statements (more.statement ∷ []) full) whole,
-    rw (drop-append-le (length phase) statements (more.statement ∷ []) full) more.begun,
+    rw (drop-append-le (length phase) statements (more.statement ∷ []) full) more.begins,
   );
 }
 
@@ -180,15 +166,22 @@ pub nothing_left :
     drop (length phase) statements ≡ []
 nothing_left phase statements front full = drop_of_length-le statements front.size
 
-pub next_so_far :
+next_so_far :
     (phases : List (List Statement)) (statements : List Statement) → AllAddressed (in_file_order phases) →
     HasPhasesSoFar phases statements → ¬ HasPhases phases statements → NextSoFar phases statements
 next_so_far [] statements addressed begun open_still = absurd (open_still begun)
 next_so_far (phase ∷ later) statements addressed (inl front) open_still =
     elim (cases_lt (length statements) (length phase)) [
       | inl short ↦
-          in_front phase later statements short
-          (next_of statements phase (all_left phase (in_file_order later) addressed) front.each short)
+          let next = next_of statements phase (all_left phase (in_file_order later) addressed) front.each short in
+          record {
+            statement = next.statement;
+            addressed = next.addressed;
+            begins = inl (record {
+              size = omega (arith, length-append statements (next.statement ∷ []));
+              each = next.begins;
+            });
+          }
       | inr full ↦
           let whole = whole_front phase statements front full in
           let nothing : drop (length phase) statements ≡ [] = nothing_left phase statements front full in
@@ -198,10 +191,7 @@ next_so_far (phase ∷ later) statements addressed (inl front) open_still =
           (λ complete. open_still (whole, subst (HasPhases later) (sym nothing) complete))))
     ]
 next_so_far (phase ∷ later) statements addressed (inr whole) open_still =
-    let size : length (take (length phase) statements) ≡ length phase = whole.0.size in
-    let taken : length (take (length phase) statements) ≡ min (length phase) (length statements) =
-    length-take (length phase) statements in
-    let full : length phase ≤ length statements = omega arith in
+    let full : length phase ≤ length statements = omega (arith, whole.0.size, length-take (length phase) statements) in
     past_phase phase later statements full whole.0
     (next_so_far later (drop (length phase) statements) (all_right phase (in_file_order later) addressed) whole.1
     (λ complete. open_still (whole.0, complete)))
@@ -219,5 +209,5 @@ begun_goes_on setup phases history addressed legal begun open_still =
     record {
       entry = entry;
       next = record { number = refl; answer = answered.answer };
-      begun = subst (HasPhasesSoFar phases) (sym (statements-newest entry history)) next.begun;
+      begun = subst (HasPhasesSoFar phases) (sym (statements-newest entry history)) next.begins;
     }

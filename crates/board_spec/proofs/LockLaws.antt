@@ -24,9 +24,6 @@ use Rattle.board_spec.specs.declared.map_change.MapChange.TheVariants.{Reset}
 record Kept (b : ℕ) : Type 0 where
   pub shut : bit b 4 ≡ 1 → bit b 6 ≡ 0
 
-locked_after : (old written : ℕ) → bit (smram_after old written) 4 ≡ max (bit old 4) (bit written 4)
-locked_after old written = grind (arith, nat_tests)
-
 shut_after : (old written : ℕ) → Kept (smram_after old written)
 shut_after old written = grind (arith, nat_tests)
 

@@ -59,9 +59,7 @@ shorter_front longer first later begins =
 shorter_phase :
     (phase first later : List Statement) → IsFrontOfPhase phase (first ++ later) → IsFrontOfPhase phase first
 shorter_phase phase first later front = record {
-  size =
-      let e : length (first ++ later)
-      ≡ length first + length later = length-append first later in let s = front.size in omega arith;
+  size = omega (arith, length-append first later, front.size);
   each = λ actor. shorter_front (events_by actor phase) (events_by actor first) (events_by actor later)
       (subst (BeginsWith (events_by actor phase)) (events-append actor first later) (front.each actor));
 }
@@ -69,7 +67,7 @@ shorter_phase phase first later front = record {
 pub whole_is_front : (phase : List Statement) (part : List Statement) → IsWholePhase phase part →
     IsFrontOfPhase phase part
 whole_is_front phase part whole = record {
-  size = let s = whole.size in omega arith;
+  size = omega (arith, whole.size);
   each = λ actor. record { rest = []; whole = sym (whole.each actor) ∙ sym (append-nil (events_by actor part)) };
 }
 
@@ -85,9 +83,8 @@ shorter_so_far (phase ∷ later) statements last (inl front) = inl (shorter_phas
 shorter_so_far (phase ∷ later) statements last (inr whole) =
     elim (cases_lt (length statements) (length phase)) [
       | inl short ↦
-          let added : length (statements ++ last ∷ []) ≡ length statements + 1 = length-append statements (last ∷ []) in
           let all : take (length phase) (statements ++ last ∷ []) ≡ statements ++ last ∷ [] =
-          take_all (length phase) (statements ++ last ∷ []) (omega arith) in
+          take_all (length phase) _ (omega (arith, length-append statements (last ∷ []))) in
           inl (shorter_phase phase statements (last ∷ [])
           (whole_is_front phase (statements ++ last ∷ []) (subst (IsWholePhase phase) all whole.0)))
       | inr full ↦

@@ -26,23 +26,17 @@ pub triggers-pulsed :
 unfolding triggers_of
 triggers-pulsed before entry count is = rw is refl
 
-routes-pulsed :
-    (setup : Setup) (before : List Entry) (entry : Entry) (count : ℕ) → entry.event ≡ Pulses count →
-    routes_of setup (entry ∷ before) ≡ routes_of setup before
-unfolding byte_of
-routes-pulsed setup before entry count is = rw is refl
-
 drivers-pulsed :
     (setup : Setup) (before : List Entry) (entry : Entry) (count : ℕ) (timer : PitState) →
     entry.event ≡ Pulses count → SameDrivers setup (entry ∷ before) before timer timer
-unfolding clock_of disk_with wire_of irq_of
+unfolding clock_of disk_with wire_of irq_of byte_of
 drivers-pulsed setup before entry count timer is = record {
   out = refl;
   clock = rw is refl;
   disk = λ bytes. rw is refl;
   wires = λ dev. rw is refl;
   lines = λ line. rw is refl;
-  routes = routes-pulsed setup before entry count is;
+  routes = rw is refl;
 }
 
 pub levels-pulsed :

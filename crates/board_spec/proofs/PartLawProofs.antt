@@ -1,7 +1,7 @@
 -- The parts of a wide access cover it, and their values joined are its value.
 use Rattle.std.proofs.Common.{◌≡◌, ℕ, zero, suc, ◌+◌, ◌-◌, ◌*◌, ◌/◌, ◌%◌, ◌^◌, ◌≤◌, ◌<◌, Bool, List, [], ◌∷◌, refl, sym}
 use Rattle.std.proofs.Common.{◌∙◌, ap, subst, arith, All}
-use Rattle.std.proofs.Math.Nat.{div-div-eq-div-mul, mul_comm, div-one}
+use Rattle.std.proofs.Math.Nat.{div-div-eq-div-mul, mul_comm, div-one, one-le-pow}
 use Rattle.device_spec.proofs.Common.{mod-eq_of_lt, pow-add, All-nil, All-cons}
 use Rattle.std.proofs.Math.Arith.{mod-mul}
 use Rattle.board_spec.specs.Common.{Width, WideAccess, bytes_of, FitsAccess, FitsBytes, part_at, joined, is_write}
@@ -51,12 +51,7 @@ each-made access from (width ∷ later) fits aligned =
     (each-made access (from + bytes_of width) later fits aligned.1)
 
 pub some_power : (n : ℕ) → 0 < 256 ^ n
-some_power zero = omega arith
-some_power (suc n) =
-    let below : 0 < 256 ^ n = some_power n in
-    let product : 256 ^ (n + 1) ≡ 256 ^ n * 256 = pow-add 256 n 1 in
-    let same : suc n ≡ n + 1 = omega arith in
-    subst (λ (k : ℕ). 0 < 256 ^ k) (sym same) (omega arith)
+some_power n = omega (arith, one-le-pow n 256 (omega arith))
 
 -- the digits of a number past a place, taken in two steps
 pub further : (value d w : ℕ) → value / 256 ^ (d + w) ≡ value / 256 ^ d / 256 ^ w

@@ -1,6 +1,6 @@
 -- A wide access is cut by widths, and its parts are those of the widths, one after the other.
 use Rattle.std.proofs.Common.{◌≡◌, ℕ, zero, suc, ◌+◌, ◌-◌, ◌%◌, ◌≤◌, ◌<◌, inl, inr, List, [], ◌∷◌, length, refl, sym}
-use Rattle.std.proofs.Common.{ap, arith}
+use Rattle.std.proofs.Common.{ap, arith, ◌⊎◌}
 use Rattle.std.proofs.lemmas.Bool.{cases_eq}
 use Rattle.device_spec.proofs.Common.{nat_tests}
 use Rattle.board_spec.specs.Common.{Width, One, Two, Four, WideAccess, bytes_of, IsWideAccess, longest_at, part_at}
@@ -78,30 +78,24 @@ cut_by access widths longest least most =
       aligned = is.aligned;
     }
 
+quarters : (n : ℕ) → (n % 4 ≡ 0) ⊎ (n % 4 ≡ 1) ⊎ (n % 4 ≡ 2) ⊎ (n % 4 ≡ 3)
+quarters n = grind arith
+
 pub is_cut : (access : WideAccess) → IsWideAccess access → IsCut access
 is_cut access legal =
     elim legal.bytes [
       | inl two ↦ cut_by access (One ∷ One ∷ []) (grind (arith, nat_tests)) (omega arith) (omega arith)
-      | inr (inl four) ↦
-          elim (cases_eq (access.addr % 2) 1) [
-            | inl odd ↦ cut_by access (One ∷ Two ∷ One ∷ []) (grind (arith, nat_tests)) (omega arith) (omega arith)
-            | inr even ↦ cut_by access (Two ∷ Two ∷ []) (grind (arith, nat_tests)) (omega arith) (omega arith)
-          ]
-      | inr (inr eight) ↦
-          elim (cases_eq (access.addr % 4) 0) [
-            | inl aligned ↦ cut_by access (Four ∷ Four ∷ []) (grind (arith, nat_tests)) (omega arith) (omega arith)
-            | inr unaligned ↦
-                elim (cases_eq (access.addr % 4) 1) [
-                  | inl first ↦
-                      cut_by access (One ∷ Two ∷ Four ∷ One ∷ []) (grind (arith, nat_tests)) (omega arith) (omega arith)
-                  | inr not_first ↦
-                      elim (cases_eq (access.addr % 4) 2) [
-                        | inl middle ↦
-                            cut_by access (Two ∷ Four ∷ Two ∷ []) (grind (arith, nat_tests)) (omega arith) (omega arith)
-                        | inr not_middle ↦
-                            cut_by access (One ∷ Four ∷ Two ∷ One ∷ []) (grind (arith, nat_tests)) (omega arith)
-                            (omega arith)
-                      ]
-                ]
-          ]
+      | inr (inl four) ↦ elim (cases_eq (access.addr % 2) 1) [
+        | inl odd ↦ cut_by access (One ∷ Two ∷ One ∷ []) (grind (arith, nat_tests)) (omega arith) (omega arith)
+        | inr even ↦ cut_by access (Two ∷ Two ∷ []) (grind (arith, nat_tests)) (omega arith) (omega arith)
+      ]
+      | inr (inr eight) ↦ elim (quarters access.addr) [
+        | inl none ↦ cut_by access (Four ∷ Four ∷ []) (grind (arith, nat_tests)) (omega arith) (omega arith)
+        | inr (inl one) ↦
+            cut_by access (One ∷ Two ∷ Four ∷ One ∷ []) (grind (arith, nat_tests)) (omega arith) (omega arith)
+        | inr (inr (inl two)) ↦
+            cut_by access (Two ∷ Four ∷ Two ∷ []) (grind (arith, nat_tests)) (omega arith) (omega arith)
+        | inr (inr (inr three)) ↦
+            cut_by access (One ∷ Four ∷ Two ∷ One ∷ []) (grind (arith, nat_tests)) (omega arith) (omega arith)
+      ]
     ]

@@ -28,12 +28,10 @@ record AsParts (list : List Part) : Type 0 where
   pub same : parts_list parts ≡ list
 
 some_parts : (list : List Part) → (2 ≤ length list) × (length list ≤ 4) → AsParts list
-some_parts [] count = absurd (omega (arith, count.0))
-some_parts (a ∷ []) count = absurd (omega (arith, count.0))
 some_parts (a ∷ b ∷ []) count = record { parts = TwoParts a b; same = refl }
 some_parts (a ∷ b ∷ c ∷ []) count = record { parts = ThreeParts a b c; same = refl }
 some_parts (a ∷ b ∷ c ∷ d ∷ []) count = record { parts = FourParts a b c d; same = refl }
-some_parts (a ∷ b ∷ c ∷ d ∷ e ∷ later) count = absurd (omega (arith, count.1))
+some_parts _ count = absurd (omega (arith, count.0, count.1))
 
 one_parts :
     (value value' : Option ℕ) (parts parts' : Parts) → value ≡ value' → parts_list parts ≡ parts_list parts' →
@@ -46,9 +44,11 @@ parts_counted :
     × (length (map (part_answer setup before) (parts_of access)) ≤ 4)
 parts_counted setup before access wide =
     let cut = is_cut access wide in
-    let answered = length-map (parts_of access) (part_answer setup before) in
-    let made = length-made access access.addr cut.widths in
-    rw (answered, cut.parts, made) (cut.least, cut.most)
+    rw (
+      length-map (parts_of access) (part_answer setup before),
+      cut.parts,
+      length-made access access.addr cut.widths,
+    ) (cut.least, cut.most)
 
 -- ---- answers
 
@@ -77,16 +77,12 @@ one_look setup before kind addr smm left right l r =
 pub one_answer : OneAnswer
 one_answer setup before (Wide access) (InParts parts value) (InParts parts' value') l r =
     one_parts value value' parts parts' (l.value_is ∙ sym r.value_is) (l.each ∙ sym r.each)
-one_answer setup before (Wide access) (Bus value target denial) right l r = absurd l
-one_answer setup before (Wide access) (Saw look) right l r = absurd l
-one_answer setup before (Wide access) (InParts parts value) (Bus value' target denial) l r = absurd r
-one_answer setup before (Wide access) (InParts parts value) (Saw look) l r = absurd r
-one_answer setup before (LookAt kind addr smm) (InParts parts value) right l r = absurd l
-one_answer setup before (LookAt kind addr smm) (Saw left) (InParts parts value) l r = absurd r
+one_answer setup before (Wide access) (InParts parts value) _ l r = absurd r
+one_answer setup before (Wide access) _ right l r = absurd l
 one_answer setup before (LookAt kind addr smm) (Saw left) (Saw right) l r =
     one_look setup before kind addr smm left right l r
-one_answer setup before (LookAt kind addr smm) (Bus value target denial) right l r = absurd l
-one_answer setup before (LookAt kind addr smm) (Saw left) (Bus value target denial) l r = absurd r
+one_answer setup before (LookAt kind addr smm) (Saw left) _ l r = absurd r
+one_answer setup before (LookAt kind addr smm) _ right l r = absurd l
 one_answer setup before _ left right l r = l ∙ sym r
 
 -- ---- replays
@@ -114,8 +110,8 @@ extended setup before [] legal addressed = record {
 }
 extended setup before (statement ∷ later) legal addressed =
     let answered = some_answer setup before statement.event addressed.0 in
-    let seq : ℕ = length (entries_by statement.actor before) + 1 in
-    let entry : Entry = entry_made statement.actor seq statement.event answered.reply in
+    let entry : Entry =
+    entry_made statement.actor (length (entries_by statement.actor before) + 1) statement.event answered.reply in
     let next : IsNext setup before entry = record { number = refl; answer = answered.answer } in
     let more = extended setup (entry ∷ before) later (next, legal) addressed.1 in
     record {

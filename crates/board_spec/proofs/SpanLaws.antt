@@ -101,23 +101,16 @@ some_span setup bytes addr kind smm within =
 
 -- ---- there is no other
 
-no_lower :
+no_wider :
     (setup : Setup) (bytes : Bytes) (addr : ℕ) (kind : Kind) (smm : Bool) (lo hi lo' hi' : ℕ) (area area' : Area) →
     IsSpan setup bytes addr kind smm lo hi area → IsSpan setup bytes addr kind smm lo' hi' area' →
-    area ≡ area' → lo' ≤ lo
-no_lower setup bytes addr kind smm lo hi lo' hi' area area' s t e = grind (arith, s.same (lo' - 1))
-
-no_higher :
-    (setup : Setup) (bytes : Bytes) (addr : ℕ) (kind : Kind) (smm : Bool) (lo hi lo' hi' : ℕ) (area area' : Area) →
-    IsSpan setup bytes addr kind smm lo hi area → IsSpan setup bytes addr kind smm lo' hi' area' →
-    area ≡ area' → hi ≤ hi'
-no_higher setup bytes addr kind smm lo hi lo' hi' area area' s t e = grind (arith, s.same (hi' + 1))
+    area ≡ area' → (lo' ≤ lo) × (hi ≤ hi')
+no_wider setup bytes addr kind smm lo hi lo' hi' area area' s t e =
+    (grind (arith, s.same (lo' - 1)), grind (arith, s.same (hi' + 1)))
 
 pub one_span : OneSpan
 one_span setup bytes addr kind smm lo hi lo' hi' area area' s t =
     let e : area ≡ area' = sym (s.same addr s.above s.below) ∙ t.same addr t.above t.below in
-    let down : lo' ≤ lo = no_lower setup bytes addr kind smm lo hi lo' hi' area area' s t e in
-    let up : lo ≤ lo' = no_lower setup bytes addr kind smm lo' hi' lo hi area' area t s (sym e) in
-    let over : hi ≤ hi' = no_higher setup bytes addr kind smm lo hi lo' hi' area area' s t e in
-    let under : hi' ≤ hi = no_higher setup bytes addr kind smm lo' hi' lo hi area' area t s (sym e) in
-    (omega arith, omega arith, e)
+    let left = no_wider setup bytes addr kind smm lo hi lo' hi' area area' s t e in
+    let right = no_wider setup bytes addr kind smm lo' hi' lo hi area' area t s (sym e) in
+    (omega (arith, left.0, right.0), omega (arith, left.1, right.1), e)

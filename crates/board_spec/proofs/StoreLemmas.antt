@@ -41,10 +41,6 @@ last_byte setup at value k reg old here =
     let far : reg.off - at.off ≡ k = omega arith in
     rw (none, far, lowest_of value k) (grind (arith, nat_tests))
 
-other_byte : (setup : Setup) (at : Reg) (value k : ℕ) (reg : Reg) (old : ℕ) → reg.off ≢ at.off + k →
-    one_more setup at value k reg (at_once setup at value k reg old) ≡ at_once setup at value (suc k) reg old
-other_byte setup at value k reg old apart = grind (arith, nat_tests)
-
 byte_stores : (setup : Setup) (at : Reg) (value count : ℕ) (reg : Reg) (old : ℕ) →
     after_stores setup at value count reg old ≡ at_once setup at value count reg old
 unfolding after_stores
@@ -53,7 +49,7 @@ byte_stores setup at value (suc k) reg old =
     rw (byte_stores setup at value k reg old)
     (elim (cases_eq reg.off (at.off + k)) [
       | inl here ↦ last_byte setup at value k reg old here
-      | inr apart ↦ other_byte setup at value k reg old apart
+      | inr apart ↦ grind (arith, nat_tests)
     ])
 
 pub byte_by_byte : ByteByByte

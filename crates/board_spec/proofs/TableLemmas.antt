@@ -4,21 +4,17 @@ use Rattle.std.proofs.lemmas.Bool.{cases_eq}
 use Rattle.device_spec.proofs.Common.{nat_tests}
 use Rattle.board_spec.specs.RegisterTable.{Line, listed}
 
-pub listed-past :
-    (column : Line → List ℕ) (entry : Line) (later : List Line) (off : ℕ) → entry.first + length entry.reset ≤ off →
-    listed column (entry ∷ later) off ≡ listed column later off
-listed-past column entry later off past = grind (arith, nat_tests)
+module _ (column : Line → List ℕ) (entry : Line) (later : List Line) (off : ℕ) where
+  pub listed-past : entry.first + length entry.reset ≤ off →
+      listed column (entry ∷ later) off ≡ listed column later off
+  listed-past past = grind (arith, nat_tests)
 
-pub listed-before :
-    (column : Line → List ℕ) (entry : Line) (later : List Line) (off : ℕ) → off < entry.first →
-    listed column (entry ∷ later) off ≡ listed column later off
-listed-before column entry later off before = grind (arith, nat_tests)
+  pub listed-before : off < entry.first → listed column (entry ∷ later) off ≡ listed column later off
+  listed-before before = grind (arith, nat_tests)
 
-pub listed-here :
-    (column : Line → List ℕ) (entry : Line) (later : List Line) (off : ℕ) → entry.first ≤ off →
-    off < entry.first + length entry.reset →
-    listed column (entry ∷ later) off ≡ get_or (column entry) (off - entry.first) 0
-listed-here column entry later off from below = grind (arith, nat_tests)
+  pub listed-here : entry.first ≤ off → off < entry.first + length entry.reset →
+      listed column (entry ∷ later) off ≡ get_or (column entry) (off - entry.first) 0
+  listed-here from below = grind (arith, nat_tests)
 
 -- what holds at an offset and after it
 at_or_above : (P : ℕ → Type 0) (first off : ℕ) → first ≤ off → P first → (first + 1 ≤ off → P off) → P off

@@ -26,21 +26,27 @@ put_bytes xs bs at count value k fits long each =
     let front : length (take at xs) ≡ at = length-take-le at xs (omega arith) in
     grind (arith, nat_tests, get_or_append_left, get_or-append_right, get_or-take, get_or-drop, each)
 
+put_word :
+    (xs buf bs : List ℕ) (at count value k : ℕ) → at + count ≤ length xs → length bs ≡ count →
+    ((j : ℕ) → j < count → get_or bs j 0 ≡ byte value j) →
+    buf ≡ bs ++ drop count (take (length xs - at) (drop at xs)) →
+    slice_index (put_mid at (length xs - at) xs buf) k ≡ put_byte xs at count value k
+put_word xs buf bs at count value k fits long each is =
+    let whole : buf ≡ bs ++ drop count (drop at xs) = is ∙ ap (λ rest. bs ++ drop count rest) (take_rest xs at) in
+    ap (λ part. slice_index (put_mid at (length xs - at) xs part) k) whole
+    ∙ ap (λ bytes. slice_index bytes k) (put_part xs bs at count fits)
+    ∙ put_bytes xs bs at count value k fits long each
+
 pub put_two :
     (xs buf : List ℕ) (at value k : ℕ) → at + 2 ≤ length xs →
     buf ≡ value % 256 ∷ (value / 256 % 256) ∷ drop 2 (take (length xs - at) (drop at xs)) →
     slice_index (put_mid at (length xs - at) xs buf) k ≡ put_byte xs at 2 value k
 put_two xs buf at value k fits is =
-    let bs : List ℕ = value % 256 ∷ (value / 256 % 256) ∷ [] in
-    let whole : buf ≡ bs ++ drop 2 (drop at xs) = is ∙ ap (λ rest. bs ++ drop 2 rest) (take_rest xs at) in
-    ap (λ part. slice_index (put_mid at (length xs - at) xs part) k) whole
-    ∙ ap (λ bytes. slice_index bytes k) (put_part xs bs at 2 fits)
-    ∙ put_bytes xs bs at 2 value k fits refl (each value)
+    put_word xs buf (value % 256 ∷ (value / 256 % 256) ∷ []) at 2 value k fits refl (each value) is
   where
     each : (value j : ℕ) → j < 2 → get_or (value % 256 ∷ (value / 256 % 256) ∷ []) j 0 ≡ byte value j
-    each value zero below = omega arith
-    each value (suc zero) below = omega arith
     each value (suc (suc j)) below = absurd (omega arith)
+    each value _ below = omega arith
 
 pub put_four :
     (xs buf : List ℕ) (at value k : ℕ) → at + 4 ≤ length xs →
@@ -48,17 +54,11 @@ pub put_four :
     (take (length xs - at) (drop at xs)) →
     slice_index (put_mid at (length xs - at) xs buf) k ≡ put_byte xs at 4 value k
 put_four xs buf at value k fits is =
-    let bs : List ℕ = value % 256 ∷ (value / 256 % 256) ∷ (value / 65536 % 256) ∷ (value / 16777216 % 256) ∷ [] in
-    let whole : buf ≡ bs ++ drop 4 (drop at xs) = is ∙ ap (λ rest. bs ++ drop 4 rest) (take_rest xs at) in
-    ap (λ part. slice_index (put_mid at (length xs - at) xs part) k) whole
-    ∙ ap (λ bytes. slice_index bytes k) (put_part xs bs at 4 fits)
-    ∙ put_bytes xs bs at 4 value k fits refl (each value)
+    put_word xs buf (value % 256 ∷ (value / 256 % 256) ∷ (value / 65536 % 256) ∷ (value / 16777216 % 256) ∷ []) at 4
+    value k fits refl (each value) is
   where
     each : (value j : ℕ) → j < 4 →
         get_or (value % 256 ∷ (value / 256 % 256) ∷ (value / 65536 % 256) ∷ (value / 16777216 % 256) ∷ []) j 0
         ≡ byte value j
-    each value zero below = omega arith
-    each value (suc zero) below = omega arith
-    each value (suc (suc zero)) below = omega arith
-    each value (suc (suc (suc zero))) below = omega arith
     each value (suc (suc (suc (suc j)))) below = absurd (omega arith)
+    each value _ below = omega arith
