@@ -1,6 +1,6 @@
 -- A begun history that is not complete goes on by a statement of the phase where it stands.
-use Rattle.std.proofs.Common.{◌≡◌, ◌≢◌, ℕ, suc, ◌+◌, ◌≤◌, ◌<◌, inl, inr, List, [], ◌∷◌, ◌++◌, length, take, drop, min}
-use Rattle.std.proofs.Common.{refl, sym, ap, subst, arith}
+use Rattle.std.proofs.Common.{◌≡◌, ◌≢◌, ℕ, suc, ◌+◌, ◌≤◌, ◌<◌, inl, inr, List, [], ◌∷◌, ◌++◌, length, take, drop, refl}
+use Rattle.std.proofs.Common.{sym, ap, subst, arith}
 use Rattle.device_spec.proofs.Common.{nat_tests, drop_of_length-le, take-append-le, drop-append-le, length-append}
 use Rattle.device_spec.proofs.Common.{length-take, take_all, recursion_from_All, cases_eq, cases_lt}
 use Rattle.board_spec.specs.Common.{AllByRecursion, entries_by, statements_of, events_by, BeginsWith, IsWholePhase}
@@ -64,19 +64,16 @@ first_taken phase part first begins =
     without_first first.actor first.event (events_by first.actor part ++ here.rest) phase
     (grind (arith, nat_tests, here.whole))
 
-begins_left :
-    (phase part : List Statement) (first : Statement) (taken : Without first.actor first.event phase) →
-    Begins phase (first ∷ part) → Begins taken.rest part
-begins_left phase part first taken begins actor =
-    let here = begins actor in
-    record { rest = here.rest; whole = grind (arith, nat_tests, taken.own, taken.others actor, here.whole) }
+module _ (phase part : List Statement) (first : Statement) (taken : Without first.actor first.event phase) where
+  begins_left : Begins phase (first ∷ part) → Begins taken.rest part
+  begins_left begins actor =
+      let here = begins actor in
+      record { rest = here.rest; whole = grind (arith, nat_tests, taken.own, taken.others actor, here.whole) }
 
-begins_again :
-    (phase part : List Statement) (first : Statement) (taken : Without first.actor first.event phase) →
-    Begins taken.rest part → Begins phase (first ∷ part)
-begins_again phase part first taken begins actor =
-    let here = begins actor in
-    record { rest = here.rest; whole = grind (arith, nat_tests, taken.own, taken.others actor, here.whole) }
+  begins_again : Begins taken.rest part → Begins phase (first ∷ part)
+  begins_again begins actor =
+      let here = begins actor in
+      record { rest = here.rest; whole = grind (arith, nat_tests, taken.own, taken.others actor, here.whole) }
 
 -- what has a statement more
 record Next (Has : List Statement → Type 0) (part : List Statement) : Type 0 where

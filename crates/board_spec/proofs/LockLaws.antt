@@ -1,5 +1,5 @@
 -- The lock law holds of every legal history.
-use Rattle.std.proofs.Common.{◌≡◌, ◌≢◌, ℕ, ◌+◌, ◌-◌, inl, inr, max, Bool, false, List, [], ◌∷◌, ◌++◌, Option, Some, ◌∙◌}
+use Rattle.std.proofs.Common.{◌≡◌, ◌≢◌, ℕ, ◌+◌, ◌-◌, inl, inr, Bool, false, List, [], ◌∷◌, ◌++◌, Option, Some, ◌∙◌}
 use Rattle.std.proofs.Common.{arith, zero, suc, ◌==◌, map}
 use Rattle.device_spec.proofs.Common.{nat_tests}
 use Rattle.board_spec.specs.Common.{AllByRecursion, Kind, WideAccess, bytes_of, Denial, Area, Target, Smram, Setup, bit}

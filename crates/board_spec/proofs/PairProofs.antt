@@ -2,9 +2,9 @@
 use Rattle.std.proofs.Common.{arith, ◌≡◌, ℕ, zero, suc, Bool, false, List, [], ◌∷◌, refl, ◌∙◌, ap}
 use Rattle.board_spec.specs.Common.{PitState, pulses, Pair, pair_at_reset, pair_after_lines, levels_at_power_on}
 use Rattle.board_spec.specs.Common.{levels_where, SameLevelsAgain, Setup, is_hard_reset, byte_of, wire_of, irq_of}
-use Rattle.board_spec.specs.Common.{triggers_of, timer_of, clock_of, disk_with, routes_of, levels_with, levels_of}
-use Rattle.board_spec.specs.Common.{elcr_of, pair_pulsed, pair_stepped, pair_reset_or_after, pair_of, ActsOnPair}
-use Rattle.board_spec.specs.Common.{PairHasSeen, PairStays}
+use Rattle.board_spec.specs.Common.{triggers_of, timer_of, clock_of, disk_with, levels_with, levels_of, elcr_of}
+use Rattle.board_spec.specs.Common.{pair_pulsed, pair_stepped, pair_reset_or_after, pair_of, ActsOnPair, PairHasSeen}
+use Rattle.board_spec.specs.Common.{PairStays}
 use Rattle.board_spec.specs.declared.event.Event.{Event}
 use Rattle.board_spec.specs.declared.event.Event.TheVariants.{Pulses}
 use Rattle.board_spec.specs.declared.event.Entry.{Entry}
@@ -14,17 +14,14 @@ use Rattle.board_spec.proofs.LineProofs.{first_levels}
 -- ---- pulses
 
 -- what pulses leave
-pub timer-pulsed :
-    (before : List Entry) (entry : Entry) (count : ℕ) → entry.event ≡ Pulses count →
-    timer_of (entry ∷ before) ≡ pulses count (timer_of before)
-unfolding timer_of
-timer-pulsed before entry count is = rw is refl
+module _ (before : List Entry) (entry : Entry) (count : ℕ) (is : entry.event ≡ Pulses count) where
+  pub timer-pulsed : timer_of (entry ∷ before) ≡ pulses count (timer_of before)
+  unfolding timer_of
+  timer-pulsed = rw is refl
 
-pub triggers-pulsed :
-    (before : List Entry) (entry : Entry) (count : ℕ) → entry.event ≡ Pulses count →
-    triggers_of (entry ∷ before) ≡ triggers_of before
-unfolding triggers_of
-triggers-pulsed before entry count is = rw is refl
+  pub triggers-pulsed : triggers_of (entry ∷ before) ≡ triggers_of before
+  unfolding triggers_of
+  triggers-pulsed = rw is refl
 
 drivers-pulsed :
     (setup : Setup) (before : List Entry) (entry : Entry) (count : ℕ) (timer : PitState) →

@@ -1,6 +1,6 @@
 -- The parts of a wide access cover it, and their values joined are its value.
-use Rattle.std.proofs.Common.{◌≡◌, ℕ, zero, suc, ◌+◌, ◌-◌, ◌*◌, ◌/◌, ◌%◌, ◌^◌, ◌≤◌, ◌<◌, Bool, List, [], ◌∷◌, refl, sym}
-use Rattle.std.proofs.Common.{◌∙◌, ap, subst, arith, All}
+use Rattle.std.proofs.Common.{◌≡◌, ℕ, ◌+◌, ◌-◌, ◌*◌, ◌/◌, ◌%◌, ◌^◌, ◌≤◌, ◌<◌, Bool, List, [], ◌∷◌, refl, sym, ◌∙◌, ap}
+use Rattle.std.proofs.Common.{subst, arith, All}
 use Rattle.std.proofs.Math.Nat.{div-div-eq-div-mul, mul_comm, div-one, one-le-pow}
 use Rattle.device_spec.proofs.Common.{mod-eq_of_lt, pow-add, All-nil, All-cons}
 use Rattle.std.proofs.Math.Arith.{mod-mul}

@@ -13,7 +13,7 @@ use Rattle.board_spec.specs.declared.event.Reply.{Reply}
 use Rattle.board_spec.specs.declared.event.Part.{Part}
 use Rattle.board_spec.specs.declared.event.Parts.{Parts}
 use Rattle.board_spec.specs.declared.event.Parts.TheVariants.{Two as TwoParts, Three as ThreeParts, Four as FourParts}
-use Rattle.board_spec.specs.declared.event.Reply.TheVariants.{Bus, Parts as InParts, Saw}
+use Rattle.board_spec.specs.declared.event.Reply.TheVariants.{Parts as InParts, Saw}
 use Rattle.board_spec.specs.declared.event.Entry.{Entry}
 use Rattle.board_spec.specs.declared.event.Statement.{Statement}
 use Rattle.board_spec.proofs.SpanLaws.{some_span, one_span}

@@ -1,9 +1,8 @@
 -- The bytes of a list after a value was written from a place on.
 use Rattle.device_spec.proofs.Common.{nat_tests, append-nil, get_or_append_left, get_or-append_right, get_or-take}
 use Rattle.device_spec.proofs.Common.{get_or-drop, length-take-le, drop-drop, drop_all, take_rest}
-use Rattle.std.proofs.Common.{◌≡◌, ℕ, zero, suc, ◌+◌, ◌-◌, ◌/◌, ◌%◌, ◌<◌, ◌≤◌, ◌&&◌, List, [], ◌∷◌, ◌++◌, length}
-use Rattle.std.proofs.Common.{get_or, take, drop, ◌∙◌, refl, ap, arith, length-drop, nat_le, nat_lt, if◌then◌else◌}
-use Rattle.std.proofs.Common.{slice_index}
+use Rattle.std.proofs.Common.{◌≡◌, ℕ, suc, ◌+◌, ◌-◌, ◌/◌, ◌%◌, ◌<◌, ◌≤◌, ◌&&◌, List, [], ◌∷◌, ◌++◌, length, get_or}
+use Rattle.std.proofs.Common.{take, drop, ◌∙◌, refl, ap, arith, length-drop, nat_le, nat_lt, if◌then◌else◌, slice_index}
 use borrow.Rule.Slice.PartMut.{put_mid, post_of}
 use Rattle.board_spec.specs.Bits.{byte}
 
