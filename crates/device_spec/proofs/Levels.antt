@@ -19,26 +19,11 @@ levels_where-same p q same =
 -- a set has the levels that pass its test
 pub has-levels_where : (p : ℕ → Bool) (l : ℕ) → l < 8 → has (levels_where p) l ≡ p l
 unfolding levels_where
-has-levels_where p zero h = refl
-has-levels_where p (suc zero) h = refl
-has-levels_where p (suc (suc zero)) h = refl
-has-levels_where p (suc (suc (suc zero))) h = refl
-has-levels_where p (suc (suc (suc (suc zero)))) h = refl
-has-levels_where p (suc (suc (suc (suc (suc zero))))) h = refl
-has-levels_where p (suc (suc (suc (suc (suc (suc zero)))))) h = refl
-has-levels_where p (suc (suc (suc (suc (suc (suc (suc zero))))))) h = refl
 has-levels_where p (suc (suc (suc (suc (suc (suc (suc (suc l)))))))) h = absurd (omega arith)
+has-levels_where p _ h = refl
 
 -- a list of eight Booleans is the set of the levels at which it is true
 pub levels_where-has : (set : Levels) → length set ≡ 8 → levels_where (λ l. has set l) ≡ set
 unfolding levels_where
 levels_where-has (a ∷ b ∷ c ∷ d ∷ e ∷ f ∷ g ∷ h ∷ []) all = refl
-levels_where-has [] all = absurd (omega arith)
-levels_where-has (a ∷ []) all = absurd (omega arith)
-levels_where-has (a ∷ b ∷ []) all = absurd (omega arith)
-levels_where-has (a ∷ b ∷ c ∷ []) all = absurd (omega arith)
-levels_where-has (a ∷ b ∷ c ∷ d ∷ []) all = absurd (omega arith)
-levels_where-has (a ∷ b ∷ c ∷ d ∷ e ∷ []) all = absurd (omega arith)
-levels_where-has (a ∷ b ∷ c ∷ d ∷ e ∷ f ∷ []) all = absurd (omega arith)
-levels_where-has (a ∷ b ∷ c ∷ d ∷ e ∷ f ∷ g ∷ []) all = absurd (omega arith)
-levels_where-has (a ∷ b ∷ c ∷ d ∷ e ∷ f ∷ g ∷ h ∷ i ∷ more) all = absurd (omega arith)
+levels_where-has _ all = absurd (omega arith)

@@ -1,6 +1,6 @@
 -- The pair: levels that are given again.
 use Rattle.std.proofs.Common.{◌≡◌, ℕ, Bool, true, false, not, cond, eqb, ◌||◌, ◌&&◌, refl, sym, ap, ◌∙◌, inl, inr}
-use Rattle.std.proofs.Common.{is_some}
+use Rattle.std.proofs.Common.{is_some, arith}
 use Rattle.std.proofs.lemmas.Bool.{cases_Bool}
 use Rattle.device_spec.specs.Common.{Levels, has, levels_where, with_level, Chip, interrupt, chip_after_inputs}
 use Rattle.device_spec.specs.Common.{latches_after, Pair, settled, SameLevelsAgain}
@@ -9,10 +9,7 @@ use Rattle.device_spec.proofs.Levels.{levels_where-same, has-levels_where}
 -- ---- the same levels again
 
 no-edge : (latched level : Bool) → ((latched || (level && not level)) && not (level && not level)) ≡ latched
-no-edge true true = refl
-no-edge true false = refl
-no-edge false true = refl
-no-edge false false = refl
+no-edge latched level = grind arith
 
 latches-stay : (test : ℕ → Bool) (inputs : Levels) → latches_after (levels_where test) inputs inputs ≡ levels_where test
 latches-stay test inputs =

@@ -23,9 +23,7 @@ abbrev first_met : List Dev → Dev → Option Dev
 first_met devices dev = find (λ other. meets (device_line dev).ports (device_line other).ports) devices
 
 neither : (x y : Bool) → (x || y) ≡ false → (x ≡ false) × (y ≡ false)
-neither false false is = (refl, refl)
-neither false true is = absurd (false≢true (sym is))
-neither true y is = absurd (false≢true (sym is))
+neither x y is = grind arith
 
 outside : (a b c d port : ℕ) → (nat_le a d && nat_le c b) ≡ false → is_within a b port ≡ true →
     is_within c d port ≡ false
