@@ -1,5 +1,5 @@
 -- Sets of levels, level by level.
-use Rattle.std.proofs.Common.{◌≡◌, ℕ, zero, suc, ◌<◌, Bool, [], ◌∷◌, length, refl, arith, lit<}
+use Rattle.std.proofs.Common.{◌≡◌, ℕ, suc, ◌<◌, Bool, [], ◌∷◌, length, refl, arith, lit<}
 use Rattle.device_spec.specs.Levels.{Levels, has, levels_where}
 
 -- tests that agree on the levels give one set

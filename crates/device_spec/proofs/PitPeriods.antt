@@ -1,7 +1,7 @@
 -- The rate generator and the square wave repeat.
 use Rattle.std.proofs.Common.{◌≡◌, ℕ, zero, suc, ◌+◌, ◌-◌, ◌*◌, ◌/◌, ◌%◌, ◌<◌, ◌≤◌, ◌==◌, ◌&&◌, not, Bool, true, false}
-use Rattle.std.proofs.Common.{cond, inl, inr, refl, ap, sym, subst, ◌∙◌, arith}
-use Rattle.board_base.proofs.Common.{cases_Bool, nat_tests}
+use Rattle.std.proofs.Common.{cond, refl, ap, sym, subst, ◌∙◌, arith}
+use Rattle.board_base.proofs.Common.{nat_tests}
 use Rattle.device_spec.specs.Common.{RateGenerator, SquareWave, CounterState, load, count_down, count_to_reload}
 use Rattle.device_spec.specs.Common.{count_half, pulse_by_mode, pulse, pulses_of, IsAtLoad, RateRepeats, SquareRepeats}
 
