@@ -1,7 +1,7 @@
 -- The calendar of `specs/Calendar.antt` is that of `jiff`.
-use Rattle.std.proofs.Common.{◌≡◌, ℕ, zero, suc, ◌+◌, ◌-◌, ◌%◌, ◌≤◌, Bool, true, false, ◌&&◌, leb, refl, arith, ℤ, pos}
+use Rattle.std.proofs.Common.{◌≡◌, ℕ, zero, suc, ◌+◌, ◌-◌, ◌%◌, ◌≤◌, Bool, true, ◌&&◌, leb, refl, arith, ℤ, pos}
 use Rattle.std.proofs.lemmas.Bool.Decides.{nat_tests}
-use Rattle.std.proofs.lemmas.Bool.{and_from, and_parts, false≢true, le-leb, leb-true}
+use Rattle.std.proofs.lemmas.Bool.{and_from, and_parts, le-leb, leb-true}
 use Rattle.std.specs.Int.{IsInRange}
 use Rattle.jiff_core.specs.Calendar.{days_in_month as jiff_days_in_month, days_of_months as jiff_days_of_months}
 use Rattle.jiff_core.specs.Calendar.{day_count, days_from_civil, weekday_number}
@@ -63,14 +63,7 @@ pub dates_agree : (year month day : ℕ) (y : ℤ) (m d : ℕ) → y ≡ pos yea
 dates_agree year month day y m d same_year same_month same_day first last in_year in_month =
     let months = rw same_month at in_year in
     let days = rw (same_year, same_month, same_day) at in_month in
-    record {
-      year_low = first;
-      year_high = last;
-      month_low = months.0;
-      month_high = months.1;
-      day_low = days.0;
-      day_high = days.1;
-    }
+    assumption (months, days)
 
 -- a week has seven days
 pub weekday_of_bound : (year month day : ℕ) → weekday_of year month day ≤ 7
@@ -137,13 +130,7 @@ weekdays_follow =
 
 pub six_parts : (a b c d e f : Bool) → (a && b && c && d && e && f) ≡ true →
     (a ≡ true) × (b ≡ true) × (c ≡ true) × (d ≡ true) × (e ≡ true) × (f ≡ true)
-six_parts false b c d e f test = absurd (false≢true test)
-six_parts true false c d e f test = absurd (false≢true test)
-six_parts true true false d e f test = absurd (false≢true test)
-six_parts true true true false e f test = absurd (false≢true test)
-six_parts true true true true false f test = absurd (false≢true test)
-six_parts true true true true true false test = absurd (false≢true test)
-six_parts true true true true true true test = (refl, refl, refl, refl, refl, refl)
+six_parts a b c d e f test = grind arith
 
 pub is_within_parts : (low high n : ℕ) → is_within low high n ≡ true → (low ≤ n) × (n ≤ high)
 is_within_parts low high n test =
@@ -159,21 +146,11 @@ moment_decides year month day hour minute second test =
     let parts = six_parts _ _ _ _ _ _ test in
     let years = is_within_parts _ _ year parts.0 in
     let months = is_within_parts _ _ month parts.1 in
-    let days = is_within_parts _ _ day parts.2 in (
-      record {
-        year_low = years.0;
-        year_high = years.1;
-        month_low = months.0;
-        month_high = months.1;
-        day_low = days.0;
-        day_high = days.1;
-      },
-      record {
-        hour_high = leb-true hour _ parts.3;
-        minute_high = leb-true minute _ parts.4;
-        second_high = leb-true second _ parts.5;
-      },
-    )
+    let days = is_within_parts _ _ day parts.2 in
+    let hours = leb-true hour _ parts.3 in
+    let minutes = leb-true minute _ parts.4 in
+    let seconds = leb-true second _ parts.5 in
+    assumption (years, months, days, hours, minutes, seconds)
 
 moment_decided : (year month day hour minute second : ℕ) →
     IsDate year month day × IsTime hour minute second → is_moment year month day hour minute second ≡ true
