@@ -4,7 +4,7 @@ use Rattle.std.proofs.Common.{get_or, set, refl, ◌∙◌, arith, get_or-set_ot
 use Rattle.board_prelude.proofs.Common.{cases_eq, nat_tests, get_or-set_at, length-set, CivilTime, Clock, number_byte}
 use Rattle.board_prelude.proofs.Common.{hour_byte, control_of, holds_time, time_bytes, put, tell, byte_at, alarm_fits}
 use Rattle.board_prelude.proofs.Common.{alarm_rings, control_reset, written, data_byte, update_interrupts, after_write}
-use Rattle.board_prelude.proofs.Common.{after_reset, after_moment}
+use Rattle.board_prelude.proofs.Common.{after_reset}
 use Rattle.board_base.specs.Bits.{is_bit}
 use Rattle.device_spec.specs.Clock.{control_written, power_on}
 use Rattle.board_laws.specs.ClockLaws.{number_read, hour_read, Shows, IsShowable, ShowsTheMoment, HasAlarm}
@@ -70,21 +70,20 @@ pub shows_the_moment : ShowsTheMoment
 shows_the_moment clock time size let_in showable = rw let_in (shows clock time size showable)
 
 -- an alarm byte fits the bytes of its own time
-number_fits : (c a n alarm time : ℕ) → a < 100 → n < 100 → alarm ≡ number_byte c a → time ≡ number_byte c n →
-    alarm_fits alarm time ≡ (a == n)
-number_fits c a n alarm time low_a low_n is_alarm is_time =
-    let back_a = read_as c alarm c a refl is_alarm low_a in
-    let back_n = read_as c time c n refl is_time low_n in
-    let low : alarm < 192 = grind (arith, nat_tests) in
-    grind (arith, nat_tests)
+module _ (c a n alarm time : ℕ) where
+  number_fits : a < 100 → n < 100 → alarm ≡ number_byte c a → time ≡ number_byte c n → alarm_fits alarm time ≡ (a == n)
+  number_fits low_a low_n is_alarm is_time =
+      let back_a = read_as c alarm c a refl is_alarm low_a in
+      let back_n = read_as c time c n refl is_time low_n in
+      let low : alarm < 192 = grind (arith, nat_tests) in
+      grind (arith, nat_tests)
 
-hour_fits : (c a n alarm time : ℕ) → a < 24 → n < 24 → alarm ≡ hour_byte c a → time ≡ hour_byte c n →
-    alarm_fits alarm time ≡ (a == n)
-hour_fits c a n alarm time low_a low_n is_alarm is_time =
-    let back_a = hour_read_as c alarm c a refl is_alarm low_a in
-    let back_n = hour_read_as c time c n refl is_time low_n in
-    let low : alarm < 192 = grind (arith, nat_tests) in
-    grind (arith, nat_tests)
+  hour_fits : a < 24 → n < 24 → alarm ≡ hour_byte c a → time ≡ hour_byte c n → alarm_fits alarm time ≡ (a == n)
+  hour_fits low_a low_n is_alarm is_time =
+      let back_a = hour_read_as c alarm c a refl is_alarm low_a in
+      let back_n = hour_read_as c time c n refl is_time low_n in
+      let low : alarm < 192 = grind (arith, nat_tests) in
+      grind (arith, nat_tests)
 
 rings : (clock : Clock) (time alarm : CivilTime) → length clock.bytes ≡ 128 → IsShowable time → IsShowable alarm →
     HasAlarm clock alarm → alarm_rings (put (time_bytes (control_of clock) time) clock.bytes)
@@ -142,9 +141,6 @@ sound_write clock port byte was =
     let b = register_after clock.bytes 11 clock.index byte (omega (arith, was.size)) in
     grind (arith, nat_tests, length-set, written_stopped)
 
-sound_moment : (clock : Clock) (time : CivilTime) → IsSound clock → IsSound (after_moment clock time)
-sound_moment clock time was = let is = told clock time was.size in grind (arith, nat_tests)
-
 sound_reset : (clock : Clock) → IsSound clock → IsSound (after_reset clock)
 sound_reset clock was =
     let b = control_of clock in
@@ -153,11 +149,10 @@ sound_reset clock was =
     grind (arith, nat_tests, length-set, reset_bit b 4 (omega arith))
 
 pub stays_sound : StaysSound
-stays_sound =
-    record {
-      at_power_on = sound_power_on;
-      at_read = λ clock port was. grind (arith, nat_tests);
-      at_write = sound_write;
-      at_moment = sound_moment;
-      at_reset = sound_reset;
-    }
+stays_sound = record {
+  at_power_on = sound_power_on;
+  at_read = λ clock port was. grind (arith, nat_tests);
+  at_write = sound_write;
+  at_moment = λ clock time was. let is = told clock time was.size in grind (arith, nat_tests);
+  at_reset = sound_reset;
+}

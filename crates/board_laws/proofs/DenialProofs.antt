@@ -5,8 +5,8 @@ use Rattle.board_prelude.proofs.Common.{Reply, Bus, Entry, Setup, is_config_port
 use Rattle.board_prelude.proofs.Common.{byte_of, Bytes, denial_in, denial_of, Decoded, config_port, device_port}
 use Rattle.board_prelude.proofs.Common.{port_target_of, is_write, part_at, parts_from, target_at, memory_target}
 use Rattle.board_prelude.proofs.Common.{memory_denial, memory_answer, part_answer, port_answer}
-use Rattle.std.proofs.Common.{arith, ◌≡◌, ℕ, zero, suc, Bool, false, List, Option, None, is_some, sym, subst, inl}
-use Rattle.std.proofs.Common.{inr, ◌==◌, if◌then◌else◌, map, All}
+use Rattle.std.proofs.Common.{arith, ◌≡◌, ℕ, zero, suc, Bool, false, List, Option, None, is_some, sym, subst, inl, inr}
+use Rattle.std.proofs.Common.{◌==◌, if◌then◌else◌, map, All}
 use Rattle.board_base.specs.declared.access.Access.{Access}
 use Rattle.board_spec.specs.declared.event.Event.TheVariants.{Look as LookAt}
 use Rattle.board_laws.specs.DenialLaws.{IsDeniedExactly, DeniedOnBus, DeniedInParts}
@@ -45,17 +45,7 @@ denied_port :
     IsRight (port_target_of setup bytes address disk port width)
 unfolding port_target_of
 denied_port setup bytes address disk port width =
-    grind (
-      arith,
-      nat_tests,
-      right_choice,
-      is_config_port,
-      right_config,
-      config_register,
-      right_port,
-      device_at,
-      bytes_of,
-    )
+    grind (arith, nat_tests, right_choice, is_config_port, right_config, config_register, right_port, device_at, bytes_of)
 
 -- ---- replies
 

@@ -1,6 +1,6 @@
 -- Lists of numbers that follow one another, and tests on them.
-use Rattle.std.proofs.Common.{◌≡◌, ℕ, zero, suc, ◌+◌, ◌≤◌, ◌<◌, Bool, true, List, [], ◌∷◌, get_or, refl, ap, inl}
-use Rattle.std.proofs.Common.{inr, arith, map}
+use Rattle.std.proofs.Common.{◌≡◌, ℕ, zero, suc, ◌+◌, ◌≤◌, ◌<◌, Bool, true, List, [], ◌∷◌, get_or, refl, ap, inl, inr}
+use Rattle.std.proofs.Common.{arith, map}
 use Rattle.board_prelude.proofs.Common.{list_any, cases_Bool, cases_eq, false≢true, or_right}
 
 -- this many numbers from one on
@@ -44,9 +44,11 @@ passing test from (suc count) any =
     elim (cases_Bool (test from)) [
       | inl here ↦ record { number = from; above = omega arith; below = omega arith; passes = here }
       | inr not_here ↦
-          let rest : list_any test (numbers_from (from + 1) count) ≡ true = rw not_here at any in
-          let later = passing test (from + 1) count rest in
-          let above : from + 1 ≤ later.number = later.above in
-          let below : later.number < from + 1 + count = later.below in
-          record { number = later.number; above = omega arith; below = omega arith; passes = later.passes }
+          let later = passing test (from + 1) count (rw not_here at any) in
+          record {
+            number = later.number;
+            above = omega (arith, later.above);
+            below = omega (arith, later.below);
+            passes = later.passes;
+          }
     ]

@@ -1,9 +1,9 @@
 -- A read-back is one latch after another.
-use Rattle.std.proofs.Common.{◌≡◌, ℕ, Bool, true, false, List, Option, refl, arith}
+use Rattle.std.proofs.Common.{◌≡◌, ℕ, true, List, Option, refl, arith}
 use Rattle.board_prelude.proofs.Common.{nat_tests}
-use Rattle.device_spec.specs.Pit.{CounterState, PitState, access_numbered, element_bytes, status_byte, latch_count}
-use Rattle.device_spec.specs.Pit.{latch_status, control, read_back, read_back_chosen, write_control}
-use Rattle.board_laws.specs.PitLaws.{read_back_word, ReadBackIsOneByOne, ReadBackIsLatch, ReadBackOfBoth}
+use Rattle.device_spec.specs.Pit.{CounterState, access_numbered, element_bytes, status_byte, latch_count, latch_status}
+use Rattle.device_spec.specs.Pit.{control, read_back, read_back_chosen, write_control}
+use Rattle.board_laws.specs.PitLaws.{ReadBackIsOneByOne, ReadBackIsLatch, ReadBackOfBoth}
 
 pub one_by_one : ReadBackIsOneByOne
 unfolding write_control read_back_chosen read_back
@@ -27,23 +27,9 @@ latches-commute x0 x1 c h s = grind (arith, nat_tests)
 commute : (c : CounterState) → latch_status (latch_count c) ≡ latch_count (latch_status c)
 commute c = latches-commute c.count_latch c.status_latch c refl refl
 
-status_last : (of_0 of_1 of_2 : Bool) (p : PitState) → write_control (read_back_word true true of_0 of_1 of_2) p
-    ≡ write_control (read_back_word false true of_0 of_1 of_2)
-    (write_control (read_back_word true false of_0 of_1 of_2) p)
-unfolding write_control read_back_chosen read_back
-status_last true true true p = refl
-status_last _ true true p = refl
-status_last _ _ true p = refl
-status_last _ _ _ p = refl
-
-count_last : (of_0 of_1 of_2 : Bool) (p : PitState) → write_control (read_back_word true true of_0 of_1 of_2) p
-    ≡ write_control (read_back_word true false of_0 of_1 of_2)
-    (write_control (read_back_word false true of_0 of_1 of_2) p)
-unfolding write_control read_back_chosen read_back
-count_last true true true p = grind (arith, nat_tests, commute)
-count_last a true true p = grind (arith, nat_tests, commute)
-count_last a b true p = grind (arith, nat_tests, commute)
-count_last a b c p = grind (arith, nat_tests, commute)
-
 pub of_both : ReadBackOfBoth
-of_both of_0 of_1 of_2 p = (status_last of_0 of_1 of_2 p, count_last of_0 of_1 of_2 p)
+unfolding write_control read_back_chosen read_back
+of_both true true true p = (refl, grind (arith, nat_tests, commute))
+of_both a true true p = (refl, grind (arith, nat_tests, commute))
+of_both a b true p = (refl, grind (arith, nat_tests, commute))
+of_both a b c p = (refl, grind (arith, nat_tests, commute))

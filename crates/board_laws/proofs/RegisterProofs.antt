@@ -6,50 +6,42 @@ use Rattle.board_prelude.proofs.Common.{config_register, config_store, config_ad
 use Rattle.board_prelude.proofs.Common.{config_port, port_target_of, port_answer, IsAnswer}
 use Rattle.board_laws.specs.RegisterLaws.{IsNear, ReachesNear, RegistersStay}
 
--- what a store does not reach stays
-stored_elsewhere :
-    (setup : Setup) (named reg : Reg) (width : Width) (value old : ℕ) → ¬ IsNear named reg →
-    byte_with setup (Some (Store named width value)) reg old ≡ old
-stored_elsewhere setup named reg width value old far = grind (arith, nat_tests)
-
-decoded-config :
-    (setup : Setup) (bytes : Bytes) (address : ℕ) (disk : Bool) (port : ℕ) (width : Width) →
+decoded-config : (setup : Setup) (bytes : Bytes) (address : ℕ) (disk : Bool) (port : ℕ) (width : Width) →
     is_config_port port ≡ true →
     port_target_of setup bytes address disk port width ≡ config_port address (config_register setup address port)
 unfolding port_target_of
 decoded-config setup bytes address disk port width is = grind (arith, nat_tests)
 
--- an access to a configuration port that names a register
-answer_reaches :
-    (setup : Setup) (before : List Entry) (access : PortAccess) (named reg : Reg) →
-    is_config_port access.port ≡ true → config_register setup (config_address before) access.port ≡ Some named →
-    IsNear named reg → ReachesNear (port_answer setup before access) reg
-unfolding port_answer
-answer_reaches setup before access named reg is found near =
-    grind (arith, nat_tests, decoded-config, byte_of, config_address, is_some, config_port)
+module _ (setup : Setup) (before : List Entry) (reg : Reg) (old : ℕ) where
+  -- what a store does not reach stays
+  stored_elsewhere : (named : Reg) (width : Width) (value : ℕ) → ¬ IsNear named reg →
+      byte_with setup (Some (Store named width value)) reg old ≡ old
+  stored_elsewhere named width value far = grind (arith, nat_tests)
 
-store_stays :
-    (setup : Setup) (before : List Entry) (access : PortAccess) (reg : Reg) (old : ℕ) (found : Option Reg) →
-    is_config_port access.port ≡ true → config_register setup (config_address before) access.port ≡ found →
-    ¬ ReachesNear (port_answer setup before access) reg →
-    byte_with setup (option_map (λ at. Store at access.width access.value) found) reg old ≡ old
-store_stays setup before access reg old None is found far = refl
-store_stays setup before access reg old (Some named) is found far =
-    stored_elsewhere setup named reg access.width access.value old
-    (λ near. far (answer_reaches setup before access named reg is found near))
+  -- an access to a configuration port that names a register
+  answer_reaches : (access : PortAccess) (named : Reg) → is_config_port access.port ≡ true →
+      config_register setup (config_address before) access.port ≡ Some named → IsNear named reg →
+      ReachesNear (port_answer setup before access) reg
+  unfolding port_answer
+  answer_reaches access named is found near =
+      grind (arith, nat_tests, decoded-config, byte_of, config_address, is_some, config_port)
 
-access_stays :
-    (setup : Setup) (before : List Entry) (access : PortAccess) (reg : Reg) (old : ℕ) →
-    ¬ ReachesNear (port_answer setup before access) reg →
-    byte_with setup (config_store setup (config_address before) (Port access)) reg old ≡ old
-access_stays setup before access reg old far =
-    grind (arith, nat_tests, cases_Bool, is_config_port, store_stays, config_register, config_address, and_parts)
+  store_stays : (access : PortAccess) (found : Option Reg) → is_config_port access.port ≡ true →
+      config_register setup (config_address before) access.port ≡ found →
+      ¬ ReachesNear (port_answer setup before access) reg →
+      byte_with setup (option_map (λ at. Store at access.width access.value) found) reg old ≡ old
+  store_stays access None is found far = refl
+  store_stays access (Some named) is found far =
+      stored_elsewhere named access.width access.value (λ near. far (answer_reaches access named is found near))
 
-event_stays :
-    (setup : Setup) (before : List Entry) (event : Event) (reply : Reply) (reg : Reg) (old : ℕ) →
-    IsAnswer setup before event reply → ¬ ReachesNear reply reg →
-    byte_with setup (config_store setup (config_address before) event) reg old ≡ old
-event_stays setup before event reply reg old answer far = grind (arith, nat_tests, access_stays)
+  access_stays : (access : PortAccess) → ¬ ReachesNear (port_answer setup before access) reg →
+      byte_with setup (config_store setup (config_address before) (Port access)) reg old ≡ old
+  access_stays access far =
+      grind (arith, nat_tests, cases_Bool, is_config_port, store_stays, config_register, config_address, and_parts)
+
+  event_stays : (event : Event) (reply : Reply) → IsAnswer setup before event reply → ¬ ReachesNear reply reg →
+      byte_with setup (config_store setup (config_address before) event) reg old ≡ old
+  event_stays event reply answer far = grind (arith, nat_tests, access_stays)
 
 pub registers_stay : RegistersStay
 unfolding byte_of

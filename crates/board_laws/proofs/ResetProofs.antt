@@ -1,6 +1,5 @@
 -- A hard reset puts registers and devices in their reset state, and keeps what is stored.
-use Rattle.std.proofs.Common.{◌≡◌, ℕ, Bool, true, false, List, ◌∷◌, Option, None, is_some, arith, take, drop, refl}
-use Rattle.std.proofs.Common.{unwrap_or}
+use Rattle.std.proofs.Common.{◌≡◌, ℕ, Bool, true, false, List, ◌∷◌, Option, None, arith, take, drop, refl, unwrap_or}
 use Rattle.board_prelude.proofs.Common.{cond-true, nat_tests, false≢true, PortAccess, Device, bytes_of}
 use Rattle.board_prelude.proofs.Common.{triggers_at_reset, Levels, no_levels, levels_where, chip_at_reset}
 use Rattle.board_prelude.proofs.Common.{chip_after_inputs, latches_after, Pair, pair_at_reset, master_inputs}
@@ -55,11 +54,8 @@ pair-hard :
     pair_of setup (entry ∷ before) ≡ pair_at_reset (levels_of setup (entry ∷ before))
 unfolding pair_of
 pair-hard setup before entry hard =
-    rw (
-      stepped-hard setup before entry entry.event (pair_of setup before) hard,
-      hard,
-      triggers-reset before entry hard,
-    ) (pair-reset (levels_of setup (entry ∷ before)))
+    rw (stepped-hard setup before entry entry.event (pair_of setup before) hard, hard, triggers-reset before entry hard)
+    (pair-reset (levels_of setup (entry ∷ before)))
 
 pub hard_reset_resets : HardResetResets
 unfolding byte_of config_address reset_control plain_of timer_of clock_of disk_with
@@ -100,10 +96,8 @@ nothing_put :
     is_hard_reset before event ≡ true → entry_put event reply cell ≡ None
 unfolding port_answer
 nothing_put setup before (Port access) reply cell answer hard =
-    rw (
-      answer,
-      decoded-reset setup before access (byte_of setup before) (config_address before) (is_some setup.disk) hard,
-    ) (no_put access cell)
+    rw (answer, decoded-reset setup before access (byte_of setup before) (config_address before) _ hard)
+    (no_put access cell)
 nothing_put setup before event reply cell answer hard = absurd (false≢true hard)
 
 wire-hard :

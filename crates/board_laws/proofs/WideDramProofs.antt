@@ -14,9 +14,8 @@ use Rattle.board_laws.proofs.StoredLaws.{stored-put, stored-left}
 
 -- ---- reads
 
-value_at-dram :
-    (setup : Setup) (before : List Entry) (target : Target) (addr : ℕ) (width : Width) → first_cell target addr
-    ≡ Some (DramCell addr) →
+value_at-dram : (setup : Setup) (before : List Entry) (target : Target) (addr : ℕ) (width : Width) →
+    first_cell target addr ≡ Some (DramCell addr) →
     value_at setup before target addr width ≡ wide (dram_byte setup before) addr width
 value_at-dram setup before x2 addr width lands = grind (arith, nat_tests)
 
@@ -43,8 +42,7 @@ joined-wide setup before access from (width ∷ later) lands =
     rw (
       value_at-dram setup before _ from width (All-head (Lands setup before) _ _ lands),
       joined-wide setup before access (from + bytes_of width) later (All-tail (Lands setup before) _ _ lands),
-    )
-    (low-part (dram_byte setup before) from width (total later))
+    ) (low-part (dram_byte setup before) from width (total later))
 
 pub wide_reads : WideReads
 unfolding wide_value
@@ -54,13 +52,6 @@ wide_reads setup before access legal reads lands =
     refl
 
 -- ---- writes
-
-memory_put-within :
-    (access : Access) (target : Target) (addr : ℕ) → is_write access.kind ≡ true → first_cell target access.addr
-    ≡ Some (DramCell access.addr) →
-    access.addr ≤ addr → addr < access.addr + bytes_of access.width → memory_put access target (DramCell addr)
-    ≡ Some (byte access.value (addr - access.addr))
-memory_put-within access target addr writes lands from below = rw (writes, lands) (grind (arith, nat_tests))
 
 -- a cell that is none of the bytes of DRAM from one address to another
 abbrev IsApart : (from to : ℕ) → Cell → Type 0
@@ -72,11 +63,15 @@ apart-parts :
     IsApart from (from + near) cell × IsApart (from + near) (from + near + far) cell
 apart-parts x0 from near far apart = grind (arith, nat_tests)
 
-memory_put-apart :
-    (access : Access) (target : Target) (cell : Cell) → is_write access.kind ≡ true → first_cell target access.addr
-    ≡ Some (DramCell access.addr) →
-    IsApart access.addr (access.addr + bytes_of access.width) cell → memory_put access target cell ≡ None
-memory_put-apart access target x2 writes lands apart = grind (arith, nat_tests)
+module _ (access : Access) (target : Target) (writes : is_write access.kind ≡ true)
+    (lands : first_cell target access.addr ≡ Some (DramCell access.addr)) where
+  memory_put-within : (addr : ℕ) → access.addr ≤ addr → addr < access.addr + bytes_of access.width →
+      memory_put access target (DramCell addr) ≡ Some (byte access.value (addr - access.addr))
+  memory_put-within addr from below = rw (writes, lands) (grind (arith, nat_tests))
+
+  memory_put-apart : (cell : Cell) → IsApart access.addr (access.addr + bytes_of access.width) cell →
+      memory_put access target cell ≡ None
+  memory_put-apart x2 apart = grind (arith, nat_tests)
 
 -- byte k of the low bytes of a number is its own byte k
 byte-low : (width : Width) (n k : ℕ) → k < bytes_of width → byte (n % 256 ^ bytes_of width) k ≡ byte n k
@@ -96,55 +91,46 @@ byte-part access from addr width start above below =
     ∙ sym (ap (λ (n : ℕ). n % 256) (further access.value (from - access.addr) (addr - from)))
     ∙ sym (ap (byte access.value) place)
 
--- what the parts put in a cell, each by its answer
-abbrev put_by_parts : Setup → List Entry → List Access → Cell → Option ℕ
-put_by_parts setup before parts cell = parts_put parts (map (part_answer setup before) parts) cell
+module _ (setup : Setup) (before : List Entry) (access : WideAccess) where
+  -- what the parts put in a cell, each by its answer
+  abbrev put_by_parts : List Access → Cell → Option ℕ
+  put_by_parts parts cell = parts_put parts (map (part_answer setup before) parts) cell
 
-put-apart :
-    (setup : Setup) (before : List Entry) (access : WideAccess) (from : ℕ) (cell : Cell) (widths : List Width) →
-    is_write access.kind ≡ true →
-    All (Lands setup before) (made access from widths) → IsApart from (from + total widths) cell →
-    put_by_parts setup before (made access from widths) cell ≡ None
-unfolding made parts_put part_answer
-put-apart setup before access from cell [] writes lands apart = refl
-put-apart setup before access from cell (width ∷ later) writes lands apart =
-    let part = part_at access from width in
-    let others : All (Lands setup before) (made access (from + bytes_of width) later) =
-    All-tail (Lands setup before) part _ lands in
-    let both = apart-parts cell from (bytes_of width) (total later) apart in
-    rw (put-apart setup before access (from + bytes_of width) cell later writes others both.1)
-    (memory_put-apart part (memory_target setup before part) cell writes
-    (All-head (Lands setup before) part _ lands) both.0)
+  put-apart : (from : ℕ) (cell : Cell) (widths : List Width) → is_write access.kind ≡ true →
+      All (Lands setup before) (made access from widths) → IsApart from (from + total widths) cell →
+      put_by_parts (made access from widths) cell ≡ None
+  unfolding made parts_put part_answer
+  put-apart from cell [] writes lands apart = refl
+  put-apart from cell (width ∷ later) writes lands apart =
+      let part = part_at access from width in
+      let both = apart-parts cell from (bytes_of width) (total later) apart in
+      rw (put-apart (from + bytes_of width) cell later writes (All-tail (Lands setup before) part _ lands) both.1)
+      (memory_put-apart part (memory_target setup before part) writes (All-head (Lands setup before) part _ lands) cell
+      both.0)
 
-put-within :
-    (setup : Setup) (before : List Entry) (access : WideAccess) (from addr : ℕ) (widths : List Width) →
-    is_write access.kind ≡ true →
-    All (Lands setup before) (made access from widths) → access.addr ≤ from → from ≤ addr → addr < from + total widths →
-    put_by_parts setup before (made access from widths) (DramCell addr)
-    ≡ Some (byte access.value (addr - access.addr))
-unfolding made parts_put part_answer
-put-within setup before access from addr [] writes lands start above below = absurd (omega arith)
-put-within setup before access from addr (width ∷ later) writes lands start above below =
-    let part = part_at access from width in
-    let others : All (Lands setup before) (made access (from + bytes_of width) later) =
-    All-tail (Lands setup before) part _ lands in
-    elim (cases_lt addr (from + bytes_of width)) [
-      | inl here ↦
-          rw (put-apart setup before access (from + bytes_of width) (DramCell addr) later writes others (inl here))
-          (memory_put-within part (memory_target setup before part) addr writes
-          (All-head (Lands setup before) part _ lands) above here
-          ∙ ap (λ (n : ℕ). Some n) (byte-part access from addr width start above here))
-      | inr past ↦
-          rw (put-within setup before access (from + bytes_of width) addr later writes others (omega arith) past
-          (omega arith)) refl
-    ]
+  put-within : (from addr : ℕ) (widths : List Width) → is_write access.kind ≡ true →
+      All (Lands setup before) (made access from widths) → access.addr ≤ from → from ≤ addr →
+      addr < from + total widths →
+      put_by_parts (made access from widths) (DramCell addr) ≡ Some (byte access.value (addr - access.addr))
+  unfolding made parts_put part_answer
+  put-within from addr [] writes lands start above below = absurd (omega arith)
+  put-within from addr (width ∷ later) writes lands start above below =
+      let part = part_at access from width in
+      let others = All-tail (Lands setup before) part _ lands in
+      elim (cases_lt addr (from + bytes_of width)) [
+        | inl here ↦
+            rw (put-apart (from + bytes_of width) (DramCell addr) later writes others (inl here))
+            (memory_put-within part (memory_target setup before part) writes (All-head (Lands setup before) part _ lands)
+            addr above here ∙ ap (λ (n : ℕ). Some n) (byte-part access from addr width start above here))
+        | inr past ↦
+            rw (put-within (from + bytes_of width) addr later writes others (omega arith) past (omega arith)) refl
+      ]
 
--- what the reply to a wide access puts in a cell
-put-answered :
-    (setup : Setup) (before : List Entry) (access : WideAccess) (entry : Entry) (cell : Cell) →
-    entry.event ≡ Wide access → IsAnswer setup before (Wide access) entry.reply →
-    entry_put entry.event entry.reply cell ≡ put_by_parts setup before (parts_of access) cell
-put-answered setup before access entry cell is answer = grind (arith, nat_tests)
+  -- what the reply to a wide access puts in a cell
+  put-answered : (entry : Entry) (cell : Cell) → entry.event ≡ Wide access →
+      IsAnswer setup before (Wide access) entry.reply →
+      entry_put entry.event entry.reply cell ≡ put_by_parts (parts_of access) cell
+  put-answered entry cell is answer = grind (arith, nat_tests)
 
 pub wide_stored : WideStored
 wide_stored setup before entry access next is legal writes lands =
