@@ -159,28 +159,15 @@ cards_from : (cards : List FittedCard) (above room : ℕ) → 1 ≤ above →
     AreGood past_card IsCardAfter (above, room) cards → AreCards cards above room
 cards_from [] above room some good = record { each = tt; high = tt; rise = tt; fit = omega arith }
 cards_from (card ∷ later) above room some good =
-    let whole = memory_of_more card later in
-    let one = memory_of_more card [] in
     let low : above + 1 ≤ card.dev = good.0.0.0 in
-    let last : card.dev ≤ 9 = good.0.0.1 in
-    let few : length card.bases ≤ 6 = good.0.2.1 in
-    let fits : sum_by memory_size card.bases ≤ room = good.0.3.1 in
+    let first : 2 ≤ card.dev = omega (arith, low, some) in
+    let is : IsCard card = assumption (first, good.0) in
     let rest = cards_from later card.dev (room - memory_of_cards (card ∷ [])) (omega (arith, low)) good.1 in
-    let left = rest.fit in
     record {
-      each = (
-        record {
-          first = omega (arith, low, some);
-          last = last;
-          count = few;
-          each = good.0.3.0;
-          rom = good.0.1;
-        },
-        rest.each,
-      );
+      each = (is, rest.each);
       high = (omega (arith, low), higher above card.dev later (omega (arith, low)) rest.high);
       rise = (All-from_recursion (LiesAbove card.dev) later rest.high, rest.rise);
-      fit = omega (arith, whole, one, left, fits);
+      fit = omega (arith, memory_of_more card later, memory_of_more card [], rest.fit, good.0.3.1);
     }
 
 -- ---- all cards of a board

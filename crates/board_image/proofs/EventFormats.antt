@@ -22,20 +22,14 @@ use Rattle.byte_fields.proofs.Numbers.{row, where_format, within_format, Ranges}
 kind_tells : Tells kind_of kind_byte
 kind_tells = row kind_byte 0 Fetch refl (row kind_byte 1 Read refl (row kind_byte 2 Write refl (no_row kind_byte)))
 
-kind_said : (kind : Kind) → Any kind → (kind_byte kind < 2 ^ 8) × (kind_of (kind_byte kind) ≡ Some kind)
-kind_said kind any = grind arith
-
 pub kind_format : IsFormat 1 kind_field (λ kind. kind_byte kind ∷ []) Any
-kind_format = byte_format kind_byte Any kind_said (λ n kind below is. (kind_tells n kind is, tt))
+kind_format = byte_format kind_byte Any (λ kind any. grind arith) (λ n kind below is. (kind_tells n kind is, tt))
 
 width_tells : Tells width_of bytes_of
 width_tells = row bytes_of 1 One refl (row bytes_of 2 Two refl (row bytes_of 4 Four refl (no_row bytes_of)))
 
-width_said : (width : Width) → Any width → (bytes_of width < 2 ^ 8) × (width_of (bytes_of width) ≡ Some width)
-width_said width any = grind arith
-
 pub width_format : IsFormat 1 width_field (λ width. bytes_of width ∷ []) Any
-width_format = byte_format bytes_of Any width_said (λ n width below is. (width_tells n width is, tt))
+width_format = byte_format bytes_of Any (λ width any. grind arith) (λ n width below is. (width_tells n width is, tt))
 
 mapped : (found : Option Stimulus) (tag : Tag) → option_map (λ one. tags.Stimulus one) found ≡ Some tag →
     (one : Stimulus) × (found ≡ Some one) × (tags.Stimulus one ≡ tag)
@@ -142,9 +136,7 @@ size_from : (bytes : ℕ) → is_wide_size bytes ≡ true → IsWideSize bytes
 size_from bytes is = grind (arith, nat_tests)
 
 wide_most_fits : (writes : Bool) (bytes : ℕ) → IsWideSize bytes → most_value writes bytes < 2 ^ 64
-wide_most_fits true bytes (inl is) = rw is (omega arith)
-wide_most_fits true bytes (inr some) = elim some [ inl is ↦ rw is (omega arith) | inr is ↦ rw is (omega arith) ]
-wide_most_fits false bytes size = omega arith
+wide_most_fits writes bytes size = grind arith
 
 place_to : (bytes addr : ℕ) → (bytes ≡ 8) ⊎ (addr % bytes ≢ 0) → addr + bytes ≤ 0x1_0000_0000 → IsWideSize bytes →
     (addr < 2 ^ 32) × (is_wide_place bytes addr ≡ true)
@@ -181,13 +173,11 @@ wide_format =
           & (access.value, wide_fits_to (is_write access.kind) access.bytes access.value is.fits),
       refl,
     ))
-    (λ t.
-    let placed = place_from t.2.2.0 t.2.2.2.0 t.2.2.2.1.1 in (
-      record {
-        bytes = size_from t.2.2.0 t.2.2.1.1;
-        wide = placed.0;
-        ends = placed.1;
-        fits = wide_fits_from (is_write t.0) t.2.2.0 t.2.2.2.2.0 t.2.2.2.2.1;
-      },
+    (λ t. (
+      assumption (
+        size_from t.2.2.0 t.2.2.1.1,
+        place_from t.2.2.0 t.2.2.2.0 t.2.2.2.1.1,
+        wide_fits_from (is_write t.0) t.2.2.0 t.2.2.2.2.0 t.2.2.2.2.1,
+      ),
       refl,
     ))

@@ -117,13 +117,10 @@ head_format =
       refl,
     ))
     (λ t. (
-      record {
-        mib = t.2.2.1;
-        cards = t.2.2.2.1;
-        rom = rom_size_from t.2.2.2.2.2.2.0 t.2.2.2.2.2.2.1.1;
-        disk = disk_size_from t.2.2.2.2.0 t.2.2.2.2.2.2.2.0 t.2.2.2.2.2.2.2.1.1;
-        steps = t.2.2.2.2.2.2.2.2.1;
-      },
+      assumption (
+        rom_size_from t.2.2.2.2.2.2.0 t.2.2.2.2.2.2.1.1,
+        disk_size_from t.2.2.2.2.0 t.2.2.2.2.2.2.2.0 t.2.2.2.2.2.2.2.1.1,
+      ),
       rw (only image_version t.2.0 t.2.1, only 0 t.2.2.2.2.2.0 t.2.2.2.2.2.1) refl,
     ))
 
@@ -180,16 +177,9 @@ setup_format head is =
       made_of head.mib head.has_disk setup fit.mib fit.disk,
     ))
     (λ t.
-    let same = disk_same head.has_disk t.2.2.0 head.disk_size is.disk t.2.2.1 in (
-      record {
-        mib = refl;
-        cards = t.1;
-        rom = t.2.1;
-        disk = disk_there head.has_disk t.2.2.0;
-        disk_size = ap length same ∙ t.2.2.1;
-      },
-      rw same refl,
-    ))) (omega (arith, rom, disk, cards))
+    let same = disk_same head.has_disk t.2.2.0 head.disk_size is.disk t.2.2.1 in
+    (assumption (disk_there head.has_disk t.2.2.0, ap length same ∙ t.2.2.1), rw same refl)))
+    (omega (arith, rom, disk, cards))
 
 -- ---- the steps
 
@@ -265,13 +255,7 @@ saved_format =
       disk = disk_of_head setup.disk is.fitted.disk;
       steps = (omega arith, is.count);
     } in
-    let fitted : IsFitted (head_of saved) setup = record {
-      mib = refl;
-      cards = (refl, cards.each, cards.rises, is.fitted.windows);
-      rom = refl;
-      disk = refl;
-      disk_size = refl;
-    } in
+    let fitted : IsFitted (head_of saved) setup = assumption in
     ((head_of saved, head) & (setup, fitted) & (saved.steps, (refl, is.each)), refl))
     (λ t.
     let setup = t.2.0 in

@@ -41,25 +41,7 @@ moment_format =
           & (m.minute, (omega arith, is.time.minute_high)) & (m.second, (omega arith, is.time.second_high)),
       ap (λ (day : ℕ). record m { weekday = day }) is.weekday,
     ))
-    (λ t. (
-      record {
-        date = record {
-          year_low = t.1.0;
-          year_high = t.1.1;
-          month_low = t.2.1.0;
-          month_high = t.2.1.1;
-          day_low = t.2.2.1.0;
-          day_high = t.2.2.1.1;
-        };
-        weekday = refl;
-        time = record {
-          hour_high = t.2.2.2.1.1;
-          minute_high = t.2.2.2.2.1.1;
-          second_high = t.2.2.2.2.2.1.1;
-        };
-      },
-      refl,
-    ))
+    (λ t. (assumption, refl))
 
 -- ---- looks
 
@@ -112,15 +94,15 @@ IsStimulus setup one has_level event =
     ((number_of event < limit has_level) × (can_have setup one (number_of event) ≡ true))
     × (event ≡ event_applied one (number_of event) (has_level && level_of event))
 
-number_again : (one : Stimulus) (number : ℕ) (on : Bool) → number_of (event_applied one number on) ≡ number
-number_again one number on =
-    ap (λ (said : Option Applied). option_map_or (λ said. said.number) said 0) (applied_again one number on)
+module _ (one : Stimulus) (number : ℕ) (on : Bool) where
+  number_again : number_of (event_applied one number on) ≡ number
+  number_again =
+      ap (λ (said : Option Applied). option_map_or (λ said. said.number) said 0) (applied_again one number on)
 
-level_again : (one : Stimulus) (number : ℕ) (on : Bool) → (stimulus_form one).has_level ≡ true →
-    level_of (event_applied one number on) ≡ on
-level_again one number on is =
-    ap (λ (said : Option Applied). option_map_or (λ said. said.on) said false) (applied_again one number on)
-    ∙ ap (λ (has_level : Bool). has_level && on) is
+  level_again : (stimulus_form one).has_level ≡ true → level_of (event_applied one number on) ≡ on
+  level_again is =
+      ap (λ (said : Option Applied). option_map_or (λ said. said.on) said false) (applied_again one number on)
+      ∙ ap (λ (has_level : Bool). has_level && on) is
 
 tag_again : (one : Stimulus) (number : ℕ) (on : Bool) → tag_of_event (event_applied one number on) ≡ tags.Stimulus one
 tag_again stimuli.Wire number on = refl
