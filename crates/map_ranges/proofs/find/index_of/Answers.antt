@@ -4,7 +4,7 @@ use Rattle.map_ranges.proofs.find.index_of.Goals as goal
 use Rattle.map_ranges.proofs.find.index_of.Goals.{then-ranges-index, else-ranges-index}
 
 pub loop-left-init : goal.loop-left-init
-loop-left-init c = search_begins c.args.ranges.now c.args.addr c.requires.tiles (omega arith)
+loop-left-init c = search_begins c.args.ranges.now c.requires.tiles c.args.addr (omega arith)
 
 pub loop-left-preserved : goal.loop-left-preserved
 loop-left-preserved c =
@@ -18,7 +18,7 @@ loop-left-preserved c =
       | else-ranges-index w ↦
           rw w.index-is
           (search_left _ c.requires.tiles _ _ left (left / 2) (omega (arith, more)) (omega (arith, more))
-          (omega (arith, more)) (omega (arith, more)) c.loop-left.invariant (omega (arith, w.if-ranges-index.false)))
+          (omega (arith, more)) c.loop-left.invariant (omega (arith, w.if-ranges-index.false)))
     ]
 
 pub returns : goal.returns
