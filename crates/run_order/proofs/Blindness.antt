@@ -213,9 +213,6 @@ module _ (leaves : MemoryLeavesDevices) (setup : Setup) (final before : List Ent
     both : {X : Type 0} (f : List Entry → X) → ((h : List Entry) → f h ≡ f (bare h)) → f final ≡ f before
     both f is = is final ∙ ap f same ∙ sym (is before)
 
-    address_same : config_address final ≡ config_address before
-    address_same = both config_address address_bare
-
     bytes_same : byte_of setup final ≡ byte_of setup before
     bytes_same = λ i reg. both (λ h. byte_of setup h reg) (byte_bare setup reg) i
 
@@ -228,29 +225,25 @@ module _ (leaves : MemoryLeavesDevices) (setup : Setup) (final before : List Ent
     pair_same : pair_of setup final ≡ pair_of setup before
     pair_same = both (pair_of setup) (pair_bare leaves setup)
 
-    device_same : (dev : Dev) (port : ℕ) (width : Width)
-        → device_value setup final dev port width ≡ device_value setup before dev port width
+    port_same : (dev : Dev) (port : ℕ) (width : Width)
+        → port_value setup final dev port width ≡ port_value setup before dev port width
     unfolding device_value
-    device_same Pic0 port width = ap (λ (p : Pair). port_byte p port) pair_same
-    device_same Pic1 port width = ap (λ (p : Pair). port_byte p port) pair_same
-    device_same Pit port width = ap (λ (t : PitState). (port_read port t).0) timer_same
-    device_same ClockChip port width = ap (λ (c : Clock). read_value c port) (both clock_of (clock_bare leaves setup))
-    device_same Elcr port width = ap (λ (t : Triggers). trigger_byte t (port == 0x4D1))
+    port_same Confadd port width = both config_address address_bare
+    port_same Reset port width = both reset_control control_bare
+    port_same Pic0 port width = ap (λ (p : Pair). port_byte p port) pair_same
+    port_same Pic1 port width = ap (λ (p : Pair). port_byte p port) pair_same
+    port_same Pit port width = ap (λ (t : PitState). (port_read port t).0) timer_same
+    port_same ClockChip port width = ap (λ (c : Clock). read_value c port) (both clock_of (clock_bare leaves setup))
+    port_same Elcr port width = ap (λ (t : Triggers). trigger_byte t (port == 0x4D1))
         (both triggers_of (triggers_bare leaves setup))
-    device_same Ata port width =
+    port_same Ata port width =
         ap (λ (d : Option Disk). option_map_or (λ disk. read_of port width disk) d (largest_of width))
         (disk_of-same setup.disk (λ bytes. disk_with bytes final) (λ bytes. disk_with bytes before)
         (λ bytes. both (disk_with bytes) (disk_bare leaves setup bytes)))
-    device_same dev port width =
+    port_same dev port width =
         ap (λ (p : PlainPorts). plain_value dev p (out_of 2 (timer_of final)) width)
         (both plain_of (plain_bare leaves setup))
         ∙ ap (λ (t : PitState). plain_value dev (plain_of before) (out_of 2 t) width) timer_same
-
-    port_same : (dev : Dev) (port : ℕ) (width : Width)
-        → port_value setup final dev port width ≡ port_value setup before dev port width
-    port_same Confadd port width = address_same
-    port_same Reset port width = both reset_control control_bare
-    port_same dev port width = device_same dev port width
 
     dram_same : dram_byte setup final ≡ dram_byte setup before
     dram_same = λ i addr. if nat_lt addr (installed setup) then cells_same i (DramCell addr) else 0xFF
@@ -273,38 +266,23 @@ module _ (leaves : MemoryLeavesDevices) (setup : Setup) (final before : List Ent
     values_same : value_at setup final ≡ value_at setup before
     values_same = λ i target addr width. value_same target addr width i
 
-    memory_same : (access : Access) → memory_answer setup final access ≡ memory_answer setup before access
-    unfolding memory_answer
-    memory_same access = rw (bytes_same, values_same) refl
-
     part_same : (part : Access) → part_answer setup final part ≡ part_answer setup before part
     unfolding part_answer
     part_same part = rw bytes_same refl
 
-    wide_same : (access : WideAccess) → wide_value setup final access ≡ wide_value setup before access
-    unfolding wide_value
-    wide_same access = rw (bytes_same, values_same) refl
-
-    ports_same : (access : PortAccess) → port_answer setup final access ≡ port_answer setup before access
-    unfolding port_answer
-    ports_same access = rw (bytes_same, address_same, values_same) refl
-
-    look_same : (kind : Kind) (addr : ℕ) (smm : Bool) (look : Look) → IsLookAnswer setup before kind addr smm look
-        → IsLookAnswer setup final kind addr smm look
-    look_same kind addr smm look answer = record {
-      version = answer.version ∙ sym (version_same setup final before same);
-      span = rw bytes_same answer.span;
-    }
-
     blind_at : (event : Event) (reply : Reply) → IsAnswer setup before event reply → IsAnswer setup final event reply
-    blind_at (Memory access) reply answer = answer ∙ sym (memory_same access)
+    unfolding memory_answer wide_value port_answer
+    blind_at (Memory access) reply answer = rw (bytes_same, values_same) answer
     blind_at (Wide access) (Parts parts value) answer = record {
-      value_is = answer.value_is ∙ sym (wide_same access);
+      value_is = rw (bytes_same, values_same) answer.value_is;
       each = answer.each ∙ sym (map-same _ _ (parts_of access) part_same);
     }
     blind_at (Wide access) _ answer = absurd answer
-    blind_at (Port access) reply answer = answer ∙ sym (ports_same access)
-    blind_at (LookAt kind addr smm) (Saw look) answer = look_same kind addr smm look answer
+    blind_at (Port access) reply answer = rw (bytes_same, both config_address address_bare, values_same) answer
+    blind_at (LookAt kind addr smm) (Saw look) answer = record {
+      version = answer.version ∙ sym (version_same setup final before same);
+      span = rw bytes_same answer.span;
+    }
     blind_at (LookAt kind addr smm) _ answer = absurd answer
     blind_at Ack reply answer = answer
         ∙ sym (ap (λ (p : Pair). Bus (Some ((answer_of p).vector)) (Device (who_answered (answer_of p))) None)
@@ -312,5 +290,4 @@ module _ (leaves : MemoryLeavesDevices) (setup : Setup) (final before : List Ent
     blind_at _ reply answer = answer
 
 pub answers_are_blind : MemoryLeavesDevices → AnswersAreBlind
-answers_are_blind leaves setup before other same event reply answer = blind_at leaves setup before other same event
-    reply answer
+answers_are_blind leaves = blind_at leaves

@@ -1,17 +1,18 @@
 -- How many looks there are, and how many entries each has.
-use Rattle.std.proofs.Common.{◌≡◌, ℕ, zero, suc, ◌+◌, ◌-◌, ◌^◌, ◌<◌, ◌≤◌, ◌==◌, true, false, List, [], ◌∷◌, ◌++◌}
+use Rattle.std.proofs.Common.{◌≡◌, ℕ, zero, suc, ◌+◌, ◌-◌, ◌^◌, ◌<◌, ◌≤◌, ◌==◌, Bool, true, false, List, [], ◌∷◌, ◌++◌}
 use Rattle.std.proofs.Common.{length, map, take, get_or, set, All, ◌≢◌, refl, sym, ◌∙◌, ap, arith, inl, inr}
 use Rattle.std.proofs.Common.{slice_index, reverse}
 use Rattle.board_prelude.proofs.Common.{cases_Bool, cases_eq, nat_tests, take_more, map-append, length-map}
 use Rattle.board_prelude.proofs.Common.{get_or-set_other, reverse-append, length-reverse, get_or-set_at, All-cons}
 use Rattle.board_prelude.proofs.Common.{All-head, All-tail, Entry, entries_by}
+use Rattle.std.proofs.lemmas.List.Sums.{length-filter, count_by-le-length}
 use Rattle.run_order.specs.declared.done.Done.{Done}
 use Rattle.run_order.specs.declared.done.Done.TheVariants.{Went, Looked}
 use Rattle.run_order.specs.declared.entry.RunEntry.{RunEntry}
 use Rattle.run_order.specs.Common.{IsPlacedBelow, entry_of, over, Order, IsOrder, looks_in, all_looks_in}
 use Rattle.run_order.proofs.Over.{within_more}
 
-looks_append : (xs ys : List Done) → looks_in (xs ++ ys) ≡ looks_in xs + looks_in ys
+pub looks_append : (xs ys : List Done) → looks_in (xs ++ ys) ≡ looks_in xs + looks_in ys
 looks_append [] ys = omega arith
 looks_append (Went version event ∷ xs) ys = looks_append xs ys
 looks_append (Looked kind addr smm look ∷ xs) ys = let more = looks_append xs ys in omega (arith, more)
@@ -48,18 +49,13 @@ count_set [] k y less = absurd (omega (arith, less))
 count_set (x ∷ xs) zero y less = omega arith
 count_set (x ∷ xs) (suc k) y less = let more = count_set xs k y (omega (arith, less)) in omega (arith, more)
 
-no_more_by : (entries : List Entry) (actor : ℕ) → length (entries_by actor entries) ≤ length entries
-no_more_by [] actor = omega arith
-no_more_by (entry ∷ before) actor =
-    let below : length (entries_by actor before) ≤ length before = no_more_by before actor in
-    elim (cases_Bool (entry.actor == actor)) [ inl same ↦ rw same (omega arith) | inr other ↦ rw other (omega arith) ]
-
 -- a processor's next number is small
 pub number_fits : {order : Order} {capacity : ℕ} {counts : List ℕ} (actor place : ℕ) → place ≡ actor → actor < 8
     → IsOrder order capacity counts → slice_index counts place + order.spare < 2 ^ 32
 number_fits {order} actor place same below kept =
-    let count = kept.counted [] actor below in let few = no_more_by (over [] order.entries) actor in
-    rw same (omega (arith, count, few, length-map order.entries (entry_of []), kept.few))
+    let all : List Entry = over [] order.entries in let own : Entry → Bool = λ entry. entry.actor == actor in
+    rw same (omega (arith, kept.counted [] actor below, length-filter own all, count_by-le-length own all,
+    length-map order.entries (entry_of []), kept.few))
 
 counts_more : (counts : List ℕ) (actor other : ℕ) (entry : Entry) (before : List Entry) → length counts ≡ 8 → other < 8
     → entry.actor ≡ actor

@@ -55,13 +55,12 @@ Direct setup history v actor added n = n ≤ v → IsPlaceOf setup history actor
 
 pub left_late : (v : ℕ) (items : List Done) → Late (v + 1) (left_after v items)
 unfolding left_after
-left_late v [] = tt
-left_late v (Went after event ∷ items) = tt
 left_late v (Looked kind addr smm look ∷ items) =
     elim (cases_Bool (nat_le look.version v)) [
       | inl is ↦ rw is (left_late v items)
       | inr not ↦ let more : v + 1 ≤ look.version = grind (arith, nat_tests) in rw not more
     ]
+left_late v _ = tt
 
 module _ (setup : Setup) (history : List Entry) where
   pub own_direct : (v n : ℕ) (entry : Entry) (before : List Entry)

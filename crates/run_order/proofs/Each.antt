@@ -1,8 +1,8 @@
 -- What holds of each processor's statements, where a call of the bus passes.
-use Rattle.std.proofs.Common.{◌≡◌, ℕ, ◌+◌, ◌<◌, ◌≤◌, ◌==◌, true, false, List, [], ◌∷◌, length, All, refl, arith, inl}
-use Rattle.std.proofs.Common.{inr, MatchBool, get_or}
-use Rattle.board_prelude.proofs.Common.{length-map, All-head, All-tail, cases_Bool, nat_tests, Entry, Setup, version_of}
-use Rattle.board_prelude.proofs.Common.{length-set}
+use Rattle.std.proofs.Common.{◌≡◌, ◌≢◌, ℕ, zero, suc, ◌+◌, ◌<◌, ◌==◌, true, false, List, [], ◌∷◌, length, arith}
+use Rattle.std.proofs.Common.{◌∙◌, inl, inr, MatchBool, get_or}
+use Rattle.board_prelude.proofs.Common.{length-map, cases_eq, cases_lt, nat_tests, Entry, Setup}
+use Rattle.board_prelude.proofs.Common.{version_of, length-set, get_or-set_at, get_or-set_other, get_or_past}
 use Rattle.run_order.specs.declared.done.Done.{Done}
 use Rattle.run_order.specs.Common.{left_after, all_left, without_first, passed, done_by}
 use Rattle.run_order.proofs.Fitting.{IsHeaded, Fits}
@@ -10,64 +10,37 @@ use Rattle.run_order.proofs.Steps.{from_first}
 
 -- K holds of each processor's statements, the lists being those of the processors from `first` on
 abbrev pub Each : (ℕ → List Done → Type 0) → ℕ → List (List Done) → Type 0
-Each K first [] = Unit {0}
-Each K first (items ∷ rests) = K first items × Each K (first + 1) rests
+Each K first rests = (k c : ℕ) → c ≡ first + k → k < length rests → K c (get_or rests k [])
 
-pub each_at : (K : ℕ → List Done → Type 0) (rests : List (List Done)) (first c : ℕ) → first ≤ c
-    → c < first + length rests → Each K first rests → K c (done_by first c rests)
-unfolding done_by
-each_at K [] first c low high each = absurd (omega (arith, low, high))
-each_at K (items ∷ rests) first c low high each =
-    elim (cases_Bool (c == first)) [
-      | inl is ↦ let here : first ≡ c = grind (arith, nat_tests) in rw (is, ← here) each.0
-      | inr not ↦
-          let more : first + 1 ≤ c = grind (arith, nat_tests) in
-          rw not (each_at K rests (first + 1) c more (omega (arith, high)) each.1)
-    ]
+pub each_cons : (K : ℕ → List Done → Type 0) (first : ℕ) (items : List Done) (rests : List (List Done))
+    → K first items → Each K (first + 1) rests → Each K first (items ∷ rests)
+each_cons K first items rests head tail zero c is less = let here : c ≡ first = omega (arith, is) in rw here head
+each_cons K first items rests head tail (suc k) c is less = tail k c (omega (arith, is)) (omega (arith, less))
 
-pub each_from : (K : ℕ → List Done → Type 0) (rests : List (List Done)) (first : ℕ)
-    → ((c : ℕ) → first ≤ c → c < first + length rests → K c (done_by first c rests)) → Each K first rests
-unfolding done_by
-each_from K [] first all = tt
-each_from K (items ∷ rests) first all =
-    let is : (first == first) ≡ true = grind (arith, nat_tests) in (
-      rw is at (all first (omega arith) (omega arith)),
-      each_from K rests (first + 1) (λ c low high.
-          let apart : (c == first) ≡ false = grind (arith, nat_tests) in
-          rw apart at (all c (omega (arith, low)) (omega (arith, high)))),
-    )
+-- one has done what it did first, and the others are as they were
+pub passed_each : (K L : ℕ → List Done → Type 0) (actor : ℕ) (rests : List (List Done))
+    → ((items : List Done) → K actor items → L actor (without_first items))
+    → ((a : ℕ) (items : List Done) → a ≢ actor → K a items → L a items)
+    → Each K 0 rests → Each L 0 (passed 0 actor rests)
+passed_each K L actor rests own others each =
+    let next : List Done = without_first (get_or rests actor []) in
+    rw ((from_first rests actor).1) (λ k c is less.
+    let few : k < length rests = omega (arith, less, length-set rests actor next) in
+    elim (cases_eq k actor) [
+      | inl same ↦
+          let here : c ≡ actor = omega (arith, is, same) in
+          rw (here, get_or-set_at rests actor k next [] same (omega (arith, few, same)))
+          (own (get_or rests actor []) (each actor actor (omega arith) (omega (arith, few, same))))
+      | inr other ↦
+          rw (get_or-set_other rests actor k next [] other)
+          (others c (get_or rests k []) (λ e. other (omega (arith, is, e))) (each k c is few))
+    ])
 
-pub each_goes : (K L : ℕ → List Done → Type 0) → ((a : ℕ) (items : List Done) → K a items → L a items)
-    → (rests : List (List Done)) (first : ℕ) → Each K first rests → Each L first rests
-each_goes K L goes [] first each = tt
-each_goes K L goes (items ∷ rests) first each = (goes first items each.0, each_goes K L goes rests (first + 1) each.1)
-
-pub each_all : (K : ℕ → List Done → Type 0) → ((a : ℕ) (items : List Done) → K a items)
-    → (rests : List (List Done)) (first : ℕ) → Each K first rests
-each_all K all [] first = tt
-each_all K all (items ∷ rests) first = (all first items, each_all K all rests (first + 1))
-
-pub passed_each : (K : ℕ → List Done → Type 0) (actor : ℕ) → ((items : List Done) → K actor items)
-    → (rests : List (List Done)) (first : ℕ) → Each K first rests → Each K first (passed first actor rests)
-unfolding passed
-passed_each K actor own [] first each = tt
-passed_each K actor own (items ∷ rests) first each =
-    elim (cases_Bool (actor == first)) [
-      | inl is ↦
-          let same : first ≡ actor = grind (arith, nat_tests) in
-          rw is (rw same (own (without_first items)), each.1)
-      | inr not ↦ rw not (each.0, passed_each K actor own rests (first + 1) each.1)
-    ]
-
-pub none_at : (rests : List (List Done)) (first c : ℕ) → Each (λ _ rest. rest ≡ []) first rests
-    → done_by first c rests ≡ []
-unfolding done_by
-none_at [] first c each = refl
-none_at (items ∷ rests) first c each =
-    elim (cases_Bool (c == first)) [
-      | inl is ↦ rw is each.0
-      | inr not ↦ rw not (none_at rests (first + 1) c each.1)
-    ]
+pub none_at : (rests : List (List Done)) (c : ℕ) → Each (λ _ rest. rest ≡ []) 0 rests → done_by 0 c rests ≡ []
+none_at rests c each = (from_first rests c).0 ∙ elim (cases_lt c (length rests)) [
+  | inl less ↦ each c c (omega arith) less
+  | inr past ↦ get_or_past rests c [] (omega (arith, past))
+]
 
 -- ---- a call of the bus
 
@@ -79,25 +52,13 @@ Beside setup entry before later a rest =
     (Fits setup a (entry ∷ before) later rest)
 
 module _ (setup : Setup) (entry : Entry) (before later : List Entry) where
-  pass_none : (rests : List (List Done)) (first : ℕ) → entry.actor < first
-      → Each (Beside setup entry before later) first rests
-      → Each (λ a. Fits setup a (entry ∷ before) later) first rests
-  pass_none [] first less each = tt
-  pass_none (items ∷ rests) first less each =
-      let not : (entry.actor == first) ≡ false = grind (arith, nat_tests) in
-      (rw not at each.0, pass_none rests (first + 1) (omega (arith, less)) each.1)
-
-  pub pass : (rests : List (List Done)) (first : ℕ) → Each (Beside setup entry before later) first rests
-      → Each (λ a. Fits setup a (entry ∷ before) later) first (passed first entry.actor rests)
-  unfolding passed
-  pass [] first each = tt
-  pass (items ∷ rests) first each =
-      elim (cases_Bool (entry.actor == first)) [
-        | inl is ↦
-            let less : entry.actor < first + 1 = grind (arith, nat_tests) in
-            let head = rw is at each.0 in rw is (head.rest, pass_none rests (first + 1) less each.1)
-        | inr not ↦ rw not (rw not at each.0, pass rests (first + 1) each.1)
-      ]
+  pub pass : (rests : List (List Done)) → Each (Beside setup entry before later) 0 rests
+      → Each (λ a. Fits setup a (entry ∷ before) later) 0 (passed 0 entry.actor rests)
+  pass rests =
+      passed_each (Beside setup entry before later) (λ a. Fits setup a (entry ∷ before) later) entry.actor rests
+      (λ items beside. let is : (entry.actor == entry.actor) ≡ true = grind (arith, nat_tests) in
+      let head = rw is at beside in head.rest)
+      (λ a items other beside. let not : (entry.actor == a) ≡ false = grind (arith, nat_tests) in rw not at beside)
 
   -- what the processor of the call does next
   pub own_head : (left : List (List Done)) → entry.actor < length left → Each (Beside setup entry before later) 0 left
@@ -105,23 +66,11 @@ module _ (setup : Setup) (entry : Entry) (before later : List Entry) where
       (done_by 0 entry.actor left)
   own_head left few each =
       let is : (entry.actor == entry.actor) ≡ true = grind (arith, nat_tests) in
-      rw is at (each_at (Beside setup entry before later) left 0 entry.actor (omega arith) (omega (arith, few)) each)
+      rw ((from_first left entry.actor).0) (rw is at (each entry.actor entry.actor (omega arith) few))
 
--- a processor of the phase, when its looks are left out and when one has done its call
-pub few_left : (v : ℕ) (entry : Entry) (later : List Entry) (rests : List (List Done))
-    → All (λ e. e.actor < length rests) (entry ∷ later) → entry.actor < length (all_left v rests)
-few_left v entry later rests few =
-    rw (length-map rests (left_after v)) (All-head (λ (e : Entry). e.actor < length rests) entry later few)
-
-pub few_passed : (v : ℕ) (entry : Entry) (later : List Entry) (rests : List (List Done))
-    → All (λ e. e.actor < length rests) (entry ∷ later)
-    → All (λ e. e.actor < length (passed 0 entry.actor (all_left v rests))) later
-few_passed v entry later rests few =
-    let next = without_first (get_or (all_left v rests) entry.actor []) in
-    rw (
-      (from_first (all_left v rests) entry.actor).1,
-      length-set (all_left v rests) entry.actor next,
-      length-map rests
-          (left_after v),
-    )
-    (All-tail (λ (e : Entry). e.actor < length rests) entry later few)
+-- there are as many processors when one has done its call
+pub count_passed : (v actor : ℕ) (rests : List (List Done)) → length (passed 0 actor (all_left v rests)) ≡ length rests
+count_passed v actor rests =
+    let left : List (List Done) = all_left v rests in
+    rw ((from_first left actor).1, length-set left actor (without_first (get_or left actor [])))
+    (length-map rests (left_after v))

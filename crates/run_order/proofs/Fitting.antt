@@ -41,14 +41,12 @@ FirstLook P (Looked kind addr smm look ∷ items) = P look.version
 
 pub first_goes : (P Q : ℕ → Type 0) → ((n : ℕ) → P n → Q n) → (items : List Done) → FirstLook P items
     → FirstLook Q items
-first_goes P Q goes [] first = tt
-first_goes P Q goes (Went after event ∷ items) first = tt
 first_goes P Q goes (Looked kind addr smm look ∷ items) first = goes look.version first
+first_goes P Q goes _ first = tt
 
 pub first_all : (P : ℕ → Type 0) → ((n : ℕ) → P n) → (items : List Done) → FirstLook P items
-first_all P all [] = tt
-first_all P all (Went after event ∷ items) = tt
 first_all P all (Looked kind addr smm look ∷ items) = all look.version
+first_all P all _ = tt
 
 -- a look that comes next has at least so many map writes
 abbrev pub Late : ℕ → List Done → Type 0
@@ -56,9 +54,8 @@ Late n items = FirstLook (λ k. n ≤ k) items
 
 pub late_by : (setup : Setup) (whole : List Entry) (actor : ℕ) (from : List Entry) (low n : ℕ) (items : List Done)
     → Follows setup whole actor from low items → n ≤ low → Late n items
-late_by setup whole actor from low n [] f le = tt
-late_by setup whole actor from low n (Went after event ∷ items) f le = tt
 late_by setup whole actor from low n (Looked kind addr smm look ∷ items) f le = omega (arith, f.0, le)
+late_by setup whole actor from low n _ f le = tt
 
 module _ (setup : Setup) (whole : List Entry) (actor : ℕ) where
   -- what a processor knew is in the history before its next call

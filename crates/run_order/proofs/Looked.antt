@@ -28,8 +28,8 @@ head_same k xs ys less same ahead =
     ∙ (ahead ∙ drop_more ys k [] (omega (arith, less, same))) in
     (cc (e), cc (e))
 
-module _ {X : Type 0} (f : X → List Done) (version k : ℕ) (old : List (List Done)) (xs : List X)
-    (before now : List Entry) (room spare : ℕ) (so : AreLooked version k old (map f xs) before now room spare) where
+module _ {X : Type 0} {version k : ℕ} {old : List (List Done)} {before now : List Entry} {room spare : ℕ}
+    (f : X → List Done) (xs : List X) (so : AreLooked version k old (map f xs) before now room spare) where
   pub looked_next : (x none : X) (now' : List Entry) (spare' : ℕ) → k < length xs
       → f x ≡ left_after version (f (get_or xs k none)) → now' ≡ with_looks version k (f (get_or xs k none)) now
       → spare' + looks_in (f (get_or xs k none)) ≡ spare + looks_in (f x)

@@ -4,7 +4,8 @@ use Rattle.std.proofs.Common.{take, drop, All, refl, sym, ◌∙◌, ap, subst, 
 use Rattle.std.proofs.lemmas.List.{append_cancel_right}
 use Rattle.board_spec.proofs.OrderLawProofs.{events-append, statements-append, statements-newest}
 use Rattle.board_prelude.proofs.Common.{cases_Bool, cases_lt, nat_tests, append-nil, reverse-append, reverse-reverse}
-use Rattle.board_prelude.proofs.Common.{filter-append, map-append, length-map, length-reverse, length-take, take_all}
+use Rattle.board_prelude.proofs.Common.{get_or_past, filter-append, map-append, length-map, length-reverse}
+use Rattle.board_prelude.proofs.Common.{length-take, take_all}
 use Rattle.board_prelude.proofs.Common.{drop_all, take-append-le, drop-append-le, All-head, All-tail, Event, Entry}
 use Rattle.board_prelude.proofs.Common.{Statement, version_of, entries_by, statement_of, statements_of, events_by}
 use Rattle.board_prelude.proofs.Common.{IsWholePhase, HasPhases}
@@ -13,7 +14,8 @@ use Rattle.run_order.specs.Common.{event_of, placed, done_by, bare, AnswersAreBl
 use Rattle.run_order.proofs.Histories.{onto, onto_is}
 use Rattle.run_order.proofs.Fitting.{Fits, late_by, fits}
 use Rattle.run_order.proofs.Traces.{follows}
-use Rattle.run_order.proofs.Each.{Each, each_from}
+use Rattle.run_order.proofs.Each.{Each}
+use Rattle.run_order.proofs.Steps.{from_first}
 use Rattle.run_order.proofs.Wholes.{own}
 use Rattle.run_order.proofs.Placement.{has_placed}
 
@@ -45,14 +47,6 @@ nobody_else actor n (statement ∷ phase) past few =
     let less = All-head (λ (s : Statement). s.actor < n) statement phase few in
     let not : (statement.actor == actor) ≡ false = grind (arith, nat_tests) in
     rw not (nobody_else actor n phase past (All-tail (λ (s : Statement). s.actor < n) statement phase few))
-
-nothing_past : (first actor : ℕ) (rests : List (List Done)) → first + length rests ≤ actor
-    → done_by first actor rests ≡ []
-unfolding done_by
-nothing_past first actor [] past = refl
-nothing_past first actor (items ∷ rests) past =
-    let not : (actor == first) ≡ false = grind (arith, nat_tests) in
-    rw not (nothing_past (first + 1) actor rests (omega (arith, past)))
 
 -- ---- as many statements
 
@@ -117,12 +111,12 @@ pub phase_runs : AnswersAreBlind → PhaseRuns
 phase_runs blind setup opened later phase works final run legal same =
     let whole : List Entry = onto later opened in let v : ℕ = version_of setup opened in
     let is : reverse later ++ opened ≡ whole = sym (onto_is later opened) in
-    let fit : Each (λ a. Fits setup a opened later) 0 works = each_from (λ a. Fits setup a opened later) works 0
-    (λ c low high.
-    let work = rw is at (run.each c (omega (arith, high))) in
+    let fit : Each (λ a. Fits setup a opened later) 0 works = λ k c from less.
+    let work = rw is at (run.each c (omega (arith, from, less))) in
+    let place : k ≡ c = omega (arith, from) in
     let f = rw (back_again (done_by 0 c works)) at (follows setup run.cards whole c opened (reverse (done_by 0 c works))
     work.seen work.known work.trace work.closed) in
-    fits setup whole c later opened opened v (done_by 0 c works) refl refl f
+    rw (place, ← (from_first works c).0) (fits setup whole c later opened opened v (done_by 0 c works) refl refl f
     (late_by setup whole c opened v v (done_by 0 c works) f (omega arith))) in
     let all = has_placed blind setup final later opened works legal same (rw is at run.legal) run.callers fit in
     let part : List Statement = statements_of all.added in
@@ -131,7 +125,7 @@ phase_runs blind setup opened later phase works final run legal same =
     let stated : (c : ℕ) → map event_of (done_by 0 c works) ≡ events_by c phase = λ c.
     elim (cases_lt c (length works)) [
       | inl few ↦ (run.each c few).said
-      | inr past ↦ ap (map event_of) (nothing_past 0 c works (omega (arith, past)))
+      | inr past ↦ ap (map event_of) ((from_first works c).0 ∙ get_or_past works c [] (omega (arith, past)))
           ∙ sym (nobody_else c (length works) phase past run.speakers)
     ] in
     let events : (c : ℕ) → events_by c part ≡ events_by c phase = λ c.

@@ -1,18 +1,17 @@
 -- The placed history is legal, is the bus's without its looks, has each look in its place and each processor's events.
 use Rattle.std.proofs.Common.{◌≡◌, ℕ, ◌+◌, ◌<◌, ◌≤◌, nat_le, List, [], ◌∷◌, ◌++◌, map, length, All, refl, sym, ◌∙◌, ap}
-use Rattle.std.proofs.Common.{subst, arith, inl, inr}
+use Rattle.std.proofs.Common.{subst, arith, inl, inr, suc, get_or}
 use Rattle.board_prelude.proofs.Common.{cases_Bool, nat_tests, Saw, Entry, Setup, version_of, IsNext, IsLegal}
-use Rattle.board_prelude.proofs.Common.{next_entry}
+use Rattle.board_prelude.proofs.Common.{next_entry, get_or-map, length-map, All-head, All-tail}
 use Rattle.board_spec.specs.declared.event.Event.TheVariants.{Look as LookAt}
 use Rattle.run_order.specs.declared.done.Done.{Done}
 use Rattle.run_order.specs.declared.done.Done.TheVariants.{Went, Looked}
 use Rattle.run_order.specs.Common.{is_look, event_of, with_looks, left_after, with_all_looks, all_left, done_by, passed}
-use Rattle.run_order.specs.Common.{placed, AreInPlace, bare, AnswersAreBlind}
+use Rattle.run_order.specs.Common.{without_first, placed, AreInPlace, bare, AnswersAreBlind}
 use Rattle.run_order.proofs.Histories.{onto, legal_front}
 use Rattle.run_order.proofs.Blindness.{version_same}
-use Rattle.run_order.proofs.Fitting.{Due, Fits, FirstLook, first_goes, first_all, Late}
-use Rattle.run_order.proofs.Each.{Each, each_goes, each_all, passed_each, none_at, Beside, pass, own_head, few_left}
-use Rattle.run_order.proofs.Each.{few_passed}
+use Rattle.run_order.proofs.Fitting.{Due, Fits, FirstLook, first_goes, first_all}
+use Rattle.run_order.proofs.Each.{Each, each_cons, passed_each, none_at, Beside, pass, own_head, count_passed}
 use Rattle.run_order.proofs.Wholes.{own, all_own, call_own}
 use Rattle.run_order.proofs.Directness.{AreLower, EndsBare, ends_bare, lower_out, lower_on, call_in_place, Direct}
 use Rattle.run_order.proofs.Directness.{left_late, own_direct, direct_moves, write_direct}
@@ -54,8 +53,6 @@ module _ (blind : AnswersAreBlind) (setup : Setup) (history : List Entry) where
         → HaveLooks setup history before since (actor + 1) (with_looks (version_of setup before) actor items final)
         × K (left_after (version_of setup before) items)
     unfolding with_looks left_after bare
-    with_looks_hold actor K [] final have due first = (have, due)
-    with_looks_hold actor K (Went after event ∷ items) final have due first = (have, due)
     with_looks_hold actor K (Looked kind addr smm look ∷ items) final have due first =
         let h = have.holds in let v : ℕ = version_of setup before in
         let entry : Entry = next_entry final actor (LookAt kind addr smm) (Saw look) in
@@ -82,6 +79,7 @@ module _ (blind : AnswersAreBlind) (setup : Setup) (history : List Entry) where
               (λ n. own_direct setup history v n entry (have.looks ++ since)) items))
           | inr not ↦ rw not (have, rw not at due)
         ]
+    with_looks_hold actor K _ final have due first = (have, due)
 
     all_looks_hold : (K : ℕ → List Done → Type 0) (rests : List (List Done)) (first : ℕ) (final : List Entry)
         → HaveLooks setup history before since first final → Each (λ a items. Due setup before (K a) items) first rests
@@ -90,16 +88,20 @@ module _ (blind : AnswersAreBlind) (setup : Setup) (history : List Entry) where
         (with_all_looks (version_of setup before) first rests final))
         × Each K first (all_left (version_of setup before) rests)
     unfolding with_all_looks
-    all_looks_hold K [] first final have due direct = ((first, have), tt)
+    all_looks_hold K [] first final have due direct = ((first, have), λ k c is less. absurd (omega (arith, less)))
     all_looks_hold K (items ∷ rests) first final have due direct =
         let v : ℕ = version_of setup before in
         let out = lower_out first have.looks since have.lower ends ∙ sym (ends_bare first since ends) in
         let one = with_looks_hold first (K first) items final
-        (record { looks = have.looks; holds = have.holds; lower = lower_on first have.looks have.lower }) due.0
+        (record { looks = have.looks; holds = have.holds; lower = lower_on first have.looks have.lower })
+        (due 0 first (omega arith) (omega arith))
         (first_goes (Direct setup history v first since) (Direct setup history v first (have.looks ++ since))
-        (λ n. direct_moves setup history v first n (have.looks ++ since) since out) items direct.0) in
-        let more = all_looks_hold K rests (first + 1) (with_looks v first items final) one.0 due.1 direct.1 in
-        (more.0, (one.1, more.1))
+        (λ n. direct_moves setup history v first n (have.looks ++ since) since out) items
+        (direct 0 first (omega arith) (omega arith))) in
+        let more = all_looks_hold K rests (first + 1) (with_looks v first items final) one.0
+        (λ k c is less. due (suc k) c (omega (arith, is)) (omega (arith, less)))
+        (λ k c is less. direct (suc k) c (omega (arith, is)) (omega (arith, less))) in
+        (more.0, each_cons K first (left_after v items) (all_left v rests) one.1 more.1)
 
   placed_holds : (later before : List Entry) (rests : List (List Done)) (final since : List Entry) → EndsBare since
       → Holds setup history before since final → IsLegal setup (onto later before)
@@ -115,7 +117,7 @@ module _ (blind : AnswersAreBlind) (setup : Setup) (history : List Entry) where
         added = here.0.1.looks ++ since;
         holds = here.0.1.holds;
         own = λ c. ap (λ (items : List Done). onto (map event_of items) (own c (with_all_looks v 0 rests final)))
-            (sym (none_at (all_left v rests) 0 c here.1)) ∙ all_own v rests 0 c final;
+            (sym (none_at (all_left v rests) c here.1)) ∙ all_own v rests 0 c final;
       }
   placed_holds (entry ∷ later) before rests final since ends holds legal few fit direct =
       let v : ℕ = version_of setup before in let v' : ℕ = version_of setup (entry ∷ before) in
@@ -125,7 +127,8 @@ module _ (blind : AnswersAreBlind) (setup : Setup) (history : List Entry) where
       let here = all_looks_hold before since ends (Beside setup entry before later) rests 0 final
       (record { looks = []; holds = holds; lower = tt }) fit direct in
       let have = here.0.1 in let then : List Entry = have.looks ++ since in
-      let within : entry.actor < length left = few_left v entry later rests few in
+      let within : entry.actor < length left =
+      rw (length-map rests (left_after v)) (All-head (λ (e : Entry). e.actor < length rests) entry later few) in
       let head = own_head setup entry before later left within here.1 in
       let next : IsNext setup before entry = (legal_front setup later (entry ∷ before) legal).0 in
       let same = bare_bus entry before looked have.holds.bare in
@@ -134,11 +137,13 @@ module _ (blind : AnswersAreBlind) (setup : Setup) (history : List Entry) where
       let new_version : version_of setup (new ∷ then ++ history) ≡ v' =
       ap (λ (h : List Entry). version_of setup (new ∷ h)) (sym have.holds.is)
       ∙ version_same setup (new ∷ looked) (entry ∷ before) same in
-      let after : Each (λ a. FirstLook (Direct setup history v' a (new ∷ then))) 0 left =
-      each_goes (λ _ items. Late (v + 1) items) (λ a. FirstLook (Direct setup history v' a (new ∷ then)))
-      (λ a. first_goes (λ n. v + 1 ≤ n) (Direct setup history v' a (new ∷ then)) (λ n late.
+      let IsDirect : ℕ → List Done → Type 0 = λ a. FirstLook (Direct setup history v' a (new ∷ then)) in
+      let after : Each IsDirect 0 left = λ k a is less.
+      first_goes (λ n. v + 1 ≤ n) (Direct setup history v' a (new ∷ then)) (λ n late.
       subst (λ (k : ℕ). Direct setup history k a (new ∷ then) n) new_version
-      (write_direct setup history a n new then head.call (omega (arith, old_version, late))))) left 0 (late rests 0) in
+      (write_direct setup history a n new then head.call (omega (arith, old_version, late)))) (get_or left k [])
+      (rw (get_or-map (left_after v) rests k [] [] (omega (arith, less, length-map rests (left_after v))))
+      (left_late v (get_or rests k []))) in
       let rest = placed_holds later (entry ∷ before) (passed 0 entry.actor left) (new ∷ looked) (new ∷ then) head.call
       (record {
         is = ap (λ (h : List Entry). new ∷ h) have.holds.is;
@@ -154,20 +159,17 @@ module _ (blind : AnswersAreBlind) (setup : Setup) (history : List Entry) where
           call_in_place setup history then entry.actor entry.event entry.reply head.call,
           have.holds.places,
         );
-      }) legal (few_passed v entry later rests few) (pass setup entry before later left 0 here.1)
-      (passed_each (λ a. FirstLook (Direct setup history v' a (new ∷ then))) entry.actor
-      (first_all (Direct setup history v' entry.actor (new ∷ then)) (λ n. own_direct setup history v' n new then))
-      left 0 after) in
+      }) legal
+      (rw (count_passed v entry.actor rests) (All-tail (λ (e : Entry). e.actor < length rests) entry later few))
+      (pass setup entry before later left here.1)
+      (passed_each IsDirect IsDirect entry.actor left
+      (λ items _. first_all (Direct setup history v' entry.actor (new ∷ then))
+      (λ n. own_direct setup history v' n new then) (without_first items)) (λ a items _ first. first) after) in
       rw (head.version_is v) (record {
         added = rest.added;
         holds = rest.holds;
         own = λ c. rest.own c ∙ (call_own c new looked left within head.events ∙ all_own v rests 0 c final);
       })
-    where
-      late : (rests : List (List Done)) (first : ℕ)
-          → Each (λ _ items. Late (version_of setup before + 1) items) first (all_left (version_of setup before) rests)
-      late [] first = tt
-      late (items ∷ rests) first = (left_late (version_of setup before) items, late rests (first + 1))
 
   pub has_placed : (later before : List Entry) (rests : List (List Done)) → IsLegal setup history
       → bare history ≡ bare before → IsLegal setup (onto later before) → All (λ e. e.actor < length rests) later
@@ -176,5 +178,5 @@ module _ (blind : AnswersAreBlind) (setup : Setup) (history : List Entry) where
       (placed (version_of setup before) later rests history)
   has_placed later before rests kept same legal few fit =
       placed_holds later before rests history [] tt (record { is = refl; legal = kept; bare = same; places = tt }) legal
-      few fit (each_all (λ a. FirstLook (Direct setup history (version_of setup before) a []))
-      (λ a. first_all (Direct setup history (version_of setup before) a []) (λ n due. tt)) rests 0)
+      few fit (λ k a is less. first_all (Direct setup history (version_of setup before) a []) (λ n due. tt)
+      (get_or rests k []))

@@ -14,21 +14,19 @@ use Rattle.run_order.proofs.Steps.{from_first, no_more_looks}
 
 not_due_left : (version : ℕ) (done : List Done) → IsNotDue version (left_after version done)
 unfolding left_after
-not_due_left version [] = tt
-not_due_left version (Went after event ∷ done) = tt
 not_due_left version (Looked kind addr smm look ∷ done) =
     elim (cases_Bool (nat_le look.version version)) [
       | inl is ↦ rw is (not_due_left version done)
       | inr not ↦ rw not (let less : version < look.version = grind (arith, nat_tests) in less)
     ]
+not_due_left version _ = tt
 
 not_due : (version actor : ℕ) (done : List Done) (history : List Entry) → IsNotDue version done
     → (with_looks version actor done history ≡ history) × (left_after version done ≡ done)
 unfolding with_looks left_after
-not_due version actor [] history not = (refl, refl)
-not_due version actor (Went after event ∷ done) history not = (refl, refl)
 not_due version actor (Looked kind addr smm look ∷ done) history not =
     let no : nat_le look.version version ≡ false = grind (arith, nat_tests) in rw no (refl, refl)
+not_due version actor _ history not = (refl, refl)
 
 -- ---- what all did
 
@@ -128,26 +126,26 @@ placed_again version (entry ∷ later) rests history =
     rw (settled_placed version 0 left before so, settled_left version left so) refl
 
 -- the looks that are due have entered after the entry
-pub looked_again : (later : List Entry) (i start version : ℕ) (old rests left : List (List Done))
-    (before now looked : List Entry) (spare spare' : ℕ)
+pub looked_again : {later : List Entry} {i start version : ℕ} {old left : List (List Done)}
+    {before looked : List Entry} {spare' : ℕ} (rests : List (List Done)) (now : List Entry) (spare : ℕ)
     → ArePlaced later i start version old rests before now spare → AreAll version rests left now looked spare spare'
     → ArePlaced later i start version old left before looked spare'
-looked_again later i start version old rests left before now looked spare spare' so all = record {
+looked_again {later} {i} {start} {version} rests now spare so all = record {
   placed_on = rw (all.left_is, all.placed) (placed_again version (drop i later) rests now ∙ so.placed_on);
   fits = omega (arith, so.fits, all.room);
 }
 
 -- an entry enters, before which no look was due
-pub next_placed : {X : Type 0} (f : X → List Done) (xs : List X) (x none : X) (later : List Entry)
-    (i start version version' place spare : ℕ) (old : List (List Done)) (before now next : List Entry) (d : Entry)
-    → ArePlaced later i start version old (map f xs) before now spare → IsSettled version (map f xs)
+pub next_placed : {X : Type 0} {later : List Entry} {i start version spare : ℕ} {old : List (List Done)}
+    {before now : List Entry} (f : X → List Done) (xs : List X) (x none : X) (version' place : ℕ) (next : List Entry)
+    (d : Entry) → ArePlaced later i start version old (map f xs) before now spare → IsSettled version (map f xs)
     → i < length later → All (λ e. e.actor < length xs) later → place ≡ (get_or later i d).actor
     → version' ≡ noted version (f (get_or xs place none)) → f x ≡ without_first (f (get_or xs place none))
     → next ≡ next_entry now (get_or later i d).actor (get_or later i d).event (get_or later i d).reply ∷ now
     → ArePlaced later (i + 1) start version' old (map f (set xs place x)) before next (spare - 1)
 unfolding placed
-next_placed f xs x none later i start version version' place spare old before now next d so settled less callers
-    place_is version_is rest_is next_is =
+next_placed {later = later} {i} {start} {version} {spare} {old} {before} {now} f xs x none version' place next d so
+    settled less callers place_is version_is rest_is next_is =
     let rests : List (List Done) = map f xs in let a : ℕ = (get_or later i d).actor in
     let few : a < length xs = All-get_or (λ (e : Entry). e.actor < length xs) later i d less callers in
     let first = from_first rests a in
@@ -164,11 +162,11 @@ next_placed f xs x none later i start version version' place spare old before no
       fits = omega (arith, fewer, so.fits, less);
     }
 
-pub placed_last : (later : List Entry) (i start version : ℕ) (old rests : List (List Done)) (before now : List Entry)
-    (spare : ℕ) → ArePlaced later i start version old rests before now spare → IsSettled version rests
+pub placed_last : {later : List Entry} {i start version : ℕ} {old rests : List (List Done)} {before now : List Entry}
+    {spare : ℕ} → ArePlaced later i start version old rests before now spare → IsSettled version rests
     → length later ≤ i → now ≡ placed start later old before
 unfolding placed
-placed_last later i start version old rests before now spare so settled past =
+placed_last {later} {i} {start} {version} {old} {rests} {before} {now} so settled past =
     let ended : with_all_looks version 0 rests now ≡ placed start later old before =
     rw (drop_all i later past) at so.placed_on in
     sym (settled_placed version 0 rests now settled) ∙ ended

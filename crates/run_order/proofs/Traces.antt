@@ -1,7 +1,8 @@
 -- What the clauses of a worker's calls say is what the law of the places asks.
 use Rattle.std.proofs.Common.{◌≡◌, ℕ, ◌+◌, ◌-◌, ◌≤◌, Bool, List, [], ◌∷◌, ◌++◌, length, refl, sym, ◌∙◌, ap, arith, inl}
 use Rattle.std.proofs.Common.{inr, append_assoc, length-append, ⊎_elim}
-use Rattle.board_prelude.proofs.Common.{option_to_list, Kind, Area, Look, Entry, MapChange, Setup, IsCardList, byte_of}
+use Rattle.board_prelude.proofs.Common.{drop-append_seam, option_to_list, Kind, Area, Look, Entry, MapChange, Setup}
+use Rattle.board_prelude.proofs.Common.{IsCardList, byte_of}
 use Rattle.board_prelude.proofs.Common.{map_change_of, map_writes_of, version_of, registers_after, Bytes, area_of}
 use Rattle.board_prelude.proofs.Common.{IsSpan, SameMapBytes, map_writes_decide, map_bytes_decide}
 use Rattle.board_spec.specs.declared.event.Event.TheVariants.{Look as LookAt}
@@ -17,10 +18,10 @@ extends_length shorter longer e = omega (arith, ap length e.1 ∙ length-append 
 -- two ends of one list that are as long are one
 same_end : (xs ys shorter other : List MapChange) → xs ++ shorter ≡ ys ++ other → length shorter ≡ length other
     → shorter ≡ other
-same_end [] [] shorter other e n = e
-same_end [] (y ∷ ys) shorter other e n = absurd (omega (arith, n, ap length e, length-append ys other))
-same_end (x ∷ xs) [] shorter other e n = absurd (omega (arith, n, ap length e, length-append xs shorter))
-same_end (x ∷ xs) (y ∷ ys) shorter other e n = same_end xs ys shorter other (cc e) n
+same_end xs ys shorter other e n =
+    let size : length xs ≡ length ys =
+    omega (arith, n, ap length e, length-append xs shorter, length-append ys other) in
+    sym (drop-append_seam xs shorter) ∙ rw (e, size) (drop-append_seam ys other)
 
 writes_begin : (setup : Setup) (more before : List Entry)
     → HasMoreWrites (map_writes_of setup before) (map_writes_of setup (more ++ before))

@@ -5,7 +5,8 @@ use Rattle.board_prelude.proofs.Common.{cases_Bool, take_more, drop_more, revers
 use Rattle.board_prelude.proofs.Common.{Setup, IsLegal, next_entry}
 use Rattle.run_order.specs.declared.done.Done.{Done}
 use Rattle.run_order.specs.declared.done.Done.TheVariants.{Went, Looked}
-use Rattle.run_order.specs.Common.{passed, done_by, noted, placed, looks_in, all_looks_in, IsNotDue, IsSettled}
+use Rattle.run_order.specs.Common.{with_all_looks, passed, done_by, noted, placed, looks_in, all_looks_in, IsNotDue}
+use Rattle.run_order.specs.Common.{IsSettled}
 use Rattle.run_order.proofs.Histories.{onto, onto_is, legal_front}
 use Rattle.run_order.proofs.Steps.{first_is_one}
 use Rattle.run_order.proofs.Settled.{settled_placed, settled_left, settled_more}
@@ -19,9 +20,8 @@ next_onto setup later before entry legal =
 -- ---- without looks
 
 none_due : (version : ℕ) (done : List Done) → looks_in done ≡ 0 → IsNotDue version done
-none_due version [] none = tt
-none_due version (Went after event ∷ done) none = tt
 none_due version (Looked kind addr smm look ∷ done) none = absurd (omega (arith, none))
+none_due version _ none = tt
 
 none_settled : (version : ℕ) (rests : List (List Done)) → all_looks_in rests ≡ 0 → IsSettled version rests
 none_settled version [] none = λ k. tt
@@ -39,26 +39,31 @@ passed_fewer first actor (done ∷ rests) =
       | inr not ↦ rw not (omega (arith, passed_fewer (first + 1) actor rests))
     ]
 
-onto_placed : (setup : Setup) (version : ℕ) (later : List Entry) (rests : List (List Done)) (history : List Entry)
-    → all_looks_in rests ≡ 0
-    → IsLegal setup (onto later history) → placed version later rests history ≡ onto later history
-unfolding placed
-onto_placed setup version [] rests history none legal =
-    settled_placed version 0 rests history (none_settled version rests none)
-onto_placed setup version (entry ∷ later) rests history none legal =
+-- the entries of the bus alone enter the history, as where nobody did anything
+pub placed_alone : (version : ℕ) (later : List Entry) (rests : List (List Done)) (history : List Entry)
+    → all_looks_in rests ≡ 0 → placed version later rests history ≡ placed 0 later [] history
+unfolding placed with_all_looks done_by passed
+placed_alone version [] rests history none = settled_placed version 0 rests history (none_settled version rests none)
+placed_alone version (entry ∷ later) rests history none =
     let so : IsSettled version rests = none_settled version rests none in
-    let next = next_onto setup later history entry legal in
-    rw (settled_placed version 0 rests history so, settled_left version rests so, next)
-    (onto_placed setup (noted version (done_by 0 entry.actor rests)) later (passed 0 entry.actor rests)
-    (entry ∷ history)
-    (omega (arith, passed_fewer 0 entry.actor rests, none)) legal)
+    rw (settled_placed version 0 rests history so, settled_left version rests so)
+    (placed_alone (noted version (done_by 0 entry.actor rests)) later (passed 0 entry.actor rests)
+    (next_entry history entry.actor entry.event entry.reply ∷ history)
+    (omega (arith, passed_fewer 0 entry.actor rests, none)))
+
+alone : (setup : Setup) (later history : List Entry) → IsLegal setup (onto later history)
+    → placed 0 later [] history ≡ onto later history
+unfolding placed with_all_looks done_by passed
+alone setup [] history legal = refl
+alone setup (entry ∷ later) history legal =
+    rw (next_onto setup later history entry legal) (alone setup later (entry ∷ history) legal)
 
 pub unlooked : (setup : Setup) (version : ℕ) (later : List Entry) (rests : List (List Done)) (history : List Entry)
     → all_looks_in rests ≡ 0
     → IsLegal setup (reverse later ++ history) → placed version later rests history ≡ reverse later ++ history
 unlooked setup version later rests history none legal =
     let is : onto later history ≡ reverse later ++ history = onto_is later history in
-    onto_placed setup version later rests history none (rw is legal) ∙ is
+    placed_alone version later rests history none ∙ (alone setup later history (rw is legal) ∙ is)
 
 -- ---- a history that begins as that of a bus
 

@@ -19,8 +19,6 @@ with_looks_own : (v actor : ℕ) (items : List Done) (final : List Entry)
     → onto (map event_of (left_after v items)) (own actor (with_looks v actor items final)) ≡ onto (map event_of items)
     (own actor final)
 unfolding with_looks left_after
-with_looks_own v actor [] final = refl
-with_looks_own v actor (Went after event ∷ items) final = refl
 with_looks_own v actor (Looked kind addr smm look ∷ items) final =
     let is : (actor == actor) ≡ true = grind (arith, nat_tests) in
     elim (cases_Bool (nat_le look.version v)) [
@@ -29,18 +27,18 @@ with_looks_own v actor (Looked kind addr smm look ∷ items) final =
           ∙ rw is refl)
       | inr not ↦ rw not refl
     ]
+with_looks_own v actor _ final = refl
 
 with_looks_other : (v actor c : ℕ) (items : List Done) (final : List Entry) → (actor == c) ≡ false
     → own c (with_looks v actor items final) ≡ own c final
 unfolding with_looks
-with_looks_other v actor c [] final other = refl
-with_looks_other v actor c (Went after event ∷ items) final other = refl
 with_looks_other v actor c (Looked kind addr smm look ∷ items) final other =
     elim (cases_Bool (nat_le look.version v)) [
       | inl is ↦ rw is (with_looks_other v actor c items
           (next_entry final actor (LookAt kind addr smm) (Saw look) ∷ final) other ∙ rw other refl)
       | inr not ↦ rw not refl
     ]
+with_looks_other v actor c _ final other = refl
 
 with_all_other : (v : ℕ) (rests : List (List Done)) (first c : ℕ) (final : List Entry) → c < first
     → own c (with_all_looks v first rests final) ≡ own c final

@@ -7,19 +7,15 @@ use Rattle.run_order.proofs.order.RunOrder.all_looks.Goals as goal
 pub looks-requires-clause-room : goal.looks-requires-clause-room
 looks-requires-clause-room c =
     let l = c.loop-actor in
-    looked_fits (λ done. done.now) c.args.version l.actor (map (λ done. done.now) c.args.rests.now) l.rests
-    (over [] c.args.self.now.entries) (over [] l.self.entries) c.args.self.now.spare l.self.spare
-    (l.invariant.looked [])
-    (record { ref_ptr = (0, 0); now = [] }) (omega (arith, c.loop-actor-test.true, l.auto.rests)) c.requires.room
+    looked_fits (λ done. done.now) l.rests (l.invariant.looked []) (record { ref_ptr = (0, 0); now = [] })
+    (omega (arith, c.loop-actor-test.true, l.auto.rests)) c.requires.room
 
 pub loop-actor-preserved : goal.loop-actor-preserved
 loop-actor-preserved c =
     let l = c.loop-actor in
     record {
-      looked = λ bus. looked_next (λ done. done.now) c.args.version l.actor (map (λ done. done.now) c.args.rests.now)
-          l.rests (over bus c.args.self.now.entries) (over bus l.self.entries) c.args.self.now.spare l.self.spare
-          (l.invariant.looked bus) c.looks.result (record { ref_ptr = (0, 0); now = [] })
-          (over bus c.looks.new.self.entries) c.looks.new.self.spare
+      looked = λ bus. looked_next (λ done. done.now) l.rests (l.invariant.looked bus) c.looks.result
+          (record { ref_ptr = (0, 0); now = [] }) (over bus c.looks.new.self.entries) c.looks.new.self.spare
           (omega (arith, c.loop-actor-test.true, l.auto.rests)) c.looks.ensures.left (c.looks.ensures.placed bus)
           c.looks.ensures.room;
       bus = c.looks.ensures.bus ∙ l.invariant.bus;
@@ -30,9 +26,7 @@ loop-actor-preserved c =
 pub returns : goal.returns
 returns c =
     let l = c.loop-actor in
-    let all = λ (bus : List Entry). looked_last (λ done. done.now) c.args.version l.actor
-    (map (λ done. done.now) c.args.rests.now) l.rests (over bus c.args.self.now.entries) (over bus l.self.entries)
-    c.args.self.now.spare l.self.spare (l.invariant.looked bus)
+    let all = λ (bus : List Entry). looked_last (λ done. done.now) l.rests (l.invariant.looked bus)
     (omega (arith, c.loop-actor-test.false, l.auto.rests)) in
     record {
       placed = λ bus. (all bus).placed;

@@ -14,9 +14,7 @@ loop-i-init c =
     ∙ ap (λ (o : Order). drop o.bus bus) c.self.view_is in
     let old : List (List Done) = map (λ done. done.now) c.args.rests.now in
     record {
-      placed = looked_again later 0 c.args.version c.args.version old old (map (λ done. done.now) c.all_looks.new.rests)
-          (over bus c.args.self.now.entries) (over bus c.args.self.now.entries) (over bus c.all_looks.new.self.entries)
-          c.args.self.now.spare c.all_looks.new.self.spare
+      placed = looked_again old (over bus c.args.self.now.entries) c.args.self.now.spare
           (record { placed_on = refl; fits = omega (arith, ap length later_is, c.requires.room) })
           (record {
             placed = c.all_looks.ensures.placed bus;
@@ -53,16 +51,13 @@ loop-i-preserved c =
     let at : get_or bus l.self.bus nowhere ≡ get_or later l.i nowhere =
     rw (l.invariant.bus, later_is, get_or-drop c.args.self.now.bus bus l.i nowhere) refl in
     let stepped = next_placed (λ done. done.now) l.rests c.without_first.result (record { ref_ptr = (0, 0); now = [] })
-    later l.i c.args.version l.version c.noted-version.result c.from-actor.result l.self.spare old
-    (over bus c.args.self.now.entries) (over bus l.self.entries) (over bus c.push_bus.new.self.entries) nowhere
-    l.invariant.placed l.invariant.settled less (rw (later_is, size) c.requires.callers)
+    c.noted-version.result c.from-actor.result (over bus c.push_bus.new.self.entries) nowhere l.invariant.placed
+    l.invariant.settled less (rw (later_is, size) c.requires.callers)
     (c.from-actor.ensures ∙ ap (λ (e : Entry). e.actor) own) c.noted-version.ensures.noted
     c.without_first.ensures.rest (rw (own, at) at (c.push_bus.ensures.pushed bus)) in
     record {
-      placed = looked_again later (l.i + 1) c.args.version c.noted-version.result old _
-          (map (λ done. done.now) c.next_looks.new.rests) (over bus c.args.self.now.entries)
-          (over bus c.push_bus.new.self.entries) (over bus c.next_looks.new.self.entries) c.push_bus.new.self.spare
-          c.next_looks.new.self.spare (rw c.push_bus.ensures.spare stepped)
+      placed = looked_again _ (over bus c.push_bus.new.self.entries) c.push_bus.new.self.spare
+          (rw c.push_bus.ensures.spare stepped)
           (record {
             placed = c.next_looks.ensures.placed bus;
             left_is = c.next_looks.ensures.left;
@@ -77,8 +72,7 @@ pub returns-clause-placed : goal.returns-clause-placed
 returns-clause-placed c =
     let l = c.loop-i in let bus : List Entry = c.args.bus.now in
     let old : List (List Done) = map (λ done. done.now) c.args.rests.now in
-    placed_last c.from-later.result l.i c.args.version l.version old (map (λ done. done.now) l.rests)
-    (over bus c.args.self.now.entries) (over bus l.self.entries) l.self.spare l.invariant.placed l.invariant.settled
+    placed_last l.invariant.placed l.invariant.settled
     (omega (arith, c.loop-i-test.false, c.len-i-end.ensures.length))
     ∙ ap (λ (entries : List Entry). placed c.args.version entries old (over bus c.args.self.now.entries))
     (c.from-later.ensures.entries ∙ ap (λ (o : Order). drop o.bus bus) c.self.view_is)
