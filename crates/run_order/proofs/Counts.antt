@@ -2,9 +2,9 @@
 use Rattle.std.proofs.Common.{◌≡◌, ℕ, zero, suc, ◌+◌, ◌-◌, ◌^◌, ◌<◌, ◌≤◌, ◌==◌, Bool, true, false, List, [], ◌∷◌, ◌++◌}
 use Rattle.std.proofs.Common.{length, map, take, get_or, set, All, ◌≢◌, refl, sym, ◌∙◌, ap, arith, inl, inr}
 use Rattle.std.proofs.Common.{slice_index, reverse}
-use Rattle.board_prelude.proofs.Common.{cases_Bool, cases_eq, nat_tests, take_more, map-append, length-map}
-use Rattle.board_prelude.proofs.Common.{get_or-set_other, reverse-append, length-reverse, get_or-set_at, All-cons}
-use Rattle.board_prelude.proofs.Common.{All-head, All-tail, Entry, entries_by}
+use Rattle.board_prelude.proofs.Common.{cases_eq, nat_tests, take_more, map-append, length-map, get_or-set_other}
+use Rattle.board_prelude.proofs.Common.{reverse-append, length-reverse, get_or-set_at, All-cons, All-head, All-tail}
+use Rattle.board_prelude.proofs.Common.{Entry, entries_by}
 use Rattle.std.proofs.lemmas.List.Sums.{length-filter, count_by-le-length}
 use Rattle.run_order.specs.declared.done.Done.{Done}
 use Rattle.run_order.specs.declared.done.Done.TheVariants.{Went, Looked}

@@ -1,10 +1,10 @@
 -- Where a look that comes next is in its place.
-use Rattle.std.proofs.Common.{◌≡◌, ℕ, ◌+◌, ◌<◌, ◌≤◌, nat_le, nat_lt, true, false, List, [], ◌∷◌, ◌++◌, refl, sym, subst}
-use Rattle.std.proofs.Common.{arith, inl, inr}
+use Rattle.std.proofs.Common.{◌≡◌, ℕ, ◌+◌, ◌<◌, ◌≤◌, nat_le, true, false, List, [], ◌∷◌, ◌++◌, refl, sym, subst, arith}
+use Rattle.std.proofs.Common.{inl, inr}
 use Rattle.board_prelude.proofs.Common.{cases_Bool, nat_tests, Event, Reply, Entry, Setup, version_of}
 use Rattle.board_spec.specs.declared.event.Event.TheVariants.{Look as LookAt}
 use Rattle.run_order.specs.declared.done.Done.{Done}
-use Rattle.run_order.specs.declared.done.Done.TheVariants.{Went, Looked}
+use Rattle.run_order.specs.declared.done.Done.TheVariants.{Looked}
 use Rattle.run_order.specs.Common.{is_look, left_after, without_lower, IsPlaceOf, IsInPlace}
 use Rattle.run_order.proofs.Histories.{version_step}
 use Rattle.run_order.proofs.Fitting.{Late}
@@ -29,14 +29,10 @@ pub lower_out : (actor : ℕ) (looks since : List Entry) → AreLower actor look
     → without_lower actor (looks ++ since) ≡ since
 lower_out actor [] since lower ends = ends_bare actor since ends
 lower_out actor (entry ∷ looks) since lower ends =
-    let low : entry.actor < actor = lower.1 in
-    let less : nat_lt entry.actor actor ≡ true = grind (arith, nat_tests) in
-    rw (lower.0) (rw less (lower_out actor looks since lower.2 ends))
+    grind (arith, nat_tests, lower.0, lower.1, lower_out actor looks since lower.2 ends)
 
 own_stays : (entry : Entry) (before : List Entry) → without_lower entry.actor (entry ∷ before) ≡ entry ∷ before
-own_stays entry before =
-    let not : nat_lt entry.actor entry.actor ≡ false = grind (arith, nat_tests) in
-    elim (cases_Bool (is_look entry.event)) [ inl is ↦ rw is (rw not refl) | inr other ↦ rw other refl ]
+own_stays entry before = grind (arith, nat_tests)
 
 pub lower_on : (first : ℕ) (looks : List Entry) → AreLower first looks → AreLower (first + 1) looks
 lower_on first [] lower = tt

@@ -1,8 +1,8 @@
 -- What holds of each processor's statements, where a call of the bus passes.
-use Rattle.std.proofs.Common.{◌≡◌, ◌≢◌, ℕ, zero, suc, ◌+◌, ◌<◌, ◌==◌, true, false, List, [], ◌∷◌, length, arith}
-use Rattle.std.proofs.Common.{◌∙◌, inl, inr, MatchBool, get_or}
-use Rattle.board_prelude.proofs.Common.{length-map, cases_eq, cases_lt, nat_tests, Entry, Setup}
-use Rattle.board_prelude.proofs.Common.{version_of, length-set, get_or-set_at, get_or-set_other, get_or_past}
+use Rattle.std.proofs.Common.{◌≡◌, ◌≢◌, ℕ, zero, suc, ◌+◌, ◌<◌, ◌==◌, true, false, List, [], ◌∷◌, length, arith, ◌∙◌}
+use Rattle.std.proofs.Common.{inl, inr, MatchBool, get_or}
+use Rattle.board_prelude.proofs.Common.{length-map, cases_eq, cases_lt, nat_tests, Entry, Setup, version_of, length-set}
+use Rattle.board_prelude.proofs.Common.{get_or-set_at, get_or-set_other, get_or_past}
 use Rattle.run_order.specs.declared.done.Done.{Done}
 use Rattle.run_order.specs.Common.{left_after, all_left, without_first, passed, done_by}
 use Rattle.run_order.proofs.Fitting.{IsHeaded, Fits}

@@ -1,6 +1,6 @@
 -- Beginnings of a history, and a processor's entries in it.
 use Rattle.std.proofs.Common.{◌≡◌, ℕ, ◌+◌, ◌<◌, ◌≤◌, ◌==◌, true, List, [], ◌∷◌, ◌++◌, length, refl, sym, ◌∙◌, ap, arith}
-use Rattle.std.proofs.Common.{append_assoc, Option, Some, None, inl, inr, reverse}
+use Rattle.std.proofs.Common.{append_assoc, Option, inl, inr, reverse}
 use Rattle.board_prelude.proofs.Common.{option_to_list, reverse-append, cases_Bool, nat_tests, Entry, MapChange, Setup}
 use Rattle.board_prelude.proofs.Common.{version_of, IsLegal, map_change_of, map_writes_of, entries_by}
 use Rattle.run_order.specs.Trace.{Begins}
@@ -77,8 +77,7 @@ same_place actor whole left right before other a b l r n = same actor a.0 b.0 le
 one_write : (change : Option MapChange) (writes : List MapChange)
     → (length writes ≤ length (option_to_list change ++ writes))
     × (length (option_to_list change ++ writes) ≤ length writes + 1)
-one_write None writes = (omega arith, omega arith)
-one_write (Some change) writes = (omega arith, omega arith)
+one_write change writes = grind arith
 
 -- an entry is at most one map write
 pub version_step : (setup : Setup) (entry : Entry) (before : List Entry)

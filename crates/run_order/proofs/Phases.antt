@@ -4,11 +4,10 @@ use Rattle.std.proofs.Common.{take, drop, All, refl, sym, ◌∙◌, ap, subst, 
 use Rattle.std.proofs.lemmas.List.{append_cancel_right}
 use Rattle.board_spec.proofs.OrderLawProofs.{events-append, statements-append, statements-newest}
 use Rattle.board_prelude.proofs.Common.{cases_Bool, cases_lt, nat_tests, append-nil, reverse-append, reverse-reverse}
-use Rattle.board_prelude.proofs.Common.{get_or_past, filter-append, map-append, length-map, length-reverse}
-use Rattle.board_prelude.proofs.Common.{length-take, take_all}
-use Rattle.board_prelude.proofs.Common.{drop_all, take-append-le, drop-append-le, All-head, All-tail, Event, Entry}
-use Rattle.board_prelude.proofs.Common.{Statement, version_of, entries_by, statement_of, statements_of, events_by}
-use Rattle.board_prelude.proofs.Common.{IsWholePhase, HasPhases}
+use Rattle.board_prelude.proofs.Common.{get_or_past, filter-append, map-append, length-map, length-reverse, length-take}
+use Rattle.board_prelude.proofs.Common.{take_all, drop_all, take-append-le, drop-append-le, All-head, All-tail, Event}
+use Rattle.board_prelude.proofs.Common.{Entry, Statement, version_of, entries_by, statement_of, statements_of}
+use Rattle.board_prelude.proofs.Common.{events_by, IsWholePhase, HasPhases}
 use Rattle.run_order.specs.declared.done.Done.{Done}
 use Rattle.run_order.specs.Common.{event_of, placed, done_by, bare, AnswersAreBlind, PhaseRuns}
 use Rattle.run_order.proofs.Histories.{onto, onto_is}

@@ -5,7 +5,7 @@ use Rattle.board_prelude.proofs.Common.{cases_Bool, nat_tests, Saw, Entry, Setup
 use Rattle.board_prelude.proofs.Common.{next_entry, get_or-map, length-map, All-head, All-tail}
 use Rattle.board_spec.specs.declared.event.Event.TheVariants.{Look as LookAt}
 use Rattle.run_order.specs.declared.done.Done.{Done}
-use Rattle.run_order.specs.declared.done.Done.TheVariants.{Went, Looked}
+use Rattle.run_order.specs.declared.done.Done.TheVariants.{Looked}
 use Rattle.run_order.specs.Common.{is_look, event_of, with_looks, left_after, with_all_looks, all_left, done_by, passed}
 use Rattle.run_order.specs.Common.{without_first, placed, AreInPlace, bare, AnswersAreBlind}
 use Rattle.run_order.proofs.Histories.{onto, legal_front}

@@ -4,7 +4,7 @@ use Rattle.std.proofs.Common.{get_or, map, set, refl, sym, ◌∙◌, ap, arith,
 use Rattle.board_prelude.proofs.Common.{cases_Bool, nat_tests, length-map, get_or-map, map-set, get_or-set_other}
 use Rattle.board_prelude.proofs.Common.{drop_more, drop_all, All-get_or, Entry, next_entry}
 use Rattle.run_order.specs.declared.done.Done.{Done}
-use Rattle.run_order.specs.declared.done.Done.TheVariants.{Went, Looked}
+use Rattle.run_order.specs.declared.done.Done.TheVariants.{Looked}
 use Rattle.run_order.specs.Common.{with_looks, left_after, with_all_looks, all_left, without_first, noted, placed}
 use Rattle.run_order.specs.Common.{done_by, passed, looks_in, all_looks_in, IsNotDue, IsSettled, IsSettledBut}
 use Rattle.run_order.proofs.Counts.{count_set}

@@ -1,30 +1,21 @@
 -- What a processor did, by its place among the lists.
-use Rattle.std.proofs.Common.{◌≡◌, ℕ, zero, suc, ◌+◌, ◌≤◌, ◌==◌, true, false, List, [], ◌∷◌, map, get_or, set, refl}
-use Rattle.std.proofs.Common.{◌∙◌, ap, arith}
+use Rattle.std.proofs.Common.{◌≡◌, ℕ, zero, suc, ◌+◌, ◌≤◌, ◌==◌, true, List, [], ◌∷◌, map, get_or, set, refl, ap, arith}
 use Rattle.board_prelude.proofs.Common.{nat_tests}
 use Rattle.run_order.specs.declared.done.Done.{Done}
-use Rattle.run_order.specs.declared.done.Done.TheVariants.{Went, Looked}
 use Rattle.run_order.specs.Common.{done_by, without_first, passed, looks_in, all_looks_in}
 
 pub done_at : (rests : List (List Done)) (first k : ℕ) → done_by first (first + k) rests ≡ get_or rests k []
 unfolding done_by
 done_at [] first k = refl
 done_at (done ∷ rests) first zero = let is : (first + 0 == first) ≡ true = grind (arith, nat_tests) in rw is refl
-done_at (done ∷ rests) first (suc k) =
-    let not : (first + suc k == first) ≡ false = grind (arith, nat_tests) in
-    let next : first + suc k ≡ (first + 1) + k = omega arith in
-    rw not (ap (λ (n : ℕ). done_by (first + 1) n rests) next ∙ done_at rests (first + 1) k)
+done_at (done ∷ rests) first (suc k) = grind (arith, nat_tests, done_at rests (first + 1) k)
 
 passed_at : (rests : List (List Done)) (first k : ℕ)
     → passed first (first + k) rests ≡ set rests k (without_first (get_or rests k []))
 unfolding passed
 passed_at [] first k = refl
 passed_at (done ∷ rests) first zero = let is : (first + 0 == first) ≡ true = grind (arith, nat_tests) in rw is refl
-passed_at (done ∷ rests) first (suc k) =
-    let not : (first + suc k == first) ≡ false = grind (arith, nat_tests) in
-    let next : first + suc k ≡ (first + 1) + k = omega arith in
-    rw not (ap (λ (r : List (List Done)). done ∷ r) (ap (λ (n : ℕ). passed (first + 1) n rests) next
-    ∙ passed_at rests (first + 1) k))
+passed_at (done ∷ rests) first (suc k) = grind (arith, nat_tests, passed_at rests (first + 1) k)
 
 -- the same, counted from the first processor
 pub from_first : (rests : List (List Done)) (k : ℕ) → (done_by 0 k rests ≡ get_or rests k [])
@@ -33,9 +24,7 @@ from_first rests k =
     let plus : 0 + k ≡ k = omega arith in (rw plus at (done_at rests 0 k), rw plus at (passed_at rests 0 k))
 
 pub first_is_one : (done : List Done) → looks_in (without_first done) ≤ looks_in done
-first_is_one [] = omega arith
-first_is_one (Went version event ∷ done) = omega arith
-first_is_one (Looked kind addr smm look ∷ done) = omega arith
+first_is_one done = grind arith
 
 -- without what one did first, there are no more looks
 pub no_more_looks : {X : Type 0} (f : X → List Done) (xs : List X) (k : ℕ) (x none : X)

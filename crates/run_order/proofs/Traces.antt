@@ -2,9 +2,8 @@
 use Rattle.std.proofs.Common.{◌≡◌, ℕ, ◌+◌, ◌-◌, ◌≤◌, Bool, List, [], ◌∷◌, ◌++◌, length, refl, sym, ◌∙◌, ap, arith, inl}
 use Rattle.std.proofs.Common.{inr, append_assoc, length-append, ⊎_elim}
 use Rattle.board_prelude.proofs.Common.{drop-append_seam, option_to_list, Kind, Area, Look, Entry, MapChange, Setup}
-use Rattle.board_prelude.proofs.Common.{IsCardList, byte_of}
-use Rattle.board_prelude.proofs.Common.{map_change_of, map_writes_of, version_of, registers_after, Bytes, area_of}
-use Rattle.board_prelude.proofs.Common.{IsSpan, SameMapBytes, map_writes_decide, map_bytes_decide}
+use Rattle.board_prelude.proofs.Common.{IsCardList, byte_of, map_change_of, map_writes_of, version_of, registers_after}
+use Rattle.board_prelude.proofs.Common.{Bytes, area_of, IsSpan, SameMapBytes, map_writes_decide, map_bytes_decide}
 use Rattle.board_spec.specs.declared.event.Event.TheVariants.{Look as LookAt}
 use Rattle.run_order.specs.declared.done.Done.{Done}
 use Rattle.run_order.specs.declared.done.Done.TheVariants.{Went, Looked}

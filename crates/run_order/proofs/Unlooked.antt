@@ -1,10 +1,10 @@
 -- Where nobody looked, the placed history is that of the bus.
-use Rattle.std.proofs.Common.{◌≡◌, ℕ, ◌+◌, ◌<◌, ◌≤◌, ◌==◌, List, [], ◌∷◌, ◌++◌, length, take, drop, get_or, refl, sym}
-use Rattle.std.proofs.Common.{◌∙◌, ap, arith, inl, inr, reverse}
-use Rattle.board_prelude.proofs.Common.{cases_Bool, take_more, drop_more, reverse-append, take-append-drop, Entry}
-use Rattle.board_prelude.proofs.Common.{Setup, IsLegal, next_entry}
+use Rattle.std.proofs.Common.{◌≡◌, ℕ, ◌+◌, ◌<◌, ◌≤◌, List, [], ◌∷◌, ◌++◌, length, take, drop, get_or, refl, sym, ◌∙◌}
+use Rattle.std.proofs.Common.{ap, arith, reverse}
+use Rattle.board_prelude.proofs.Common.{nat_tests, take_more, drop_more, reverse-append, take-append-drop, Entry, Setup}
+use Rattle.board_prelude.proofs.Common.{IsLegal, next_entry}
 use Rattle.run_order.specs.declared.done.Done.{Done}
-use Rattle.run_order.specs.declared.done.Done.TheVariants.{Went, Looked}
+use Rattle.run_order.specs.declared.done.Done.TheVariants.{Looked}
 use Rattle.run_order.specs.Common.{with_all_looks, passed, done_by, noted, placed, looks_in, all_looks_in, IsNotDue}
 use Rattle.run_order.specs.Common.{IsSettled}
 use Rattle.run_order.proofs.Histories.{onto, onto_is, legal_front}
@@ -34,10 +34,7 @@ passed_fewer : (first actor : ℕ) (rests : List (List Done)) → all_looks_in (
 unfolding passed
 passed_fewer first actor [] = omega arith
 passed_fewer first actor (done ∷ rests) =
-    elim (cases_Bool (actor == first)) [
-      | inl is ↦ rw is (omega (arith, first_is_one done))
-      | inr not ↦ rw not (omega (arith, passed_fewer (first + 1) actor rests))
-    ]
+    grind (arith, nat_tests, first_is_one done, passed_fewer (first + 1) actor rests)
 
 -- the entries of the bus alone enter the history, as where nobody did anything
 pub placed_alone : (version : ℕ) (later : List Entry) (rests : List (List Done)) (history : List Entry)

@@ -5,7 +5,7 @@ use Rattle.board_prelude.proofs.Common.{cases_Bool, nat_tests, get_or-set_at, ge
 use Rattle.board_prelude.proofs.Common.{entries_by, next_entry}
 use Rattle.board_spec.specs.declared.event.Event.TheVariants.{Look as LookAt}
 use Rattle.run_order.specs.declared.done.Done.{Done}
-use Rattle.run_order.specs.declared.done.Done.TheVariants.{Went, Looked}
+use Rattle.run_order.specs.declared.done.Done.TheVariants.{Looked}
 use Rattle.run_order.specs.Placing.{event_of, with_looks, left_after, with_all_looks, all_left, without_first, passed}
 use Rattle.run_order.specs.Placing.{done_by}
 use Rattle.run_order.proofs.Histories.{onto}
@@ -33,11 +33,8 @@ with_looks_other : (v actor c : ℕ) (items : List Done) (final : List Entry) �
     → own c (with_looks v actor items final) ≡ own c final
 unfolding with_looks
 with_looks_other v actor c (Looked kind addr smm look ∷ items) final other =
-    elim (cases_Bool (nat_le look.version v)) [
-      | inl is ↦ rw is (with_looks_other v actor c items
-          (next_entry final actor (LookAt kind addr smm) (Saw look) ∷ final) other ∙ rw other refl)
-      | inr not ↦ rw not refl
-    ]
+    let entry : Entry = next_entry final actor (LookAt kind addr smm) (Saw look) in
+    grind (arith, nat_tests, other, with_looks_other v actor c items (entry ∷ final) other)
 with_looks_other v actor c _ final other = refl
 
 with_all_other : (v : ℕ) (rests : List (List Done)) (first c : ℕ) (final : List Entry) → c < first

@@ -1,4 +1,4 @@
-use Rattle.std.proofs.Common.{List, [], map, refl, ◌∙◌, arith}
+use Rattle.std.proofs.Common.{List, [], refl, ◌∙◌, arith}
 use Rattle.board_prelude.proofs.Common.{Entry}
 use Rattle.run_order.specs.Common.{over}
 use Rattle.run_order.proofs.Looked.{looked_next, looked_last, looked_fits}

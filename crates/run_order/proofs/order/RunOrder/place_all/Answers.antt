@@ -1,4 +1,4 @@
-use Rattle.std.proofs.Common.{◌≡◌, ◌+◌, ◌<◌, List, [], length, get_or, map, drop, refl, sym, ◌∙◌, ap, arith}
+use Rattle.std.proofs.Common.{◌≡◌, ◌<◌, List, [], length, get_or, map, drop, refl, sym, ◌∙◌, ap, arith}
 use Rattle.board_prelude.proofs.Common.{get_or-drop, Entry}
 use Rattle.run_order.specs.declared.done.Done.{Done}
 use Rattle.run_order.specs.Over.{nowhere}
