@@ -1,14 +1,16 @@
 -- The card that was read is the one that the fields spell.
 use Rattle.std.proofs.Common.{◌≡◌, ℕ, ◌<◌, ◌≤◌, ◌⊎◌, inl, inr, Bool, true, false, Some, None, List, [], ◌∷◌, ◌++◌}
-use Rattle.std.proofs.Common.{length, map, All, refl, append_assoc, arith, codes, decimal, eqb, cond}
+use Rattle.std.proofs.Common.{length, map, All, refl, append_assoc, arith, codes, decimal, eqb, cond, ◌+◌, Option, sym}
+use Rattle.std.proofs.Common.{ap, append-nil}
 use Rattle.board_prelude.proofs.Common.{nat_tests, cases_Bool, eqb-true, option_map, length-append, All-nil, All-push}
-use Rattle.board_prelude.proofs.Common.{map-append, Base, MemoryBase, IoBase, FittedCard}
+use Rattle.board_prelude.proofs.Common.{map-append, Base, MemoryBase, IoBase, FittedCard, eq-eqb, lt-ltb, All-head}
+use Rattle.board_prelude.proofs.Common.{All-tail}
 use Rattle.script_spec.specs.Common.{IsBaseForm, IsRomForm, IsCardForm, parse_decimal, parse_base, Tail, parse_rom_bits}
 use Rattle.script_spec.specs.Common.{with_base, with_rom, with_field, with_fields, no_tail, parse_vga, parse_card}
 use Rattle.script_spec.proofs.Chains.{some_is, guarded, mapped, then_said, then_read}
-use Rattle.script_spec.proofs.NumberTexts.{decimal_read}
+use Rattle.script_spec.proofs.NumberTexts.{decimal_read, decimal_back}
 use Rattle.script_spec.proofs.Joins.{word_is}
-use Rattle.script_spec.proofs.ItemWords.{kind_word, base_word, tail_words}
+use Rattle.script_spec.proofs.ItemWords.{kind_word, base_word, tail_words, rom_words}
 
 base_read : (field : List ℕ) (base : Base) → parse_base field ≡ Some base → (field ≡ base_word base) × IsBaseForm base
 unfolding parse_base
@@ -119,3 +121,48 @@ card_read version (dev ∷ kind ∷ fields) card e =
       record { dev = d.1.1; count = t.1.count; each = t.1.each; rom = t.1.rom },
     )
 card_read version _ card e = absurd cc
+
+no_rom : (version : ℕ) (base : Base) → parse_rom_bits version (base_word base) ≡ None
+unfolding parse_rom_bits
+no_rom version base = grind (arith, nat_tests)
+
+next_back : (version : ℕ) (before : List Base) (base : Base) → IsBaseForm base → length before < 6
+    → with_field version (fresh before) (base_word base) ≡ Some (fresh (before ++ base ∷ []))
+unfolding parse_base with_base with_field with_rom
+next_back version before base form room = grind (arith, nat_tests, no_rom, lt-ltb, decimal_back)
+
+rom_back : (version : ℕ) (before : List Base) (bits : ℕ) → IsRomForm version (Some bits)
+    → with_field version (fresh before) (codes "x" ++ decimal bits) ≡ Some (record { bases = before; rom = Some bits })
+unfolding with_field with_rom parse_rom_bits
+rom_back version before bits form = rw (eq-eqb version 2 form.0, decimal_back bits form.1) refl
+
+tail_back : (version : ℕ) (before more : List Base) (rom : Option ℕ) → length before + length more ≤ 6
+    → All IsBaseForm more
+    → IsRomForm version rom
+    → with_fields version (fresh before) (map base_word more ++ rom_words rom) ≡ Some
+    (record { bases = before ++ more; rom = rom })
+unfolding with_fields
+tail_back version before [] None few each form = ap (λ (b : List Base). Some (fresh b)) (sym (append-nil before))
+tail_back version before [] (Some bits) few each form = simp (rom_back, append-nil)
+tail_back version before (base ∷ more) rom few each form =
+    grind (
+      arith,
+      nat_tests,
+      next_back,
+      All-head,
+      length-append,
+      All-tail,
+      append_assoc,
+      tail_back version (before ++
+          base ∷ []) more rom (omega (arith, few, length-append before (base ∷ [])))
+          (All-tail IsBaseForm base more each)
+          form,
+    )
+
+pub fitted_back : (version dev : ℕ) (vga : Bool) (bases : List Base) (rom : Option ℕ)
+    → IsCardForm version (record { dev = dev; vga = vga; bases = bases; rom = rom })
+    → parse_card version (decimal dev ∷ kind_word vga ∷ tail_words bases rom)
+    ≡ Some (record { dev = dev; vga = vga; bases = bases; rom = rom })
+unfolding parse_card
+fitted_back version dev true bases rom form = grind (arith, nat_tests, decimal_back, tail_back)
+fitted_back version dev false bases rom form = grind (arith, nat_tests, decimal_back, tail_back)

@@ -5,8 +5,7 @@ use Rattle.std.proofs.Common.{arith, ℕ, ◌≡◌, ◌≢◌, ◌+◌, ◌⊎�
 use Rattle.std.proofs.Common.{inl, inr, append_assoc}
 use Rattle.script_spec.specs.Common.{text_of_lines, IsOneLine, AreBegun, LeavesAt, IsSomeLog, IsLogOf, OneBadLog}
 use Rattle.script_spec.specs.Common.{OneDifference}
-use Rattle.script_spec.proofs.Digits.{lacks}
-use Rattle.script_spec.proofs.Fields.{front, back, front-field, back-field, lacks-first, lacks-later}
+use Rattle.script_spec.proofs.Digits.{lacks, front, back, front-field, back-field, lacks-first, lacks-later}
 
 pub lacks-line : (line : List ℕ) → IsOneLine line → lacks line_feed line ≡ true
 lacks-line [] each = refl

@@ -6,7 +6,7 @@ use Rattle.script_spec.specs.Common.{lines_of, Item, HasForm, parse_line, lacks_
 use Rattle.script_spec.specs.Common.{is_skipped, IsBadLine, AreRead, EndsBadly, IsVersion, first_line, BeginsBadly}
 use Rattle.script_spec.specs.Common.{IsBadLater, Script, IsScriptText}
 use Rattle.script_spec.proofs.LineReading.{read_says, nothing_said}
-use Rattle.script_spec.proofs.Lists.{same_head, not_nil}
+use Rattle.script_spec.proofs.Chains.{same_head, not_nil}
 use Rattle.script_spec.proofs.ItemBack.{line_back}
 
 -- ---- one line, after the items before it

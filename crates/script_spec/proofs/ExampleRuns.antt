@@ -1,24 +1,25 @@
 -- The worked texts of scripts, decided by computation.
-use Rattle.board_prelude.proofs.Common.{nat_tests}
+use Rattle.board_prelude.proofs.Common.{nat_tests, digits, false≢true, All-nil, All-cons, weekday_of, days_since_1980}
+use Rattle.board_prelude.proofs.Common.{days_of_years, days_of_months, IsPermutation, option_map, Rises, find}
 use Rattle.std.proofs.Common.{ℕ, ◌≡◌, ◌<◌, Bool, true, false, List, [], ◌∷◌, map, All, Result, Ok, Err, refl, arith}
-use Rattle.std.proofs.Common.{subst}
-use Rattle.board_prelude.proofs.Common.{digits, false≢true, All-nil, All-cons, weekday_of, days_since_1980}
-use Rattle.board_prelude.proofs.Common.{days_of_years, days_of_months}
+use Rattle.std.proofs.Common.{subst, sym, Some}
+use Rattle.script_spec.specs.Common.{is_cpus, is_memory, is_rom, is_disk, SetCpus, SetMemory, SetRom, SetDisk, cards_of}
+use Rattle.script_spec.specs.Common.{phase_items, lines_of, text_of_lines, Item, number_after, parse_two_digits}
+use Rattle.script_spec.specs.Common.{after_mark, parse_moment_part, parse_year, parse_date, parse_time, whole_moment}
+use Rattle.script_spec.specs.Common.{parse_moment, parse_base, parse_rom_bits, with_base, with_rom, with_field}
+use Rattle.script_spec.specs.Common.{with_fields, parse_card, parse_smm, memory_event, parse_read, parse_write}
+use Rattle.script_spec.specs.Common.{parse_in, parse_out, parse_look, parse_ack, parse_number, parse_two_numbers}
+use Rattle.script_spec.specs.Common.{parse_only_moment, parse_time_item, parse_stimulus_item, parse_given}
+use Rattle.script_spec.specs.Common.{parse_by_verb, parse_statement_words, is_name, parse_name, parse_phase}
+use Rattle.script_spec.specs.Common.{parse_statement, parse_by_key, parse_item, least_reason, Script, IsSaidBy}
+use Rattle.script_spec.specs.Common.{IsScriptText, IsScriptBad, BadText, IsBadText, bad_texts, AreBad, Bound, with_line}
+use Rattle.script_spec.specs.Common.{IsBound, bounds, AreBounds, TwoProcessors, TwoOrders, WideScript}
+use Rattle.script_spec.proofs.ReadingExists.{run_of, text_said}
 use Rattle.std.proofs.lemmas.List.Sorted.{IsPermutation-refl}
-use Rattle.script_spec.specs.Common.{lines_of, text_of_lines, Item, number_after, parse_two_digits, after_mark}
-use Rattle.script_spec.specs.Common.{parse_moment_part, parse_year, parse_date, parse_time, whole_moment, parse_moment}
-use Rattle.script_spec.specs.Common.{parse_base, parse_rom_bits, with_base, with_rom, with_field, with_fields}
-use Rattle.script_spec.specs.Common.{parse_card, parse_smm, memory_event, parse_read, parse_write, parse_in, parse_out}
-use Rattle.script_spec.specs.Common.{parse_look, parse_ack, parse_number, parse_two_numbers, parse_only_moment}
-use Rattle.script_spec.specs.Common.{parse_time_item, parse_stimulus_item, parse_given, parse_by_verb}
-use Rattle.script_spec.specs.Common.{parse_statement_words, is_name, parse_name, parse_phase, parse_statement}
-use Rattle.script_spec.specs.Common.{parse_by_key, parse_item, least_reason, Script, IsSaidBy, IsScriptText}
-use Rattle.script_spec.specs.Common.{IsScriptBad, BadText, IsBadText, bad_texts, AreBad, Bound, with_line, IsBound}
-use Rattle.script_spec.specs.Common.{bounds, AreBounds, TwoProcessors, TwoOrders, WideScript}
 use Rattle.script_spec.specs.Events.{read_event, write_event, in_event, out_event, look_event}
-use Rattle.script_spec.proofs.Lists.{same_head, same_tail}
+use Rattle.script_spec.proofs.Chains.{same_head, same_tail}
 use Rattle.script_spec.proofs.Decision.{judged, judged_lines, AreJudged, judged_is}
-use Rattle.script_spec.proofs.ReadingExists.{text_said}
+use Rattle.script_spec.specs.ExampleEntries.{NameBorders, EntryBorders}
 
 abbrev Judged : Type 0
 Judged = Result (ℕ × List Item) (ℕ × ℕ)
@@ -80,20 +81,28 @@ judged_so : (bytes : List ℕ) (script : Script) (result : Judged) → AreJudged
 judged_so bytes script (Ok found) good e same said = grind (arith, nat_tests)
 judged_so bytes script (Err end) bad e same said = absurd (false≢true e)
 
-says : (bytes : List ℕ) (script : Script) → is_good (judge bytes) ≡ true → version_in (judge bytes) ≡ script.version →
-    IsSaidBy script (items_in (judge bytes)) → IsScriptText bytes script
-says bytes script = judged_so bytes script (judge bytes) (judged_is (lines_of bytes))
+says : (bytes : List ℕ) (script : Script) (items : List Item) → is_good (judge bytes) ≡ true
+    → version_in (judge bytes) ≡ script.version → items_in (judge bytes) ≡ items
+    → find is_cpus items ≡ Some (SetCpus script.cpus) → find is_memory items ≡ Some (SetMemory script.mib)
+    → find is_rom items ≡ Some (SetRom script.rom) → find is_disk items ≡ option_map SetDisk script.disk
+    → cards_of items ≡ script.cards → Rises script.cards → run_of items ≡ phase_items script.phases
+    → IsScriptText bytes script
+says bytes script items good version is cpus memory rom disk cards rises phases =
+    judged_so bytes script (judge bytes) (judged_is (lines_of bytes)) good version (subst (IsSaidBy script) (sym is) (
+      record {
+        cpus = cpus;
+        memory = memory;
+        rom = rom;
+        disk = disk;
+        cards = subst (IsPermutation (cards_of items)) cards (IsPermutation-refl (cards_of items));
+        rises = rises;
+        phases = phases;
+      }
+    ))
 
 -- ---- the worked texts
 
-pub record AreWorked : Type 0 where
-  pub bad : AreBad
-  pub bounds : AreBounds
-  pub processors : TwoProcessors
-  pub orders : TwoOrders
-  pub wide : WideScript
-
-pub worked : AreWorked
+pub worked : AreBad × AreBounds × TwoProcessors × TwoOrders × WideScript
 unfolding AreBad AreBounds TwoProcessors TwoOrders WideScript bad_texts bounds lines_of digits judged_lines number_after
     parse_two_digits after_mark parse_moment_part parse_year parse_date parse_time whole_moment parse_moment parse_base
     parse_rom_bits with_base with_rom with_field with_fields parse_card parse_smm memory_event read_event write_event
@@ -101,52 +110,18 @@ unfolding AreBad AreBounds TwoProcessors TwoOrders WideScript bad_texts bounds l
     parse_two_numbers parse_only_moment parse_time_item parse_stimulus_item parse_given parse_by_verb
     parse_statement_words is_name parse_name parse_phase parse_statement parse_by_key parse_item least_reason weekday_of
     days_since_1980 days_of_years days_of_months
-worked = record {
-  bad = each_bad bad_texts refl;
-  bounds = each_bound bounds refl refl;
-  processors = says _ _ refl refl (record {
-    cpus = refl;
-    memory = refl;
-    rom = refl;
-    disk = refl;
-    cards = IsPermutation-refl _;
-    rises = (
-      All-cons (λ other. 2 < other.dev) _ [] (omega arith) (All-nil (λ other. 2 < other.dev)),
-      (All-nil (λ other. 3 < other.dev), tt),
-    );
-    phases = refl;
-  });
-  orders = says _ _ refl refl (record {
-    cpus = refl;
-    memory = refl;
-    rom = refl;
-    disk = refl;
-    cards = IsPermutation-refl _;
-    rises = tt {0};
-    phases = refl;
-  });
-  wide = says _ _ refl refl (record {
-    cpus = refl;
-    memory = refl;
-    rom = refl;
-    disk = refl;
-    cards = IsPermutation-refl _;
-    rises = (All-nil (λ other. 2 < other.dev), tt);
-    phases = refl;
-  });
-}
+worked = (
+  each_bad bad_texts refl,
+  each_bound bounds refl refl,
+  says _ _ _ refl refl refl refl refl refl refl refl (
+    All-cons (λ other. 2 < other.dev) _ [] (omega arith) (All-nil (λ other. 2 < other.dev)),
+    (All-nil (λ other. 3 < other.dev), tt),
+  ) refl,
+  says _ _ _ refl refl refl refl refl refl refl refl (tt {0}) refl,
+  says _ _ _ refl refl refl refl refl refl refl refl (All-nil (λ other. 2 < other.dev), tt) refl,
+)
 
-pub are_bad : AreBad
-are_bad = worked.bad
+-- ---- the borders of what a log can say
 
-pub are_bounds : AreBounds
-are_bounds = worked.bounds
-
-pub two_processors : TwoProcessors
-two_processors = worked.processors
-
-pub two_orders : TwoOrders
-two_orders = worked.orders
-
-pub wide_script : WideScript
-wide_script = worked.wide
+pub borders : NameBorders × EntryBorders
+borders = grind (arith, nat_tests)

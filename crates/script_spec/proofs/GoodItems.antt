@@ -1,8 +1,11 @@
 -- What holds of items that were read.
-use Rattle.board_prelude.proofs.Common.{nat_tests, option_map, find, not-false, none-some}
-use Rattle.std.proofs.Common.{arith, ℕ, ◌≡◌, Bool, true, false, ◌&&◌, Some, None, List, [], ◌∷◌, inl, inr}
+use Rattle.board_prelude.proofs.Common.{nat_tests, option_map, find, not-false, none-some, most_statements, most_phases}
+use Rattle.board_prelude.proofs.Common.{most_pulses, most_card_memory, memory_of_cards}
+use Rattle.std.proofs.Common.{arith, ℕ, ◌≡◌, ◌≤◌, Bool, true, false, ◌&&◌, Some, None, List, [], ◌∷◌, inl, inr, length}
+use Rattle.std.proofs.Common.{filter, sum_by}
 use Rattle.script_spec.specs.Common.{Item, IsForm, Reason, reasons, is_phase, is_misplaced, is_repeated, lacks_setup}
 use Rattle.script_spec.specs.Common.{is_in_range, is_placed, is_there, passes_limits, least_reason, AreRead}
+use Rattle.script_spec.specs.Common.{is_statement, pulses_of, cards_of}
 
 -- there is no reason to refuse an item after these
 pub record NoReason (before : List Item) (item : Item) : Type 0 where
@@ -26,6 +29,16 @@ pub no_reason : (before : List Item) (item : Item) → least_reason before item 
 unfolding least_reason
 no_reason before item none =
     let fails = none_holds (reasons before item) none in grind (arith, nat_tests, not-false)
+
+-- no limit is passed by these
+pub record IsWithinLimits (items : List Item) : Type 0 where
+  pub statements : length (filter is_statement items) ≤ most_statements
+  pub phases : length (filter is_phase items) ≤ most_phases
+  pub pulses : sum_by pulses_of items ≤ most_pulses
+  pub memory : memory_of_cards (cards_of items) ≤ most_card_memory
+
+pub within_limits : (items : List Item) → passes_limits items ≡ false → IsWithinLimits items
+within_limits items none = grind (arith, nat_tests)
 
 -- each item has a form, and there was no reason to refuse it
 abbrev pub AreGood : (version : ℕ) → List Item → Type 0

@@ -1,17 +1,26 @@
 -- Each line of a form is read as what it says.
-use Rattle.std.proofs.Common.{◌≡◌, ℕ, ◌≤◌, true, Some, List, [], ◌∷◌, refl, ap, ◌∙◌, arith, decimal}
-use Rattle.board_prelude.proofs.Common.{nat_tests, Stimulus, stimulus_form}
+use Rattle.std.proofs.Common.{◌≡◌, ℕ, ◌≤◌, true, false, Some, List, [], ◌∷◌, inl, inr, refl, ap, ◌∙◌, arith, decimal}
+use Rattle.std.proofs.Common.{bytes_eq}
+use Rattle.board_prelude.proofs.Common.{nat_tests, AllDigits, cases_Bool, Stimulus, stimulus_form}
 use Rattle.script_spec.specs.Common.{Item, SetCpus, SetMemory, SetRom, SetDisk, FitCard, BeginPhase, Ask, AskLevel}
 use Rattle.script_spec.specs.Common.{IsDecimal, IsName, IsForm, IsLevelForm, HasForm, fields_of, stimulus_item}
 use Rattle.script_spec.specs.Common.{parse_given, parse_statement_words, parse_statement, parse_by_key, parse_item}
-use Rattle.script_spec.specs.Common.{parse_number, is_name, parse_name, parse_phase}
-use Rattle.script_spec.proofs.NumberBack.{decimal_back}
-use Rattle.script_spec.proofs.FieldTexts.{no_word}
+use Rattle.script_spec.specs.Common.{parse_number, parse_two_numbers, is_name, parse_name, parse_phase}
+use Rattle.script_spec.proofs.Digits.{digits_of_decimal}
+use Rattle.script_spec.proofs.Joins.{word_is}
+use Rattle.script_spec.proofs.NumberTexts.{decimal_back}
 use Rattle.script_spec.proofs.ItemWords.{item_words, AreFields, fields_said}
-use Rattle.script_spec.proofs.EventBack.{event_back, number_is, two_back, by_stimulus}
-use Rattle.script_spec.proofs.CardBack.{fitted_back}
+use Rattle.script_spec.proofs.EventTexts.{event_back, number_is, by_stimulus}
+use Rattle.script_spec.proofs.CardTexts.{fitted_back}
 
 -- ---- statements
+
+-- a number is no word
+no_word : (n : ℕ) (word : List ℕ) → IsDecimal n → ¬ AllDigits 10 word → bytes_eq (decimal n) word ≡ false
+no_word n word small letters = elim (cases_Bool (bytes_eq (decimal n) word)) [
+  | inl same ↦ absurd (letters (rw (word_is (decimal n) word same) at (digits_of_decimal n small)))
+  | inr other ↦ other
+]
 
 -- a line that begins with a number is a statement's
 pub number_first : (version n : ℕ) (words : List (List ℕ)) (item : Item) → IsDecimal n
@@ -27,8 +36,8 @@ high_item n one number level high = grind (arith, nat_tests)
 
 high_given : (one : Stimulus) (number level : ℕ) → (stimulus_form one).has_level ≡ true → IsDecimal number
     → IsDecimal level → parse_given one (decimal number ∷ decimal level ∷ []) ≡ Some (number, level)
-unfolding parse_given
-high_given one number level known small few = rw known (two_back number level small few)
+unfolding parse_given parse_two_numbers
+high_given one number level known small few = grind (arith, nat_tests, decimal_back)
 
 level_back : (version n : ℕ) (one : Stimulus) (number level : ℕ) → IsLevelForm n one number level
     → parse_item version (item_words (AskLevel n one number level)) ≡ Some (AskLevel n one number level)

@@ -1,15 +1,14 @@
 -- The fields of each item, which its line joins.
 use Rattle.std.proofs.Common.{◌≡◌, ℕ, Bool, true, false, Option, Some, None, List, [], ◌∷◌, ◌++◌, flat_map, map, refl}
 use Rattle.std.proofs.Common.{sym, ap, ◌∙◌, append_assoc, append-nil, arith, codes, decimal, if◌then◌else◌}
-use Rattle.board_prelude.proofs.Common.{join_with_byte, nat_tests, Base, MemoryBase, IoBase, OutsideBase, Event, Ack}
-use Rattle.board_prelude.proofs.Common.{stimulus_form, space}
+use Rattle.board_prelude.proofs.Common.{join_with_byte, nat_tests, and_from, Base, MemoryBase, IoBase, OutsideBase}
+use Rattle.board_prelude.proofs.Common.{Event, Ack, stimulus_form, space}
 use Rattle.script_spec.specs.Common.{Item, SetCpus, SetMemory, SetRom, SetDisk, FitCard, BeginPhase, Ask, AskLevel}
 use Rattle.script_spec.specs.Common.{IsForm, Says, base_text, rom_text, card_text, item_text, fields_of}
-use Rattle.script_spec.proofs.Digits.{lacks}
 use Rattle.script_spec.proofs.Joins.{Reads, joined}
-use Rattle.script_spec.proofs.Splits.{Lack, split, split_exact}
-use Rattle.script_spec.proofs.FieldTexts.{lacks_decimal, lacks_name}
-use Rattle.script_spec.proofs.Words.{spaced, line_spaced, event_words, event_joined, event_lacks, lacks_stimulus}
+use Rattle.script_spec.proofs.Splits.{split, split_exact}
+use Rattle.script_spec.proofs.PlainText.{is_word, are_words, decimal_word, name_word}
+use Rattle.script_spec.proofs.Words.{spaced, line_spaced, event_words, event_joined, event_are}
 
 -- ---- cards
 
@@ -73,29 +72,21 @@ item_joined (Ask statement) = rw (event_after, event_joined) refl
 item_joined (AskLevel actor one number level) = simp append_assoc
 item_joined _ = refl
 
-lacks_base : (base : Base) → lacks space (base_word base) ≡ true
-lacks_base base = grind (arith, nat_tests, lacks_decimal)
+base_is : (base : Base) → is_word (base_word base) ≡ true
+base_is base = grind (arith, nat_tests, decimal_word)
 
-lacks_kind : (vga : Bool) → lacks space (kind_word vga) ≡ true
-lacks_kind true = refl
-lacks_kind false = refl
+vga_is : (vga : Bool) → is_word (kind_word vga) ≡ true
+vga_is true = refl
+vga_is false = refl
 
-lacks_tail : (bases : List Base) (rom : Option ℕ) → Lack (tail_words bases rom)
-lacks_tail [] None = tt
-lacks_tail [] (Some bits) = (lacks_decimal bits, tt)
-lacks_tail (base ∷ bases) rom = (lacks_base base, lacks_tail bases rom)
+tail_are : (bases : List Base) (rom : Option ℕ) → are_words (tail_words bases rom) ≡ true
+tail_are [] rom = grind (arith, nat_tests, decimal_word)
+tail_are (base ∷ bases) rom = grind (arith, nat_tests, base_is, tail_are bases rom)
 
-item_lacks : (version : ℕ) (item : Item) → IsForm version item → Lack (item_words item)
-item_lacks version (SetCpus count) form = (refl, (lacks_decimal count, tt))
-item_lacks version (SetMemory mib) form = (refl, (lacks_decimal mib, tt))
-item_lacks version (SetRom name) form = (refl, (lacks_name name form.each, tt))
-item_lacks version (SetDisk name) form = (refl, (lacks_name name form.each, tt))
-item_lacks version (FitCard card) form =
-    (refl, (lacks_decimal card.dev, (lacks_kind card.vga, lacks_tail card.bases card.rom)))
-item_lacks version BeginPhase form = (refl, tt)
-item_lacks version (Ask statement) form = (lacks_decimal statement.actor, event_lacks statement.event)
-item_lacks version (AskLevel actor one number level) form =
-    (lacks_decimal actor, (lacks_stimulus one, (lacks_decimal number, (lacks_decimal level, tt))))
+item_are : (version : ℕ) (item : Item) → IsForm version item → are_words (item_words item) ≡ true
+item_are version (FitCard card) form =
+    and_from _ _ (decimal_word card.dev) (and_from _ _ (vga_is card.vga) (tail_are card.bases card.rom))
+item_are version item form = grind (arith, nat_tests, decimal_word, name_word, event_are)
 
 -- ---- a line that says an item is its fields joined
 
@@ -108,6 +99,6 @@ fields_say fields item are = ap (join_with_byte space) are ∙ item_joined item
 pub fields_said : (version : ℕ) (line : List ℕ) (item : Item) → IsForm version item → Says line item
     → AreFields (fields_of line) item
 fields_said version line (Ask statement) form says =
-    split line _ _ (item_lacks version (Ask statement) form) (rw (item_joined (Ask statement)) says)
+    split line _ _ (item_are version (Ask statement) form) (rw (item_joined (Ask statement)) says)
 fields_said version line item form says =
-    ap fields_of (says ∙ sym (item_joined item)) ∙ split_exact _ _ (item_lacks version item form)
+    ap fields_of (says ∙ sym (item_joined item)) ∙ split_exact _ _ (item_are version item form)

@@ -18,20 +18,16 @@ same_as field text is = subst (λ (t : List ℕ). Spells field t) is (same field
 
 pub zipped : (xs ys us vs : List ℕ) → Spells xs ys → Spells us vs → Spells (xs ++ us) (ys ++ vs)
 zipped [] [] us vs one two = two
-zipped [] (y ∷ ys) us vs one two = absurd one
-zipped (x ∷ xs) [] us vs one two = absurd one
 zipped (x ∷ xs) (y ∷ ys) us vs one two = (one.0, zipped xs ys us vs one.1 two)
+zipped _ _ us vs one two = grind arith
 
 pub joined : (fields texts : List (List ℕ)) → Reads fields texts
     → Spells (join_with_byte space fields) (join_with_byte space texts)
 joined [] [] reads = tt
-joined [] (t ∷ texts) reads = absurd reads
-joined (f ∷ fields) [] reads = absurd reads
 joined (f ∷ []) (t ∷ []) reads = reads.0
-joined (f ∷ []) (t ∷ u ∷ texts) reads = absurd reads.1
-joined (f ∷ g ∷ fields) (t ∷ []) reads = absurd reads.1
 joined (f ∷ g ∷ fields) (t ∷ u ∷ texts) reads =
     zipped f t _ _ reads.0 (inl refl, joined (g ∷ fields) (u ∷ texts) reads.1)
+joined _ _ reads = grind arith
 
 pub word_is : (field word : List ℕ) → bytes_eq field word ≡ true → field ≡ word
 word_is field word e = (bytes_eq-Decides field word).0 e
@@ -41,5 +37,3 @@ pub by_word : {A : Type 0} (P : List ℕ → Type 0) (field word : List ℕ) (on
     → (one ≡ Some found → P word) → (other ≡ Some found → P field)
     → cond (bytes_eq field word) one other ≡ Some found → P field
 by_word P field word one other found here there e = grind (arith, nat_tests, word_is)
-
--- ---- the flag of an access

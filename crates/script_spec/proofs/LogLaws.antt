@@ -6,12 +6,12 @@ use Rattle.std.proofs.Common.{ℕ, ◌≡◌, ◌+◌, Option, Some, None, List,
 use Rattle.std.proofs.Common.{sym, ap, ◌∙◌, inl, inr, append_assoc, append-nil, arith, decimal}
 use Rattle.std.proofs.lemmas.Fmt.{decimal_injective}
 use Rattle.script_spec.specs.Common.{text_of_lines, IsOneLine, IsVersion, IsWellFormed, LineSaysEntry, LogSaysAll}
-use Rattle.script_spec.proofs.Fields.{front, front-field, lacks-append}
+use Rattle.script_spec.proofs.Digits.{front, front-field, lacks-append}
 use Rattle.script_spec.proofs.Chains.{some_is}
 use Rattle.script_spec.proofs.ReadingLaws.{not_nil}
 use Rattle.script_spec.proofs.CheckLaws.{one_line, compared}
 use Rattle.script_spec.proofs.PlainText.{lacks-word, lacks-plain, decimal_word}
-use Rattle.script_spec.proofs.PlainLines.{event_plain, reply_plain}
+use Rattle.script_spec.proofs.Words.{event_plain, reply_plain}
 use Rattle.script_spec.proofs.LogReading.{seven_parts, entry_in, entry_read}
 
 -- ---- lines
@@ -102,13 +102,8 @@ versions_differ left right same = grind (arith, nat_tests)
 
 same_version : (version other : ℕ) (left right : List Entry) → IsVersion version → IsVersion other →
     log_text version left ≡ log_text other right → version ≡ other
-same_version version other left right (inl one) (inl two) same = one ∙ sym two
-same_version version other left right (inl one) (inr two) same =
-    absurd (versions_differ left right (ap (λ v. log_text v left) (sym one) ∙ same ∙ ap (λ v. log_text v right) two))
-same_version version other left right (inr one) (inl two) same =
-    absurd (versions_differ right left (ap (λ v. log_text v right) (sym two) ∙ sym same
-    ∙ ap (λ v. log_text v left) one))
-same_version version other left right (inr one) (inr two) same = one ∙ sym two
+same_version version other left right one two same =
+    grind (arith, nat_tests, versions_differ left right, versions_differ right left)
 
 same_rest : (version : ℕ) (left right : List Entry) → IsVersion version →
     log_text version left ≡ log_text version right → lines_text left ≡ lines_text right

@@ -5,12 +5,11 @@ use Rattle.board_prelude.proofs.Common.{nat_tests, lt-ltb, common_steps, Event, 
 use Rattle.board_prelude.proofs.Common.{value_bytes, reply_text, line_text}
 use Rattle.std.proofs.Common.{◌≡◌, ℕ, ◌<◌, Option, Some, None, List, [], ◌∷◌, ◌++◌, refl, inl, inr, append_assoc, arith}
 use Rattle.std.proofs.Common.{codes, decimal}
-use Rattle.script_spec.proofs.Fields.{lacks-append, lacks-decimal}
+use Rattle.script_spec.proofs.Digits.{lacks-append, lacks-decimal, cut_field}
 use Rattle.script_spec.proofs.PlainText.{lacks-word, lacks-plain, decimal_word}
-use Rattle.script_spec.proofs.PlainLines.{event_plain}
+use Rattle.script_spec.proofs.Words.{event_plain}
 use Rattle.script_spec.proofs.Joins.{same}
-use Rattle.script_spec.proofs.NumberBack.{decimal_back}
-use Rattle.script_spec.proofs.CutLemmas.{cut_field}
+use Rattle.script_spec.proofs.NumberTexts.{decimal_back}
 use Rattle.script_spec.proofs.ItemBack.{line_back}
 use Rattle.script_spec.proofs.ReplyBack.{reply_read}
 

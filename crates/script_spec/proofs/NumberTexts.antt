@@ -2,18 +2,23 @@
 use Rattle.script_spec.proofs.Chains.{then_read, some_is, guarded}
 use Rattle.std.proofs.Common.{Bool, true, ◌≡◌, ℕ, zero, suc, ◌+◌, ◌*◌, ◌/◌, ◌%◌, ◌^◌, ◌<◌, ◌≤◌, false, not, eqb, leb}
 use Rattle.std.proofs.Common.{◌&&◌, Some, List, [], ◌∷◌, length, get_or, refl, sym, ap, ◌∙◌, arith, pow-suc, lit<}
-use Rattle.std.proofs.Common.{decimal}
+use Rattle.std.proofs.Common.{decimal, ◌-◌, subst}
 use Rattle.board_prelude.proofs.Common.{nat_tests, AllZip, AllDigits, digits_value, leb-true, eqb-true}
-use Rattle.board_prelude.proofs.Common.{pow-le-pow_right, byte, hex_digit, hex_number}
+use Rattle.board_prelude.proofs.Common.{pow-le-pow_right, byte, hex_digit, hex_number, list_all, lt-ltb, le-leb, eq-eqb}
+use Rattle.board_prelude.proofs.Common.{and_parts, is_within}
 use Rattle.std.specs.Char.{digit_value as value_of_digit}
 use Rattle.std.specs.Str.Parse.{digits_value_after}
 use native.Mathlib.Nat.{div-div-eq-div-mul}
-use Rattle.std.proofs.lemmas.Fmt.{decimal-digits_value}
+use Rattle.std.proofs.lemmas.Fmt.{decimal-digits_value, digits_value-decimal, length-decimal-le, first_decimal}
+use Rattle.std.proofs.lemmas.Fmt.{decimal_nonempty, decimal_digit}
 use Rattle.std.proofs.lemmas.Int.Digits.{digits_value-lt}
 use Rattle.board_spec.proofs.PartLawProofs.{some_power}
 use Rattle.script_spec.specs.Common.{IsDecimal, StandsFor, parse_digit, number_after, parse_digits, parse_hex}
 use Rattle.script_spec.specs.Common.{has_leading_zero, parse_decimal}
-use Rattle.script_spec.proofs.Digits.{own}
+use Rattle.script_spec.proofs.Digits.{own, digits_of_decimal}
+use Rattle.std.proofs.lemmas.List.Elements.{length_all_zip}
+use Rattle.std.proofs.Math.Nat.{div-eq_of_lt}
+use Rattle.script_spec.proofs.Joins.{Spells}
 
 -- ---- one digit
 
@@ -26,10 +31,7 @@ digits : (high n : ℕ) (ds : List ℕ) → number_after 10 high ds ≡ Some n
     → AllDigits 10 ds × (digits_value_after 10 high ds ≡ n)
 unfolding number_after
 digits high n [] e = (tt, some_is high n e)
-digits high n (c ∷ cs) e =
-    let s = then_read (parse_digit 10 c) _ n (ten c) e in
-    let later = digits (high * 10 + s.0) n cs s.2 in
-    ((s.1.0, later.0), rw (← s.1.1) later.1)
+digits high n (c ∷ cs) e = grind (arith, nat_tests, ten, digits (high * 10 + value_of_digit c) n cs)
 
 no_zero : (field : List ℕ) → has_leading_zero field ≡ false → 1 ≤ length field → get_or field 0 0 ≡ 48
     → length field ≡ 1
@@ -102,3 +104,78 @@ hex_read k field n e =
     let long : length field ≡ k + k = omega (arith, eqb-true (length field) (2 * k) g.0) in
     let read = hex_digits k 0 n field long g.1 in
     (read.1, below_power n (256 ^ k) (some_power k) read.0)
+
+-- ---- texts without capitals A to F stand for themselves alone
+
+abbrev pub is_plain : List ℕ → Bool
+is_plain text = list_all (λ byte. not (is_within 0x41 0x46 byte)) text
+
+pub plain_is : (field text : List ℕ) → is_plain text ≡ true → Spells field text → field ≡ text
+plain_is [] [] plain spells = refl
+plain_is (c ∷ cs) (t ∷ ts) plain spells =
+    grind (arith, nat_tests, plain_is cs ts (and_parts (not (is_within 0x41 0x46 t)) (is_plain ts) plain).1 spells.1)
+plain_is field text plain spells = absurd spells
+
+pub plain-digits : (ds : List ℕ) → AllDigits 10 ds → is_plain ds ≡ true
+plain-digits [] digits = refl
+plain-digits (c ∷ cs) digits = grind (arith, nat_tests, plain-digits cs digits.1)
+
+-- ---- decimals
+
+pub digit_so : (c d : ℕ) → 48 ≤ c → c ≤ 57 → c - 48 ≡ d → d < 10 → parse_digit 10 c ≡ Some d
+digit_so c d low high is small = rw (le-leb 0x30 c low, le-leb c 0x39 high, is, lt-ltb d 10 small) refl
+
+digits_read : (high : ℕ) (ds : List ℕ) → AllDigits 10 ds
+    → number_after 10 high ds ≡ Some (digits_value_after 10 high ds)
+unfolding number_after
+digits_read high [] digits = refl
+digits_read high (c ∷ cs) digits = grind (arith, nat_tests, digits_read (high * 10 + value_of_digit c) cs digits.1)
+
+no_leading : (n : ℕ) → IsDecimal n → has_leading_zero (decimal n) ≡ false
+no_leading n small = grind (arith, nat_tests, decimal_digit, first_decimal)
+
+pub decimal_back : (n : ℕ) → IsDecimal n → parse_decimal (decimal n) ≡ Some n
+decimal_back n small =
+    let read : parse_digits 10 (decimal n) ≡ Some n =
+    digits_read 0 (decimal n) (digits_of_decimal n small)
+    ∙ ap (λ (x : ℕ). Some x) (digits_value-decimal own n (omega (arith, small))) in
+    let some = decimal_nonempty n (omega (arith, small)) in
+    let few = length-decimal-le 9 n (lit< tt) small (omega (arith, small)) in
+    rw (le-leb 1 (length (decimal n)) (omega arith), le-leb (length (decimal n)) 9 few, no_leading n small) read
+
+-- ---- hexadecimal numbers
+
+-- what stands for a digit of so much is read as so much
+pub hex_digit_read : (c d : ℕ) → d < 16 → StandsFor c (hex_digit d) → parse_digit 16 c ≡ Some d
+hex_digit_read c d small stands = grind (arith, nat_tests)
+
+next_value : (q high b : ℕ) → high ≡ q / 256 → b ≡ q % 256 → (high * 16 + b / 16) * 16 + b % 16 ≡ q
+next_value q high b one two = omega (arith, one, two)
+
+-- after the digits that made what stands above so many bytes
+pub hex_after : (k high n : ℕ) (field : List ℕ) → high ≡ n / 256 ^ k → Spells field (hex_number k n)
+    → number_after 16 high field ≡ Some n
+unfolding number_after
+hex_after zero high n [] is spells = let same : high ≡ n = omega (arith, is) in ap (λ (x : ℕ). Some x) same
+hex_after zero high n (c ∷ cs) is spells = absurd spells
+hex_after (suc k) high n [] is spells = absurd spells
+hex_after (suc k) high n (c ∷ []) is spells = absurd spells.1
+hex_after (suc k) high n (c ∷ d ∷ cs) is spells =
+    let b : ℕ = byte n k in
+    let above : high ≡ n / 256 ^ k / 256 = is ∙ ap (λ (p : ℕ). n / p) (pow-suc 256 k) ∙ quotient n (256 ^ k) in
+    let first : parse_digit 16 c ≡ Some (b / 16) = hex_digit_read c (b / 16) (omega arith) spells.0 in
+    let low : hex_digit b ≡ hex_digit (b % 16) = digit_again b (b % 16) refl in
+    let second : parse_digit 16 d ≡ Some (b % 16) = hex_digit_read d (b % 16) (omega arith)
+    (subst (StandsFor d) low spells.1.0) in
+    rw (first, second)
+    (hex_after k ((high * 16 + b / 16) * 16 + b % 16) n cs (next_value (n / 256 ^ k) high b above refl) spells.1.1)
+
+hex_length : (k n : ℕ) → length (hex_number k n) ≡ 2 * k
+hex_length zero n = refl
+hex_length (suc k) n = omega (arith, hex_length k n)
+
+pub hex_back : (k n : ℕ) (field : List ℕ) → n < 256 ^ k → Spells field (hex_number k n)
+    → parse_hex (2 * k) field ≡ Some n
+hex_back k n field small spells =
+    let long : length field ≡ 2 * k = length_all_zip StandsFor field (hex_number k n) spells ∙ hex_length k n in
+    rw (eq-eqb (length field) (2 * k) long) (hex_after k 0 n field (sym (div-eq_of_lt small)) spells)

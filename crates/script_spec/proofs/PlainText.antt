@@ -1,10 +1,11 @@
 -- The bytes of the log's words: spaces, letters, digits and a few marks, but no line feed and no `=`.
-use Rattle.std.proofs.Common.{◌&&◌, ℕ, zero, suc, ◌≡◌, ◌/◌, ◌%◌, Bool, true, false, ◌||◌, eqb, Option, List, [], ◌∷◌}
-use Rattle.std.proofs.Common.{◌++◌, refl, sym, ap, ◌∙◌, inl, inr, arith, decimal}
-use Rattle.board_prelude.proofs.Common.{nat_tests, digits, list_all, ne_eqb, cases_Bool, and_from, and_parts}
-use Rattle.board_prelude.proofs.Common.{true≢false, Reg, Dev, Area, Target, Denial, byte, is_within, space, hex_number}
-use Rattle.board_prelude.proofs.Common.{hex_offset, register_text, base_text, area_text, device_text, target_text}
-use Rattle.board_prelude.proofs.Common.{denial_text}
+use Rattle.std.proofs.Common.{ℕ, zero, suc, ◌≡◌, ◌/◌, ◌%◌, Bool, true, false, ◌||◌, eqb, Option, List, [], ◌∷◌, ◌++◌}
+use Rattle.std.proofs.Common.{refl, sym, ap, ◌∙◌, arith, decimal}
+use Rattle.board_prelude.proofs.Common.{nat_tests, digits, list_all, ne_eqb, and_from, and_parts, true≢false, Reg, Dev}
+use Rattle.board_prelude.proofs.Common.{Area, Target, Denial, byte, is_within, space, hex_number, hex_offset}
+use Rattle.board_prelude.proofs.Common.{register_text, base_text, area_text, device_text, target_text, denial_text}
+use Rattle.board_prelude.proofs.Common.{Moment, moment_text, two_digits, value_text}
+use Rattle.script_spec.specs.Grammar.{is_name_byte}
 use Rattle.std.specs.Fmt.{digits_onto, digit_glyph}
 use Rattle.std.proofs.lemmas.List.Folds.{list_all-append}
 use Rattle.board_base.specs.declared.target.Target.TheVariants as targets
@@ -26,11 +27,7 @@ word-more byte xs one two = and_from (is_word_byte byte) (is_word xs) one two
 pub lacks-word : (mark : ℕ) (xs : List ℕ) → is_word_byte mark ≡ false → is_word xs ≡ true → lacks mark xs ≡ true
 lacks-word mark [] outside word = refl
 lacks-word mark (c ∷ cs) outside word =
-    let parts = and_parts (is_word_byte c) (is_word cs) word in
-    rw (
-      ne_eqb c mark (λ same. true≢false (sym parts.0 ∙ ap is_word_byte same ∙ outside)),
-      lacks-word mark cs outside parts.1,
-    ) refl
+    grind (arith, nat_tests, lacks-word mark cs outside (and_parts (is_word_byte c) (is_word cs) word).1)
 
 -- ---- digits
 
@@ -42,11 +39,7 @@ digits_word : (count n : ℕ) (after : List ℕ) → is_word after ≡ true →
     is_word (digits_onto count 10 false n after) ≡ true
 digits_word zero n after word = word
 digits_word (suc count) n after word =
-    let more = word-more (digit_glyph false (n % 10)) after (grind (arith, nat_tests)) word in
-    elim (cases_Bool (eqb (n / 10) 0)) [
-      | inl last ↦ rw last more
-      | inr further ↦ rw further (digits_word count (n / 10) (digit_glyph false (n % 10) ∷ after) more)
-    ]
+    grind (arith, nat_tests, word-more, digits_word count (n / 10) (digit_glyph false (n % 10) ∷ after))
 
 pub decimal_word : (n : ℕ) → is_word (decimal n) ≡ true
 unfolding digits
@@ -77,22 +70,35 @@ target_word target = grind (arith, nat_tests, decimal_word, offset_word, registe
 pub denial_word : (denial : Option Denial) → is_word (denial_text denial) ≡ true
 denial_word denial = grind (arith, nat_tests, register_word)
 
+-- ---- fields
+
+pub name_word : (name : List ℕ) → list_all is_name_byte name ≡ true → is_word name ≡ true
+name_word [] each = refl
+name_word (c ∷ name) each = grind (arith, nat_tests, name_word name (and_parts (is_name_byte c) _ each).1)
+
+two_word : (n : ℕ) → is_word (two_digits n) ≡ true
+two_word n = grind (arith, nat_tests)
+
+pub moment_word : (m : Moment) → is_word (moment_text m) ≡ true
+moment_word m = simp two_word
+
+pub value_word : (bytes : ℕ) (value : Option ℕ) → is_word (value_text bytes value) ≡ true
+value_word bytes value = grind (arith, nat_tests, hex_number_word)
+
+abbrev pub are_words : List (List ℕ) → Bool
+are_words texts = list_all is_word texts
+
 -- ---- words and spaces
 
 abbrev pub is_plain : List ℕ → Bool
 is_plain bytes = list_all (λ b. eqb b space || is_word_byte b) bytes
-
-pub plain-parts : (xs ys : List ℕ) → is_plain (xs ++ ys) ≡ (is_plain xs && is_plain ys)
-plain-parts xs ys = list_all-append (λ b. eqb b space || is_word_byte b) xs ys
 
 pub plain-append : (xs ys : List ℕ) → is_plain xs ≡ true → is_plain ys ≡ true → is_plain (xs ++ ys) ≡ true
 plain-append xs ys one two = simp (list_all-append, and_from)
 
 pub plain-word : (xs : List ℕ) → is_word xs ≡ true → is_plain xs ≡ true
 plain-word [] word = refl
-plain-word (c ∷ cs) word =
-    let parts = and_parts (is_word_byte c) (is_word cs) word in
-    rw (plain-word cs parts.1, parts.0) (grind (arith, nat_tests))
+plain-word (c ∷ cs) word = grind (arith, nat_tests, plain-word cs (and_parts (is_word_byte c) (is_word cs) word).1)
 
 pub lacks-plain : (mark : ℕ) (xs : List ℕ) → (eqb mark space || is_word_byte mark) ≡ false → is_plain xs ≡ true →
     lacks mark xs ≡ true

@@ -1,27 +1,43 @@
 -- What a text says is in range.
-use Rattle.board_prelude.proofs.Common.{nat_tests, common_steps, option_map, find, list_any, IsPermutation, true≢false}
-use Rattle.board_prelude.proofs.Common.{false≢true, or_parts, or_right, and_parts, cases_Bool, All-nil, All-cons}
-use Rattle.board_prelude.proofs.Common.{All-head, All-tail, All-append, sum_by-cons, sum_by-append, All-permutation}
-use Rattle.board_prelude.proofs.Common.{IsPermutation-sym, Statement, most_statements, most_phases, most_pulses}
-use Rattle.board_prelude.proofs.Common.{most_card_memory, Setup, FittedCard, IsExpansionRom, IsCard, Rises, memory_size}
-use Rattle.board_prelude.proofs.Common.{memory_of_cards, IsScripted, is_rom_in_range}
+use Rattle.board_prelude.proofs.Common.{nat_tests, common_steps, option_map, find, list_any, IsPermutation, false≢true}
+use Rattle.board_prelude.proofs.Common.{or_parts, or_right, and_parts, All-nil, All-cons, All-head, All-tail}
+use Rattle.board_prelude.proofs.Common.{All-append, sum_by-cons, sum_by-append, All-permutation, Statement, Setup}
+use Rattle.board_prelude.proofs.Common.{FittedCard, IsExpansionRom, IsCard, Rises, memory_size, memory_of_cards}
+use Rattle.board_prelude.proofs.Common.{IsScripted, is_rom_in_range, Event, card_at, IsInRange, IsScriptSector}
+use Rattle.board_prelude.proofs.Common.{IsInVersion}
 use Rattle.std.proofs.Common.{ℕ, ◌≡◌, ◌+◌, ◌-◌, ◌*◌, ◌<◌, ◌≤◌, Bool, true, false, not, ◌&&◌, cond, Option, Some, None}
-use Rattle.std.proofs.Common.{List, [], ◌∷◌, ◌++◌, length, map, reverse, All, filter, flat_map, refl, sym, ap, ◌∙◌, inl}
-use Rattle.std.proofs.Common.{inr, get_or, arith, is_some, ◌==◌}
+use Rattle.std.proofs.Common.{List, [], ◌∷◌, ◌++◌, length, map, reverse, All, filter, flat_map, refl, sym, ap, ◌∙◌}
+use Rattle.std.proofs.Common.{get_or, arith, is_some, ◌==◌}
 use Rattle.std.specs.List.{sum_by}
 use Rattle.std.proofs.lemmas.List.Elements.{All-filter}
-use Rattle.std.proofs.lemmas.List.Folds.{list_any_none}
 use Rattle.std.proofs.lemmas.List.Sums.{length-filter}
-use Rattle.std.proofs.lemmas.List.Sorted.{IsPermutation-reverse, sum_by-IsPermutation}
+use Rattle.std.proofs.lemmas.List.Sorted.{IsPermutation-reverse, sum_by-IsPermutation, list_any-IsPermutation}
 use Rattle.board_base.proofs.CalendarLemmas.{is_within_parts}
 use Rattle.script_spec.specs.Common.{Item, SetCpus, SetMemory, SetRom, SetDisk, FitCard, BeginPhase, Ask, IsForm}
 use Rattle.script_spec.specs.Common.{is_phase, is_statement, is_setup, is_cpus, is_memory, is_rom, is_disk}
 use Rattle.script_spec.specs.Common.{is_cpus_above, has_card, cards_of, pulses_of, pulses_of_event, is_card_there}
 use Rattle.script_spec.specs.Common.{Script, IsVersion, phase_items, IsSaidBy, IsDiskName, statements_in}
-use Rattle.script_spec.specs.Common.{IsInRangeScript, ScriptsAreInRange}
-use Rattle.script_spec.proofs.GoodItems.{NoReason, AreGood, read_good, found_good}
+use Rattle.script_spec.specs.Common.{IsInRangeScript, ScriptsAreInRange, IsEventForm, is_event_in_range}
+use Rattle.script_spec.specs.Common.{is_event_placed}
+use Rattle.script_spec.proofs.GoodItems.{NoReason, AreGood, read_good, found_good, IsWithinLimits, within_limits}
 use Rattle.script_spec.proofs.ScriptLaws.{count_of}
-use Rattle.script_spec.proofs.EventRange.{HasCards, event_in_range, sector_in_range, event_in_version}
+
+-- the cards of the items before are those of the setup
+abbrev pub HasCards : List Item → Setup → Type 0
+HasCards before setup = (dev : ℕ) → has_card before dev ≡ true → is_some (card_at setup dev) ≡ true
+
+pub event_in_range :
+    (version : ℕ) (setup : Setup) (before : List Item) (event : Event) → IsEventForm version event →
+    is_event_in_range event ≡ true → is_event_placed event ≡ true → is_card_there before event ≡ true →
+    HasCards before setup →
+    IsInRange setup event
+event_in_range version setup before event form range place there cards = grind (arith, nat_tests)
+
+pub sector_in_range : (event : Event) → is_event_in_range event ≡ true → IsScriptSector event
+sector_in_range event range = grind (arith, nat_tests)
+
+pub event_in_version : (version : ℕ) (event : Event) → IsEventForm version event → IsInVersion version event
+event_in_version version event form = grind (arith, nat_tests)
 
 -- ---- processors
 
@@ -100,25 +116,17 @@ all_asks P (phase ∷ later) all =
 pub none_any : {X : Type 0} (p : X → Bool) (xs : List X) → list_any p xs ≡ false → All (λ x. p x ≡ false) xs
 none_any p xs none = grind (arith, nat_tests, common_steps, All-nil, or_parts, All-cons)
 
-any_permutation : {X : Type 0} (p : X → Bool) (xs ys : List X) → IsPermutation xs ys → list_any p xs ≡ true →
-    list_any p ys ≡ true
-any_permutation p xs ys same any = elim (cases_Bool (list_any p ys)) [
-  | inl some ↦ some
-  | inr none ↦ absurd (true≢false (sym any ∙ list_any_none p xs
-      (All-permutation (λ x. p x ≡ false) ys xs (IsPermutation-sym xs ys same) (none_any p ys none))))
-]
-
-found_some : {X : Type 0} (p : X → Bool) (xs : List X) → list_any p xs ≡ true → is_some (find p xs) ≡ true
-found_some p [] any = absurd (false≢true any)
-found_some p (x ∷ xs) any = grind (arith, nat_tests, found_some p xs)
+pub any_found : {X : Type 0} (p : X → Bool) (xs : List X) → list_any p xs ≡ is_some (find p xs)
+any_found p [] = refl
+any_found p (x ∷ xs) = grind (arith, nat_tests, any_found p xs)
 
 has_cards :
     (items : List Item) (cards : List FittedCard) (setup : Setup) → IsPermutation (cards_of items) cards →
     setup.cards ≡ cards →
     HasCards items setup
 has_cards items cards setup same is dev has =
-    rw is (found_some (λ card. card.dev == dev) cards (any_permutation (λ card. card.dev == dev)
-    (cards_of items) cards same has))
+    rw is (sym (any_found (λ card. card.dev == dev) cards)
+    ∙ sym (list_any-IsPermutation (λ card. card.dev == dev) (cards_of items) cards same) ∙ has)
 
 rom_there : (rom : Option ℕ) → is_rom_in_range rom ≡ true → IsExpansionRom rom
 rom_there rom test = grind (arith, nat_tests)
@@ -166,15 +174,9 @@ same_memory cards others same = grind (arith, nat_tests, sum_of_cards, sum_by-Is
 
 -- ---- limits
 
-record IsWithinLimits (items : List Item) : Type 0 where
-  statements : length (filter is_statement items) ≤ most_statements
-  phases : length (filter is_phase items) ≤ most_phases
-  pulses : sum_by pulses_of items ≤ most_pulses
-  memory : memory_of_cards (cards_of items) ≤ most_card_memory
-
-within_limits : (version : ℕ) (items : List Item) → AreGood version items → IsWithinLimits items
-within_limits version [] good = grind (arith, nat_tests)
-within_limits version (item ∷ before) good = grind (arith, nat_tests)
+good_limits : (version : ℕ) (items : List Item) → AreGood version items → IsWithinLimits items
+good_limits version [] good = within_limits [] refl
+good_limits version (item ∷ before) good = within_limits (item ∷ before) good.1.limits
 
 -- ---- sums over items and over phases
 
@@ -211,13 +213,9 @@ sum_items f g items phases none same is =
     ∙ ap (sum_by f) is
     ∙ sum_phases f g phases same
 
-sum_of_ones : {X : Type 0} (xs : List X) → sum_by (λ x. 1) xs ≡ length xs
-sum_of_ones [] = refl
-sum_of_ones (x ∷ xs) = omega (arith, sum_by-cons (λ y. 1) x xs, sum_of_ones xs)
-
-sum_of_zeros : {X : Type 0} (xs : List X) → sum_by (λ x. 0) xs ≡ 0
-sum_of_zeros [] = refl
-sum_of_zeros (x ∷ xs) = omega (arith, sum_by-cons (λ y. 0) x xs, sum_of_zeros xs)
+sum_of_same : {X : Type 0} (n : ℕ) (xs : List X) → sum_by (λ x. n) xs ≡ length xs * n
+sum_of_same n [] = omega arith
+sum_of_same n (x ∷ xs) = omega (arith, sum_by-cons (λ y. n) x xs, sum_of_same n xs)
 
 -- ---- the whole
 
@@ -236,7 +234,7 @@ in_range items script good version said =
     let count = is_within_parts _ _ script.cpus cpus.1 in
     let memory = found is_memory (SetMemory script.mib) good said.memory in
     let mib = is_within_parts _ _ script.mib memory.1 in
-    let limits = within_limits script.version items good in
+    let limits = good_limits script.version items good in
     let cards = All-permutation IsCard (cards_of items) script.cards said.cards (all_cards script.version items good) in
     let kept : List Item = filter (λ item. not (is_setup item)) items in
     let phases : List (List Statement) = script.phases in
@@ -275,11 +273,11 @@ in_range items script good version said =
             arith,
             length-filter is_statement items,
             statements,
-            sum_of_ones (statements_in script),
+            sum_of_same 1 (statements_in script),
             limits.statements,
           );
       phases =
-          omega (arith, length-filter is_phase items, phase_count, sum_of_zeros (statements_in script), limits.phases);
+          omega (arith, length-filter is_phase items, phase_count, sum_of_same 0 (statements_in script), limits.phases);
       pulses = omega (arith, pulses, limits.pulses);
     }
 

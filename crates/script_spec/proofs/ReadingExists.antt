@@ -2,16 +2,16 @@
 use Rattle.board_prelude.proofs.Common.{nat_tests, option_map, find, list_any, IsPermutation, true≢false, false≢true}
 use Rattle.board_prelude.proofs.Common.{cases_Bool, ltb-true, ltb-false, eqb-false, flat_map-append, map-append}
 use Rattle.board_prelude.proofs.Common.{reverse-append, All-nil, All-cons, All-head, All-tail, All-permutation}
-use Rattle.board_prelude.proofs.Common.{IsPermutation-sym, Statement, FittedCard, Rises}
-use Rattle.std.proofs.Common.{ℕ, ◌≡◌, ◌≢◌, ◌<◌, ◌≤◌, ◌⊎◌, Bool, true, false, not, ◌&&◌, ◌||◌, cond, ltb, Option, Some}
-use Rattle.std.proofs.Common.{None, Result, List, [], ◌∷◌, ◌++◌, map, reverse, get_or, All, filter, refl, sym, ◌∙◌, inl}
-use Rattle.std.proofs.Common.{inr, append_assoc, append-nil, arith, ◌==◌}
+use Rattle.board_prelude.proofs.Common.{Statement, FittedCard, Rises, position_or_len}
+use Rattle.std.proofs.Common.{ℕ, ◌≡◌, ◌≢◌, ◌<◌, ◌≤◌, ◌⊎◌, Bool, true, false, not, ◌&&◌, ◌||◌, Option, Some, None}
+use Rattle.std.proofs.Common.{Result, List, [], ◌∷◌, ◌++◌, map, reverse, get_or, All, filter, refl, sym, ◌∙◌, inl, inr}
+use Rattle.std.proofs.Common.{append_assoc, append-nil, arith, ◌==◌, insert, nat_lt, one-add, if◌then◌else◌}
 use Rattle.std.proofs.lemmas.List.Sorted.{IsPermutation-refl, IsPermutation-trans, IsPermutation-cons}
-use Rattle.std.proofs.lemmas.List.Sorted.{IsPermutation-middle}
+use Rattle.std.proofs.lemmas.List.Sorted.{IsPermutation-insert}
 use Rattle.script_spec.specs.Common.{lines_of, Item, SetCpus, SetMemory, SetRom, SetDisk, FitCard, BeginPhase, Ask}
 use Rattle.script_spec.specs.Common.{AskLevel, is_phase, is_setup, is_cpus, is_memory, is_rom, is_disk, cards_of}
-use Rattle.script_spec.specs.Common.{has_setup, lacks_setup, Script, phase_items, IsSaidBy, IsScriptText, IsScriptBad}
-use Rattle.script_spec.specs.Common.{SomeReading}
+use Rattle.script_spec.specs.Common.{has_card, has_setup, lacks_setup, Script, phase_items, IsSaidBy, IsScriptText}
+use Rattle.script_spec.specs.Common.{IsScriptBad, SomeReading}
 use Rattle.script_spec.proofs.GoodItems.{NoReason, AreGood, read_good}
 use Rattle.script_spec.proofs.RangeLaws.{none_any}
 use Rattle.script_spec.proofs.Decision.{judged, AreGoodLines, AreJudged, judged_is}
@@ -63,45 +63,54 @@ found_disk (item ∷ before) = found_disk before
 
 -- ---- the cards in order
 
-abbrev inserted : FittedCard → List FittedCard → List FittedCard
-inserted card [] = card ∷ []
-inserted card (first ∷ later) = cond (ltb card.dev first.dev) (card ∷ first ∷ later) (first ∷ inserted card later)
+-- a card before the first of a higher device
+abbrev pub put : FittedCard → List FittedCard → List FittedCard
+put card cards = insert cards (position_or_len (λ other. nat_lt card.dev other.dev) cards) card
 
-inserted_same : (card : FittedCard) (cards : List FittedCard) → IsPermutation (card ∷ cards) (inserted card cards)
-inserted_same card [] = IsPermutation-refl (card ∷ [])
-inserted_same card (first ∷ later) = elim (cases_Bool (ltb card.dev first.dev)) [
-  | inl less ↦ rw less (IsPermutation-refl (card ∷ first ∷ later))
-  | inr above ↦ rw above (
-      IsPermutation-trans (card ∷ first ∷ later) (first ∷ card ∷ later) (first ∷ inserted card later)
-      (IsPermutation-sym _ (card ∷ first ∷ later) (IsPermutation-middle (first ∷ []) card later))
-      (IsPermutation-cons first (card ∷ later) (inserted card later) (inserted_same card later)))
+put_cons : (card first : FittedCard) (later : List FittedCard) → put card (first ∷ later)
+    ≡ (if nat_lt card.dev first.dev then card ∷ first ∷ later else first ∷ put card later)
+put_cons card first later = grind (arith, nat_tests, one-add)
+
+all_put : (P : FittedCard → Type 0) (card : FittedCard) (cards : List FittedCard) → P card → All P cards →
+    All P (put card cards)
+all_put P card cards one all =
+    All-permutation P (card ∷ cards) (put card cards) (IsPermutation-insert cards _ card)
+    (All-cons P card cards one all)
+
+put_rises : (card : FittedCard) (cards : List FittedCard) → Rises cards → All (λ other. other.dev ≢ card.dev) cards →
+    Rises (put card cards)
+put_rises card [] rises apart = (All-nil (λ other. card.dev < other.dev), tt)
+put_rises card (first ∷ later) rises apart = elim (cases_Bool (nat_lt card.dev first.dev)) [
+  | inl below ↦
+      let less : card.dev < first.dev = ltb-true card.dev first.dev below in
+      rw (put_cons, below) (
+        All-cons (λ other. card.dev < other.dev) first later less (λ k d inside.
+            let up : first.dev < (get_or later k d).dev = rises.0 k d inside in omega arith),
+        rises,
+      )
+  | inr above ↦
+      let other : first.dev ≢ card.dev = All-head (λ c. c.dev ≢ card.dev) first later apart in
+      let least : first.dev ≤ card.dev = ltb-false card.dev first.dev above in
+      rw (put_cons, above) (
+        all_put (λ c. first.dev < c.dev) card later (omega arith) rises.0,
+        put_rises card later rises.1 (All-tail (λ c. c.dev ≢ card.dev) first later apart),
+      )
 ]
 
-all_inserted : (P : FittedCard → Type 0) (card : FittedCard) (cards : List FittedCard) → P card → All P cards →
-    All P (inserted card cards)
-all_inserted P card cards one all =
-    All-permutation P (card ∷ cards) (inserted card cards) (inserted_same card cards) (All-cons P card cards one all)
+module _ (items : List Item) (card : FittedCard) (cards : List FittedCard) (same : IsPermutation (cards_of items) cards)
+    where
+  pub card_put : IsPermutation (card ∷ cards_of items) (put card cards)
+  card_put =
+      IsPermutation-trans (card ∷ cards_of items) (card ∷ cards) (put card cards)
+      (IsPermutation-cons card (cards_of items) cards same) (IsPermutation-insert cards _ card)
 
-inserted_rises : (card : FittedCard) (cards : List FittedCard) → Rises cards →
-    All (λ other. other.dev ≢ card.dev) cards → Rises (inserted card cards)
-inserted_rises card [] rises apart = (All-nil (λ other. card.dev < other.dev), tt)
-inserted_rises card (first ∷ later) rises apart =
-    let other : first.dev ≢ card.dev = All-head (λ c. c.dev ≢ card.dev) first later apart in
-    elim (cases_Bool (ltb card.dev first.dev)) [
-      | inl less ↦
-          let below : card.dev < first.dev = ltb-true card.dev first.dev less in
-          rw less (
-            All-cons (λ other. card.dev < other.dev) first later below (λ k d inside.
-                let up : first.dev < (get_or later k d).dev = rises.0 k d inside in omega arith),
-            rises,
-          )
-      | inr above ↦
-          let least : first.dev ≤ card.dev = ltb-false card.dev first.dev above in
-          rw above (
-            all_inserted (λ c. first.dev < c.dev) card later (omega arith) rises.0,
-            inserted_rises card later rises.1 (All-tail (λ c. c.dev ≢ card.dev) first later apart),
-          )
-    ]
+  -- no card is of the device of a new one
+  pub cards_rise : Rises cards → has_card items card.dev ≡ false → Rises (put card cards)
+  cards_rise rises none =
+      let apart : All (λ other. (other.dev == card.dev) ≡ false) cards =
+      All-permutation (λ other. (other.dev == card.dev) ≡ false) (cards_of items) cards same
+      (none_any (λ other. other.dev == card.dev) (cards_of items) none) in
+      put_rises card cards rises (λ k d inside. eqb-false (get_or cards k d).dev card.dev (apart k d inside))
 
 record InOrder (cards : List FittedCard) : Type 0 where
   ordered : List FittedCard
@@ -112,16 +121,10 @@ in_order : (version : ℕ) (items : List Item) → AreGood version items → InO
 in_order version [] good = record { ordered = []; same = IsPermutation-refl []; rises = tt }
 in_order version (FitCard card ∷ before) good =
     let rest : InOrder (cards_of before) = in_order version before good.2 in
-    let apart : All (λ other. (other.dev == card.dev) ≡ false) rest.ordered =
-    All-permutation (λ other. (other.dev == card.dev) ≡ false) (cards_of before) rest.ordered rest.same
-    (none_any (λ other. other.dev == card.dev) (cards_of before) good.1.first)
-    in
     record {
-      ordered = inserted card rest.ordered;
-      same = IsPermutation-trans (card ∷ cards_of before) (card ∷ rest.ordered) (inserted card rest.ordered)
-          (IsPermutation-cons card (cards_of before) rest.ordered rest.same) (inserted_same card rest.ordered);
-      rises = inserted_rises card rest.ordered rest.rises
-          (λ k d inside. eqb-false (get_or rest.ordered k d).dev card.dev (apart k d inside));
+      ordered = put card rest.ordered;
+      same = card_put before card rest.ordered rest.same;
+      rises = cards_rise before card rest.ordered rest.same rest.rises good.1.first;
     }
 in_order version (_ ∷ before) good = in_order version before good.2
 

@@ -1,8 +1,8 @@
 -- A text says at most one script, and is bad at one line for one reason, but not both: it is decided.
 use Rattle.board_prelude.proofs.Common.{nat_tests}
-use Rattle.std.proofs.Common.{arith, ℕ, ◌≡◌, Result, Ok, Err, List, [], ◌∷◌, ◌++◌, sym, ap, ◌∙◌, inl, inr}
+use Rattle.std.proofs.Common.{arith, ℕ, List, [], ◌∷◌, ◌++◌, inl, inr}
 use Rattle.script_spec.specs.Common.{lines_of, Item, IsSkipped, IsGoodLine, AreRead, NotBoth, OneRefusal}
-pub use Rattle.script_spec.proofs.Lists.{same_head, not_nil, same_some}
+pub use Rattle.script_spec.proofs.Chains.{same_head, not_nil, same_some}
 use Rattle.script_spec.proofs.Decision.{text_decided, bad_decided}
 
 -- one line more is read
@@ -25,24 +25,9 @@ skip_more version (first ∷ later) line before items (inr one) skipped =
 
 -- ---- the whole
 
-abbrev Judged : Type 0
-Judged = Result (ℕ × List Item) (ℕ × ℕ)
-
-not_err : (found : ℕ × List Item) (end : ℕ × ℕ) → ◌≡◌ {A = Judged} (Ok found) (Err end) → ⊥
-not_err found end e = cc
-
-same_end : (end other : ℕ × ℕ) → ◌≡◌ {A = Judged} (Err end) (Err other) → end ≡ other
-same_end end other e = cc
-
 pub not_both : NotBoth
-not_both bytes script line why text bad =
-    not_err (script.version, text.items) (line, why)
-    (sym (text_decided bytes script text) ∙ bad_decided (lines_of bytes) line why bad)
+not_both bytes script line why text bad = cc (text_decided bytes script text, bad_decided (lines_of bytes) line why bad)
 
 pub one_refusal : OneRefusal
 one_refusal bytes line why place cause one two =
-    let same : (line, why) ≡ (place, cause) =
-    same_end (line, why) (place, cause)
-    (sym (bad_decided (lines_of bytes) line why one) ∙ bad_decided (lines_of bytes) place cause two)
-    in
-    (ap (λ (end : ℕ × ℕ). end.0) same, ap (λ (end : ℕ × ℕ). end.1) same)
+    grind (arith, bad_decided (lines_of bytes) line why one, bad_decided (lines_of bytes) place cause two)

@@ -1,69 +1,141 @@
 -- A reply is read back from its words, and what is read has the shape of its event.
 use Rattle.board_prelude.proofs.Common.{eq-eqb, nat_tests, pow-le-pow_right, eqb-true, Kind, Write, WideAccess}
 use Rattle.board_prelude.proofs.Common.{bytes_of, Event, Memory, Wide, Port, Ack, Part, Parts, Two, Three, Four, Reply}
-use Rattle.board_prelude.proofs.Common.{Bus, Saw, is_write, longest_at, parts_from, parts_of, parts_list, space}
-use Rattle.board_prelude.proofs.Common.{hex_long, area_text, target_text, denial_text, value_bytes, value_text}
-use Rattle.board_prelude.proofs.Common.{answered_text, reply_text}
-use Rattle.script_spec.proofs.FieldTexts.{lacks_hex}
+use Rattle.board_prelude.proofs.Common.{is_write, longest_at, parts_from, parts_of, parts_list, space, hex_long}
+use Rattle.board_prelude.proofs.Common.{area_text, target_text, denial_text, value_bytes, value_text, reply_text}
+use Rattle.board_prelude.proofs.Common.{digits, option_map, Reg, Dev, Area, Target, Denial, byte, hex_digit, hex_byte}
+use Rattle.board_prelude.proofs.Common.{hex_number, hex_offset, register_text, device_text}
 use Rattle.std.proofs.Common.{◌≡◌, ℕ, zero, suc, ◌+◌, ◌-◌, ◌^◌, ◌<◌, ◌≤◌, ◌↔◌, Bool, true, false, Option, Some, None}
-use Rattle.std.proofs.Common.{List, [], ◌∷◌, length, All, flat_map, refl, sym, ap, ◌∙◌, append_assoc, append-nil, arith}
-use Rattle.std.proofs.Common.{decimal, IfSome, IsTrue}
+use Rattle.std.proofs.Common.{List, [], ◌∷◌, length, All, refl, sym, ap, ◌∙◌, append_assoc, arith, decimal, IfSome}
+use Rattle.std.proofs.Common.{IsTrue, ◌*◌, ◌/◌, ◌%◌, eqb, ◌++◌, inl, inr, codes}
 use Rattle.board_spec.specs.declared.event.Event.TheVariants.{Look as LookAt}
-use Rattle.board_spec.specs.declared.event.Reply.TheVariants.{Parts as InParts}
 use Rattle.script_spec.specs.Common.{IsDecimal, FitsPart, IsReplyValue, IsBusReply, IsWideReply, IsLookReply, HasShape}
 use Rattle.script_spec.specs.Common.{fields_of, parse_decimal, parse_value, parse_bus_reply, parse_last_parts}
 use Rattle.script_spec.specs.Common.{parse_more_parts, parse_parts, part_count, parts_with, parse_wide_reply}
-use Rattle.script_spec.specs.Common.{parse_reply, parse_spaced_reply}
-use Rattle.script_spec.proofs.PlainText.{is_word, lacks-word, decimal_word, area_word, target_word, denial_word}
-use Rattle.script_spec.proofs.PlainLines.{value_word}
-use Rattle.script_spec.proofs.Digits.{lacks}
-use Rattle.script_spec.proofs.Words.{spaced, line_spaced}
-use Rattle.script_spec.proofs.Splits.{Lack, split_exact}
-use Rattle.script_spec.proofs.NumberTexts.{decimal_read}
-use Rattle.script_spec.proofs.NumberBack.{decimal_back}
+use Rattle.script_spec.specs.Common.{parse_reply, parse_spaced_reply, FitsReg, FitsArea, FitsDevice, FitsTarget}
+use Rattle.script_spec.specs.Common.{FitsDenial, parse_digit, number_after, parse_hex, cut, parse_one_digit}
+use Rattle.script_spec.specs.Common.{parse_register, parse_denial, parse_placed_area, parse_area, parse_placed_target}
+use Rattle.script_spec.specs.Common.{parse_device, parse_target}
+use Rattle.script_spec.proofs.Words.{line_spaced, words_of, words_in, reply_spaced, reply_are}
+use Rattle.script_spec.proofs.Splits.{split_exact}
+use Rattle.script_spec.proofs.NumberTexts.{decimal_read, decimal_back, digit_so, hex_after, hex_back}
 use Rattle.script_spec.specs.Replies.{bus_reply, look_reply, parse_part, parse_look_reply}
-use Rattle.script_spec.proofs.TargetBack.{hex_read, denial_back, area_back, target_back}
+use Rattle.std.proofs.lemmas.Fmt.{decimal_digit}
+use Rattle.board_base.specs.declared.target.Dev.TheVariants as devices
+use Rattle.board_base.specs.declared.target.Target.TheVariants as targets
+use Rattle.script_spec.proofs.Digits.{lacks, lacks-append, lacks-decimal, cut_field}
+use Rattle.script_spec.proofs.Joins.{same}
+use Rattle.script_spec.specs.Targets.{parse_card_base, parse_card_target}
 
--- ---- the words of a reply
+-- ---- numbers
 
-abbrev words_of : List Part → List (List ℕ)
-words_of [] = []
-words_of (part ∷ later) = target_text part.target ∷ denial_text part.denial ∷ words_of later
+pub hex_read : (bytes n : ℕ) → n < 256 ^ bytes → parse_hex (2 * bytes) (hex_number bytes n) ≡ Some n
+hex_read bytes n small = hex_back bytes n (hex_number bytes n) small (same (hex_number bytes n))
 
-abbrev words_in : (bytes : ℕ) → Reply → List (List ℕ)
-words_in bytes (Bus value target denial) = value_text bytes value ∷ target_text target ∷ denial_text denial ∷ []
-words_in bytes (InParts parts value) = value_text bytes value ∷ words_of (parts_list parts)
-words_in bytes (Saw look) = decimal look.version ∷ hex_long look.lo ∷ hex_long look.hi ∷ area_text look.area ∷ []
+hex_digit_back : (n : ℕ) → parse_digit 16 (hex_digit n) ≡ Some (n % 16)
+hex_digit_back n = grind (arith, nat_tests)
 
-parts_spaced : (parts : List Part)
-    → flat_map (λ part. answered_text part.target part.denial) parts ≡ spaced (words_of parts)
-parts_spaced [] = refl
-parts_spaced (part ∷ later) = grind (arith, nat_tests, append_assoc, parts_spaced later)
+byte_back : (n : ℕ) → n < 0x100 → parse_hex 2 (hex_byte n) ≡ Some n
+byte_back n small =
+    let e : byte n 0 ≡ n = omega (arith, small) in
+    ap (λ (b : ℕ). parse_hex 2 (hex_byte b)) (sym e) ∙ hex_read 1 n (omega (arith, small))
 
-reply_spaced : (bytes : ℕ) (reply : Reply) → space ∷ reply_text bytes reply ≡ spaced (words_in bytes reply)
-unfolding reply_text
-reply_spaced bytes reply = grind (arith, nat_tests, append-nil, parts_spaced, append_assoc)
+nibble_back : (n : ℕ) → n < 16 → parse_hex 1 (hex_digit n ∷ []) ≡ Some n
+unfolding number_after
+nibble_back n small = grind (arith, nat_tests)
 
-lack : (word : List ℕ) → is_word word ≡ true → lacks space word ≡ true
-lack word is = lacks-word space word refl is
+offset_back : (n : ℕ) → n < 0x10_0000 → parse_hex 5 (hex_offset n) ≡ Some n
+unfolding number_after
+offset_back n small = grind (arith, nat_tests, hex_digit_back, hex_after, same)
 
-parts_lack : (parts : List Part) → Lack (words_of parts)
-parts_lack [] = tt
-parts_lack (part ∷ later) = grind (arith, nat_tests, lack, target_word, denial_word, parts_lack later)
+digit_back : (n : ℕ) → n < 10 → parse_one_digit (decimal n) ≡ Some n
+unfolding parse_one_digit
+digit_back n small = grind (arith, nat_tests, decimal_digit, digit_so)
 
-words_lack : (bytes : ℕ) (reply : Reply) → Lack (words_in bytes reply)
-words_lack bytes (Bus value target denial) = grind (arith, nat_tests, lack, value_word, target_word, denial_word)
-words_lack bytes (InParts parts value) = grind (arith, nat_tests, lack, value_word, parts_lack)
-words_lack bytes (Saw look) = (
-  lack (decimal look.version) (decimal_word look.version),
-  (lacks_hex 4 look.lo, (lacks_hex 4 look.hi, (lack (area_text look.area) (area_word look.area), tt))),
-)
+-- ---- registers and denials
+
+-- no digit is a point
+digit_not : (n : ℕ) → eqb (hex_digit n) 0x2E ≡ false
+digit_not n = grind (arith, nat_tests)
+
+register_back : (reg : Reg) → FitsReg reg → parse_register (register_text reg) ≡ Some reg
+unfolding parse_register
+register_back reg fits =
+    let rest : List ℕ = hex_digit reg.fun ∷ 0x2E ∷ hex_byte reg.off in
+    rw (
+      cut_field 0x2E (hex_byte reg.dev) rest (rw (digit_not (reg.dev / 0x10), digit_not reg.dev) refl),
+      cut_field 0x2E (hex_digit reg.fun ∷ []) (hex_byte reg.off) (rw (digit_not reg.fun) refl),
+      byte_back reg.dev fits.0,
+      nibble_back reg.fun fits.1,
+      byte_back reg.off fits.2,
+    ) refl
+
+pub denial_back : (denial : Option Denial) → FitsDenial denial → parse_denial (denial_text denial) ≡ Some denial
+unfolding parse_denial parse_register cut
+denial_back denial fits = grind (arith, nat_tests, register_back)
+
+-- ---- areas
+
+base_back : (dev base : ℕ) → dev < 10 → base < 10
+    → parse_card_base (decimal dev ++ 0x2E ∷ decimal base) ≡ Some (dev, base)
+unfolding parse_card_base
+base_back dev base one two = rw (
+  cut_field 0x2E (decimal dev) (decimal base) (lacks-decimal 0x2E dev (inl (omega arith)) (omega (arith, one))),
+  digit_back dev one,
+  digit_back base two,
+) refl
+
+base_parts : (dev base : ℕ) → dev < 10 → base < 10 → parse_card_base (decimal dev ++ codes "." ++ decimal base) ≡ Some
+    (dev, base)
+base_parts dev base one two = simp (append_assoc, base_back)
+
+pub area_back : (area : Area) → FitsArea area → parse_area (area_text area) ≡ Some area
+unfolding parse_area parse_placed_area cut
+area_back area fits = grind (arith, nat_tests, digit_back, base_parts)
+
+-- ---- targets
+
+card_back : (dev base off : ℕ) → dev < 10 → base < 10 → off < 2 ^ 32
+    → parse_card_target (decimal dev ++ codes "." ++ decimal base ++ codes ":" ++ hex_long off)
+    ≡ Some (targets.Card dev base off)
+unfolding parse_card_target
+card_back dev base off one two three =
+    let place : List ℕ = decimal dev ++ codes "." ++ decimal base in
+    let first : lacks 0x3A (decimal dev) ≡ true = lacks-decimal 0x3A dev (inr (omega arith)) (omega (arith, one)) in
+    let second : lacks 0x3A (decimal base) ≡ true = lacks-decimal 0x3A base (inr (omega arith)) (omega (arith, two)) in
+    let lack = lacks-append 0x3A (decimal dev ++ codes ".") (decimal base)
+    (lacks-append 0x3A (decimal dev) (codes ".") first refl) second in
+    rw (
+      append_assoc place (codes ":") (hex_long off),
+      cut_field 0x3A place (hex_long off) lack,
+      base_parts dev base one two,
+      hex_read 4 off (omega (arith, three)),
+    ) refl
+
+device_back : (dev : Dev) → FitsDevice dev → parse_target (device_text dev) ≡ Some (targets.Device dev)
+unfolding parse_target parse_device digits
+device_back (devices.Vector (suc zero)) fits = refl
+device_back (devices.Vector (suc (suc chip))) fits = absurd (omega (arith, fits))
+device_back (devices.Spurious (suc zero)) fits = refl
+device_back (devices.Spurious (suc (suc chip))) fits = absurd (omega (arith, fits))
+device_back _ fits = refl
+
+pub target_back : (target : Target) → FitsTarget target → parse_target (target_text target) ≡ Some target
+unfolding parse_target parse_device parse_placed_target cut
+target_back (targets.Dram row) fits = ap (option_map targets.Dram) (digit_back row fits)
+target_back (targets.Shadow row) fits = ap (option_map targets.Shadow) (digit_back row fits)
+target_back targets.Smram fits = refl
+target_back (targets.Rom off) fits = ap (option_map targets.Rom) (offset_back off fits)
+target_back (targets.Card dev base off) fits = card_back dev base off fits.0 fits.1 fits.2
+target_back (targets.Device dev) fits = device_back dev fits
+target_back (targets.Config reg) fits = ap (option_map targets.Config) (register_back reg fits)
+target_back targets.Abort fits = refl
 
 -- the first field is empty
 reply_fields : (bytes : ℕ) (reply : Reply) → fields_of (space ∷ reply_text bytes reply) ≡ [] ∷ words_in bytes reply
 reply_fields bytes reply =
     ap fields_of (reply_spaced bytes reply ∙ sym (line_spaced [] (words_in bytes reply)))
-    ∙ split_exact [] (words_in bytes reply) (refl, words_lack bytes reply)
+    ∙ split_exact [] (words_in bytes reply) (reply_are bytes reply)
 
 -- ---- from its words
 
@@ -115,13 +187,7 @@ wide_back access reply fits = grind (arith, nat_tests, value_back, parts_back, e
 
 look_back : (bytes : ℕ) (reply : Reply) → IsLookReply reply → parse_look_reply (words_in bytes reply) ≡ Some reply
 unfolding parse_look_reply look_reply
-look_back bytes (Saw look) fits = rw (
-  decimal_back look.version fits.0,
-  hex_read 4 look.lo (omega (arith, fits.1)),
-  hex_read 4 look.hi (omega (arith, fits.2)),
-  area_back look.area fits.3,
-) refl
-look_back bytes _ fits = absurd fits
+look_back bytes reply fits = grind (arith, nat_tests, decimal_back, hex_read 4, area_back)
 
 reply_back : (event : Event) (reply : Reply) → HasShape event reply → parse_reply event
     (words_in (value_bytes event) reply) ≡ Some reply

@@ -1,15 +1,18 @@
--- The fields of each event, which its text joins.
+-- The fields of each event and of each reply, which its text joins: they are words.
 use Rattle.std.proofs.Common.{◌≡◌, ℕ, Bool, true, false, List, [], ◌∷◌, ◌++◌, refl, ap, append_assoc, append-nil, arith}
-use Rattle.std.proofs.Common.{lit<, sym, flat_map, codes, decimal, if◌then◌else◌}
+use Rattle.std.proofs.Common.{lit<, sym, ◌∙◌, ◌&&◌, flat_map, codes, decimal, if◌then◌else◌}
 use Rattle.board_prelude.proofs.Common.{join_with_byte, nat_tests, Kind, bytes_of, Event, Memory, Wide, Port, Ack, Time}
 use Rattle.board_prelude.proofs.Common.{Stimulus, Applied, stimulus_form, applied, event_applied, applied_by}
 use Rattle.board_prelude.proofs.Common.{option_map_or, is_write, space, hex_number, size_text, width_text, kind_text}
-use Rattle.board_prelude.proofs.Common.{level_text, moment_text, event_text, smm_text, written_text}
-use Rattle.script_spec.proofs.Digits.{lacks, own}
+use Rattle.board_prelude.proofs.Common.{level_text, moment_text, event_text, smm_text, written_text, and_from}
+use Rattle.board_prelude.proofs.Common.{and_parts, Part, Reply, Bus, Saw, parts_list, hex_long, area_text, target_text}
+use Rattle.board_prelude.proofs.Common.{denial_text, value_text, answered_text, reply_text}
+use Rattle.script_spec.proofs.Digits.{own}
 use Rattle.std.proofs.lemmas.Fmt.{decimal-digits_value}
 use Rattle.board_spec.specs.declared.event.Event.TheVariants.{Look as LookAt}
-use Rattle.script_spec.proofs.Splits.{Lack}
-use Rattle.script_spec.proofs.FieldTexts.{lacks_decimal, lacks_hex, lacks_moment}
+use Rattle.board_spec.specs.declared.event.Reply.TheVariants.{Parts as InParts}
+use Rattle.script_spec.proofs.PlainText.{is_word, are_words, is_plain, plain-append, plain-word, hex_number_word}
+use Rattle.script_spec.proofs.PlainText.{decimal_word, moment_word, value_word, area_word, target_word, denial_word}
 
 -- each word after a space
 abbrev pub spaced : List (List ℕ) → List ℕ
@@ -83,46 +86,90 @@ pub event_joined : (event : Event) → join_with_byte space (event_words event) 
 unfolding event_text
 event_joined event = grind (arith, nat_tests, access_joined, port_joined, look_joined)
 
--- ---- no space stands in them
+-- ---- they are words
 
-lacks_kind : (kind : Kind) → lacks space (kind_text kind) ≡ true
-lacks_kind kind = grind (arith, nat_tests)
+kind_is : (kind : Kind) → is_word (kind_text kind) ≡ true
+kind_is kind = grind (arith, nat_tests)
 
-lacks_size : (bytes : ℕ) → lacks space (size_text bytes) ≡ true
-lacks_size bytes = grind (arith, nat_tests)
+size_is : (bytes : ℕ) → is_word (size_text bytes) ≡ true
+size_is bytes = grind (arith, nat_tests)
 
-lacks_flags : (smm : Bool) → Lack (smm_words smm)
-lacks_flags smm = grind (arith, nat_tests)
+verb_is : (write : Bool) → is_word (if write then codes "out" else codes "in") ≡ true
+verb_is write = grind (arith, nat_tests)
 
-lacks_written : (writes : Bool) (bytes value : ℕ) (flags : List (List ℕ)) → Lack flags
-    → Lack (written_words writes bytes value flags)
-lacks_written true bytes value flags lack = (lacks_hex bytes value, lack)
-lacks_written false bytes value flags lack = lack
+access_are : (k s h : List ℕ) (writes : Bool) (bytes value : ℕ) (smm : Bool) → is_word k ≡ true → is_word s ≡ true
+    → is_word h ≡ true → are_words (k ∷ s ∷ h ∷ written_words writes bytes value (smm_words smm)) ≡ true
+access_are k s h writes bytes value smm one two three = grind (arith, nat_tests, hex_number_word)
 
-lacks_verb : (write : Bool) → lacks space (if write then codes "out" else codes "in") ≡ true
-lacks_verb write = grind (arith, nat_tests)
-
-pub lacks_stimulus : (one : Stimulus) → lacks space (stimulus_form one).word ≡ true
-lacks_stimulus one = grind (arith, nat_tests)
-
-pub event_lacks : (event : Event) → Lack (event_words event)
-event_lacks (Memory access) = (
-  lacks_kind access.kind,
-  (lacks_size (bytes_of access.width), (lacks_hex 4 access.addr, lacks_written _ _ _ _ (lacks_flags access.smm))),
-)
-event_lacks (Wide access) = (
-  lacks_kind access.kind,
-  (lacks_size access.bytes, (lacks_hex 4 access.addr, lacks_written _ _ _ _ (lacks_flags access.smm))),
-)
-event_lacks (Port access) = (
-  lacks_verb access.write,
-  (lacks_size (bytes_of access.width), (lacks_hex 2 access.port, lacks_written access.write _ _ [] tt)),
-)
-event_lacks (LookAt kind addr smm) = (refl, (lacks_kind kind, (lacks_hex 4 addr, lacks_flags smm)))
-event_lacks Ack = (refl, tt)
-event_lacks (Time moment) = (refl, (lacks_moment moment, tt))
-event_lacks event = grind (arith, nat_tests, lacks_decimal)
+pub event_are : (event : Event) → are_words (event_words event) ≡ true
+event_are (Memory access) =
+    access_are (kind_text access.kind) (size_text (bytes_of access.width)) (hex_number 4 access.addr)
+    (is_write access.kind) (bytes_of access.width) access.value access.smm (kind_is access.kind)
+    (size_is (bytes_of access.width)) (hex_number_word 4 access.addr)
+event_are (Wide access) =
+    access_are (kind_text access.kind) (size_text access.bytes) (hex_number 4 access.addr) (is_write access.kind)
+    access.bytes access.value access.smm (kind_is access.kind) (size_is access.bytes) (hex_number_word 4 access.addr)
+event_are (Port access) =
+    access_are (if access.write then codes "out" else codes "in") (width_text access.width) (hex_number 2 access.port)
+    access.write (bytes_of access.width) access.value false (verb_is access.write) (size_is (bytes_of access.width))
+    (hex_number_word 2 access.port)
+event_are (LookAt kind addr smm) =
+    access_are (codes "look") (kind_text kind) (hex_number 4 addr) false 0 0 smm refl (kind_is kind)
+    (hex_number_word 4 addr)
+event_are (Time moment) = ap (λ (b : Bool). b && true) (moment_word moment)
+event_are event = grind (arith, nat_tests, decimal_word)
 
 pub applied_is : (one : Stimulus) (number : ℕ) (on : Bool)
     → event_words (event_applied one number on) ≡ applied_words (applied one number on)
 applied_is one number on = grind (arith, nat_tests)
+
+-- ---- the fields of replies
+
+abbrev pub words_of : List Part → List (List ℕ)
+words_of [] = []
+words_of (part ∷ later) = target_text part.target ∷ denial_text part.denial ∷ words_of later
+
+abbrev pub words_in : (bytes : ℕ) → Reply → List (List ℕ)
+words_in bytes (Bus value target denial) = value_text bytes value ∷ target_text target ∷ denial_text denial ∷ []
+words_in bytes (InParts parts value) = value_text bytes value ∷ words_of (parts_list parts)
+words_in bytes (Saw look) = decimal look.version ∷ hex_long look.lo ∷ hex_long look.hi ∷ area_text look.area ∷ []
+
+parts_spaced : (parts : List Part)
+    → flat_map (λ part. answered_text part.target part.denial) parts ≡ spaced (words_of parts)
+parts_spaced [] = refl
+parts_spaced (part ∷ later) = grind (arith, nat_tests, append_assoc, parts_spaced later)
+
+pub reply_spaced : (bytes : ℕ) (reply : Reply) → space ∷ reply_text bytes reply ≡ spaced (words_in bytes reply)
+unfolding reply_text
+reply_spaced bytes reply = grind (arith, nat_tests, append-nil, parts_spaced, append_assoc)
+
+parts_are : (parts : List Part) → are_words (words_of parts) ≡ true
+parts_are [] = refl
+parts_are (part ∷ later) = grind (arith, nat_tests, target_word, denial_word, parts_are later)
+
+pub reply_are : (bytes : ℕ) (reply : Reply) → are_words (words_in bytes reply) ≡ true
+reply_are bytes (Bus value target denial) = grind (arith, nat_tests, value_word, target_word, denial_word)
+reply_are bytes (InParts parts value) = grind (arith, nat_tests, value_word, parts_are)
+reply_are bytes (Saw look) =
+    and_from _ _ (decimal_word look.version) (and_from _ _ (hex_number_word 4 look.lo)
+    (and_from _ _ (hex_number_word 4 look.hi) (and_from _ _ (area_word look.area) refl)))
+
+-- ---- so the texts are words and spaces
+
+plain-spaced : (words : List (List ℕ)) → are_words words ≡ true → is_plain (spaced words) ≡ true
+plain-spaced [] are = refl
+plain-spaced (word ∷ words) are =
+    let parts = and_parts (is_word word) (are_words words) are in
+    plain-append (space ∷ word) (spaced words) (plain-word word parts.0) (plain-spaced words parts.1)
+
+plain-joined : (words : List (List ℕ)) → are_words words ≡ true → is_plain (join_with_byte space words) ≡ true
+plain-joined [] are = refl
+plain-joined (first ∷ words) are =
+    ap is_plain (line_spaced first words) ∙ plain-spaced (first ∷ words) are
+
+pub event_plain : (event : Event) → is_plain (event_text event) ≡ true
+event_plain event = ap is_plain (sym (event_joined event)) ∙ plain-joined (event_words event) (event_are event)
+
+pub reply_plain : (bytes : ℕ) (reply : Reply) → is_plain (reply_text bytes reply) ≡ true
+reply_plain bytes reply =
+    ap is_plain (reply_spaced bytes reply) ∙ plain-spaced (words_in bytes reply) (reply_are bytes reply)

@@ -1,9 +1,55 @@
--- The moment that was read is the one that the field spells.
-use Rattle.script_spec.proofs.Chains.{then_read, some_is}
+-- A field is read as a moment exactly where it spells one.
 use Rattle.board_prelude.proofs.Common.{nat_tests, Moment, moment_of, two_digits, moment_text}
-use Rattle.std.proofs.Common.{◌≡◌, ℕ, ◌+◌, ◌*◌, ◌/◌, ◌%◌, ◌<◌, Some, List, [], ◌∷◌, ◌++◌, refl, ap, ◌∙◌, arith}
+use Rattle.std.proofs.Common.{◌≡◌, ℕ, ◌+◌, ◌*◌, ◌/◌, ◌%◌, ◌<◌, true, Some, List, [], ◌∷◌, ◌++◌, refl, sym, ap, ◌∙◌}
+use Rattle.std.proofs.Common.{arith}
 use Rattle.script_spec.specs.Common.{IsMomentForm, parse_two_digits, after_mark, parse_moment_part, parse_year, Three}
 use Rattle.script_spec.specs.Common.{parse_date, parse_time, whole_moment, parse_moment}
+use Rattle.script_spec.proofs.NumberTexts.{is_plain}
+use Rattle.script_spec.proofs.Chains.{then_read, some_is}
+
+-- ---- what is spelled is read
+
+two_back : (n : ℕ) (rest : List ℕ) → n < 100 → parse_two_digits (two_digits n ++ rest) ≡ Some (n, rest)
+unfolding parse_two_digits
+two_back n rest small = grind (arith, nat_tests)
+
+part_back : (mark n : ℕ) (rest : List ℕ) → n < 100
+    → parse_moment_part mark (mark ∷ (two_digits n ++ rest)) ≡ Some (n, rest)
+unfolding parse_moment_part after_mark
+part_back mark n rest small = grind (arith, nat_tests, two_back)
+
+date_back : (year month day : ℕ) (rest : List ℕ) → year < 10_000 → month < 100 → day < 100
+    → parse_date (two_digits
+    (year / 100) ++ (two_digits (year % 100) ++ 0x2D ∷ (two_digits month ++ 0x2D ∷ (two_digits day ++ rest))))
+    ≡ Some (record { first = year; second = month; third = day; rest = rest })
+unfolding parse_date parse_year
+date_back year month day rest y m d = grind (arith, nat_tests, part_back, two_back)
+
+time_back : (hour minute second : ℕ) → hour < 100 → minute < 100 → second < 100
+    → parse_time (0x54 ∷ (two_digits hour ++ 0x3A ∷ (two_digits minute ++ 0x3A ∷ (two_digits second ++ []))))
+    ≡ Some (record { first = hour; second = minute; third = second; rest = [] })
+unfolding parse_time
+time_back hour minute second h m s = simp part_back
+
+weekday : (moment : Moment) → IsMomentForm moment
+    → moment_of moment.year moment.month moment.day moment.hour moment.minute moment.second ≡ moment
+weekday moment form = ap (λ (w : ℕ). record moment { weekday = w }) (sym form.weekday)
+
+pub moment_back : (moment : Moment) → IsMomentForm moment → parse_moment (moment_text moment) ≡ Some moment
+unfolding parse_moment whole_moment
+moment_back moment form =
+    let time : List ℕ =
+    0x54 ∷ (two_digits moment.hour ++ 0x3A ∷ (two_digits moment.minute ++ 0x3A ∷ (two_digits moment.second ++ []))) in
+    rw (
+      date_back moment.year moment.month moment.day time form.year form.month form.day,
+      time_back moment.hour moment.minute moment.second form.hour form.minute form.second,
+    ) (ap (λ (m : Moment). Some m) (weekday moment form))
+
+-- no letter is a capital A to F
+pub plain_moment : (moment : Moment) → is_plain (moment_text moment) ≡ true
+plain_moment moment = grind (arith, nat_tests)
+
+-- ---- what is read is spelled
 
 two_read : (text : List ℕ) (p : ℕ × List ℕ) → parse_two_digits text ≡ Some p
     → (text ≡ two_digits p.0 ++ p.1) × (p.0 < 100)
