@@ -1,7 +1,7 @@
 -- Each step keeps the rule of the table.
 use Rattle.std.proofs.Common.{map, append-nil, mod-eq_of_lt, ◌≡◌, ◌≢◌, ⊎_elim, ℕ, ◌+◌, ◌%◌, ◌^◌, ◌≤◌, ◌<◌, List, []}
-use Rattle.std.proofs.Common.{◌∷◌, ◌++◌, length, set, get_or, drop, All, eq-or-lt_of_le, Option, Some, None, length-set}
-use Rattle.std.proofs.Common.{length-append, append_assoc, sym, refl, ap, ◌∙◌, subst, arith}
+use Rattle.std.proofs.Common.{◌∷◌, ◌++◌, length, set, get_or, drop, All, Option, Some, None, length-set, length-append}
+use Rattle.std.proofs.Common.{append_assoc, sym, refl, ap, ◌∙◌, subst, arith}
 use Rattle.std.proofs.Math.Nat.{mod-add-mod}
 use mathlib.Core.Option.{some, none, some-injective, some-ne-none}
 use mathlib.Core.Option as maybe
@@ -25,17 +25,8 @@ use Rattle.bus_turn.proofs.Sums.{total_set, total_at, total_snoc, total_below, t
 use Rattle.bus_turn.proofs.Rows.{put, put_here, put_else, at_lt, at_end, set_apart, prefix_refl, prefix_same}
 use Rattle.bus_turn.proofs.Rows.{prefix_trans, drop_front, own_more, own_else, own_none, All-more}
 
-waits_small : (st : Stage) → waiting st ≤ 1
-waits_small Idle = omega arith
-waits_small (Waits t) = omega arith
-waits_small Holds = omega arith
-waits_small Spent = omega arith
-
 stage_small : (st : Stage) → waiting st + gone st ≤ 1
-stage_small Idle = omega arith
-stage_small (Waits t) = omega arith
-stage_small Holds = omega arith
-stage_small Spent = omega arith
+stage_small st = grind arith
 
 alive : (is at : Stage) → is ≡ at → gone at ≡ 0 → is ≢ Spent
 alive is at e still dead = let one : gone at ≡ 1 = ap gone (sym e ∙ dead) in omega arith
@@ -83,8 +74,7 @@ module _ {T E F : Type 0} (entries : T → List E) (actor : E → ℕ) (fixed : 
   set_stays : (b b' : B) (views : List V) (id : ℕ) (v w : V) → get_elem? views id ≡ some v → v.stage ≢ Spent
       → ((n : ℕ) → n ≢ id → own_by actor n b'.since ≡ own_by actor n b.since) → Stays b b' views (set views id w)
   set_stays b b' views id v w at lives same p gone =
-      let apart : p ≢ id = λ e. lives (ap (λ (z : V). z.stage)
-      (some-injective v spent (sym at ∙ (ap (get_elem? views) (sym e) ∙ gone)))) in
+      let apart : p ≢ id = λ e. lives (ap (λ (z : V). z.stage) (some-injective v spent (cc (at, gone)))) in
       (same p apart, set_else views id p w apart ∙ gone)
 
   joined_on : (b b' : B) (views views' : List V) → Stays b b' views views' → (xs : List (ℕ × List E))
@@ -99,17 +89,8 @@ module _ {T E F : Type 0} (entries : T → List E) (actor : E → ℕ) (fixed : 
       → IsPrefix seen (log_of first b') → IsPrefix told (log_of first b') → own_by actor j b'.since ≡ mine
       → AtStage first b' j seen st
       → K b' views' j (record u { stage = st; splits = n; seen = seen; told = told; mine = mine })
-  knows_on b b' views views' j u st n seen told mine stay k split begins telling own stage = record {
-    opened = k.opened;
-    part_is = k.part_is;
-    begins = begins;
-    told = telling;
-    number = k.number;
-    splits = split;
-    mine = own;
-    joined = joined_on b b' views views' stay u.joined k.joined;
-    stage = stage;
-  }
+  knows_on b b' views views' j u st n seen told mine stay k split begins telling own stage =
+      assumption (joined_on b b' views views' stay u.joined k.joined)
 
   -- where another pass holds the value, its ticket is served
   is_held : (s : S) (o : O s) → L o.book s.views away → o.book.serving < o.book.ticket
@@ -125,9 +106,7 @@ module _ {T E F : Type 0} (entries : T → List E) (actor : E → ℕ) (fixed : 
   lies_on s o b id v w at free log owner (home x) h = (h.0 ∙ sym log, h.1)
   lies_on s o b id v w at free log owner away h =
       let i : ℕ = o.book.owner o.book.serving in
-      let other : i ≢ id = λ e. free
-      (ap (λ (z : V). z.stage) (some-injective v h.0 (sym at ∙ (ap (get_elem? s.views) (sym e) ∙ h.1)))
-      ∙ h.2) in
+      let other : i ≢ id = λ e. free (ap (λ (z : V). z.stage) (some-injective v h.0 (cc (at, h.1))) ∙ h.2) in
       (h.0, ap (get_elem? (set s.views id w)) (owner (is_held s o h)) ∙ (set_else s.views id i w other ∙ h.1), h.2)
 
   -- the pass id goes from the view v to w, and the book from that of o to b
@@ -221,9 +200,7 @@ module _ {T E F : Type 0} (entries : T → List E) (actor : E → ℕ) (fixed : 
         keeps,
         tt,
         steps_on s r id v (Waits b.ticket) v.seen v.told v.mine _ s.homes b' at lives (sym (ap gone idle))
-            (ap (λ (ws : List ℕ). set ws 0 ((get_or ws 0 0 + 1) % 2 ^ 64)) o.words_are
-            ∙ ap (λ (n : ℕ). n ∷ (b.serving % 2 ^ 64) ∷ (length (log_of first b) % 2 ^ 64) ∷ [])
-            (mod-add-mod b.ticket (2 ^ 64) 1)) o.home_is (omega arith)
+            (rw (o.words_are, mod-add-mod b.ticket (2 ^ 64) 1) refl) o.home_is (omega arith)
             (lies_on s o b' id v w at (λ e. cc) refl
             (λ held. put_else b.owner b.ticket id b.serving (λ e. omega arith)) b.place o.lies)
             (prefix_refl (log_of first b)) (λ n _. refl) o.numbered (λ j u _ h. after_draw b id j u.seen u.stage h)
@@ -305,7 +282,8 @@ module _ {T E F : Type 0} (entries : T → List E) (actor : E → ℕ) (fixed : 
       let k : K b s.views id v = o.each_seat id v at (alive v.stage (Waits t) is refl) in
       let st : AtStage first b id v.seen (Waits t) = subst (AtStage first b id v.seen) is k.stage in
       let low : b.serving ≤ t = st.0 in let before : t < b.ticket = st.1 in
-      let few = total_below waits (λ (z : V). waits_small z.stage) s.views in let out = o.out in let most = o.few.1 in
+      let few = total_below waits (λ (z : V). let one = stage_small z.stage in omega arith) s.views in
+      let out = o.out in let most = o.few.1 in
       let shown : get_or s.words 1 0 ≡ b.serving % 2 ^ 64 = ap (λ (ws : List ℕ). get_or ws 1 0) o.words_are in
       dite (ℕ_discrete (ticket_of v.stage % 2 ^ 64) (get_or s.words 1 0))
       (λ hit. hits slots id me t is s r
@@ -351,17 +329,13 @@ module _ {T E F : Type 0} (entries : T → List E) (actor : E → ℕ) (fixed : 
       let mine : actor e ≡ id = by ∙ k.number in let inside = at_lt s.views id v at in
       let logs : IsPrefix (log_of first b) (log_of first b') = (e ∷ [], append_assoc first b.since (e ∷ [])) in
       let long : length (log_of first b) + 1 ≡ length (log_of first b') =
-      (let l = length-append (log_of first b) (e ∷ []) in let m = ap (λ (xs : List E). length xs) logs.1 in
-      omega arith) in
+      omega (arith, length-append (log_of first b) (e ∷ []), ap (λ (xs : List E). length xs) logs.1) in
       let all : v.seen ++ e ∷ [] ≡ log_of first b' = ap (λ (xs : List E). xs ++ e ∷ []) st.3 ∙ logs.1 in (
         w,
         keeps,
         tt,
         steps_on s r id v v.stage (v.seen ++ e ∷ []) v.told (v.mine ++ e ∷ []) _ s.homes b' at lives refl
-            (ap (λ (ws : List ℕ). set ws 2 ((get_or ws 2 0 + 1) % 2 ^ 64)) o.words_are
-            ∙ ap (λ (n : ℕ). (b.ticket % 2 ^ 64) ∷ (b.serving % 2 ^ 64) ∷ n ∷ [])
-            (mod-add-mod (length (log_of first b)) (2 ^ 64) 1 ∙ ap (λ (n : ℕ). n % 2 ^ 64) long)) o.home_is
-            (omega arith)
+            (rw (o.words_are, mod-add-mod (length (log_of first b)) (2 ^ 64) 1, long) refl) o.home_is (omega arith)
             (subst (L b' (set s.views id w)) (sym st.2)
             (w, ap (get_elem? (set s.views id w)) st.1 ∙ set_here s.views id w inside, is)) logs
             (λ n other. own_else actor n b.since e (λ d. other (sym d ∙ mine)))
@@ -390,12 +364,8 @@ module _ {T E F : Type 0} (entries : T → List E) (actor : E → ℕ) (fixed : 
   after_give : (b : B) (x : T) (id j : ℕ) (seen : List E) (st : Stage) → b.owner b.serving ≡ id → j ≢ id
       → AtStage first b j seen st → AtStage first (given_by b x) j seen st
   unfolding given_by
-  after_give b x id j seen (Waits t) own other h = (
-    ⊎_elim (λ (e : b.serving ≡ t). absurd (other (sym h.2 ∙ (ap b.owner (sym e) ∙ own))))
-        (λ (lt : b.serving < t). omega arith) (eq-or-lt_of_le h.0),
-    h.1,
-    h.2,
-  )
+  after_give b x id j seen (Waits t) own other h =
+      let apart : b.serving ≢ t = λ e. other (cc (h.2, own)) in (omega (arith, h.0, apart), h.1, h.2)
   after_give b x id j seen Holds own other h = absurd (other (sym h.1 ∙ own))
   after_give b x id j seen _ own other h = tt
 
@@ -412,9 +382,7 @@ module _ {T E F : Type 0} (entries : T → List E) (actor : E → ℕ) (fixed : 
         gives,
         tt,
         steps_on s r id v Idle v.seen v.told v.mine _ _ b' at lives (sym (ap gone is))
-            (ap (λ (ws : List ℕ). set ws 1 ((get_or ws 1 0 + 1) % 2 ^ 64)) o.words_are
-            ∙ ap (λ (n : ℕ). (b.ticket % 2 ^ 64) ∷ n ∷ (length (log_of first b) % 2 ^ 64) ∷ [])
-            (mod-add-mod b.serving (2 ^ 64) 1))
+            (rw (o.words_are, mod-add-mod b.serving (2 ^ 64) 1) refl)
             (ap (put_back s.homes) carried ∙ ap (λ (hs : Homes). set hs 0 (some (Some x))) o.home_is) (omega arith)
             (list ∙ st.3, ap (part_or part) (sym fixed_is ∙ k.part_is)) (prefix_refl (log_of first b)) (λ n _. refl)
             o.numbered (λ j u other h. after_give b x id j u.seen u.stage st.1 other h) k.begins k.told k.mine tt,
