@@ -1,54 +1,26 @@
 -- The state after bytes were written to a card from outside.
 use Rattle.std.proofs.Common.{◌≡◌, ◌≢◌, ℕ, zero, suc, ◌+◌, ◌-◌, ◌<◌, ◌≤◌, true, false, ◌&&◌, List, [], ◌∷◌, ◌++◌}
-use Rattle.std.proofs.Common.{length, take, drop, Option, Some, None, refl, sym, ◌∙◌, ap, arith, inl, inr, ◌==◌, nat_le}
-use Rattle.std.proofs.Common.{nat_lt, if◌then◌else◌, slice_index, unwrap_or, IfSome}
+use Rattle.std.proofs.Common.{length, take, drop, Option, Some, None, refl, sym, ◌∙◌, arith, ◌==◌, nat_le, nat_lt}
+use Rattle.std.proofs.Common.{if◌then◌else◌, slice_index, unwrap_or, IfSome, ap, inl, inr}
 use Rattle.std.proofs.lemmas.Grind.{elements}
 use Rattle.std.proofs.lemmas.Option.{slice_get_past}
-use Rattle.board_prelude.proofs.Common.{cases_Bool, cases_eq, cases_lt, ne_eqb, eq-eqb, and_from, eqb-false}
-use Rattle.board_prelude.proofs.Common.{get_or-take, get_or-drop, nat_tests, Write, One, Card, Event, Memory, Port, Bus}
-use Rattle.board_prelude.proofs.Common.{Entry, Setup, IsSetup, IsCard, FittedCard, card_at, Cell, DramCell, CardCell}
-use Rattle.board_prelude.proofs.Common.{byte, byte_put, card_byte, kept_size, Denial}
-use Rattle.pci_bars.specs.Contents.{IsBaseNumber, held, IsContentsOf}
+use Rattle.board_prelude.proofs.Common.{eq-eqb, and_from, eqb-false, get_or-take, get_or-drop, nat_tests, Write, One}
+use Rattle.board_prelude.proofs.Common.{Card, Event, Memory, Bus, Entry, Setup, IsSetup, IsCard, FittedCard, card_at}
+use Rattle.board_prelude.proofs.Common.{Cell, DramCell, CardCell, byte, byte_put, card_byte, kept_size, Denial}
+use Rattle.board_prelude.proofs.Common.{cases_Bool}
+use Rattle.pci_bars.specs.Contents.{HaveSizes, IsBaseNumber, held, IsContentsOf}
 use Rattle.pci_bars.proofs.ContentsLemmas.{card_within, stored_byte}
-use Rattle.board_devices.specs.Common.{LeavesDevices}
 use Rattle.board_chipset.specs.declared.state.State.{State}
 use Rattle.board_chipset.specs.Common.{IsSound, IsStateOf}
 use Rattle.board_chipset.specs.CardLoads.{card_size, WritesByte, WriteCardInTurn, WriteCard}
 use Rattle.board_chipset.proofs.OutsideSteps.{found_in}
-use Rattle.board_chipset.proofs.InTurn.{IsPut, one_put, all_put, InTurn, state_in_turn, made, made_length}
+use Rattle.board_chipset.proofs.LoadSteps.{IsPut, one_put, all_put, InTurn, state_in_turn, made, made_length}
 
 -- ---- which bases have bytes
 
 by_found : (found : Option FittedCard) (dev base : ℕ) → IfSome found (λ card. IsCard card × (card.dev ≡ dev)) →
     0 < kept_size found base → IsBaseNumber dev base × (base ≢ 6)
-by_found None dev base is some = absurd (omega (arith, some))
-by_found (Some card) dev base is some =
-    let fits = is.0 in
-    let same = is.1 in
-    elim (cases_eq base 7) [
-      | inl vga ↦ (
-        record {
-          first = omega (arith, fits.first);
-          last = omega (arith, fits.last);
-          below = omega (arith, vga);
-        },
-        λ (rom : base ≡ 6). omega (arith, vga, rom),
-      )
-      | inr not_vga ↦ elim (cases_lt base 6) [
-        | inl below ↦ (
-          record {
-            first = omega (arith, fits.first);
-            last = omega (arith, fits.last);
-            below = omega (arith, below);
-          },
-          λ (rom : base ≡ 6). omega (arith, below, rom),
-        )
-        | inr past ↦
-            let none : kept_size (Some card) base ≡ 0 =
-            rw (ne_eqb base 7 not_vga, slice_get_past card.bases base (omega (arith, fits.count, past))) refl in
-            absurd (omega (arith, some, none))
-      ]
-    ]
+by_found found dev base is some = grind (arith, nat_tests, slice_get_past)
 
 -- a base with bytes has a number, and is no expansion ROM
 pub numbered : (setup : Setup) (dev base : ℕ) → IsSetup setup → 0 < card_size setup dev base →
@@ -58,10 +30,8 @@ numbered setup dev base fits some =
 
 pub none_without_number : (setup : Setup) (dev base : ℕ) → IsSetup setup → ¬ IsBaseNumber dev base →
     card_size setup dev base ≡ 0
-none_without_number setup dev base fits not = elim (cases_lt 0 (card_size setup dev base)) [
-  | inl some ↦ absurd (not (numbered setup dev base fits some).0)
-  | inr none ↦ omega (arith, none)
-]
+none_without_number setup dev base fits not =
+    let told = numbered setup dev base fits in grind (arith, nat_tests)
 
 -- where some bytes lie in a base, they lie in what is kept of it
 pub fitting : {setup : Setup} {state : State} → IsSound setup state → (dev base off count : ℕ) →
@@ -80,14 +50,11 @@ in_card dev base (CardCell d b at) = if dev == d && base == b then Some at else 
 
 card_put : (dev base off n : ℕ) (bytes : List ℕ) (cell : Cell) → base ≢ 6 → slice_index bytes n ≤ 0xFF →
     byte_put (Card dev base (off + n)) 0 One (slice_index bytes n) cell ≡ one_put (in_card dev base cell) off bytes n
-card_put dev base off n bytes (DramCell at) kept small = rw (ne_eqb base 6 kept) refl
-card_put dev base off n bytes (CardCell d b at) kept small = grind (arith, nat_tests)
+card_put dev base off n bytes cell kept small = grind (arith, nat_tests)
 
 write_put : (dev base off byte : ℕ) (denial : Option Denial) (event : Event) → WritesByte byte event →
     IsPut (byte_put (Card dev base off) 0 One byte) event (Bus None (Card dev base off) denial)
-write_put dev base off byte denial (Memory access) is = grind (arith, nat_tests)
-write_put dev base off byte denial (Port access) is = grind (arith, nat_tests)
-write_put dev base off byte denial _ is = absurd is
+write_put dev base off byte denial event is = grind (arith, nat_tests)
 
 module _ (dev base off : ℕ) (bytes : List ℕ) where
   in_turn : base ≢ 6 → ((k : ℕ) → slice_index bytes k ≤ 0xFF) → (entries : List Entry) →
@@ -161,12 +128,7 @@ module _ {old new : List (List ℕ)} {dev base off : ℕ} {bytes : List ℕ} (is
       is.others d b number (λ one two. let both = and_from _ _ (eq-eqb dev d (sym one)) (eq-eqb base b (sym two)) in cc)
 
   sizes_stay : (d b : ℕ) → IsBaseNumber d b → length (held new d b) ≡ length (held old d b)
-  sizes_stay d b number = elim (cases_Bool (dev == d && base == b)) [
-    | inl both ↦
-        let here = copied_here d b both in
-        ap length here.0 ∙ over_length (held old d b) bytes off here.1
-    | inr apart ↦ ap length (copied_apart d b number apart)
-  ]
+  sizes_stay d b number = grind (arith, copied_here d b, copied_apart d b number, over_length (held old d b) bytes off)
 
   copied_byte : (d b at : ℕ) → IsBaseNumber d b →
       slice_index (held new d b) at
@@ -184,11 +146,11 @@ module _ {old new : List (List ℕ)} {dev base off : ℕ} {bytes : List ℕ} (is
 module _ {setup : Setup} {old : State} {contents : List (List ℕ)} {dev base off : ℕ} {bytes : List ℕ}
     (is : IsCopied old.stores.contents dev base off bytes contents)
     (small : (k : ℕ) → slice_index bytes k ≤ 0xFF) where
-  pub card_left : LeavesDevices → (history entries : List Entry) → IsStateOf setup history old →
+  pub card_left : (history entries : List Entry) → IsStateOf setup history old →
       WriteCard dev base off bytes entries →
       IsStateOf setup (entries ++ history) (record old { stores = record old.stores { contents = contents } })
-  card_left law history entries kept all =
-      state_in_turn (in_card dev base) off bytes law kept entries all.all
+  card_left history entries kept all =
+      state_in_turn (in_card dev base) off bytes kept entries all.all
       (in_turn dev base off bytes is.kept small entries all.each)
       (record {
         size = refl;
@@ -197,22 +159,18 @@ module _ {setup : Setup} {old : State} {contents : List (List ℕ)} {dev base of
         contents = λ d b at number other within. copied_byte is d b at number;
       })
 
-  pub card_kept : LeavesDevices → (history : List Entry) → IsStateOf setup history old →
+  pub card_kept : (history : List Entry) → IsStateOf setup history old →
       (later : List Entry) × IsStateOf setup later (record old { stores = record old.stores { contents = contents } })
-  card_kept law history kept =
+  card_kept history kept =
       let some = some_card_entries dev base off bytes in
-      (some.0 ++ history, card_left law history some.0 kept some.1)
+      (some.0 ++ history, card_left history some.0 kept some.1)
 
   -- and without a history
   pub sound_copied : IsSound setup old →
       IsSound setup (record old { stores = record old.stores { contents = contents } })
-  sound_copied sound = record {
-    fits = sound.fits;
-    registers = sound.registers;
-    memory = sound.memory;
-    contents = λ d b number. sizes_stay is d b number ∙ sound.contents d b number;
-    disk = sound.disk;
-  }
+  sound_copied sound =
+      let sizes : HaveSizes setup contents = λ d b number. sizes_stay is d b number ∙ sound.contents d b number in
+      assumption
 
 -- ---- bytes that are copied out
 

@@ -5,8 +5,8 @@ use Rattle.board_prelude.proofs.Common.{reset_control, is_hard_value, map_change
 use Rattle.board_base.specs.declared.target.Dev.TheVariants.{Reset as ResetPort}
 use Rattle.board_chipset.specs.Ports.{Writes}
 use Rattle.board_chipset.proofs.MapVersions.{map_write}
-use Rattle.board_chipset.proofs.RegisterSteps.{change_by, change_is, writes_none}
-use Rattle.board_chipset.proofs.Effects.{Reached, writes_at}
+use Rattle.board_chipset.proofs.StateSteps.{change_by, change_is, writes_none}
+use Rattle.board_chipset.proofs.PortSteps.{Reached, writes_at}
 
 pub changes :
     {setup : Setup} {history : List Entry} {event : Event} {written address : Option ℕ} {store : Option MapChange} →

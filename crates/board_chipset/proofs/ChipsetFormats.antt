@@ -1,7 +1,7 @@
 -- The state of a chipset is spelled and read back. What is read has no ranges of the map yet.
 use Rattle.board_prelude.proofs.Common.{nat_tests, Setup, FittedCard, IsSetup, IsRomSize, IsDisk, w8, to_le_bytes}
-use Rattle.std.proofs.Common.{◌≡◌, ℕ, ◌+◌, ◌*◌, ◌^◌, ◌<◌, ◌≤◌, Bool, true, false, List, ◌∷◌, [], length, Option, Some}
-use Rattle.std.proofs.Common.{None, is_some, refl, ap, arith, unwrap_or}
+use Rattle.std.proofs.Common.{◌≡◌, ℕ, ◌+◌, ◌*◌, ◌^◌, ◌<◌, ◌≤◌, Bool, List, ◌∷◌, [], length, Option, Some, None, is_some}
+use Rattle.std.proofs.Common.{refl, ap, arith, unwrap_or}
 use Rattle.std.specs.Int.{Width as Size, byte_len}
 use Rattle.byte_fields.specs.Fields.{within, flag_byte}
 use Rattle.byte_fields.proofs.Exactly.{exactly_format}
@@ -45,8 +45,7 @@ disk_few None is = omega arith
 disk_few (Some bytes) is = omega (arith, is.2, is.3)
 
 flag_few : (flag : Bool) → flag_byte flag < 2 ^ 8
-flag_few false = omega arith
-flag_few true = omega arith
+flag_few flag = grind (arith, nat_tests)
 
 size_format : (setup : Setup) → IsSetup setup → IsFormat 12 (size_fields setup) (λ done. size_bytes setup) Any
 unfolding size_fields size_bytes

@@ -1,7 +1,7 @@
 -- What was read is a chipset, and the one that was saved.
 use Rattle.std.proofs.Common.{◌≡◌, ℕ, ◌↔◌, inl, inr, false, List, [], ◌++◌, length, Option, Some, None, Result, Ok, Err}
-use Rattle.std.proofs.Common.{IfOk, refl, sym, ap, ◌∙◌, append_assoc, arith}
-use Rattle.board_prelude.proofs.Common.{nat_tests, w16, to_le_bytes, Entry, Setup, IsSetup}
+use Rattle.std.proofs.Common.{IfOk, refl, sym, ap, ◌∙◌, append_assoc, arith, ◌+◌, ◌≤◌}
+use Rattle.board_prelude.proofs.Common.{nat_tests, w16, to_le_bytes, Entry, Setup, IsSetup, append-nil}
 use Rattle.byte_fields.specs.declared.fault.Fault.{Fault}
 use Rattle.byte_fields.specs.declared.fault.Fault.TheVariants as faults
 use Rattle.byte_fields.specs.Fields.{AreBytes, Filled}
@@ -18,8 +18,11 @@ use Rattle.board_chipset.specs.Kept.{AreSound}
 use Rattle.board_chipset.specs.ChipsetState.{AreRegisters, IsChipset, bare_chipset, state_mark, state_version}
 use Rattle.board_chipset.specs.ChipsetState.{size_bytes, head_bytes, other_version_field, is_other_version}
 use Rattle.board_chipset.specs.ChipsetState.{registers_bytes, state_bytes, chipset_bytes, chipset_fields, LoadsChipset}
+use Rattle.board_chipset.specs.ChipsetState.{IsBadStateAt}
 use Rattle.board_chipset.proofs.KeptBytes.{has_bytes}
 use Rattle.board_chipset.proofs.ChipsetFormats.{IsBareChipset, chipset_format}
+use Rattle.board_chipset.specs.Alone.{alone}
+use Rattle.board_chipset.proofs.Marks.{alone_bad}
 
 -- ---- a chipset that can be saved is one that steps can go on from
 
@@ -150,3 +153,32 @@ unfolding chipset_bytes head_bytes
 of_version chipset rest =
     simp append_assoc
     (version_again (size_bytes chipset.setup ++ (state_bytes chipset.setup.disk chipset.state ++ rest)))
+
+-- ---- what is read with nothing behind it
+
+-- where a chipset was read, the bytes of one alone are its, and nothing is behind them
+pub alone_is :
+    {setup : Setup} {before mid : List ℕ} {chipset : Running} → LoadsChipset setup before mid (Ok chipset) →
+    (other : Running) → other.setup ≡ setup → IsChipset other → before ≡ chipset_bytes other →
+    (chipset ≡ other) × (mid ≡ [])
+alone_is loads other same is begins =
+    elim (loads.exact other [] same is (begins ∙ sym (append-nil (chipset_bytes other)))) [
+      | inl none ↦ absurd cc
+      | inr one ↦ (let is = one.0 in cc, one.1)
+    ]
+
+-- a bad field begins within the bytes
+pub bad_within :
+    {setup : Setup} {bytes all : List ℕ} (after : List ℕ) → IsSetup setup → AreBytes bytes → all ≡ bytes →
+    alone (chipset_fields setup) all ≡ Err (length after) →
+    (length after ≤ length bytes) × ((at : ℕ) → at + length after ≡ length bytes → IsBadStateAt setup bytes at)
+bad_within {setup} {bytes} after fits are same is =
+    let read = rw same at is in (
+      alone_bad (chipset_format setup fits) bytes (length after) are read,
+      λ at place. record { left = length after; place = place; bad = read },
+    )
+
+-- the bytes of a chipset are of this version
+pub own_version : (chipset : Running) (bytes : List ℕ) → bytes ≡ chipset_bytes chipset → is_other_version bytes ≡ false
+own_version chipset bytes is =
+    ap is_other_version (is ∙ sym (append-nil (chipset_bytes chipset))) ∙ of_version chipset []

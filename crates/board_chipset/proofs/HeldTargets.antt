@@ -1,11 +1,10 @@
 -- What an access reaches has the bytes that it asks for.
-use Rattle.std.proofs.Common.{◌≡◌, ℕ, ◌+◌, ◌%◌, ◌^◌, ◌≤◌, Bool, true, false, ◌&&◌, not, List, [], ◌∷◌, length, Option}
-use Rattle.std.proofs.Common.{Some, None, refl, sym, arith, is_some, unwrap_or, option_map}
-use Rattle.board_prelude.proofs.Common.{Kind, Width, Dev, Reg, Area, Target, Device, Config, Card, Abort, bytes_of}
-use Rattle.board_prelude.proofs.Common.{Part, Setup, IsRomSize, IsBusAccess, is_write, lies_in, upper_memory, Bytes}
-use Rattle.board_prelude.proofs.Common.{Window, first_of, line_where, card_area, row_of, is_smram_range, is_shadowed}
-use Rattle.board_prelude.proofs.Common.{memory_claim, area_of, window_bits, target_at, is_in_hole, is_bios_selected}
-use Rattle.board_prelude.proofs.Common.{is_smram_open, nat_tests}
+use Rattle.std.proofs.Common.{◌≡◌, ℕ, ◌+◌, ◌%◌, ◌^◌, ◌≤◌, Bool, List, [], ◌∷◌, length, Option, Some, refl, sym, arith}
+use Rattle.std.proofs.Common.{option_map}
+use Rattle.board_prelude.proofs.Common.{PortAccess, Kind, Width, Dev, Reg, Area, Target, Device, Config, Card, Abort}
+use Rattle.board_prelude.proofs.Common.{bytes_of, Part, Setup, IsRomSize, IsBusAccess, is_write, Bytes, Window}
+use Rattle.board_prelude.proofs.Common.{first_of, line_where, card_area, memory_claim, area_of, window_bits, target_at}
+use Rattle.board_prelude.proofs.Common.{nat_tests}
 use Rattle.board_base.specs.declared.access.Access.{Access}
 use Rattle.board_base.specs.declared.target.Area.TheVariants.{Dram as DramArea, Shadow as ShadowArea}
 use Rattle.board_base.specs.declared.target.Area.TheVariants.{Smram as SmramArea, Rom as RomArea, Card as CardArea}
@@ -17,18 +16,14 @@ use Rattle.addr_decode.proofs.CardLemmas.{fitted_list}
 use Rattle.board_stores.specs.Common.{IsStored, IsHeld, IsReady, part_in}
 use Rattle.board_chipset.specs.declared.state.State.{State}
 use Rattle.board_chipset.specs.Kept.{IsSound}
-use Rattle.board_chipset.proofs.Reach.{IsReached}
+use Rattle.board_chipset.specs.Ports.{Reaching}
+use Rattle.board_chipset.proofs.PortSteps.{IsReached, IsNoDevice, IsNoRegister, reached_in}
 
 -- ---- memory
 
 -- a card answers where one of its windows claims the address
 abbrev pub IsClaim : Option Window → ℕ → ℕ → Type 0
 IsClaim claim dev base = (window : Window) × (claim ≡ Some window) × (window.dev ≡ dev) × (window.base ≡ base)
-
-last_line : (claim : Option Window) (dev base : ℕ) →
-    first_of (option_map card_area claim ∷ []) AbortArea ≡ CardArea dev base → IsClaim claim dev base
-last_line None dev base is = cc
-last_line (Some window) dev base is = (window, refl, cc, cc)
 
 pub claim_line :
     (smram shadow dram rom : Bool) (row : ℕ) (claim : Option Window) (dev base : ℕ) →
@@ -38,11 +33,7 @@ pub claim_line :
     AbortArea
     ≡ CardArea dev base →
     IsClaim claim dev base
-claim_line true shadow dram rom row claim dev base is = cc
-claim_line false true dram rom row claim dev base is = cc
-claim_line false false true rom row claim dev base is = cc
-claim_line false false false true row claim dev base is = cc
-claim_line false false false false row claim dev base is = last_line claim dev base is
+claim_line smram shadow dram rom row claim dev base is = grind (arith, nat_tests)
 
 claimed :
     (setup : Setup) (bytes : Bytes) (addr : ℕ) (kind : Kind) (smm : Bool) (dev base : ℕ) →
@@ -50,12 +41,7 @@ claimed :
     IsClaim (memory_claim setup bytes addr) dev base
 unfolding area_of
 claimed setup bytes addr kind smm dev base is =
-    claim_line
-    (is_smram_range addr && is_some (row_of bytes addr) && is_smram_open bytes kind smm)
-    (is_some (row_of bytes addr) && is_shadowed bytes addr kind)
-    (not (lies_in upper_memory addr) && is_some (row_of bytes addr) && not (is_in_hole bytes addr))
-    (is_bios_selected bytes addr)
-    (unwrap_or (row_of bytes addr) 0) (memory_claim setup bytes addr) dev base is
+    claim_line _ _ _ _ _ (memory_claim setup bytes addr) dev base is
 
 -- an aligned access ends within the ROM
 pub rom_within : (addr size : ℕ) (width : Width) → IsRomSize size → addr % bytes_of width ≡ 0 →
@@ -101,12 +87,11 @@ module _ {setup : Setup} {state : State} (kept : IsSound setup state) where
   ready {rom} {access} image bus is = record {
     bus = bus;
     held = rw (is, ← image)
-        (held_in access.addr access.width (area_of setup kept.registers.bytes access.addr access.kind access.smm)
-        bus.aligned
-        (λ dev base card. claimed setup kept.registers.bytes access.addr access.kind access.smm dev base card));
+        (held_in access.addr access.width _ bus.aligned
+        (claimed setup kept.registers.bytes access.addr access.kind access.smm));
   }
 
-  pub stored_target :
+  stored_target :
       (port : ℕ) (width : Width) (target : Target) → port % bytes_of width ≡ 0 →
       IsReached setup kept.registers.bytes state.registers.address port width target →
       ((dev : Dev) → target ≡ Device dev → ⊥) → ((reg : Reg) → target ≡ Config reg → ⊥) →
@@ -122,3 +107,8 @@ module _ {setup : Setup} {state : State} (kept : IsSound setup state) where
       (lies_in_window setup state.stores.contents window port width sized kept.contents aligned)
   stored_target port width Abort aligned is device config = tt
   stored_target port width _ aligned is device config = absurd is
+
+pub stored_in : {state : State} {access : PortAccess} {target : Target} → Reaching state access target →
+    IsNoDevice target → IsNoRegister target → IsStored state.stores.contents target access.width
+stored_in {access = access} {target} reaching =
+    stored_target reaching.kept.sound access.port access.width target reaching.bus.aligned (reached_in reaching)

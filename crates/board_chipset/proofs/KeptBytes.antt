@@ -1,6 +1,6 @@
 -- Registers of the right number and widths are those of a board of their setup: each stands for a byte of its own.
 use Rattle.std.proofs.Common.{◌≡◌, ℕ, ◌-◌, false, ◌&&◌, List, [], ◌∷◌, length, get_or, Option, Some, None, refl, ◌∙◌}
-use Rattle.std.proofs.Common.{ap, arith, ◌==◌, if◌then◌else◌, All, is_some, slice_index}
+use Rattle.std.proofs.Common.{ap, arith, ◌==◌, if◌then◌else◌, All, is_some, slice_index, map}
 use Rattle.board_prelude.proofs.Common.{and-false, or_parts, option_map_or, cond-false, ne_eqb, Setup, IsCard, Bytes}
 use Rattle.board_prelude.proofs.Common.{is_within, reset_byte, ide}
 use Rattle.pci_bars.specs.Cards.{CardBytes, IsCardOf, AreFitted, cards_of}

@@ -1,8 +1,10 @@
--- Bytes that are left out are spelled as any others beside themselves.
-use Rattle.std.proofs.Common.{◌≡◌, ℕ, zero, suc, ◌≤◌, ◌<◌, true, false, Bool, List, [], ◌∷◌, ◌++◌, length, take, drop}
+-- Bytes that a caller keeps itself: left out they are spelled as any others beside themselves, and they can be put in.
+use Rattle.std.proofs.Common.{◌≡◌, ℕ, zero, suc, ◌≤◌, ◌<◌, true, false, Bool, List, [], ◌∷◌, ◌++◌, length, drop}
 use Rattle.std.proofs.Common.{replicate, bytes_eq, map, option_map, unwrap_or, is_some, Option, Some, None, refl, sym}
-use Rattle.std.proofs.Common.{ap, ◌∙◌, arith}
-use Rattle.board_prelude.proofs.Common.{bytes_eq-Decides, length-replicate, length-take, length-drop}
+use Rattle.std.proofs.Common.{ap, ◌∙◌, arith, ◌+◌, ◌-◌, nat_le, nat_lt, ◌&&◌, if◌then◌else◌, slice_index, Result, OnOk}
+use Rattle.std.proofs.Common.{append_assoc}
+use Rattle.board_prelude.proofs.Common.{bytes_eq-Decides, length-replicate, length-take, length-drop, nat_tests, Bytes}
+use Rattle.board_prelude.proofs.Common.{Disk, IsDisk, Setup, IsSetup}
 use Rattle.std.proofs.lemmas.List.{drop_min, take_min}
 use Rattle.byte_fields.specs.Pages.{memory_bytes, memory_page, page_bytes, pages_bytes}
 use Rattle.byte_fields.proofs.PageFormats.{bytes_first}
@@ -10,11 +12,21 @@ use Rattle.byte_fields.specs.Fields.{flag_byte}
 use Rattle.byte_fields.proofs.Numbers.{some_is}
 use Rattle.ata_pio.specs.DriveState.{drive_bytes}
 use Rattle.ata_pio.specs.State.{disk_bytes, sector_size}
-use Rattle.board_prelude.specs.Common.{Disk, Setup}
 use Rattle.board_devices.specs.Common.{DevicesValue, HasDisk, holding, sectors_in}
 use Rattle.board_devices.specs.State.{devices_bytes, fitted_bytes, machines_bytes}
-use Rattle.board_chipset.specs.ChipsetState.{head_bytes, size_bytes}
+use Rattle.board_chipset.specs.ChipsetState.{head_bytes, size_bytes, disk_size}
 use Rattle.board_chipset.specs.Given.{devices_left, fitted_with, unless_left, zeros}
+use Rattle.std.proofs.lemmas.Result.{on_ok_weaker}
+use Rattle.board_spec.specs.RegisterTable.{reset_byte}
+use Rattle.std.proofs.lemmas.Grind.{same_number_lists}
+use Rattle.std.proofs.lemmas.List.Elements.{All-weaker}
+use Rattle.dram_store.specs.Dram.{dram_at, IsWritten}
+use Rattle.pci_bars.specs.Cards.{CardBytes, DecodesAs, IsCardOf}
+use Rattle.addr_decode.specs.MapRegs.{MapBytes}
+use Rattle.config_regs.specs.Config.{AreKeptOf}
+use Rattle.config_regs.specs.declared.south.South.{South}
+use Rattle.board_chipset.specs.Common.{AreSound, IsSound}
+use Rattle.board_chipset.specs.declared.state.State.{State}
 
 -- a page beside itself
 own_page : (page : List ℕ) → page_bytes page page ≡ 0 ∷ []
@@ -24,11 +36,7 @@ own_page page = let same : bytes_eq page page ≡ true = (bytes_eq-Decides page 
 own_first : (size : ℕ) (bytes : List ℕ) → 0 < size → 0 < length bytes →
     pages_bytes size bytes bytes ≡ 0 ∷ pages_bytes size (drop size bytes) (drop size bytes)
 own_first size bytes some there =
-    let front : take (length (take size bytes)) bytes ≡ take size bytes =
-    ap (λ (n : ℕ). take n bytes) (length-take size bytes) ∙ take_min size bytes in
-    let rest : drop (length (take size bytes)) bytes ≡ drop size bytes =
-    ap (λ (n : ℕ). drop n bytes) (length-take size bytes) ∙ drop_min size bytes in
-    bytes_first size bytes bytes some there ∙ rw (front, rest, own_page (take size bytes)) refl
+    simp (length-take, take_min, drop_min, own_page) at (bytes_first size bytes bytes some there)
 
 -- as many bytes beside themselves are spelled alike
 pub own_pages : (fuel size : ℕ) (xs ys : List ℕ) → 0 < size → length xs ≤ fuel → length xs ≡ length ys →
@@ -115,3 +123,72 @@ left_head left setup =
         is_some (option_map {T = List ℕ} (λ _. bytes) disk) ≡ is_some disk
     is_there bytes None = refl
     is_there bytes (Some own) = refl
+
+-- ---- all bytes of a DRAM were written
+
+byte_is : (old new : List ℕ) (count at byte : ℕ) → at < length new → count ≡ length new → length old ≡ length new →
+    dram_at new at
+    ≡ (if nat_le 0 at && nat_lt at (0 + count) && nat_lt at (length old) then byte else dram_at old at) →
+    slice_index new at ≡ byte
+byte_is old new count at byte within whole same is = grind (arith, nat_tests)
+
+pub all_written : (old new bytes : List ℕ) → IsWritten old 0 (length bytes) (slice_index bytes) new →
+    length new ≡ length old → length bytes ≡ length old → new ≡ bytes
+all_written old new bytes is size whole =
+    same_number_lists new bytes (size ∙ sym whole) (λ at below.
+    byte_is old new (length bytes) at (slice_index bytes (at - 0)) below (whole ∙ sym size) (sym size) (is at)
+    ∙ ap (λ (k : ℕ). slice_index bytes k) (omega arith))
+
+-- ---- another disk was fitted, as large
+
+module _ (bytes : List ℕ) (setup : Setup) where
+  decodes_as : (registers : Bytes) (card : CardBytes) → DecodesAs setup registers card →
+      DecodesAs (fitted_with bytes setup) registers card
+  decodes_as registers card is = assumption
+
+  card_as : (registers : Bytes) (card : CardBytes) → IsCardOf setup registers card →
+      IsCardOf (fitted_with bytes setup) registers card
+  unfolding reset_byte
+  card_as registers card is = assumption
+
+  kept_as : (registers : Bytes) (regs : MapBytes) (beside : South) → AreKeptOf setup registers regs beside →
+      AreKeptOf (fitted_with bytes setup) registers regs beside
+  kept_as registers regs beside is =
+      let decode = All-weaker _ _ (decodes_as registers) regs.cards is.map.cards.1 in
+      let are = All-weaker _ _ (card_as registers) regs.cards is.cards.1 in
+      assumption
+
+  disk_as : (fitted : Option (List ℕ)) (disk : Option Disk) → length bytes ≡ length (unwrap_or fitted []) →
+      HasDisk fitted disk → HasDisk (option_map {T = List ℕ} (λ _. bytes) fitted) disk
+  disk_as fitted disk same has = grind (arith, nat_tests)
+
+  size_as : (fitted : Option (List ℕ)) → length bytes ≡ length (unwrap_or fitted []) → IsDisk fitted →
+      IsDisk (option_map {T = List ℕ} (λ _. bytes) fitted)
+  size_as None same is = tt
+  size_as (Some own) same is = rw same is
+
+  pub setup_as : length bytes ≡ disk_size setup → IsSetup setup → IsSetup (fitted_with bytes setup)
+  setup_as same is = assumption (size_as setup.disk same is.disk)
+
+  pub sound_as : (state : State) → length bytes ≡ disk_size setup → IsSound setup state →
+      IsSound (fitted_with bytes setup) state
+  sound_as state same is =
+      let registers : AreSound (fitted_with bytes setup) state.registers = record {
+        bytes = is.registers.bytes;
+        kept = kept_as is.registers.bytes state.registers.map.regs state.registers.south is.registers.kept;
+        address = is.registers.address;
+        flat = is.registers.flat;
+      } in
+      assumption (setup_as same is.fits, disk_as setup.disk state.devices.disk same is.disk)
+
+-- ---- the state without the bytes of the disk
+
+pub left_added :
+    {T E : Type 0} (result : Result T E) (fitted sectors : Option (List ℕ)) (devices : DevicesValue)
+    (old mid new contents : List ℕ) → HasDisk fitted devices.disk → HasDisk (sectors_in devices.disk) devices.disk →
+    sectors ≡ sectors_in devices.disk → mid ≡ old ++ contents →
+    OnOk result (new ≡ mid ++ devices_bytes sectors devices) →
+    OnOk result (new ≡ old ++ (contents ++ devices_left fitted devices))
+left_added result fitted sectors devices old mid new contents has own same first =
+    on_ok_weaker result (λ second. second
+    ∙ rw (same, first, left_devices fitted devices has own) (append_assoc old contents (devices_left fitted devices)))

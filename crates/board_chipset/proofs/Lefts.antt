@@ -15,15 +15,23 @@ pub state_of : {chipset : Running} {setup : Setup} {state : State} {history : Li
 unfolding IsLeftBy
 state_of same left = rw (← same) at left
 
+-- the same of its own setup
+pub left_in : {chipset : Running} {setup : Setup} {state : State} {history : List Entry} →
+    record { setup = setup; state = state } ≡ chipset → IsLeftBy chipset history →
+    IsStateOf chipset.setup history state
+unfolding IsLeftBy
+left_in {chipset} {history = history} same left =
+    subst (λ (it : Running). IsStateOf chipset.setup history it.state) (sym same) left
+
 pub left_as : {chipset : Running} {setup : Setup} {state : State} {history : List Entry} →
     record { setup = setup; state = state } ≡ chipset → IsStateOf setup history state → IsLeftBy chipset history
 unfolding IsLeftBy
 left_as same is = rw (← same) is
 
-pub can_do : (chipset : Running) (setup : Setup) (state : State) (rom : List ℕ) (event : Event) →
+pub can_do : {chipset : Running} {setup : Setup} {state : State} {rom : List ℕ} {event : Event} →
     record { setup = setup; state = state } ≡ chipset → setup.rom ≡ rom →
     IsSound setup state → IsInRange chipset.setup event → CanDo state rom event
-can_do chipset setup state rom event same image sound in_range = record {
+can_do {setup = setup} {event = event} same image sound in_range = record {
   kept = record { setup = setup; sound = sound; image = image };
   in_range = subst (λ (it : Running). IsInRange it.setup event) (sym same) in_range;
 }

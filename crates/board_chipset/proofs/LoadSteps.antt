@@ -1,24 +1,100 @@
--- The state after bytes were written from outside.
-use Rattle.std.proofs.Common.{◌≡◌, ℕ, zero, suc, false, ◌+◌, ◌<◌, ◌≤◌, ◌&&◌, List, [], ◌∷◌, ◌++◌, length, Some, None}
-use Rattle.std.proofs.Common.{refl, arith, Result, Ok, Err, OnOk, OnErr, nat_le, nat_lt, if◌then◌else◌, slice_index}
-use Rattle.std.proofs.Common.{unwrap_or, Option}
-use Rattle.board_prelude.proofs.Common.{nat_tests, Write, One, Dram, Shadow, Smram, Card, Device, clock_index_port}
-use Rattle.board_prelude.proofs.Common.{clock_data_port, Memory, Port, Bus, Reply, Entry, Setup, Cell, DramCell}
-use Rattle.board_prelude.proofs.Common.{CardCell, byte_put, entry_put, clock_of, device_reached}
-use Rattle.board_base.specs.declared.target.Dev.TheVariants.{Clock as ClockChip}
-use Rattle.dram_store.specs.declared.dram.PastTheEnd.{PastTheEnd}
-use Rattle.dram_store.specs.Dram.{dram_at, IsWritten}
-use Rattle.board_devices.specs.Common.{DevicesValue, AreDevicesOf, LeavesDevices, byte_out, WritesClock, PutsClockByte}
+-- The state after bytes were written from outside: entries that put a byte each, one after another from a place on.
+-- They write no register and reach no device.
+use Rattle.std.proofs.Common.{◌≡◌, ℕ, zero, suc, ◌+◌, ◌-◌, ◌&&◌, ◌==◌, nat_le, nat_lt, if◌then◌else◌, List, [], ◌∷◌}
+use Rattle.std.proofs.Common.{◌++◌, length, slice_index, unwrap_or, Option, Some, None, refl, sym, ◌∙◌, ap, arith}
+use Rattle.std.proofs.Common.{false, ◌<◌, ◌≤◌, Result, Ok, Err, OnOk, OnErr}
+use Rattle.board_prelude.proofs.Common.{nat_tests, Event, Reply, Entry, Setup, Cell, entry_put, stored_of}
+use Rattle.board_prelude.proofs.Common.{device_reached, Write, One, Dram, Device, clock_index_port, clock_data_port}
+use Rattle.board_prelude.proofs.Common.{Memory, Port, Bus, DramCell, CardCell, byte_put, clock_of}
+use Rattle.board_devices.specs.Common.{DevicesValue, AreDevicesOf, PassesBy, byte_out, WritesClock, PutsClockByte}
+use Rattle.board_devices.proofs.DeviceLemmas.{leaves_devices}
 use Rattle.board_stores.specs.declared.stores.Stores.{Stores}
-use Rattle.board_stores.specs.Puts.{HasStores}
 use Rattle.board_chipset.specs.declared.registers.Registers.{Registers}
 use Rattle.board_chipset.specs.declared.state.State.{State}
 use Rattle.board_chipset.specs.Common.{HasRegisters, IsStateOf, Writes, WriteInTurn, WriteAll, IsClockWrite}
 use Rattle.board_chipset.specs.Common.{WriteClockByte}
-use Rattle.board_chipset.proofs.RegisterSteps.{writes_none, quiet}
-use Rattle.board_chipset.proofs.StateSteps.{soft}
-use Rattle.board_chipset.proofs.StoreSteps.{stores_stay}
-use Rattle.board_chipset.proofs.InTurn.{one_put, InTurn, state_in_turn, made, made_length}
+use Rattle.board_chipset.proofs.StateSteps.{quiet, soft, HavePut, stores_after, writes_none, stores_stay}
+use Rattle.board_base.specs.declared.target.Dev.TheVariants.{Clock as ClockChip}
+use Rattle.dram_store.specs.declared.dram.PastTheEnd.{PastTheEnd}
+use Rattle.dram_store.specs.Dram.{dram_at, IsWritten}
+use Rattle.board_stores.specs.Puts.{HasStores}
+
+-- an event with its reply puts these bytes, and does nothing else
+pub record IsPut (put : Cell → Option ℕ) (event : Event) (reply : Reply) : Type 0 where
+  pub writes : (setup : Setup) (history : List Entry) → Writes setup history event None None None
+  pub passes : PassesBy event (device_reached reply)
+  pub puts : (cell : Cell) → entry_put event reply cell ≡ put cell
+
+-- at a place, the byte that is put after so many, and those that so many put
+abbrev pub one_put : Option ℕ → (from : ℕ) → (bytes : List ℕ) → (n : ℕ) → Option ℕ
+one_put None from bytes n = None
+one_put (Some at) from bytes n = if at == from + n then Some (slice_index bytes n) else None
+
+abbrev pub all_put : Option ℕ → (from : ℕ) → (bytes : List ℕ) → (n : ℕ) → Option ℕ
+all_put None from bytes n = None
+all_put (Some at) from bytes n =
+    if nat_le from at && nat_lt at (from + n) then Some (slice_index bytes (at - from)) else None
+
+-- each entry puts the next byte, at the cells of that place
+abbrev pub InTurn : (Cell → Option ℕ) → (from : ℕ) → (bytes : List ℕ) → List Entry → Type 0
+InTurn place from bytes [] = Unit {0}
+InTurn place from bytes (entry ∷ earlier) =
+    IsPut (λ cell. one_put (place cell) from bytes (length earlier)) entry.event entry.reply
+    × InTurn place from bytes earlier
+
+one_more : (found : Option ℕ) (from n was : ℕ) (bytes : List ℕ) →
+    unwrap_or (one_put found from bytes n) (unwrap_or (all_put found from bytes n) was)
+    ≡ unwrap_or (all_put found from bytes (suc n)) was
+one_more found from n was bytes = grind (arith, nat_tests)
+
+none_yet : (found : Option ℕ) (from was : ℕ) (bytes : List ℕ) → was ≡ unwrap_or (all_put found from bytes 0) was
+none_yet found from was bytes = grind (arith, nat_tests)
+
+module _ (place : Cell → Option ℕ) (from : ℕ) (bytes : List ℕ) where
+  stored : (history : List Entry) (cell : Cell) (entries : List Entry) → InTurn place from bytes entries →
+      stored_of (entries ++ history) cell
+      ≡ unwrap_or (all_put (place cell) from bytes (length entries)) (stored_of history cell)
+  unfolding stored_of
+  stored history cell [] each = none_yet (place cell) from (stored_of history cell) bytes
+  stored history cell (entry ∷ earlier) each =
+      rw (each.0.puts cell, stored history cell earlier each.1)
+      (one_more (place cell) from (length earlier) (stored_of history cell) bytes)
+
+  others_stay : {setup : Setup} {history : List Entry} {registers : Registers} {devices : DevicesValue} →
+      HasRegisters setup history registers → AreDevicesOf setup history devices →
+      (entries : List Entry) → InTurn place from bytes entries →
+      HasRegisters setup (entries ++ history) registers × AreDevicesOf setup (entries ++ history) devices
+  others_stay has are [] each = (has, are)
+  others_stay {setup} {history} has are (entry ∷ earlier) each =
+      let before = others_stay has are earlier each.1 in
+      let none = each.0.writes setup (earlier ++ history) in
+      let after = quiet {entry = entry} none before.0 in (
+        after,
+        leaves_devices _ _ _ _ before.1 (record { passes = each.0.passes; soft = soft none })
+            (sym after.kept.south.routes ∙ before.0.kept.south.routes),
+      )
+
+  -- the state after all of them
+  pub state_in_turn : {setup : Setup} {history : List Entry} {old : State} {new : Stores} →
+      IsStateOf setup history old → (entries : List Entry) → length entries ≡ length bytes →
+      InTurn place from bytes entries →
+      HavePut (λ cell. all_put (place cell) from bytes (length bytes)) old.stores new →
+      IsStateOf setup (entries ++ history) (record old { stores = new })
+  state_in_turn {history = history} kept entries all each are =
+      let others = others_stay kept.registers kept.devices entries each in
+      assumption (others.0, others.1, stores_after {later = entries ++ history}
+      {put = λ cell. all_put (place cell) from bytes (length bytes)} kept.stores
+      (λ cell. rw (← all) (stored history cell entries each)) are)
+
+-- ---- entries that were made
+
+abbrev pub made : (ℕ → Entry) → ℕ → List Entry
+made entry zero = []
+made entry (suc n) = entry n ∷ made entry n
+
+pub made_length : (entry : ℕ → Entry) (n : ℕ) → length (made entry n) ≡ n
+made_length entry zero = refl
+made_length entry (suc n) = ap suc (made_length entry n)
 
 -- ---- the entries that write to the DRAM
 
@@ -28,8 +104,7 @@ in_dram (CardCell dev base off) = None
 
 dram_put : (addr n : ℕ) (bytes : List ℕ) (cell : Cell) → slice_index bytes n ≤ 0xFF →
     byte_put (Dram 0) (addr + n) One (slice_index bytes n) cell ≡ one_put (in_dram cell) addr bytes n
-dram_put addr n bytes (DramCell at) small = grind (arith, nat_tests)
-dram_put addr n bytes (CardCell dev base off) small = refl
+dram_put addr n bytes cell small = grind (arith, nat_tests)
 
 module _ (addr : ℕ) (bytes : List ℕ) where
   in_turn : ((k : ℕ) → slice_index bytes k ≤ 0xFF) → (entries : List Entry) → WriteInTurn addr bytes entries →
@@ -82,7 +157,7 @@ dram_byte : (old new : List ℕ) (addr count at byte : ℕ) → at < length old 
     ≡ unwrap_or (if nat_le addr at && nat_lt at (addr + count) then Some byte else None) (slice_index old at)
 dram_byte old new addr count at byte within fits size is = grind (arith, nat_tests)
 
-module _ (setup : Setup) (old : State) (dram : List ℕ) (addr : ℕ) (bytes : List ℕ) (law : LeavesDevices)
+module _ (setup : Setup) (old : State) (dram : List ℕ) (addr : ℕ) (bytes : List ℕ)
     (size : length dram ≡ length old.stores.dram) (small : (k : ℕ) → slice_index bytes k ≤ 0xFF) where
   -- the state after all bytes were written to the DRAM
   loaded : addr + length bytes ≤ length old.stores.dram →
@@ -90,7 +165,7 @@ module _ (setup : Setup) (old : State) (dram : List ℕ) (addr : ℕ) (bytes : L
       (history entries : List Entry) → IsStateOf setup history old → WriteAll addr bytes entries →
       IsStateOf setup (entries ++ history) (record old { stores = record old.stores { dram = dram } })
   loaded fits is history entries kept all =
-      state_in_turn in_dram addr bytes law kept entries all.all (in_turn addr bytes small entries all.each)
+      state_in_turn in_dram addr bytes kept entries all.all (in_turn addr bytes small entries all.each)
       (record {
         size = size;
         dram = λ at within. dram_byte old.stores.dram dram addr (length bytes) at _ within fits size (is at);
@@ -118,11 +193,7 @@ module _ (setup : Setup) (old : State) (dram : List ℕ) (addr : ℕ) (bytes : L
 
 puts_none : (port byte : ℕ) (reply : Reply) (cell : Cell) → device_reached reply ≡ Some ClockChip →
     entry_put (Port (byte_out port byte)) reply cell ≡ None
-puts_none port byte (Bus value (Dram row) denial) cell is = absurd (cc)
-puts_none port byte (Bus value (Shadow row) denial) cell is = absurd (cc)
-puts_none port byte (Bus value Smram denial) cell is = absurd (cc)
-puts_none port byte (Bus value (Card dev base off) denial) cell is = absurd (cc)
-puts_none port byte _ cell is = refl
+puts_none port byte reply cell is = grind (arith, nat_tests)
 
 -- after a write to a port of the clock
 clock_step :

@@ -1,9 +1,9 @@
 -- Which entries are map writes, the version of the map, and the windows of its last change.
-use Rattle.std.proofs.Common.{◌≡◌, ℕ, suc, Bool, true, false, ◌+◌, ◌%◌, ◌≤◌, List, [], ◌∷◌, ◌++◌, length, Option, Some}
-use Rattle.std.proofs.Common.{None, refl, arith, inl, inr, if◌then◌else◌, option_and_then}
-use Rattle.board_prelude.proofs.Common.{option_to_list, cases_Bool, nat_tests, Entry, MapChange, Store, Width, Reg}
-use Rattle.board_prelude.proofs.Common.{Setup, register_change, byte_of, touches_map, map_change_of, map_writes_of}
-use Rattle.board_prelude.proofs.Common.{version_of}
+use Rattle.std.proofs.Common.{◌≡◌, ℕ, Bool, true, false, ◌+◌, ◌%◌, ◌≤◌, List, [], ◌∷◌, ◌++◌, length, Option, Some, None}
+use Rattle.std.proofs.Common.{refl, arith, if◌then◌else◌, option_and_then}
+use Rattle.board_prelude.proofs.Common.{option_to_list, nat_tests, Entry, MapChange, Store, Width, Reg, Setup}
+use Rattle.board_prelude.proofs.Common.{register_change, byte_of, touches_map, map_change_of, map_writes_of, version_of}
+use Rattle.board_prelude.proofs.Common.{cond_both}
 use Rattle.map_builder.specs.Common.{Changed, next_version, AreChanged}
 use Rattle.board_chipset.specs.Versions.{version_count, AreNextChanged, AreLastChanged}
 
@@ -18,9 +18,7 @@ moves setup (Some change) = touches_map setup change
 counted : (setup : Setup) (change : Option MapChange) (writes : List MapChange) →
     length (option_to_list (map_write setup change) ++ writes)
     ≡ (if moves setup change then length writes + 1 else length writes)
-counted setup None writes = refl
-counted setup (Some change) writes =
-    elim (cases_Bool (touches_map setup change)) [ inl it ↦ rw it (omega arith) | inr not ↦ rw not (omega arith) ]
+counted setup change writes = grind (arith, nat_tests)
 
 version_after :
     (setup : Setup) (history : List Entry) (entry : Entry) (change : Option MapChange) →
@@ -37,8 +35,7 @@ version_by setup change version = if moves setup change then next_version versio
 next_modulo : (moves : Bool) (version : ℕ) →
     (if moves then next_version (version % version_count) else version % version_count)
     ≡ (if moves then version + 1 else version) % version_count
-next_modulo true version = grind (arith, nat_tests)
-next_modulo false version = refl
+next_modulo moves version = grind (arith, nat_tests)
 
 pub modulo_after :
     (setup : Setup) (history : List Entry) (entry : Entry) (change : Option MapChange) →
@@ -75,24 +72,17 @@ pub store_follows :
     AreChanged setup (byte_of setup history) (Store reg width value) new) →
     (touches_map setup (Store reg width value) ≡ false → new ≡ old) →
     Follow setup history (Some (Store reg width value)) old new
-store_follows setup history reg width value written beside =
-    elim (cases_Bool (touches_map setup (Store reg width value))) [
-      | inl it ↦ rw it (written it)
-      | inr not ↦ rw not (beside not)
-    ]
+store_follows setup history reg width value {old} {new} written beside =
+    cond_both (touches_map setup (Store reg width value)) _ _
+    (λ (write : Option MapChange). AreNextChanged setup history write (new ≡ old) new) written beside
 
 -- ---- a version below 2^32
-
-if_one_more : (moves : Bool) (version bound : ℕ) → version ≤ bound →
-    (if moves then version + 1 else version) ≤ suc bound
-if_one_more true version bound most = omega (arith, most)
-if_one_more false version bound most = omega (arith, most)
 
 -- each map write is an entry
 pub few_writes : (setup : Setup) (history : List Entry) → version_of setup history ≤ length history
 unfolding map_writes_of
 few_writes setup [] = omega arith
 few_writes setup (entry ∷ before) =
-    rw (version_after setup before entry (register_change setup before entry.event) refl)
-    (if_one_more (moves setup (register_change setup before entry.event)) (version_of setup before) (length before)
-    (few_writes setup before))
+    let told = version_after setup before entry _ refl in
+    let few = few_writes setup before in
+    grind (arith, nat_tests)

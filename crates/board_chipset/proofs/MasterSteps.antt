@@ -1,9 +1,9 @@
 -- What a bus master reaches is neither SMRAM nor DRAM in its range.
-use Rattle.std.proofs.Common.{◌≡◌, ◌≢◌, ℕ, Bool, true, false, not, ◌&&◌, [], ◌∷◌, Option, Some, None, is_some, refl, ap}
-use Rattle.std.proofs.Common.{sym, ◌∙◌, inl, inr, arith, unwrap_or, option_map}
-use Rattle.board_prelude.proofs.Common.{cases_Bool, false≢true, and_left, and_right, nat_tests, Kind, Area, Target}
-use Rattle.board_prelude.proofs.Common.{Smram, Card, Setup, lies_in, smram_range, shadow_range, upper_memory, Bytes}
-use Rattle.board_prelude.proofs.Common.{Window, first_of, line_where, card_area, row_of, is_shadowed, memory_claim}
+use Rattle.std.proofs.Common.{◌≡◌, ◌≢◌, ℕ, Bool, true, false, not, ◌&&◌, [], ◌∷◌, Option, Some, is_some, refl, ap, inl}
+use Rattle.std.proofs.Common.{inr, arith, unwrap_or, option_map}
+use Rattle.board_prelude.proofs.Common.{cases_Bool, and_left, and_right, nat_tests, Kind, Area, Target, Smram, Card}
+use Rattle.board_prelude.proofs.Common.{Setup, lies_in, smram_range, shadow_range, upper_memory, Bytes, Window}
+use Rattle.board_prelude.proofs.Common.{first_of, line_where, card_area, row_of, is_shadowed, memory_claim}
 use Rattle.board_prelude.proofs.Common.{is_smram_range, target_at, DramCell, first_cell, is_in_hole, is_bios_selected}
 use Rattle.board_base.specs.declared.target.Area.TheVariants.{Dram as DramArea, Shadow as ShadowArea}
 use Rattle.board_base.specs.declared.target.Area.TheVariants.{Smram as SmramArea, Rom as RomArea, Card as CardArea}
@@ -13,42 +13,33 @@ use Rattle.board_chipset.specs.Masters.{IsOutsideSmram, master_target}
 
 -- ---- what answers a bus master
 
--- what holds of each line that holds, and of nobody, holds of what answers
-of_lines :
-    (P : Area → Type 0) (shadow dram rom : Bool) (row : ℕ) (claim : Option Window) →
-    (shadow ≡ true → P (ShadowArea row)) →
-    (dram ≡ true → P (DramArea row)) → P RomArea → ((dev base : ℕ) → P (CardArea dev base)) → P AbortArea →
-    P (first_of
+-- the lines of the table, where SMRAM is closed
+abbrev closed_lines : (shadow dram rom : Bool) (row : ℕ) (claim : Option Window) → Area
+closed_lines shadow dram rom row claim =
+    first_of
     (line_where shadow (ShadowArea row) ∷ line_where dram (DramArea row) ∷ line_where rom RomArea
     ∷ option_map card_area claim ∷ [])
-    AbortArea)
-of_lines P true dram rom row claim in_shadow in_dram in_rom in_card none = in_shadow refl
-of_lines P false true rom row claim in_shadow in_dram in_rom in_card none = in_dram refl
-of_lines P false false true row claim in_shadow in_dram in_rom in_card none = in_rom
-of_lines P false false false row None in_shadow in_dram in_rom in_card none = none
-of_lines P false false false row (Some window) in_shadow in_dram in_rom in_card none = in_card window.dev window.base
+    AbortArea
 
--- SMRAM is closed to it
-of_master :
-    (P : Area → Type 0) (setup : Setup) (bytes : Bytes) (addr : ℕ) (kind : Kind) →
-    ((row : ℕ) → (is_some (row_of bytes addr) && is_shadowed bytes addr kind) ≡ true → P (ShadowArea row)) →
-    ((row : ℕ) →
-    (not (lies_in upper_memory addr) && is_some (row_of bytes addr) && not (is_in_hole bytes addr)) ≡ true →
-    P (DramArea row)) → P RomArea → ((dev base : ℕ) → P (CardArea dev base)) → P AbortArea →
-    P (master_area setup bytes addr kind)
-unfolding master_area
-of_master P setup bytes addr kind in_shadow in_dram in_rom in_card none =
-    let row = unwrap_or (row_of bytes addr) 0 in
-    let closed : (is_smram_range addr && is_some (row_of bytes addr) && false) ≡ false = and_right _ _ refl in
-    rw closed (of_lines P (is_some (row_of bytes addr) && is_shadowed bytes addr kind)
+of_master : (setup : Setup) (bytes : Bytes) (addr : ℕ) (kind : Kind) →
+    master_area setup bytes addr kind
+    ≡ closed_lines (is_some (row_of bytes addr) && is_shadowed bytes addr kind)
     (not (lies_in upper_memory addr) && is_some (row_of bytes addr) && not (is_in_hole bytes addr))
-    (is_bios_selected bytes addr) row (memory_claim setup bytes addr) (in_shadow row) (in_dram row) in_rom in_card none)
+    (is_bios_selected bytes addr) (unwrap_or (row_of bytes addr) 0) (memory_claim setup bytes addr)
+unfolding master_area
+of_master setup bytes addr kind =
+    let closed : (is_smram_range addr && is_some (row_of bytes addr) && false) ≡ false = and_right _ _ refl in
+    rw closed refl
 
 -- ---- SMRAM answers nobody
 
 abbrev IsNoSmram : Area → Type 0
 IsNoSmram SmramArea = ⊥
 IsNoSmram _ = Unit {0}
+
+closed_smram : {area : Area} (shadow dram rom : Bool) (row : ℕ) (claim : Option Window) →
+    area ≡ closed_lines shadow dram rom row claim → IsNoSmram area
+closed_smram shadow dram rom row claim is = grind (arith, nat_tests)
 
 no_smram_at : (setup : Setup) (area : Area) (addr : ℕ) → IsNoSmram area → target_at setup area addr ≢ Smram
 no_smram_at setup SmramArea addr other is = other
@@ -57,7 +48,7 @@ no_smram_at setup _ addr other is = cc
 pub no_smram : (setup : Setup) (bytes : Bytes) (kind : Kind) (addr : ℕ) → master_target setup bytes kind addr ≢ Smram
 no_smram setup bytes kind addr =
     no_smram_at setup (master_area setup bytes addr kind) addr
-    (of_master IsNoSmram setup bytes addr kind (λ row is. tt) (λ row is. tt) tt (λ dev base. tt) tt)
+    (closed_smram _ _ _ _ _ (of_master setup bytes addr kind))
 
 -- ---- in its range nothing that answers is DRAM
 
@@ -71,14 +62,16 @@ in_upper : (addr : ℕ) → lies_in smram_range addr ≡ true →
     (lies_in shadow_range addr ≡ false) × (lies_in upper_memory addr ≡ true)
 in_upper addr inside = (grind (arith, nat_tests), grind (arith, nat_tests))
 
+off_lines : {area : Area} (shadow dram rom : Bool) (row : ℕ) (claim : Option Window) →
+    area ≡ closed_lines shadow dram rom row claim → shadow ≡ false → dram ≡ false → IsOffDram area
+off_lines shadow dram rom row claim is no_shadow no_dram = grind (arith, nat_tests)
+
 pub off_dram : (setup : Setup) (bytes : Bytes) (addr : ℕ) (kind : Kind) → is_smram_range addr ≡ true →
     IsOffDram (master_area setup bytes addr kind)
 off_dram setup bytes addr kind inside =
-    let where_it_is = in_upper addr inside in
-    of_master IsOffDram setup bytes addr kind
-    (λ row is. false≢true (sym (and_right _ _ (and_left _ _ where_it_is.0)) ∙ is))
-    (λ row is. false≢true (sym (and_left _ _ (and_left _ _ (ap not where_it_is.1))) ∙ is))
-    tt (λ dev base. tt) tt
+    let upper = in_upper addr inside in
+    off_lines _ _ _ _ _ (of_master setup bytes addr kind) (and_right _ _ (and_left _ _ upper.0))
+    (and_left _ _ (and_left _ _ (ap not upper.1)))
 
 card_cell : (dev base off addr at : ℕ) → first_cell (Card dev base off) addr ≡ Some (DramCell at) → ⊥
 card_cell dev base off addr at is = grind (arith, nat_tests)

@@ -1,27 +1,100 @@
 -- The state after an access to memory.
-use Rattle.std.proofs.Common.{◌≡◌, ℕ, true, false, List, None, Some, refl, Bool, IsTrue, ◌↔◌}
-use Rattle.board_prelude.proofs.Common.{Kind, Fetch, Read, Write, Part, Entry, Bus, Setup, is_write, part_answer}
-use Rattle.board_prelude.proofs.Common.{value_at, memory_answer}
+use Rattle.std.proofs.Common.{◌≡◌, ℕ, true, false, List, None, Some, refl, Bool, IsTrue, ◌↔◌, arith, [], ◌∷◌, ◌∙◌, ap}
+use Rattle.std.proofs.Common.{map, All}
+use Rattle.board_prelude.proofs.Common.{Kind, Write, Part, Entry, Bus, Setup, is_write, part_answer, value_at}
+use Rattle.board_prelude.proofs.Common.{memory_answer, nat_tests, byte_of, Bytes, IsBusAccess, get_or-map, length-map}
+use Rattle.board_prelude.proofs.Common.{All-head, All-tail, All-cons, WideAccess, Parts, parts_of, parts_list, joined}
+use Rattle.board_prelude.proofs.Common.{Cell, parts_put, IsPart, AreParts, IsWideAnswer, wide_value, memory_target}
+use Rattle.addr_decode.specs.MapRegs.{StandsFor}
+use Rattle.board_stores.specs.Common.{IsReady, part_in, accesses, answers, AreReady}
+use Rattle.board_stores.proofs.MemoryLemmas.{part_answered}
+use Rattle.board_chipset.specs.declared.state.State.{State}
+use Rattle.board_chipset.specs.Kept.{IsState, IsSound}
+use Rattle.board_chipset.proofs.HeldTargets.{ready}
 use Rattle.board_base.specs.declared.access.Access.{Access}
+use Rattle.board_stores.specs.declared.cut.Cycle.{Cycle}
 
-pub writes_when : (kind : Kind) (writes : Bool) → IsTrue writes ↔ (kind ≡ Write) → is_write kind ≡ writes
-writes_when Fetch true is = let no = is.0 refl in absurd (cc)
-writes_when Fetch false is = refl
-writes_when Read true is = let no = is.0 refl in absurd (cc)
-writes_when Read false is = refl
-writes_when Write true is = refl
-writes_when Write false is = let no = is.1 refl in absurd (cc)
+pub writes_when : {kind : Kind} {writes known : Bool} → IsTrue writes ↔ (kind ≡ Write) → writes ≡ known →
+    is_write kind ≡ known
+writes_when is same = grind (arith, nat_tests)
 
 pub write_answer : (setup : Setup) (history : List Entry) (access : Access) (answer : Part) →
-    is_write access.kind ≡ true →
-    answer ≡ part_answer setup history access →
+    is_write access.kind ≡ true → answer ≡ part_in setup (byte_of setup history) access →
     Bus None answer.target answer.denial ≡ memory_answer setup history access
 unfolding memory_answer part_answer
-write_answer setup history access answer writes is = rw (is, writes) refl
+write_answer setup history access answer writes is = rw (part_answered setup history access answer is, writes) refl
 
 pub read_answer : (setup : Setup) (history : List Entry) (access : Access) (answer : Part) (value : ℕ) →
-    is_write access.kind ≡ false →
-    answer ≡ part_answer setup history access → value ≡ value_at setup history answer.target access.addr access.width →
+    is_write access.kind ≡ false → answer ≡ part_in setup (byte_of setup history) access →
+    value ≡ value_at setup history answer.target access.addr access.width →
     Bus (Some value) answer.target answer.denial ≡ memory_answer setup history access
 unfolding memory_answer part_answer
-read_answer setup history access answer value reads is same = rw (same, is, reads) refl
+read_answer setup history access answer value reads is same =
+    rw (same, part_answered setup history access answer is, reads) refl
+
+-- an access to a state of a board can be done as it is decoded there
+pub ready_in : {state : State} {rom : List ℕ} {access : Access} {answer : Part} → IsState state rom →
+    IsBusAccess (is_write access.kind) access.addr access.width access.value →
+    ((setup : Setup) (bytes : Bytes) → StandsFor setup bytes state.registers.map.regs → setup.rom ≡ rom →
+    answer ≡ part_in setup bytes access) → IsReady rom state.stores.contents access answer
+ready_in kept bus decoded =
+    ready kept.sound kept.image bus
+    (decoded kept.setup kept.sound.registers.bytes kept.sound.registers.kept.map kept.image)
+
+-- ---- wide accesses: their cycles can be done
+
+-- the cycles of a wide access
+module _
+    {setup : Setup} {state : State} {rom : List ℕ} (kept : IsSound setup state)
+    (image : setup.rom ≡ rom) (access : WideAccess) where
+  all_ready : (cycles : List Cycle) → All (IsPart access) (accesses cycles) →
+      answers cycles ≡ map (part_in setup kept.registers.bytes) (accesses cycles) →
+      AreReady rom state.stores.contents cycles
+  all_ready [] each is = λ k d within. absurd (omega arith)
+  all_ready (cycle ∷ later) each is =
+      let first = All-head (IsPart access) cycle.access (accesses later) each in
+      let here : cycle.answer ≡ part_in setup kept.registers.bytes cycle.access = cc in
+      let rest : answers later ≡ map (part_in setup kept.registers.bytes) (accesses later) = cc in
+      All-cons (λ (it : Cycle). IsReady rom state.stores.contents it.access it.answer) cycle later
+      (ready kept image first.legal here)
+      (all_ready later (All-tail (IsPart access) cycle.access (accesses later) each) rest)
+
+  pub cycles_ready : (cycles : List Cycle) → AreParts access (parts_of access) → accesses cycles ≡ parts_of access →
+      answers cycles ≡ map (part_in setup kept.registers.bytes) (parts_of access) →
+      AreReady rom state.stores.contents cycles
+  cycles_ready cycles parts is decoded = all_ready cycles (rw is parts.each) (rw is decoded)
+
+pub all_write : (access : WideAccess) (cycles : List Cycle) → is_write access.kind ≡ true →
+    All (IsPart access) (accesses cycles) →
+    All (λ cycle. is_write cycle.access.kind ≡ true) cycles
+all_write access cycles writes each =
+    λ k d within. let part = each k d.access (omega (arith, within, length-map cycles (λ (it : Cycle). it.access))) in
+    let it = rw (get_or-map (λ (it : Cycle). it.access) cycles k d d.access within) at part in
+    ap is_write it.kind ∙ writes
+
+-- parts that read put nothing
+pub parts_none : (access : WideAccess) (parts : List Access) (replies : List Part) (cell : Cell) →
+    is_write access.kind ≡ false → All (IsPart access) parts →
+    parts_put parts replies cell ≡ None
+unfolding parts_put
+parts_none access [] replies cell reads each = refl
+parts_none access (part ∷ later) [] cell reads each = refl
+parts_none access (part ∷ later) (reply ∷ replies) cell reads each =
+    let first = All-head (IsPart access) part later each in
+    let here : is_write part.kind ≡ false = ap is_write first.kind ∙ reads in
+    rw (here, parts_none access later replies cell reads (All-tail (IsPart access) part later each)) refl
+
+pub wide_written : (setup : Setup) (history : List Entry) (access : WideAccess) (parts : Parts) →
+    is_write access.kind ≡ true →
+    parts_list parts ≡ map (part_answer setup history) (parts_of access) → IsWideAnswer setup history access None parts
+unfolding wide_value
+wide_written setup history access parts writes each = record { value_is = rw writes refl; each = each }
+
+pub wide_read : (setup : Setup) (history : List Entry) (access : WideAccess) (parts : Parts) (value : ℕ) →
+    is_write access.kind ≡ false →
+    parts_list parts ≡ map (part_answer setup history) (parts_of access) →
+    value ≡ joined (λ part. value_at setup history (memory_target setup history part) part.addr part.width)
+    (parts_of access) →
+    IsWideAnswer setup history access (Some value) parts
+unfolding wide_value
+wide_read setup history access parts value reads each is = record { value_is = rw (reads, is) refl; each = each }

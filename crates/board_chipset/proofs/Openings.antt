@@ -29,8 +29,4 @@ disk_opened bytes shown result devices bad opened same =
 pub any_found : (dev : ℕ) (cards : List FittedCard) →
     list_any (λ card. card.dev == dev) cards ≡ is_some (find (λ card. card.dev == dev) cards)
 any_found dev [] = refl
-any_found dev (card ∷ later) =
-    elim (cases_Bool (card.dev == dev)) [
-      | inl here ↦ rw here refl
-      | inr there ↦ rw there (any_found dev later)
-    ]
+any_found dev (card ∷ later) = let rest = any_found dev later in grind (arith, nat_tests)

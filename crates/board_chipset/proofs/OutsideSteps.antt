@@ -1,25 +1,18 @@
 -- Events for the devices alone: they write no register and store nothing.
-use Rattle.board_prelude.proofs.Common.{nat_tests}
+use Rattle.board_prelude.proofs.Common.{nat_tests, and_from, le-leb, Ack, IsAnswer, IsInRange, outside_answer, Applied}
+use Rattle.board_prelude.proofs.Common.{Stimulus, stimulus_form, applied_by, event_applied, cases_Bool, eqb-true}
+use Rattle.board_prelude.proofs.Common.{All-head, All-tail, Event, Reply, Entry, Setup, FittedCard, IsCard, IsSetup}
+use Rattle.board_prelude.proofs.Common.{card_at, Cell, entry_put}
 use Rattle.std.proofs.Common.{◌≡◌, ◌≤◌, true, List, [], ◌∷◌, None, refl, sym, ◌∙◌, subst, inl, inr, ℕ, ◌==◌, All, find}
 use Rattle.std.proofs.Common.{is_some, Bool, Option, Some, IfSome, arith}
-use Rattle.board_prelude.proofs.Common.{and_from, le-leb, Ack, IsAnswer, IsInRange, outside_answer, Applied, Stimulus}
-use Rattle.board_prelude.proofs.Common.{stimulus_form, applied_by, event_applied, cases_Bool, eqb-true, All-head}
-use Rattle.board_prelude.proofs.Common.{All-tail, Event, Memory, Wide, Port, Reply, Entry, Setup, FittedCard, IsCard}
-use Rattle.board_prelude.proofs.Common.{IsSetup, card_at, Cell, entry_put}
-use Rattle.board_spec.specs.declared.event.Event.TheVariants.{Look as LookAt}
 use Rattle.board_spec.specs.declared.stimulus.Stimulus.TheVariants as stimuli
 use Rattle.board_devices.specs.Common.{DevicesValue, AreDevicesOf, AreRoutesOf, Asks}
 use Rattle.board_chipset.specs.declared.state.State.{State}
 use Rattle.board_chipset.specs.Common.{IsStateOf, Writes, IsForDevices}
-use Rattle.board_chipset.proofs.StateSteps.{soft, devices_move}
-use Rattle.board_chipset.proofs.RegisterSteps.{writes_none}
+use Rattle.board_chipset.proofs.StateSteps.{soft, devices_move, writes_none}
 
 puts_nothing : (event : Event) (reply : Reply) (cell : Cell) → IsForDevices event → entry_put event reply cell ≡ None
-puts_nothing (Memory access) reply cell is = absurd is
-puts_nothing (Wide access) reply cell is = absurd is
-puts_nothing (Port access) reply cell is = absurd is
-puts_nothing (LookAt kind addr smm) reply cell is = absurd is
-puts_nothing _ reply cell is = refl
+puts_nothing event reply cell is = grind (arith, nat_tests)
 
 -- the state after such an event, by what it makes of the devices
 pub outside_done :
@@ -46,8 +39,7 @@ found_in (first ∷ later) dev each = elim (cases_Bool (first.dev == dev)) [
 
 fitted_device : (found : Option FittedCard) (dev : ℕ) → IfSome found (λ card. IsCard card × (card.dev ≡ dev)) →
     is_some found ≡ true → (2 ≤ dev) × (dev ≤ 9)
-fitted_device None dev is some = absurd (cc)
-fitted_device (Some card) dev is some = grind (arith, nat_tests)
+fitted_device found dev is some = grind (arith, nat_tests)
 
 -- ---- what a stimulus applies
 

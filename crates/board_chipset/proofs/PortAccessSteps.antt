@@ -1,12 +1,11 @@
 -- The cycles of an access to ports, done one after another.
-use Rattle.board_prelude.proofs.Common.{nat_tests}
+use Rattle.board_prelude.proofs.Common.{nat_tests, take_more, reverse-append, get_or-map, length-map, pow-le-pow_right}
+use Rattle.board_prelude.proofs.Common.{mod-eq_of_lt, PortAccess, bytes_of, some_bytes, Setup, IsBusAccess}
 use Rattle.std.proofs.Common.{◌≡◌, ℕ, ◌+◌, ◌-◌, ◌*◌, ◌%◌, ◌^◌, ◌<◌, ◌≤◌, List, [], ◌∷◌, ◌++◌, length, get_or, take}
 use Rattle.std.proofs.Common.{drop, refl, ◌∙◌, ap, subst, arith, lit<, reverse}
 use Rattle.std.proofs.lemmas.List.{drop_more}
 use Rattle.std.proofs.lemmas.Nat.{pow-add}
 use Rattle.std.proofs.Math.Nat.{mul-le-mul_right}
-use Rattle.board_prelude.proofs.Common.{take_more, reverse-append, get_or-map, length-map, pow-le-pow_right}
-use Rattle.board_prelude.proofs.Common.{mod-eq_of_lt, PortAccess, bytes_of, some_bytes, Setup, IsBusAccess}
 use Rattle.board_stores.specs.declared.ports.PortCycle.{PortCycle}
 use Rattle.board_stores.specs.PortCycles.{Follow, port_accesses, AreBusCycles}
 use Rattle.board_stores.proofs.CutLemmas.{byte_power}

@@ -1,27 +1,221 @@
--- The state after an access at a port.
-use Rattle.std.proofs.Common.{arith, Some, ap, ◌∙◌, if◌then◌else◌, ◌≡◌, ◌≢◌, ℕ, true, false, List, ◌∷◌, Option, None}
-use Rattle.std.proofs.Common.{refl, ◌∙◌, ap}
-use Rattle.board_prelude.proofs.Common.{nat_tests, cond_both, Width, PortAccess, Reg, Dev, Target, Device, Config, Card}
-use Rattle.board_prelude.proofs.Common.{Abort, bytes_of, Entry, Setup, config_address, is_hard_reset, Cell, byte_of}
-use Rattle.board_prelude.proofs.Common.{entry_put, byte_put, port_put, device_in, device_reached, device_value, Decoded}
-use Rattle.board_prelude.proofs.Common.{port_value, value_at, bus_reply, port_answer, Bytes, Denial, Port, Bus}
-use Rattle.board_base.specs.declared.target.Dev.TheVariants.{Confadd as AddressPort, Reset}
+-- What an access at a port reaches, what it writes, and the state after it.
+use Rattle.std.proofs.Common.{◌≡◌, ℕ, ◌%◌, ◌^◌, Bool, true, false, ◌&&◌, List, [], ◌∷◌, drop, Option, Some, None, refl}
+use Rattle.std.proofs.Common.{arith, ◌==◌, unwrap_or, option_map, ◌+◌, ◌≤◌, is_some, ap, ◌∙◌, if◌then◌else◌, ◌≢◌}
+use Rattle.board_prelude.proofs.Common.{false≢true, cond_both, nat_tests, Width, Reg, Dev, Wires, Vector, Spurious}
+use Rattle.board_prelude.proofs.Common.{Keyboard, Ata, Target, Card, Device, Config, Abort, Denial, bytes_of}
+use Rattle.board_prelude.proofs.Common.{is_port_of, device_at, Setup, is_bit, config_address_port, reset_control_port}
+use Rattle.board_prelude.proofs.Common.{xbcs, is_config_port, config_register, Bytes, Window, io_claim, Decoded, nobody}
+use Rattle.board_prelude.proofs.Common.{card_port, config_port, unselected, by_channel, device_port, port_target_of}
+use Rattle.board_prelude.proofs.Common.{One, PortAccess, largest_of, Port, Entry, MapChange, Store, kept_address}
+use Rattle.board_prelude.proofs.Common.{config_address, register_of, byte_of, is_hard_reset, Cell, entry_put, byte_put}
+use Rattle.board_prelude.proofs.Common.{port_put, device_in, device_reached, device_value, port_value, value_at}
+use Rattle.board_prelude.proofs.Common.{bus_reply, port_answer, Bus}
+use Rattle.board_base.specs.declared.target.Dev.TheVariants.{Confadd as AddressPort, Reset, Clock}
+use Rattle.device_spec.specs.PortTable.{first_with, port_devices}
+use Rattle.board_devices.specs.Events.{is_chip_port}
+use Rattle.std.proofs.lemmas.Option.{cond_some}
+use Rattle.cfg_ports.proofs.AddressLemmas.{kept_address-low_bits, within_space}
+use Rattle.board_chipset.specs.declared.state.State.{State}
+use Rattle.board_chipset.specs.Ports.{reached, Reaching, IsEntryOf, Writes}
 use Rattle.addr_decode.specs.declared.found.ConfigRegister.{ConfigRegister}
 use Rattle.addr_decode.specs.declared.found.Found.{Found}
 use Rattle.addr_decode.specs.declared.found.Found.TheVariants.{Device as FoundDevice, Register as FoundRegister}
-use Rattle.addr_decode.specs.declared.found.Found.TheVariants.{Card as FoundCard, Nobody}
 use Rattle.addr_decode.specs.Found.{decoded_as}
-use Rattle.board_devices.specs.Common.{DevicesValue, AreDevicesOf, AreRoutesOf, is_chip_port, is_chip, PassesBy}
-use Rattle.board_devices.specs.Common.{ReachesDevice, LeavesDevices}
+use Rattle.board_devices.specs.Common.{DevicesValue, AreDevicesOf, AreRoutesOf, is_chip, PassesBy, ReachesDevice}
 use Rattle.board_stores.specs.declared.stores.Stores.{Stores}
 use Rattle.board_stores.specs.Puts.{ArePut}
 use Rattle.board_chipset.specs.declared.registers.Registers.{Registers}
-use Rattle.board_chipset.specs.declared.state.State.{State}
-use Rattle.board_chipset.specs.Common.{HasRegisters, IsStateOf, reached, IsEntryOf, Writes}
-use Rattle.board_chipset.proofs.Reach.{IsBeside, IsReached}
-use Rattle.board_chipset.proofs.Effects.{Reached, reads_only, writes_beside, entry_reached}
-use Rattle.board_chipset.proofs.StoreSteps.{stores_stay}
-use Rattle.board_chipset.proofs.StateSteps.{soft, state_after, state_put, state_stays, devices_move}
+use Rattle.board_chipset.specs.Common.{HasRegisters, IsStateOf}
+use Rattle.board_chipset.proofs.StateSteps.{stores_stay, soft, state_after, state_put, state_stays, devices_move}
+
+-- no register is written at the port
+pub record IsBeside (setup : Setup) (address port : ℕ) (width : Width) : Type 0 where
+  pub control : (port == reset_control_port && bytes_of width == 1) ≡ false
+  pub address_port : (port == config_address_port && bytes_of width == 4) ≡ false
+  pub config : is_config_port port ≡ true → config_register setup address port ≡ None
+
+abbrev pub IsClaimed : Setup → Bytes → (port dev base off : ℕ) → Type 0
+IsClaimed setup bytes port dev base off =
+    (window : Window) × (io_claim setup bytes port ≡ Some window) × (window.dev ≡ dev) × (window.base ≡ base) ×
+    (port % 2 ^ window.bits ≡ off)
+
+module _ (setup : Setup) (bytes : Bytes) (address port : ℕ) (width : Width) where
+  -- what is known of an access that has this target
+  abbrev pub IsReached : Target → Type 0
+  IsReached (Device AddressPort) = (port ≡ config_address_port) × (bytes_of width ≡ 4)
+  IsReached (Device Reset) = (port ≡ reset_control_port) × (bytes_of width ≡ 1)
+  IsReached (Device dev) = IsBeside setup address port width × (is_chip_port dev port (bytes_of width) ≡ true)
+  IsReached (Config reg) = (is_config_port port ≡ true) × (config_register setup address port ≡ Some reg)
+  IsReached (Card dev base off) = IsBeside setup address port width × IsClaimed setup bytes port dev base off
+  IsReached Abort = IsBeside setup address port width
+  IsReached _ = ⊥
+
+-- ---- line by line
+
+control_line : (port : ℕ) (width : Width) → is_port_of Reset port (bytes_of width) ≡ true →
+    (port ≡ reset_control_port) × (bytes_of width ≡ 1)
+control_line port width is = (grind (arith, nat_tests), grind (arith, nat_tests))
+
+address_line : (port : ℕ) (width : Width) → is_port_of AddressPort port (bytes_of width) ≡ true →
+    (port ≡ config_address_port) × (bytes_of width ≡ 4)
+address_line port width is = (grind (arith, nat_tests), grind (arith, nat_tests))
+
+beside_lines : (setup : Setup) (address port : ℕ) (width : Width) →
+    is_port_of Reset port (bytes_of width) ≡ false → is_port_of AddressPort port (bytes_of width) ≡ false →
+    is_config_port port ≡ false → IsBeside setup address port width
+beside_lines setup address port width control address_port config = grind (arith, nat_tests)
+
+beside_none : (setup : Setup) (address port : ℕ) (width : Width) → is_config_port port ≡ true →
+    config_register setup address port ≡ None → IsBeside setup address port width
+beside_none setup address port width config none = grind (arith, nat_tests)
+
+module _ (setup : Setup) (bytes : Bytes) (address : ℕ) (disk : Bool) (port : ℕ) (width : Width) where
+  abbrev Lands : Decoded → Type 0
+  Lands decoded = IsReached setup bytes address port width decoded.target
+
+  at_config : (found : Option Reg) → is_config_port port ≡ true →
+      config_register setup address port ≡ found → Lands (config_port address found)
+  at_config (Some reg) config is = (config, is)
+  at_config None config is = beside_none setup address port width config is
+
+  -- ---- what a card can claim
+
+  claimed_or : (denial : Denial) (claim : Option Window) → IsBeside setup address port width →
+      io_claim setup bytes port ≡ claim →
+      Lands (unwrap_or (option_map (card_port port) claim) (nobody denial))
+  claimed_or denial None by is = by
+  claimed_or denial (Some window) by is = (by, (window, is, refl, refl, refl))
+
+  others : (denial : Denial) → IsBeside setup address port width → Lands (unselected setup bytes port denial)
+  others denial by = claimed_or denial (io_claim setup bytes port) by refl
+
+  at_disk : (fitted : Bool) → IsBeside setup address port width → is_port_of Ata port (bytes_of width) ≡ true →
+      Lands (by_channel fitted Ata setup bytes port)
+  at_disk false by is = others _ by
+  at_disk true by is = grind (arith, nat_tests)
+
+  -- ---- the devices in the order of the table
+
+  abbrev Finds : Option Dev → Type 0
+  Finds found = Lands (device_port found disk setup bytes port)
+
+  at_device : (dev : Dev) → IsBeside setup address port width → is_port_of dev port (bytes_of width) ≡ true →
+      Finds (Some dev)
+  at_device AddressPort by is = address_line port width is
+  at_device Reset by is = control_line port width is
+  at_device Keyboard by is = cond_both (is_bit (bytes xbcs) 1) _ _ Lands (λ _. (by, is)) (λ _. others _ by)
+  at_device Clock by is = cond_both (is_bit (bytes xbcs) 0) _ _ Lands (λ _. (by, is)) (λ _. others _ by)
+  at_device Ata by is = at_disk disk by is
+  at_device Wires by is = absurd (false≢true is)
+  at_device (Vector chip) by is = absurd (false≢true is)
+  at_device (Spurious chip) by is = absurd (false≢true is)
+  at_device _ by is = (by, is)
+
+  in_table : (devices : List Dev) → IsBeside setup address port width →
+      Finds (first_with devices port (bytes_of width))
+  in_table [] by = others _ by
+  in_table (dev ∷ later) by =
+      cond_both (is_port_of dev port (bytes_of width)) (Some dev) (first_with later port (bytes_of width)) Finds
+      (at_device dev by) (λ _. in_table later by)
+
+  past_config : is_config_port port ≡ false → Finds (device_at port (bytes_of width))
+  past_config not_config =
+      cond_both (is_port_of AddressPort port (bytes_of width)) _ _ Finds (address_line port width)
+      (λ other. cond_both (is_port_of Reset port (bytes_of width)) _ _ Finds (control_line port width)
+      (λ not_reset. in_table (drop 2 port_devices) (beside_lines setup address port width not_reset other not_config)))
+
+  pub reaches : Lands (port_target_of setup bytes address disk port width)
+  unfolding port_target_of
+  reaches = cond_both (is_config_port port) _ _ Lands (λ config. at_config _ config refl) past_config
+
+-- ---- what an access writes
+
+abbrev pub control_at : Target → PortAccess → Option ℕ
+control_at (Device Reset) access = Some access.value
+control_at _ access = None
+
+abbrev pub address_at : Target → PortAccess → Option ℕ
+address_at (Device AddressPort) access = Some access.value
+address_at _ access = None
+
+abbrev pub store_at : Target → PortAccess → Option MapChange
+store_at (Config reg) access = Some (Store reg access.width access.value)
+store_at _ access = None
+
+abbrev pub Reached : Setup → List Entry → PortAccess → Target → Type 0
+Reached setup history access target =
+    IsReached setup (byte_of setup history) (config_address history) access.port access.width target
+
+module _ (setup : Setup) (history : List Entry) (access : PortAccess) where
+  pub reads_only : access.write ≡ false → Writes setup history (Port access) None None None
+  reads_only reads = record { control_is = rw reads refl; address_is = rw reads refl; store_is = rw reads refl }
+
+  pub writes_beside : IsBeside setup (config_address history) access.port access.width →
+      Writes setup history (Port access) None None None
+  writes_beside by = grind (arith, nat_tests)
+
+  pub writes_at : (target : Target) → access.write ≡ true → Reached setup history access target →
+      Writes setup history (Port access) (control_at target access) (address_at target access) (store_at target access)
+  writes_at (Device AddressPort) writes at = grind (arith, nat_tests)
+  writes_at (Device Reset) writes at = grind (arith, nat_tests)
+  writes_at (Device dev) writes at = writes_beside at.0
+  writes_at (Config reg) writes at = grind (arith, nat_tests)
+  writes_at (Card dev base off) writes at = writes_beside at.0
+  writes_at Abort writes at = writes_beside at
+  writes_at _ writes at = absurd at
+
+pub fits_byte : (width : Width) (value : ℕ) → bytes_of width ≡ 1 → value ≤ largest_of width → value ≤ 0xFF
+fits_byte One value byte fits = fits
+fits_byte _ value byte fits = absurd (omega arith)
+
+-- ---- the configuration address, and the register that it names
+
+-- an access to a register that an address names stays within its function
+within_function :
+    (setup : Setup) (address port : ℕ) (width : Width) (reg : Reg) → kept_address address ≡ address →
+    port % bytes_of width ≡ 0 →
+    config_register setup address port ≡ Some reg → reg.off + bytes_of width ≤ 0x100
+within_function setup address port width reg kept aligned is =
+    let named = (cond_some _ _ reg is).1 in
+    rw (← named) (within_space address port (register_of address) (port % 4) width
+    (kept_address-low_bits address kept) refl refl aligned)
+
+-- ---- what an entry tells
+
+pub target_reached :
+    (setup : Setup) (history : List Entry) (access : PortAccess) (target : Target) →
+    target ≡ (reached setup history access).target → Reached setup history access target
+target_reached setup history access target is =
+    rw is (reaches setup (byte_of setup history) (config_address history) (is_some setup.disk) access.port access.width)
+
+pub reached_in :
+    {state : State} {access : PortAccess} {target : Target} → (reaching : Reaching state access target) →
+    IsReached reaching.kept.setup reaching.kept.sound.registers.bytes state.registers.address access.port access.width
+    target
+reached_in {state} {access} reaching =
+    rw (reaching.target_is) (reaches reaching.kept.setup reaching.kept.sound.registers.bytes state.registers.address
+    reaching.disk access.port access.width)
+
+pub register_within : {state : State} {access : PortAccess} {reg : Reg} → Reaching state access (Config reg) →
+    reg.off + bytes_of access.width ≤ 0x100
+register_within {access = access} reaching =
+    within_function reaching.kept.setup _ access.port access.width _ reaching.kept.sound.registers.address
+    reaching.bus.aligned (reached_in reaching).1
+
+pub entry_reached :
+    {setup : Setup} {history : List Entry} {access : PortAccess} {target shown : Target} {entry : Entry} →
+    target ≡ shown →
+    IsEntryOf setup history access target entry → Reached setup history access shown
+entry_reached {setup} {history} {access} {shown = shown} same is =
+    target_reached setup history access shown (rw same at is.target_is)
+
+pub entry_writes :
+    {setup : Setup} {history : List Entry} {access : PortAccess} {target shown : Target} {entry : Entry} →
+    target ≡ shown →
+    access.write ≡ true → IsEntryOf setup history access target entry →
+    Writes setup history entry.event (control_at shown access) (address_at shown access) (store_at shown access)
+entry_writes {setup} {history} {access} {target} {shown} same writes is =
+    rw (is.event) (writes_at setup history access shown writes (entry_reached same is))
 
 -- ---- targets
 
@@ -32,43 +226,37 @@ abbrev pub IsNoRegister : Target → Type 0
 IsNoRegister target = (reg : Reg) → target ≡ Config reg → ⊥
 
 pub no_chip : (target : Target) → IsNoDevice target → is_chip (device_in target) ≡ false
-no_chip (Device dev) none = absurd (none dev refl)
-no_chip _ none = refl
+no_chip target none = grind (arith, nat_tests)
 
 pub beside_of : (setup : Setup) (history : List Entry) (access : PortAccess) (target : Target) → IsNoDevice target →
     IsNoRegister target →
     Reached setup history access target → IsBeside setup (config_address history) access.port access.width
-beside_of setup history access (Device dev) device config is = absurd (device dev refl)
-beside_of setup history access (Config reg) device config is = absurd (config reg refl)
-beside_of setup history access (Card dev base off) device config is = is.0
-beside_of setup history access Abort device config is = is
-beside_of setup history access _ device config is = absurd is
+beside_of setup history access target device config is = grind (arith, nat_tests)
 
 -- the same by what was found
 pub beside_found : (setup : Setup) (history : List Entry) (access : PortAccess) (found : Found) →
     ((dev : Dev) → found ≡ FoundDevice dev → ⊥) → ((register : ConfigRegister) → found ≡ FoundRegister register → ⊥) →
     Reached setup history access (decoded_as found).target →
     IsBeside setup (config_address history) access.port access.width
-beside_found setup history access (FoundDevice dev) device register is = absurd (device dev refl)
-beside_found setup history access (FoundRegister at) device register is = absurd (register at refl)
-beside_found setup history access (FoundCard dev base off) device register is = is.0
-beside_found setup history access (Nobody denial) device register is = is
+beside_found setup history access found device register is = grind (arith, nat_tests)
 
 -- a device with ports of its own
-pub chip_in : (setup : Setup) (bytes : Bytes) (address : ℕ) (access : PortAccess) (dev : Dev) → dev ≢ AddressPort →
+chip_in : (setup : Setup) (bytes : Bytes) (address : ℕ) (access : PortAccess) (dev : Dev) → dev ≢ AddressPort →
     dev ≢ Reset → IsReached setup bytes address access.port access.width (Device dev) →
     IsBeside setup address access.port access.width
     × (is_chip_port dev access.port (bytes_of access.width) ≡ true)
-chip_in setup bytes address access AddressPort named control is = absurd (named refl)
-chip_in setup bytes address access Reset named control is = absurd (control refl)
-chip_in setup bytes address access _ named control is = is
+chip_in setup bytes address access dev named control is = grind (arith, nat_tests)
+
+pub chip_reached : {state : State} {access : PortAccess} {dev : Dev} → Reaching state access (Device dev) →
+    dev ≢ AddressPort → dev ≢ Reset → is_chip_port dev access.port (bytes_of access.width) ≡ true
+chip_reached {state} {access} {dev} reaching named control =
+    (chip_in reaching.kept.setup reaching.kept.sound.registers.bytes state.registers.address access dev named control
+    (reached_in reaching)).1
 
 pub chip_value : (setup : Setup) (history : List Entry) (dev : Dev) (port : ℕ) (width : Width) → dev ≢ AddressPort →
     dev ≢ Reset →
     device_value setup history dev port width ≡ port_value setup history dev port width
-chip_value setup history AddressPort port width address control = absurd (address refl)
-chip_value setup history Reset port width address control = absurd (control refl)
-chip_value setup history _ port width address control = refl
+chip_value setup history dev port width address control = grind (arith, nat_tests)
 
 -- ---- the state after an entry
 
@@ -88,32 +276,31 @@ module _ {setup : Setup} {history : List Entry} {access : PortAccess} {target : 
       puts is cell ∙ cond_both access.write _ None (λ (byte : Option ℕ). byte ≡ None) (λ _. none cell) (λ _. refl)
 
   -- a read that reaches no chip changes nothing
-  pub read_stays : {state : State} → LeavesDevices → access.write ≡ false → is_chip (device_in target) ≡ false →
+  pub read_stays : {state : State} → access.write ≡ false → is_chip (device_in target) ≡ false →
       IsStateOf setup history state → IsEntryOf setup history access target entry →
       IsStateOf setup (entry ∷ history) state
-  read_stays law reads none kept is =
-      state_stays law kept (rw (is.event) (reads_only setup history access reads)) (passes is none)
+  read_stays reads none kept is =
+      state_stays kept (rw (is.event) (reads_only setup history access reads)) (passes is none)
       (λ cell. puts is cell ∙ rw reads refl)
 
   -- a write behind a base of a card, or to nobody
-  pub write_stored : {old : State} {stores : Stores} → LeavesDevices → access.write ≡ true → IsNoDevice target →
-      IsNoRegister target →
+  pub write_stored : {old : State} {stores : Stores} → access.write ≡ true → IsNoDevice target → IsNoRegister target →
       ArePut (byte_put target access.port access.width access.value) old.stores stores → IsStateOf setup history old →
       IsEntryOf setup history access target entry → IsStateOf setup (entry ∷ history) (record old { stores = stores })
-  write_stored law writes device config put kept is =
+  write_stored writes device config put kept is =
       let by = beside_of setup history access target device config (entry_reached refl is) in
-      state_put law kept (rw (is.event) (writes_beside setup history access by)) (passes is (no_chip target device))
+      state_put kept (rw (is.event) (writes_beside setup history access by)) (passes is (no_chip target device))
       (λ cell. puts is cell ∙ rw writes refl) put
 
   -- a write of registers that moves no route
-  pub registers_move : {old : State} {registers : Registers} → LeavesDevices → IsStateOf setup history old →
+  pub registers_move : {old : State} {registers : Registers} → IsStateOf setup history old →
       IsEntryOf setup history access target entry → is_chip (device_in target) ≡ false →
       ((cell : Cell) → byte_put target access.port access.width access.value cell ≡ None) →
       HasRegisters setup (entry ∷ history) registers → registers.south ≡ old.registers.south →
       is_hard_reset history entry.event ≡ false →
       IsStateOf setup (entry ∷ history) (record old { registers = registers })
-  registers_move law kept is none puts has south is_soft =
-      state_after law kept has south (stores_stay kept.stores (puts_none is puts)) (passes is none) is_soft
+  registers_move kept is none puts has south is_soft =
+      state_after kept has south (stores_stay kept.stores (puts_none is puts)) (passes is none) is_soft
 
 -- the devices after an access at a chip's port
 pub chip_changed :
@@ -133,19 +320,30 @@ chip_changed {setup} {history} {access} {dev} {entry} named control kept is afte
 
 -- ---- the entry, and the reply
 
-pub entry_of :
-    {setup : Setup} {history : List Entry} {access : PortAccess} {target : Target} {denial : Option Denial}
-    {value : Option ℕ} {entry : Entry} → record { target = target; denial = denial } ≡ reached setup history access →
-    entry.event ≡ Port access → entry.reply ≡ Bus value target denial → IsEntryOf setup history access target entry
-entry_of {denial = denial} {value = value} decoded event replied = grind (arith, nat_tests)
-
-pub answer_is :
-    (setup : Setup) (history : List Entry) (access : PortAccess) (target : Target) (denial : Option Denial)
-    (value : Option ℕ) → record { target = target; denial = denial } ≡ reached setup history access →
-    (target ≡ (reached setup history access).target →
+-- by what an access that reached this target gives, and leaves
+pub replied :
+    {old new : State} {access : PortAccess} {target : Target} {value : Option ℕ} (denial : Option Denial) →
+    ((setup : Setup) (history : List Entry) → IsStateOf setup history old →
+    target ≡ (reached setup history access).target →
     value ≡ (if access.write then None else Some (value_at setup history target access.port access.width))) →
-    Bus value target denial ≡ port_answer setup history access
+    ((setup : Setup) (history : List Entry) (entry : Entry) → IsStateOf setup history old →
+    IsEntryOf setup history access target entry → IsStateOf setup (entry ∷ history) new) →
+    ((setup : Setup) (history : List Entry) → IsStateOf setup history old →
+    record { target = target; denial = denial } ≡ reached setup history access →
+    Bus value target denial ≡ port_answer setup history access)
+    × ((setup : Setup) (history : List Entry) (entry : Entry) → IsStateOf setup history old →
+    record { target = target; denial = denial } ≡ reached setup history access → entry.event ≡ Port access →
+    entry.reply ≡ Bus value target denial → IsStateOf setup (entry ∷ history) new)
 unfolding port_answer
-answer_is setup history access target denial value is answers =
-    rw (answers (ap (λ (d : Decoded). d.target) is))
-    (ap (λ (d : Decoded). bus_reply setup history access.write d.target d.denial access.port access.width) is)
+replied {access = access} {value = value} denial gives leaves = (
+  λ setup history kept is.
+      rw (gives setup history kept (ap (λ (d : Decoded). d.target) is))
+      (ap (λ (d : Decoded). bus_reply setup history access.write d.target d.denial access.port access.width) is),
+  λ setup history entry kept is event said. leaves setup history entry kept (record {
+    value = value;
+    denial = denial;
+    target_is = ap (λ (d : Decoded). d.target) is;
+    event = event;
+    reply = said;
+  }),
+)

@@ -1,9 +1,7 @@
 use Rattle.std.proofs.Common.{◌≡◌, ℕ, Bool, None, refl, ◌∙◌}
 use Rattle.board_prelude.proofs.Common.{Kind, Reply, Bus, Cell, entry_put, byte_of}
 use Rattle.board_spec.specs.declared.event.Event.TheVariants.{Look as LookAt}
-use Rattle.board_devices.proofs.DeviceLemmas.{leaves_devices}
-use Rattle.board_chipset.proofs.RegisterSteps.{writes_none}
-use Rattle.board_chipset.proofs.StateSteps.{state_stays}
+use Rattle.board_chipset.proofs.StateSteps.{writes_none, state_stays}
 use Rattle.board_chipset.proofs.looks.look.Goals as goal
 
 -- a look stores nothing, whatever it sees
@@ -20,5 +18,5 @@ returns-clause-answer c = λ setup history kept. record {
 
 pub returns-clause-board : goal.returns-clause-board
 returns-clause-board c = λ setup history entry kept event.
-    state_stays leaves_devices kept (writes_none setup history entry.event (λ port is. cc)) (rw event tt)
+    state_stays kept (writes_none setup history entry.event (λ port is. cc)) (rw event tt)
     (λ cell. rw event (puts_nothing c.args.kind c.args.addr c.args.smm entry.reply cell))

@@ -1,20 +1,11 @@
-use Rattle.std.proofs.Common.{◌∙◌, refl}
+use Rattle.std.proofs.Common.{refl}
 use Rattle.board_spec.specs.Registers.{byte_of}
-use Rattle.board_stores.proofs.MemoryLemmas.{part_answered}
-use Rattle.board_devices.proofs.DeviceLemmas.{leaves_devices}
-use Rattle.board_chipset.proofs.RegisterSteps.{writes_none}
-use Rattle.board_chipset.proofs.StateSteps.{sound_put, state_put, state_stays}
-use Rattle.board_chipset.proofs.HeldTargets.{ready}
-use Rattle.board_chipset.proofs.MemorySteps.{writes_when, write_answer, read_answer}
+use Rattle.board_chipset.proofs.StateSteps.{sound_put, state_put, state_stays, writes_none}
+use Rattle.board_chipset.proofs.MemorySteps.{writes_when, write_answer, read_answer, ready_in}
 use Rattle.board_chipset.proofs.memory.answered.Goals as goal
 
 pub write-requires-clause-ready : goal.write-requires-clause-ready
-write-requires-clause-ready c =
-    let kept = c.requires.kept in (
-      c.args.rom.now,
-      ready kept.sound kept.image c.requires.bus
-          (c.requires.decoded kept.setup kept.sound.registers.bytes kept.sound.registers.kept.map kept.image),
-    )
+write-requires-clause-ready c = (c.args.rom.now, ready_in c.requires.kept c.requires.bus c.requires.decoded)
 
 pub returns-then-is_write-clause-sound : goal.returns-then-is_write-clause-sound
 returns-then-is_write-clause-sound c = λ setup sound. sound_put sound c.write.ensures.put
@@ -22,33 +13,26 @@ returns-then-is_write-clause-sound c = λ setup sound. sound_put sound c.write.e
 pub returns-then-is_write-clause-answer : goal.returns-then-is_write-clause-answer
 returns-then-is_write-clause-answer c = λ setup history kept image.
     write_answer setup history c.args.access.now c.args.answer.now
-    (writes_when c.args.access.now.kind c.is_write.result c.is_write.ensures.write ∙ c.if-is_write.true)
-    (part_answered setup history c.args.access.now c.args.answer.now
-    (c.requires.decoded setup (byte_of setup history) kept.registers.kept.map image))
+    (writes_when c.is_write.ensures.write c.if-is_write.true)
+    (c.requires.decoded setup (byte_of setup history) kept.registers.kept.map image)
 
 pub returns-then-is_write-clause-board : goal.returns-then-is_write-clause-board
 returns-then-is_write-clause-board c = λ setup history entry kept image event replied.
-    state_put leaves_devices kept (writes_none setup history entry.event (λ port is. cc)) (rw event tt)
+    state_put kept (writes_none setup history entry.event (λ port is. cc)) (rw event tt)
     (λ cell. rw (event, replied) refl) c.write.ensures.put
 
 pub read-requires : goal.read-requires
-read-requires c =
-    let kept = c.requires.kept in
-    record {
-      ready = ready kept.sound kept.image c.requires.bus
-          (c.requires.decoded kept.setup kept.sound.registers.bytes kept.sound.registers.kept.map kept.image);
-    }
+read-requires c = record { ready = ready_in c.requires.kept c.requires.bus c.requires.decoded }
 
 pub returns-clause-answer : goal.returns-clause-answer
 returns-clause-answer c = λ setup history kept image.
     read_answer setup history c.args.access.now c.args.answer.now c.read.result
-    (writes_when c.args.access.now.kind c.is_write.result c.is_write.ensures.write ∙ c.if-is_write.false)
-    (part_answered setup history c.args.access.now c.args.answer.now
-    (c.requires.decoded setup (byte_of setup history) kept.registers.kept.map image))
+    (writes_when c.is_write.ensures.write c.if-is_write.false)
+    (c.requires.decoded setup (byte_of setup history) kept.registers.kept.map image)
     (c.read.ensures.value setup history kept.stores image)
 
 pub returns-clause-board : goal.returns-clause-board
 returns-clause-board c = λ setup history entry kept image event replied.
-    let reads = writes_when c.args.access.now.kind c.is_write.result c.is_write.ensures.write ∙ c.if-is_write.false in
-    state_stays leaves_devices kept (writes_none setup history entry.event (λ port is. cc)) (rw event tt)
+    let reads = writes_when c.is_write.ensures.write c.if-is_write.false in
+    state_stays kept (writes_none setup history entry.event (λ port is. cc)) (rw event tt)
     (λ cell. rw (event, replied, reads) refl)

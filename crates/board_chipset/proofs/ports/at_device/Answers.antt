@@ -1,10 +1,6 @@
-use Rattle.board_chipset.proofs.PortSteps.{answer_is, entry_of}
+use Rattle.std.proofs.Common.{None}
+use Rattle.board_chipset.proofs.PortSteps.{replied}
 use Rattle.board_chipset.proofs.ports.at_device.Goals as goal
 
-pub returns-clause-answer : goal.returns-clause-answer
-returns-clause-answer c = λ setup history kept decoded.
-    answer_is setup history c.args.access.now _ _ _ decoded (c.device_value.ensures.value setup history kept)
-
-pub returns-clause-board : goal.returns-clause-board
-returns-clause-board c = λ setup history entry kept decoded event replied.
-    c.device_value.ensures.board setup history entry kept (entry_of decoded event replied)
+pub returns : goal.returns
+returns c = assumption (replied None c.device_value.ensures.value c.device_value.ensures.board)

@@ -1,25 +1,19 @@
 use Rattle.std.proofs.Common.{◌∙◌, refl}
-use Rattle.board_devices.proofs.DeviceLemmas.{leaves_devices}
-use Rattle.board_chipset.proofs.Effects.{reached_in}
+use Rattle.board_chipset.proofs.PortSteps.{chip_reached, chip_value, read_stays, chip_changed}
 use Rattle.board_chipset.proofs.StateSteps.{sound_devices}
-use Rattle.board_chipset.proofs.PortSteps.{chip_in, chip_value, read_stays, chip_changed}
 use Rattle.board_chipset.proofs.ports.read_device.Goals as goal
 
 pub read-requires-in_default : goal.read-requires-in_default
 read-requires-in_default c =
-    let reaching = c.requires.reaching in
-    record {
-      port = (chip_in reaching.kept.setup reaching.kept.sound.registers.bytes c.args.state.now.registers.address
-          c.args.access.now c.args.dev c.in_default.not-Confadd c.in_default.not-Reset (reached_in reaching)).1;
-    }
+    record { port = chip_reached c.requires.reaching c.in_default.not-Confadd c.in_default.not-Reset }
 
 pub returns-in-Confadd-clause-board : goal.returns-in-Confadd-clause-board
 returns-in-Confadd-clause-board c = λ setup history entry kept is.
-    read_stays leaves_devices c.requires.reads (rw c.in-Confadd.is refl) kept is
+    read_stays c.requires.reads (rw c.in-Confadd.is refl) kept is
 
 pub returns-in-Reset-clause-board : goal.returns-in-Reset-clause-board
 returns-in-Reset-clause-board c = λ setup history entry kept is.
-    read_stays leaves_devices c.requires.reads (rw c.in-Reset.is refl) kept is
+    read_stays c.requires.reads (rw c.in-Reset.is refl) kept is
 
 pub returns-in_default : goal.returns-in_default
 returns-in_default c =

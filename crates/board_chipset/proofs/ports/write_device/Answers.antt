@@ -1,27 +1,21 @@
 use Rattle.std.proofs.Common.{refl, ap}
 use Rattle.board_prelude.proofs.Common.{Dev, Device}
-use Rattle.board_devices.proofs.DeviceLemmas.{leaves_devices}
-use Rattle.board_chipset.proofs.Effects.{reached_in, entry_writes}
+use Rattle.board_chipset.proofs.PortSteps.{entry_writes, chip_reached, registers_move, chip_changed}
 use Rattle.board_chipset.proofs.StateSteps.{soft, sound_devices, sound_registers}
-use Rattle.board_chipset.proofs.PortSteps.{chip_in, registers_move, chip_changed}
 use Rattle.board_chipset.proofs.ports.write_device.Goals as goal
 
 pub write-requires : goal.write-requires
-write-requires c =
-    let reaching = c.requires.reaching in
-    let access = c.args.access.now in
-    record {
-      port = (chip_in reaching.kept.setup reaching.kept.sound.registers.bytes c.args.state.now.registers.address access
-          c.args.dev c.in_default.not-Confadd c.in_default.not-Reset (reached_in reaching)).1;
-      fits = rw c.requires.writes at reaching.bus.fits;
-    }
+write-requires c = record {
+  port = chip_reached c.requires.reaching c.in_default.not-Confadd c.in_default.not-Reset;
+  fits = rw c.requires.writes at c.requires.reaching.bus.fits;
+}
 
 pub returns-in-Confadd : goal.returns-in-Confadd
 returns-in-Confadd c = record {
   sound = λ setup sound. sound_registers sound (c.write_address.ensures.sound setup sound.registers);
   board = λ setup history entry kept is.
       let writes = entry_writes (ap (λ (dev : Dev). Device dev) c.in-Confadd.is) c.requires.writes is in
-      registers_move leaves_devices kept is (rw c.in-Confadd.is refl) (λ cell. refl)
+      registers_move kept is (rw c.in-Confadd.is refl) (λ cell. refl)
       (c.write_address.ensures.registers setup history entry kept.registers writes) c.write_address.ensures.south
       (soft writes);
 }
@@ -30,8 +24,7 @@ pub returns-in-Reset : goal.returns-in-Reset
 returns-in-Reset c = record {
   sound = c.write_control.ensures.sound;
   board = λ setup history entry kept is.
-      c.write_control.ensures.board setup history entry kept
-      (rw c.in-Reset.is at is);
+      c.write_control.ensures.board setup history entry kept (rw c.in-Reset.is at is);
 }
 
 pub returns-in_default : goal.returns-in_default

@@ -1,7 +1,7 @@
 use Rattle.std.proofs.Common.{◌≡◌, ℕ, Result, Err, arith}
 use Rattle.board_chipset.specs.declared.state_fault.StateFault.{StateFault}
 use Rattle.board_chipset.specs.declared.state_fault.StateFault.TheVariants.{Bad}
-use Rattle.board_chipset.proofs.ChipsetAlone.{bad_within}
+use Rattle.board_chipset.proofs.ChipsetLoads.{bad_within}
 use Rattle.board_chipset.proofs.saved.load_version.Goals as goal
 
 place_is : {A : Type 0} (x y : ℕ) → ◌≡◌ {A = Result A StateFault} (Err (Bad x)) (Err (Bad y)) → x ≡ y

@@ -1,7 +1,7 @@
 use Rattle.std.proofs.Common.{inl, ap, Ok}
 use Rattle.byte_fields.proofs.Exactly.{not_ended}
 use Rattle.board_chipset.specs.Chipset.{Running}
-use Rattle.board_chipset.proofs.ChipsetAlone.{alone_is}
+use Rattle.board_chipset.proofs.ChipsetLoads.{alone_is}
 use Rattle.board_chipset.proofs.saved.read_alone.Goals as goal
 
 pub returns-in_err-end-clause-exact : goal.returns-in_err-end-clause-exact

@@ -1,12 +1,9 @@
 use Rattle.std.proofs.Common.{◌∙◌, refl}
 use Rattle.board_prelude.proofs.Common.{parts_of, parts_list, byte_of}
 use Rattle.board_stores.proofs.MemoryLemmas.{parts_answered}
-use Rattle.board_devices.proofs.DeviceLemmas.{leaves_devices}
-use Rattle.board_chipset.proofs.RegisterSteps.{writes_none}
-use Rattle.board_chipset.proofs.StateSteps.{sound_put, state_put, state_stays}
+use Rattle.board_chipset.proofs.StateSteps.{writes_none, sound_put, state_put, state_stays}
 use Rattle.board_chipset.proofs.HeldTargets.{stands}
-use Rattle.board_chipset.proofs.MemorySteps.{writes_when}
-use Rattle.board_chipset.proofs.WideSteps.{cycles_ready, all_write, parts_none, write_answer, read_answer}
+use Rattle.board_chipset.proofs.MemorySteps.{writes_when, cycles_ready, all_write, parts_none, wide_written, wide_read}
 use Rattle.board_chipset.proofs.wide.access.Goals as goal
 
 pub write_cycles-requires-clause-ready : goal.write_cycles-requires-clause-ready
@@ -28,7 +25,7 @@ write_cycles-requires-clause-writes c =
     let access = c.args.access.now in
     let parts = rw (← c.as_slice-cycles.ensures.value) at c.cycles_of-cut.ensures.parts in
     all_write access c.as_slice-cycles.result.now
-    (writes_when access.kind c.is_write.result c.is_write.ensures.write ∙ c.if-is_write.true)
+    (writes_when c.is_write.ensures.write c.if-is_write.true)
     (rw parts (c.law_parts.ensures.cut access c.requires.wide).each)
 
 pub returns-then-is_write-clause-answer : goal.returns-then-is_write-clause-answer
@@ -37,14 +34,14 @@ returns-then-is_write-clause-answer c = λ setup history kept image.
     let decoded = parts_answered setup history (parts_of access) _
     (c.cycles_of-cut.ensures.decoded setup (byte_of setup history)
     (c.regs.ensures.stand setup history kept.registers) image) in
-    write_answer setup history access c.parts_of-parts.result
-    (writes_when access.kind c.is_write.result c.is_write.ensures.write ∙ c.if-is_write.true)
+    wide_written setup history access c.parts_of-parts.result
+    (writes_when c.is_write.ensures.write c.if-is_write.true)
     (c.parts_of-parts.ensures.answers ∙ rw (← c.as_slice-cycles.ensures.value) at decoded)
 
 pub returns-then-is_write-clause-board : goal.returns-then-is_write-clause-board
 returns-then-is_write-clause-board c = λ setup history entry kept image event replied.
     let parts = rw (← c.as_slice-cycles.ensures.value) at c.cycles_of-cut.ensures.parts in
-    state_put leaves_devices kept (writes_none setup history entry.event (λ port is. cc)) (rw event tt)
+    state_put kept (writes_none setup history entry.event (λ port is. cc)) (rw event tt)
     (λ cell. rw (event, replied, c.parts_of-parts.ensures.answers, ← parts) refl) c.write_cycles.ensures.put
 
 pub read_cycles-requires-clause-ready : goal.read_cycles-requires-clause-ready
@@ -64,16 +61,16 @@ returns-clause-answer c = λ setup history kept image.
     (parts_answered setup history (parts_of access) _
     (c.cycles_of-cut.ensures.decoded setup (byte_of setup history)
     (c.regs.ensures.stand setup history kept.registers) image)) in
-    read_answer setup history access c.parts_of-parts.result c.read_cycles.result
-    (writes_when access.kind c.is_write.result c.is_write.ensures.write ∙ c.if-is_write.false)
+    wide_read setup history access c.parts_of-parts.result c.read_cycles.result
+    (writes_when c.is_write.ensures.write c.if-is_write.false)
     (c.parts_of-parts.ensures.answers ∙ decoded)
     (rw (← parts) (c.read_cycles.ensures.value setup history kept.stores image (rw parts decoded)))
 
 pub returns-clause-board : goal.returns-clause-board
 returns-clause-board c = λ setup history entry kept image event replied.
     let access = c.args.access.now in
-    state_stays leaves_devices kept (writes_none setup history entry.event (λ port is. cc)) (rw event tt)
+    state_stays kept (writes_none setup history entry.event (λ port is. cc)) (rw event tt)
     (λ cell. rw (event, replied)
     (parts_none access (parts_of access) (parts_list c.parts_of-parts.result) cell
-    (writes_when access.kind c.is_write.result c.is_write.ensures.write ∙ c.if-is_write.false)
+    (writes_when c.is_write.ensures.write c.if-is_write.false)
     (c.law_parts.ensures.cut access c.requires.wide).each))

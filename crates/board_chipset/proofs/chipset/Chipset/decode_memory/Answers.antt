@@ -1,5 +1,4 @@
 use Rattle.std.proofs.Common.{sym}
-use Rattle.board_spec.specs.Registers.{byte_of}
 use Rattle.board_stores.proofs.MemoryLemmas.{part_answered}
 use Rattle.board_chipset.proofs.Lefts.{state_of}
 use Rattle.board_chipset.proofs.chipset.Chipset.decode_memory.Goals as goal
@@ -10,9 +9,7 @@ decoded-requires-clause-rom c = rw (c.rom.ensures.bytes) c.self.invariant.fits.r
 pub returns : goal.returns
 returns c = record {
   part = λ history left.
-      let is = state_of c.self.view_is left in
+      let stand = c.regs.ensures.stand _ history (state_of c.self.view_is left).registers in
       rw (← c.self.view_is)
-      (part_answered c.self.inside.setup history c.args.access.now c.decoded.result
-      (c.decoded.ensures.decoded c.self.inside.setup (byte_of c.self.inside.setup history)
-      (c.regs.ensures.stand c.self.inside.setup history is.registers) (sym c.rom.ensures.bytes)));
+      (part_answered _ history c.args.access.now _ (c.decoded.ensures.decoded _ _ stand (sym c.rom.ensures.bytes)));
 }

@@ -1,10 +1,8 @@
-use Rattle.board_chipset.proofs.Lefts.{state_of}
+use Rattle.board_chipset.proofs.Lefts.{left_in}
 use Rattle.board_chipset.proofs.chipset.Chipset.interrupt.Goals as goal
 
 pub returns : goal.returns
 returns c = record {
-  interrupt = λ history left.
-      rw (← c.self.view_is) (c.interrupt.ensures.interrupt _ history (state_of c.self.view_is left).devices);
-  spurious = λ history left.
-      rw (← c.self.view_is) (c.interrupt.ensures.spurious _ history (state_of c.self.view_is left).devices);
+  interrupt = λ history left. c.interrupt.ensures.interrupt _ history (left_in c.self.view_is left).devices;
+  spurious = λ history left. c.interrupt.ensures.spurious _ history (left_in c.self.view_is left).devices;
 }

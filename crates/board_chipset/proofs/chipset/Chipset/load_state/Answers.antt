@@ -1,6 +1,6 @@
 use Rattle.std.proofs.Common.{◌∙◌, sym}
 use Rattle.board_prelude.proofs.Common.{true≢false}
-use Rattle.board_chipset.proofs.ChipsetAlone.{own_version}
+use Rattle.board_chipset.proofs.ChipsetLoads.{own_version}
 use Rattle.board_chipset.proofs.chipset.Chipset.load_state.Goals as goal
 
 pub returns-then-is_other_version-clause-exact : goal.returns-then-is_other_version-clause-exact

@@ -1,14 +1,13 @@
 use Rattle.board_chipset.proofs.ChangeSteps.{no_port}
-use Rattle.board_chipset.proofs.Lefts.{state_of}
+use Rattle.board_chipset.proofs.Lefts.{left_in}
 use Rattle.board_chipset.proofs.chipset.Chipset.map_change.Goals as goal
 
 pub returns-in-Port : goal.returns-in-Port
 returns-in-Port c = record {
   change = λ history left.
-      let is = state_of c.self.view_is left in
-      rw (← c.self.view_is, c.in-Port.is)
-      (c.map_change.ensures.change c.self.inside.setup history is.registers
-      (c.has_disk-disk.ensures.fitted c.self.inside.setup history is.devices));
+      let is = left_in c.self.view_is left in
+      rw c.in-Port.is
+      (c.map_change.ensures.change _ history is.registers (c.has_disk-disk.ensures.fitted _ history is.devices));
 }
 
 pub returns-in_default : goal.returns-in_default

@@ -13,9 +13,8 @@ invariant_of-self c = c.access.ensures.sound c.self.inside.setup c.self.invarian
 
 pub returns-clause-answer : goal.returns-clause-answer
 returns-clause-answer c = λ history left.
-    rw (← c.self.view_is)
-    (c.access.ensures.answer c.self.inside.setup history (state_of c.self.view_is left))
+    rw (← c.self.view_is) (c.access.ensures.answer _ history (state_of c.self.view_is left))
 
 pub returns-clause-left : goal.returns-clause-left
 returns-clause-left c = λ history entry left event reply.
-    left_by (c.access.ensures.board c.self.inside.setup history entry (state_of c.self.view_is left) event reply)
+    left_by (c.access.ensures.board _ history entry (state_of c.self.view_is left) event reply)

@@ -1,6 +1,6 @@
 use Rattle.std.proofs.Common.{◌≡◌, length, refl, arith}
 use Rattle.board_prelude.proofs.Common.{nat_tests}
-use Rattle.board_chipset.proofs.GivenSteps.{all_written}
+use Rattle.board_chipset.proofs.LeftBytes.{all_written}
 use Rattle.board_chipset.proofs.chipset.Chipset.put_dram.Goals as goal
 
 pub returns-clause-put : goal.returns-clause-put

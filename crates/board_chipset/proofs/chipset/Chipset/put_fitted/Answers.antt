@@ -1,7 +1,7 @@
 use Rattle.std.proofs.Common.{◌≡◌, length, arith}
 use Rattle.board_prelude.proofs.Common.{nat_tests}
 use Rattle.board_chipset.specs.ChipsetState.{disk_size}
-use Rattle.board_chipset.proofs.GivenSteps.{sound_as}
+use Rattle.board_chipset.proofs.LeftBytes.{sound_as}
 use Rattle.board_chipset.proofs.chipset.Chipset.put_fitted.Goals as goal
 
 pub invariant_of-self : goal.invariant_of-self

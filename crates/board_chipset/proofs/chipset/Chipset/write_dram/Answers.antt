@@ -1,5 +1,4 @@
 use Rattle.std.proofs.Common.{arith}
-use Rattle.board_devices.proofs.DeviceLemmas.{leaves_devices}
 use Rattle.board_chipset.proofs.LoadSteps.{load_left, load_kept}
 use Rattle.board_chipset.specs.Chipset.{IsLeftBy}
 use Rattle.board_chipset.proofs.chipset.Chipset.write_dram.Goals as goal
@@ -8,7 +7,7 @@ pub returns-clause-left : goal.returns-clause-left
 unfolding IsLeftBy
 returns-clause-left c =
     rw (← c.self.view_is)
-    (load_left c.self.inside.setup c.self.inside.state c.load.new.self c.args.addr c.args.bytes.now leaves_devices
+    (load_left c.self.inside.setup c.self.inside.state c.load.new.self c.args.addr c.args.bytes.now
     c.load.ensures.size (λ k. omega (arith, c.type_inv.bytes k)) c.load.result c.load.ensures.fits
     c.load.ensures.bytes)
 
@@ -16,6 +15,6 @@ pub returns-clause-goes_on : goal.returns-clause-goes_on
 unfolding IsLeftBy
 returns-clause-goes_on c =
     rw (← c.self.view_is)
-    (load_kept c.self.inside.setup c.self.inside.state c.load.new.self c.args.addr c.args.bytes.now leaves_devices
+    (load_kept c.self.inside.setup c.self.inside.state c.load.new.self c.args.addr c.args.bytes.now
     c.load.ensures.size (λ k. omega (arith, c.type_inv.bytes k)) c.load.result c.load.ensures.fits
     c.load.ensures.bytes c.load.ensures.same)

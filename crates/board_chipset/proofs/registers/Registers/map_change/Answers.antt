@@ -4,8 +4,7 @@ use Rattle.addr_decode.specs.declared.found.Found.{Found}
 use Rattle.addr_decode.specs.Found.{decoded_as}
 use Rattle.board_chipset.specs.Ports.{reached}
 use Rattle.board_chipset.proofs.ChangeSteps.{changes, by_device}
-use Rattle.board_chipset.proofs.Effects.{Reached, reads_only, target_reached, writes_at, writes_beside}
-use Rattle.board_chipset.proofs.PortSteps.{beside_found}
+use Rattle.board_chipset.proofs.PortSteps.{Reached, reads_only, target_reached, writes_at, writes_beside, beside_found}
 use Rattle.board_chipset.proofs.registers.Registers.map_change.Goals as goal
 
 -- what was found was reached

@@ -1,4 +1,4 @@
-use Rattle.board_chipset.proofs.RegisterSteps.{registers_at_reset}
+use Rattle.board_chipset.proofs.StateSteps.{registers_at_reset}
 use Rattle.board_chipset.proofs.registers.Registers.new.Goals as goal
 
 pub returns : goal.returns

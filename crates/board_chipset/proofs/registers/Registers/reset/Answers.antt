@@ -12,11 +12,7 @@ returns-clause-kept c = λ setup bytes kept. record {
 pub returns-clause-sound : goal.returns-clause-sound
 returns-clause-sound c = λ setup sound. record {
   bytes = reset_byte setup;
-  kept = record {
-    map = c.apply.ensures.applied.stands setup sound.bytes sound.kept.map;
-    cards = c.apply.ensures.applied.cards setup sound.bytes sound.kept.cards;
-    south = c.reset-2.ensures.reset setup;
-  };
+  kept = returns-clause-kept c setup sound.bytes sound.kept;
   address = rw c.reset.ensures.zero refl;
   flat = c.apply.ensures.applied.map;
 }

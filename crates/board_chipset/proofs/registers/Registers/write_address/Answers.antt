@@ -1,6 +1,6 @@
 use Rattle.std.proofs.Common.{refl}
 use Rattle.cfg_ports.proofs.AddressLemmas.{kept_address-again}
-use Rattle.board_chipset.proofs.RegisterSteps.{follows}
+use Rattle.board_chipset.proofs.StateSteps.{follows}
 use Rattle.board_chipset.proofs.registers.Registers.write_address.Goals as goal
 
 pub returns-clause-registers : goal.returns-clause-registers

@@ -1,5 +1,5 @@
 use Rattle.pci_bars.specs.State.{contents_bytes}
-use Rattle.board_chipset.proofs.GivenSteps.{left_added}
+use Rattle.board_chipset.proofs.LeftBytes.{left_added}
 use Rattle.board_chipset.proofs.state.State.save_after_left.Goals as goal
 
 pub returns-clause-saved : goal.returns-clause-saved
