@@ -1,9 +1,8 @@
 -- Histories that go on, and their map writes.
-use Rattle.std.proofs.Common.{◌≡◌, ℕ, suc, ◌+◌, ◌-◌, ◌≤◌, ◌==◌, Bool, cond, Option, Some, None, List, [], ◌∷◌, ◌++◌}
-use Rattle.std.proofs.Common.{length, drop, filter, inl, inr, refl, sym, ap, ◌∙◌, subst, append_assoc, append-nil}
-use Rattle.std.proofs.Common.{arith, reverse}
+use Rattle.std.proofs.Common.{◌≡◌, ℕ, suc, ◌+◌, ◌-◌, ◌≤◌, ◌==◌, Bool, cond, List, [], ◌∷◌, ◌++◌, length, drop, filter}
+use Rattle.std.proofs.Common.{inl, inr, refl, sym, ap, ◌∙◌, subst, append_assoc, append-nil, arith, reverse}
 use Rattle.board_prelude.proofs.Common.{option_to_list, cases_Bool, reverse-append, filter-append, Entry, MapChange}
-use Rattle.board_prelude.proofs.Common.{Setup, entries_by, map_change_of, map_writes_of}
+use Rattle.board_prelude.proofs.Common.{Setup, entries_by, map_change_of, map_writes_of, nat_tests}
 use mathlib.Core.List.{IsPrefix}
 use Rattle.map_publish.specs.declared.mark.Mark.{Mark}
 use Rattle.map_publish.specs.Lists.{changes_of}
@@ -52,19 +51,12 @@ oldest_added count entry history within =
 
 -- ---- map writes
 
-one_write : (change : Option MapChange) (writes : List MapChange) →
-    length (option_to_list change ++ writes) ≤ length writes + 1
-one_write None writes = omega arith
-one_write (Some change) writes = omega arith
-
 -- there are no more map writes than entries
 pub writes_few : (setup : Setup) (history : List Entry) → length (map_writes_of setup history) ≤ length history
 unfolding map_writes_of
 writes_few setup [] = omega arith
 writes_few setup (entry ∷ before) =
-    let earlier : length (map_writes_of setup before) ≤ length before = writes_few setup before in
-    let one = one_write (map_change_of setup before entry.event) (map_writes_of setup before) in
-    omega (arith, earlier, one)
+    let earlier = writes_few setup before in grind (arith, nat_tests)
 
 -- a history that goes on has more map writes
 pub writes_extend : (setup : Setup) (shorter longer : List Entry) → Extends shorter longer →

@@ -1,24 +1,11 @@
 -- How many entries a board of few callers has.
-use Rattle.std.proofs.Common.{◌≡◌, ℕ, zero, suc, ◌+◌, ◌*◌, ◌<◌, ◌≤◌, ◌==◌, true, false, List, [], ◌∷◌, length, All, inl}
-use Rattle.std.proofs.Common.{inr, refl, subst, arith}
-use Rattle.board_prelude.proofs.Common.{cases_Bool, nat_tests, All-head, All-tail, All-cons, Entry, entries_by}
+use Rattle.std.proofs.Common.{ℕ, zero, suc, ◌+◌, ◌*◌, ◌<◌, ◌≤◌, List, [], ◌∷◌, length, All, arith}
+use Rattle.board_prelude.proofs.Common.{nat_tests, All-head, All-tail, All-cons, Entry, entries_by}
 use Rattle.shared_board.specs.Known.{AreFew, most_each}
-
--- an entry is one more of its actor's, and leaves the others'
-own_count : (actor : ℕ) (entry : Entry) (history : List Entry) → (entry.actor == actor) ≡ true →
-    length (entries_by actor (entry ∷ history)) ≡ length (entries_by actor history) + 1
-own_count actor entry history is = rw is (omega arith)
-
-other_count : (actor : ℕ) (entry : Entry) (history : List Entry) → (entry.actor == actor) ≡ false →
-    length (entries_by actor (entry ∷ history)) ≡ length (entries_by actor history)
-other_count actor entry history is = rw is refl
 
 no_less : (actor : ℕ) (entry : Entry) (history : List Entry) →
     length (entries_by actor history) ≤ length (entries_by actor (entry ∷ history))
-no_less actor entry history = elim (cases_Bool (entry.actor == actor)) [
-  | inl own ↦ omega (arith, own_count actor entry history own)
-  | inr other ↦ omega (arith, other_count actor entry history other)
-]
+no_less actor entry history = grind (arith, nat_tests)
 
 -- the entries of the first so many callers
 abbrev total : ℕ → List Entry → ℕ
@@ -33,13 +20,10 @@ total_no_less (suc n) entry history =
 total_more : (n : ℕ) (entry : Entry) (history : List Entry) → entry.actor < n →
     total n history + 1 ≤ total n (entry ∷ history)
 total_more zero entry history below = absurd (omega (arith, below))
-total_more (suc n) entry history below = elim (cases_Bool (entry.actor == n)) [
-  | inl own ↦
-      omega (arith, total_no_less n entry history, own_count n entry history own)
-  | inr other ↦
-      let lower : entry.actor < n = grind (arith, nat_tests) in
-      omega (arith, total_more n entry history lower, no_less n entry history)
-]
+total_more (suc n) entry history below =
+    let lower = total_more n entry history in
+    let rest = total_no_less n entry history in
+    grind (arith, nat_tests)
 
 covered : (n : ℕ) (history : List Entry) → All (λ entry. entry.actor < n) history → length history ≤ total n history
 covered n [] all = omega arith
@@ -59,22 +43,15 @@ few_entries callers history few =
     let all : length history ≤ total callers history = covered callers history few.actors in
     omega (arith, all, bounded callers history few.each, few.most)
 
+one_more : (actor : ℕ) (entry : Entry) (history : List Entry) → length (entries_by actor history) ≤ most_each →
+    length (entries_by entry.actor history) < most_each → length (entries_by actor (entry ∷ history)) ≤ most_each
+one_more actor entry history most room = grind (arith, nat_tests)
+
 pub few_added : (callers : ℕ) (entry : Entry) (history : List Entry) → AreFew callers history → entry.actor < callers →
     length (entries_by entry.actor history) < most_each → AreFew callers (entry ∷ history)
 few_added callers entry history few below room = record {
   some = few.some;
   most = few.most;
   actors = All-cons (λ (e : Entry). e.actor < callers) entry history below few.actors;
-  each = λ actor. elim (cases_Bool (entry.actor == actor)) [
-    | inl own ↦
-        let same : entry.actor ≡ actor = grind (arith, nat_tests) in
-        let e = own_count actor entry history own in
-        let less : length (entries_by actor history) < most_each =
-        subst (λ (a : ℕ). length (entries_by a history) < most_each) same room in
-        omega (arith, e, less)
-    | inr other ↦
-        let e = other_count actor entry history other in
-        let was : length (entries_by actor history) ≤ most_each = few.each actor in
-        omega (arith, e, was)
-  ];
+  each = λ actor. one_more actor entry history (few.each actor) room;
 }

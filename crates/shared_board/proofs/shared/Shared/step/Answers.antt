@@ -1,5 +1,5 @@
 use Rattle.std.proofs.Common.{rules, ◌≡◌, ◌≤◌, ◌++◌, List, Option, length, refl, ap, ◌∙◌, arith}
-use Rattle.board_prelude.proofs.Common.{option_to_list, Entry, MapChange, map_change_of, version_of, next_entry}
+use Rattle.board_prelude.proofs.Common.{option_to_list, Entry, MapChange, map_change_of, version_of}
 use Rattle.board_core.specs.Kept.{Standing}
 use Rattle.map_publish.specs.declared.publisher.Publisher.{Publisher}
 use Rattle.map_publish.specs.Lists.{opened_of, changes_of, version_after}
@@ -7,7 +7,7 @@ use Rattle.map_publish.proofs.Changes.{opened_same}
 use Rattle.shared_board.specs.Known.{oldest}
 use Rattle.shared_board.proofs.Histories.{oldest_added, writes_few}
 use Rattle.shared_board.proofs.Limits.{few_entries, few_added}
-use Rattle.shared_board.proofs.Shares.{published_added, published_version, IsStepped, is_stepped}
+use Rattle.shared_board.proofs.Shares.{published_added, published_version, is_stepped}
 use Rattle.shared_board.proofs.shared.Shared.step.Goals as goal
 
 pub reserve-requires : goal.reserve-requires
@@ -37,14 +37,9 @@ pub invariant_of-self-2 : goal.invariant_of-self-2
 invariant_of-self-2 g c =
     let shared = c.args.self.now in
     let board = shared.board.value in
-    let now = c.step-reply.new.self in
     let event = c.args.event.now in
-    let reply = c.step-reply.result in
-    let entry : Entry = next_entry board.entries c.args.number event reply in
-    let stepped : IsStepped board c.reserve.new.self now entry =
-    is_stepped board c.deref_mut.result.now c.reserve.new.self c.deref_mut-3.result.now now c.reserve.new.self.spare _
-    c.args.number event reply c.deref_mut.ensures.value (search rules) c.deref_mut-3.ensures.value
-    c.step-reply.ensures.entry in
+    let stepped = is_stepped c.reserve.new.self.spare c.deref_mut.ensures.value (search rules)
+    c.deref_mut-3.ensures.value c.step-reply.ensures.entry in
     let log = shared.publisher.value.front.seen.log in
     let later = c.publish.new.publisher.front.seen.log in
     let changes : changes_of later ≡ option_to_list c.map_change-change.result ++ changes_of log = search rules in
@@ -58,28 +53,21 @@ invariant_of-self-2 g c =
     ∙ ap (λ (p : Publisher). opened_of p.front.seen.log) c.deref_mut-2.ensures.value in
     rw (stepped.setup, stepped.entries) (record {
       within = let within : shared.opened ≤ length board.entries = shared.within in omega (arith, within);
-      few = few_added shared.callers entry board.entries shared.few c.requires.number c.requires.few;
-      published = published_added board.setup shared.opened board.entries entry log later shared.within shared.published
+      few = few_added shared.callers _ board.entries shared.few c.requires.number c.requires.few;
+      published = published_added board.setup shared.opened board.entries _ log later shared.within shared.published
           (changes ∙ ap (λ (w : Option MapChange). option_to_list w ++ changes_of log) change);
-      opens = rw (oldest_added shared.opened entry board.entries shared.within, opened) shared.opens;
+      opens = rw (oldest_added shared.opened _ board.entries shared.within, opened) shared.opens;
     })
 
 pub returns-clause-same : goal.returns-clause-same
 returns-clause-same g c =
     let shared = c.args.self.now in
-    let board = shared.board.value in
-    let now = c.step-reply.new.self in
-    let event = c.args.event.now in
-    let reply = c.step-reply.result in
-    let entry : Entry = next_entry board.entries c.args.number event reply in
-    let stepped : IsStepped board c.reserve.new.self now entry =
-    is_stepped board c.deref_mut.result.now c.reserve.new.self c.deref_mut-3.result.now now c.reserve.new.self.spare _
-    c.args.number event reply c.deref_mut.ensures.value (search rules) c.deref_mut-3.ensures.value
-    c.step-reply.ensures.entry in
+    let stepped = is_stepped c.reserve.new.self.spare c.deref_mut.ensures.value (search rules)
+    c.deref_mut-3.ensures.value c.step-reply.ensures.entry in
     record {
       setup = stepped.setup;
       opened = ap (λ (h : List Entry). oldest shared.opened h) stepped.entries
-          ∙ oldest_added shared.opened entry board.entries shared.within;
+          ∙ oldest_added shared.opened _ shared.board.value.entries shared.within;
       callers = refl;
       book = c.publish.ensures.own ∙ ap (λ (p : Publisher). p.front.seen.book) c.deref_mut-2.ensures.value;
     }
