@@ -1,10 +1,10 @@
 -- What a statement that was read asks.
-use Rattle.board_prelude.proofs.Common.{nat_tests, cases_lt, true≢false, IsMoment, Event, Ack, Time, Stimulus}
-use Rattle.board_prelude.proofs.Common.{stimulus_form, event_applied}
-use Rattle.std.proofs.Common.{◌≡◌, ◌≢◌, ℕ, ◌<◌, ◌≤◌, Bool, true, false, eqb, Option, Some, None, List, refl, sym, ap}
-use Rattle.std.proofs.Common.{subst, ◌∙◌, inl, inr, arith, MatchOption}
+use Rattle.board_prelude.proofs.Common.{nat_tests, cases_lt, IsMoment, Event, Ack, Time, Stimulus, stimulus_form}
+use Rattle.board_prelude.proofs.Common.{event_applied}
+use Rattle.std.proofs.Common.{◌≡◌, ◌≢◌, ℕ, ◌<◌, ◌≤◌, Bool, true, eqb, Option, Some, None, List, refl, sym, ap, subst}
+use Rattle.std.proofs.Common.{◌∙◌, inl, inr, arith, MatchOption}
 use Rattle.board_spec.specs.declared.stimulus.Stimulus.TheVariants.{Pulses}
-use Rattle.script_spec.specs.Common.{Item, Ask, AskLevel, HasForm, FitsLevel, ask, stimulus_item}
+use Rattle.script_spec.specs.Common.{Item, Ask, HasForm, FitsLevel, ask, stimulus_item}
 use Rattle.script_spec.proofs.LineReading.{one_item}
 use Rattle.script_lines.specs.declared.item.Asked.{Asked}
 use Rattle.script_lines.specs.declared.item.Asked.TheVariants.{Event as AnEvent, Moment as AMoment, Stimulus as Applies}
@@ -24,23 +24,17 @@ abbrev actor_in : Item → ℕ
 actor_in (Ask statement) = statement.actor
 actor_in _ = 0
 
-abbrev asks : Item → Bool
-asks (Ask statement) = true
-asks _ = false
-
-pub event_is : (actor other : ℕ) (event asked : Event) → ask actor event ≡ ask other asked → event ≡ asked
-event_is actor other event asked e = ap event_in e
-
-pub actor_is : (actor other : ℕ) (event asked : Event) → ask actor event ≡ ask other asked → actor ≡ other
-actor_is actor other event asked e = ap actor_in e
+pub ask_is : (actor other : ℕ) (event asked : Event) → ask actor event ≡ ask other asked
+    → (event ≡ asked) × (actor ≡ other)
+ask_is actor other event asked e = (ap event_in e, ap actor_in e)
 
 -- ---- events and moments
 
 pub placed_is : (event other : Event) → IsEventOf (AnEvent event) other → IsPlacedEvent event
-placed_is event other is = subst IsPlacedEvent (sym (event_is 0 0 event other (is.said 0))) is.fits
+placed_is event other is = rw (ask_is 0 0 event other (is.said 0)).0 is.fits
 
 pub moment_is : (m : MomentFields) (event : Event) → IsEventOf (AMoment m) event → IsMoment (moment_said m)
-moment_is m event is = (subst IsPlacedEvent (sym (event_is 0 0 (Time (moment_said m)) event (is.said 0))) is.fits).named
+moment_is m event is = (placed_is (Time (moment_said m)) event (record { said = is.said; fits = is.fits })).named
 
 -- ---- stimuli
 
@@ -52,9 +46,7 @@ low_asks actor one number level few = grind (arith, nat_tests)
 -- a higher one asks for none
 high_asks : (actor other : ℕ) (one : Stimulus) (number level : ℕ) (event : Event) → 2 ≤ level
     → stimulus_item actor one number level ≢ ask other event
-high_asks actor other one number level event high is =
-    let item : stimulus_item actor one number level ≡ AskLevel actor one number level = grind (arith, nat_tests) in
-    true≢false (sym (ap asks (sym item ∙ is)))
+high_asks actor other one number level event high is = grind (arith, nat_tests)
 
 level_fits : (one : Stimulus) (number : ℕ) (on : Bool) → IsPlacedEvent (event_applied one number on)
     → FitsLevel (stimulus_form one).has_level number
@@ -68,10 +60,9 @@ no_level one number level event high is = high_asks 0 0 one number level event h
 pub no_number : (one : Stimulus) (number level : ℕ) (event : Event) → level < 2
     → (stimulus_form one).has_level ≡ true → 0x100 ≤ number → ¬ IsEventOf (Applies one number level) event
 no_number one number level event few known high is =
-    let on : Bool = eqb level 1 in
-    let same : event ≡ event_applied one number on =
-    event_is 0 0 event (event_applied one number on) (sym (is.said 0) ∙ low_asks 0 one number level few) in
-    let fits : FitsLevel true number = rw known at (level_fits one number on (subst IsPlacedEvent same is.fits)) in
+    let asked = event_applied one number (eqb level 1) in
+    let same = (ask_is 0 0 event asked (sym (is.said 0) ∙ low_asks 0 one number level few)).0 in
+    let fits : FitsLevel true number = rw known at (level_fits one number (eqb level 1) (rw same at is.fits)) in
     omega (arith, high, fits)
 
 -- ---- whole statements
@@ -84,7 +75,7 @@ none_asked version seq text event none is = none (ask seq event) is.has
 pub not_asked : (version seq : ℕ) (text : List ℕ) (item : Read) (event : Event) → HasForm version text (line_said item)
     → ((actor : ℕ) (asked : Asked) → item ≢ Asks actor asked) → ¬ IsAsked version text seq event
 not_asked version seq text (Asks actor asked) event has other is = other actor asked refl
-not_asked version seq text _ event has other is = true≢false (ap asks (one_item version text _ _ is.has has))
+not_asked version seq text _ event has other is = absurd (cc (one_item version text _ (ask seq event) has is.has))
 
 -- one that says a statement asks what is read of it
 asked_same : (version actor seq : ℕ) (text : List ℕ) (asked : Asked) (event : Event)

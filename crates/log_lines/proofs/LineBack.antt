@@ -4,7 +4,7 @@ use Rattle.board_prelude.proofs.Common.{Event, Reply, Entry, space, value_bytes,
 use Rattle.script_spec.specs.Common.{IsEventForm, HasShape, IsWellFormed, ask, Pieces, parse_pieces, parse_actor}
 use Rattle.script_spec.proofs.Common.{some_is, one_item, replied_text, pieces, line_pieces, actor_said, asked_said}
 use Rattle.log_lines.specs.Asked.{IsAsked}
-use Rattle.log_lines.proofs.AskedReading.{event_is, actor_is}
+use Rattle.log_lines.proofs.AskedReading.{ask_is}
 
 -- ---- the pieces of a line that was read
 
@@ -12,7 +12,7 @@ use Rattle.log_lines.proofs.AskedReading.{event_is, actor_is}
 pub pieces_are : (version n : ℕ) (entry : Entry) (line : List ℕ) (found : Option Pieces)
     → IsWellFormed version entry → line ≡ line_text n entry
     → found ≡ parse_pieces line → found ≡ Some (pieces entry)
-pieces_are version n entry line found formed is read = read ∙ ap parse_pieces is ∙ line_pieces version n entry formed
+pieces_are version n entry line found formed is read = rw (read, is) (line_pieces version n entry formed)
 
 -- and say what it has
 pub record Says (version : ℕ) (entry : Entry) (processor text answer : List ℕ) : Type 0 where
@@ -38,8 +38,7 @@ line_read version n entry line actor asked replied formed is read =
 pub asked_once : (version seq other : ℕ) (text : List ℕ) (event asked : Event) → IsAsked version text seq event
     → IsAsked version text other asked → (event ≡ asked) × (seq ≡ other)
 asked_once version seq other text event asked one two =
-    let same = one_item version text (ask seq event) (ask other asked) one.has two.has in
-    (event_is seq other event asked same, actor_is seq other event asked same)
+    ask_is seq other event asked (one_item version text (ask seq event) (ask other asked) one.has two.has)
 
 pub reply_found : (version : ℕ) (entry : Entry) (event : Event) (text : List ℕ) (found : Option Reply)
     → ((version : ℕ) (reply : Reply) → IsEventForm version event → HasShape event reply

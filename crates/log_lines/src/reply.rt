@@ -67,7 +67,7 @@ fn narrowed(value: Option<u64>) -> Option<u32>
 // ---- the shapes
 
 /// What answered an access with a value, or none, and what denied it, by their words.
-#[tactic(auto, unfolding(script_spec::specs::Replies::bus_reply))]
+#[tactic(auto, using(script_spec::proofs::ReplyBack::narrow_value), unfolding(script_spec::specs::Replies::bus_reply))]
 fn bus_reply(writes: bool, bytes: u32, value: &[u8], target: &[u8], denial: &[u8]) -> Option<Reply>
     requires few { bytes ≤ 4 }
     ensures reply { result ≡ bus_reply writes bytes value.now target.now denial.now }
@@ -124,6 +124,7 @@ fn parse_wide_reply(access: &WideAccess, words: Fields<'_>) -> Option<Reply>
 }
 
 /// A number of map writes, a decimal.
+#[tactic(auto, using(script_spec::proofs::ReplyBack::decimal_below))]
 fn parse_map_version(field: &[u8]) -> Option<u32>
     ensures version { result ≡ parse_decimal field.now }
     ensures below { IfSome result IsDecimal }
