@@ -36,8 +36,7 @@ all_kept setup changes keep count all is = λ k d below.
     let number : ℕ = get_or keep k d in
     let among : is_among number keep ≡ true =
     list_any_at (λ other. other == number) keep k d below (eq-eqb number number refl) in
-    let most = (kept_number setup changes number (is.only number among)).most in
-    omega (arith, most, all)
+    omega (arith, (kept_number setup changes number (is.only number among)).most, all)
 
 pub blame_text :
     {E : Type 0} (result : Result (List ℕ) E) (old new : Setup) (script : Said) (history : List Entry)

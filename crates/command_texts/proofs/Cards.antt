@@ -1,7 +1,7 @@
 -- What `==` says of the bases of cards.
-use Rattle.std.proofs.Common.{◌≡◌, inl, inr, ℕ, Bool, true, false, List, [], ◌∷◌, Decides, refl, sym, ap, ◌∙◌, subst}
-use Rattle.std.proofs.Common.{map, not, nat_eq, Option, Some, None}
-use Rattle.board_prelude.proofs.Common.{option_eq, cases_Bool, false≢true, eqb-true, eq-eqb, Base, MemoryBase, IoBase}
+use Rattle.std.proofs.Common.{◌≡◌, ℕ, Bool, true, false, List, [], ◌∷◌, Decides, refl, sym, ap, ◌∙◌, map, not, nat_eq}
+use Rattle.std.proofs.Common.{Option, Some, None, arith}
+use Rattle.board_prelude.proofs.Common.{option_eq, nat_tests, false≢true, eqb-true, eq-eqb, Base, MemoryBase, IoBase}
 use Rattle.board_prelude.proofs.Common.{OutsideBase, FittedCard}
 use Rattle.std.specs.Cmp.Lexicographic.{pointwise}
 use Rattle.std.proofs.lemmas.Bool.Decides.{Decides-like}
@@ -23,7 +23,7 @@ base_same (Io bits) = eq-eqb bits bits refl
 base_same (Outside bits) = eq-eqb bits bits refl
 
 base_eq : (a b : BaseSpec) → Decides (eq-value.it a b) (a ≡ b)
-base_eq a b = (base_true a b, λ same. subst (λ (other : BaseSpec). eq-value.it a other ≡ true) same (base_same a))
+base_eq a b = (base_true a b, λ same. rw (← same) (base_same a))
 
 -- each base is of one `BaseSpec`
 spec_of : Base → BaseSpec
@@ -55,7 +55,4 @@ pub rom_same : (one other : Option ℕ) → false ≡ not (option_eq nat_eq one 
 rom_same None None same = refl
 rom_same None (Some bits) same = absurd (false≢true same)
 rom_same (Some bits) None same = absurd (false≢true same)
-rom_same (Some bits) (Some bits') same = elim (cases_Bool (nat_eq bits bits')) [
-  | inl is ↦ ap Some (eqb-true bits bits' is)
-  | inr differs ↦ absurd (false≢true (same ∙ ap not differs))
-]
+rom_same (Some bits) (Some bits') same = grind (arith, nat_tests)

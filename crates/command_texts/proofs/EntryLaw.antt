@@ -1,9 +1,9 @@
 -- The entry of a version is the first after which the map had it.
-use Rattle.std.proofs.Common.{◌≡◌, ℕ, zero, suc, ◌+◌, ◌-◌, ◌≤◌, inl, inr, List, [], ◌∷◌, length, drop, refl, sym, ap}
-use Rattle.std.proofs.Common.{◌∙◌, subst, arith, Option, Some, None}
-use Rattle.board_prelude.proofs.Common.{option_to_list, cases_lt, length-append, Entry, MapChange, Setup, map_change_of}
-use Rattle.board_prelude.proofs.Common.{map_writes_of, version_of}
-use Rattle.command_texts.specs.Common.{entry_of_version, first_entries, IsFirstWith, EntryOfVersionIsFirst}
+use Rattle.std.proofs.Common.{◌≡◌, ℕ, zero, suc, ◌+◌, ◌-◌, ◌≤◌, inl, inr, List, [], ◌∷◌, length, drop, refl, ap, arith}
+use Rattle.std.proofs.Common.{Option, Some, None}
+use Rattle.board_prelude.proofs.Common.{option_to_list, cases_lt, nat_tests, length-append, Entry, MapChange, Setup}
+use Rattle.board_prelude.proofs.Common.{map_change_of, map_writes_of, version_of}
+use Rattle.command_texts.specs.Common.{entry_of_version, first_entries, EntryOfVersionIsFirst}
 use Rattle.command_texts.proofs.MapWrites.{entry_before, entry_now}
 
 -- ---- versions rise by at most one with each entry
@@ -12,20 +12,15 @@ listed_few : (change : Option MapChange) → length (option_to_list change) ≤ 
 listed_few None = omega arith
 listed_few (Some change) = omega arith
 
-version_next :
-    (setup : Setup) (entry : Entry) (before : List Entry) →
-    version_of setup (entry ∷ before)
-    ≡ length (option_to_list (map_change_of setup before entry.event)) + version_of setup before
-unfolding map_writes_of
-version_next setup entry before =
-    length-append (option_to_list (map_change_of setup before entry.event)) (map_writes_of setup before)
-
 rises_by_one :
     (setup : Setup) (entry : Entry) (before : List Entry) →
     (version_of setup before ≤ version_of setup (entry ∷ before))
     × (version_of setup (entry ∷ before) ≤ version_of setup before + 1)
+unfolding map_writes_of
 rises_by_one setup entry before =
-    let next = version_next setup entry before in
+    let change = option_to_list (map_change_of setup before entry.event) in
+    let next : version_of setup (entry ∷ before) ≡ length change + version_of setup before =
+    length-append change (map_writes_of setup before) in
     let few = listed_few (map_change_of setup before entry.event) in
     (omega (arith, next), omega (arith, next, few))
 
@@ -34,9 +29,7 @@ earlier_is_lower : (setup : Setup) (history : List Entry) (k : ℕ)
 earlier_is_lower setup history zero = omega arith
 earlier_is_lower setup [] (suc k) = omega arith
 earlier_is_lower setup (entry ∷ before) (suc k) =
-    let lower = earlier_is_lower setup before k in
-    let rise = (rises_by_one setup entry before).0 in
-    omega (arith, lower, rise)
+    omega (arith, earlier_is_lower setup before k, (rises_by_one setup entry before).0)
 
 -- ---- the first entries
 
@@ -52,15 +45,7 @@ entry_within :
     (setup : Setup) (history : List Entry) (version : ℕ) → entry_of_version setup history version ≤ length history
 unfolding entry_of_version
 entry_within setup [] version = omega arith
-entry_within setup (entry ∷ before) version = elim (cases_lt (version_of setup before) version) [
-  | inl above ↦
-      let now = entry_now setup entry before version above in
-      subst (λ (n : ℕ). n ≤ length (entry ∷ before)) (sym now) (omega arith)
-  | inr below ↦
-      let same = entry_before setup entry before version below in
-      let within = entry_within setup before version in
-      subst (λ (n : ℕ). n ≤ length (entry ∷ before)) (sym same) (omega (arith, within))
-]
+entry_within setup (entry ∷ before) version = grind (arith, nat_tests, entry_within setup before version)
 
 -- ---- the law
 
@@ -73,9 +58,8 @@ entry_is_first setup [] version most = record {
 entry_is_first setup (entry ∷ before) version most = elim (cases_lt (version_of setup before) version) [
   | inl above ↦
       let rise = (rises_by_one setup entry before).1 in
-      let whole : version_of setup (entry ∷ before) ≡ version = omega (arith, most, above, rise) in
-      subst (IsFirstWith setup (entry ∷ before) version) (sym (entry_now setup entry before version above)) (record {
-        had = ap (version_of setup) (all_entries (entry ∷ before) (length before + 1) (omega arith)) ∙ whole;
+      rw (entry_now setup entry before version above) (record {
+        had = rw (all_entries (entry ∷ before) (length before + 1) (omega arith)) (omega (arith, most, above, rise));
         least =
             λ other has. elim (cases_lt (length before) other) [
               | inl all ↦ omega (arith, all)
@@ -88,14 +72,12 @@ entry_is_first setup (entry ∷ before) version most = elim (cases_lt (version_o
   | inr below ↦
       let earlier = entry_is_first setup before version below in
       let within = entry_within setup before version in
-      let here : ℕ = entry_of_version setup before version in
-      subst (IsFirstWith setup (entry ∷ before) version) (sym (entry_before setup entry before version below)) (record {
-        had = ap (version_of setup) (fewer_entries entry before here within) ∙ earlier.had;
+      rw (entry_before setup entry before version below) (record {
+        had = rw (fewer_entries entry before (entry_of_version setup before version) within) earlier.had;
         least =
             λ other has. elim (cases_lt (length before) other) [
               | inl all ↦ omega (arith, all, within)
-              | inr few ↦
-                  earlier.least other (ap (version_of setup) (sym (fewer_entries entry before other few)) ∙ has)
+              | inr few ↦ earlier.least other (rw (fewer_entries entry before other few) at has)
             ];
       })
 ]

@@ -25,19 +25,18 @@ pub sent-append : (port : Sending) (first second : List Happening) →
     bytes_sent port (first ++ second) ≡ bytes_sent port first ++ bytes_sent (after_all port first) second
 sent-append port [] second = refl
 sent-append port (happening ∷ first) second =
-    ap (λ (bytes : List ℕ). sent_by port happening ++ bytes) (sent-append (sending_after port happening) first second)
-    ∙ sym (append_assoc (sent_by port happening) (bytes_sent (sending_after port happening) first)
-    (bytes_sent (after_all (sending_after port happening) first) second))
+    rw (sent-append (sending_after port happening) first second)
+    (sym (append_assoc (sent_by port happening) (bytes_sent (sending_after port happening) first)
+    (bytes_sent (after_all (sending_after port happening) first) second)))
 
 pub steps-append : (actor : ℕ) (port : Sending) (first second : List Happening) →
     steps_for_all actor port (first ++ second)
     ≡ steps_for_all actor port first ++ steps_for_all actor (after_all port first) second
 steps-append actor port [] second = refl
 steps-append actor port (happening ∷ first) second =
-    ap (λ (steps : List Statement). steps_for actor port happening ++ steps)
-    (steps-append actor (sending_after port happening) first second)
-    ∙ sym (append_assoc (steps_for actor port happening) (steps_for_all actor (sending_after port happening) first)
-    (steps_for_all actor (after_all (sending_after port happening) first) second))
+    rw (steps-append actor (sending_after port happening) first second)
+    (sym (append_assoc (steps_for actor port happening) (steps_for_all actor (sending_after port happening) first)
+    (steps_for_all actor (after_all (sending_after port happening) first) second)))
 
 -- bytes that come send none
 pub none_sent : (port : Sending) (bytes : List ℕ) → bytes_sent port (map Comes bytes) ≡ []
@@ -67,32 +66,23 @@ now_goes_on new before steps after = subst (GoesOnBy before steps) (sym after.le
 steps_added : (before after : List Entry) (steps : List Statement) → GoesOnBy before steps after →
     statements_of after ≡ statements_of before ++ steps
 steps_added before after steps goes_on =
-    ap statements_of goes_on.grows
-    ∙ (statements-append goes_on.more before
-    ∙ ap (λ (list : List Statement). statements_of before ++ list) goes_on.same)
+    rw (goes_on.grows, statements-append goes_on.more before, goes_on.same) refl
 
 -- ---- the reset control register
 
 no_more : (more : List Entry) → statements_of more ≡ [] → more ≡ []
 no_more more none =
-    let size : length (statements_of more) ≡ length more =
-    length-map (reverse more) statement_of ∙ length-reverse more in
-    nil_from_length more (sym size ∙ ap length none)
+    nil_from_length more (sym (length-map (reverse more) statement_of ∙ length-reverse more) ∙ ap length none)
 
 -- a level of line 4 leaves it
-level_leaves : (before after : List Entry) (on : Bool) →
-    GoesOnBy before (record { actor = com1_actor; event = Line com1_irq on } ∷ []) after →
-    reset_control after ≡ reset_control before
-level_leaves before after on goes_on = control_follows before after com1_actor (Line com1_irq on) com1_at_reset goes_on
-
 line_leaves : (before after : List Entry) (old new : Bool) →
     GoesOnBy before (line_steps old new) after → reset_control after ≡ reset_control before
 line_leaves before after old new goes_on = elim (cases_Bool (differ old new)) [
-  | inl moves ↦ level_leaves before after new (rw moves at goes_on)
+  | inl moves ↦
+      control_follows before after com1_actor (Line com1_irq new) com1_at_reset (rw moves at goes_on)
   | inr stays ↦
       let still : GoesOnBy before [] after = rw stays at goes_on in
-      ap reset_control still.grows
-      ∙ ap (λ (more : List Entry). reset_control (more ++ before)) (no_more still.more still.same)
+      rw (still.grows, no_more still.more still.same) refl
 ]
 
 pub port_is : (com1 com1' : Com1) (control control' : ℕ) → com1 ≡ com1' → control ≡ control' →
@@ -101,32 +91,22 @@ port_is com1 com1' control control' same equal = rw (same, equal) refl
 
 -- ---- one thing
 
-pub nothing_happened : (actor : ℕ) (serial : Serial Standing) → IsStanding serial → Happened actor serial [] serial
-nothing_happened actor serial standing = record {
-  setup = refl;
-  standing = standing;
-  port = refl;
-  steps = sym (append-nil (statements_of serial.board.entries));
-}
-
 pub byte_came : (actor byte : ℕ) (old new : Serial Standing) →
     new.board.setup ≡ old.board.setup →
     new.com1 ≡ record old.com1 { uart = received old.com1.uart byte } →
     IsAfterHere new.board (level_of new.com1) old.board.entries (change_steps old.com1 new.com1) →
     Happened actor old (Comes byte ∷ []) new
 byte_came actor byte old new setup com1 after =
-    let goes_on = now_goes_on new old.board.entries (change_steps old.com1 new.com1) after in
+    let steps = change_steps old.com1 new.com1 in
+    let goes_on = now_goes_on new old.board.entries steps after in
     record {
       setup = setup;
-      standing = now_standing new old.board.entries (change_steps old.com1 new.com1) after;
+      standing = now_standing new old.board.entries steps after;
       port =
           port_is new.com1 (record old.com1 { uart = received old.com1.uart byte }) _ _ com1
           (line_leaves old.board.entries new.board.entries (level_of old.com1) (level_of new.com1) goes_on);
       steps =
-          steps_added old.board.entries new.board.entries (change_steps old.com1 new.com1) goes_on
-          ∙ ap (λ (next : Com1). statements_of old.board.entries ++ change_steps old.com1 next) com1
-          ∙ ap (λ (steps : List Statement). statements_of old.board.entries ++ steps)
-          (sym (append-nil (change_steps old.com1 (record old.com1 { uart = received old.com1.uart byte }))));
+          rw append-nil (rw com1 at (steps_added old.board.entries new.board.entries steps goes_on));
     }
 
 pub event_done : (actor : ℕ) (event : Event) (old new : Serial Standing) →
@@ -144,9 +124,7 @@ event_done actor event old new setup com1 after =
       port =
           port_is new.com1 (com1_after (is_hard_reset old.board.entries event) event old.com1) _ _ com1
           (control_follows old.board.entries new.board.entries actor event old.com1 goes_on);
-      steps =
-          steps_added old.board.entries new.board.entries steps goes_on
-          ∙ ap (λ (list : List Statement). statements_of old.board.entries ++ list) (sym (append-nil steps));
+      steps = rw append-nil (steps_added old.board.entries new.board.entries steps goes_on);
     }
 
 -- ---- and then more
@@ -156,15 +134,13 @@ pub happened_twice : (actor : ℕ) (old middle new : Serial Standing) (first sec
 happened_twice actor old middle new first second one two = record {
   setup = two.setup ∙ one.setup;
   standing = two.standing;
-  port =
-      two.port
-      ∙ (ap (λ (port : Sending). after_all port second) one.port ∙ sym (after_all-append (port_of old) first second));
-  steps =
-      two.steps
-      ∙ ap (λ (list : List Statement). list ++ steps_for_all actor (port_of middle) second) one.steps
-      ∙ append_assoc (statements_of old.board.entries) (steps_for_all actor (port_of old) first)
-      (steps_for_all actor (port_of middle) second)
-      ∙ ap (λ (list : List Statement). statements_of old.board.entries ++ list)
-      (ap (λ (port : Sending). steps_for_all actor (port_of old) first ++ steps_for_all actor port second) one.port
-      ∙ sym (steps-append actor (port_of old) first second));
+  port = cc (two.port, one.port, after_all-append (port_of old) first second);
+  steps = cc (
+    two.steps,
+    one.steps,
+    one.port,
+    steps-append actor (port_of old) first second,
+    append_assoc (statements_of old.board.entries) (steps_for_all actor (port_of old) first)
+        (steps_for_all actor (port_of middle) second),
+  );
 }

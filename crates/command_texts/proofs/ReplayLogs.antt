@@ -1,13 +1,13 @@
 -- One entry more in the log of a replay.
-use Rattle.std.proofs.Common.{ℕ, ◌≡◌, ◌+◌, ◌<◌, List, [], ◌∷◌, ◌++◌, length, take, get_or, refl, sym, ap, ◌∙◌, subst}
+use Rattle.std.proofs.Common.{ℕ, ◌≡◌, ◌+◌, ◌<◌, List, [], ◌∷◌, ◌++◌, length, take, get_or, refl, sym, ap, ◌∙◌}
 use Rattle.std.proofs.Common.{append_assoc, append-nil, add-one, slice_index}
 use Rattle.std.proofs.lemmas.List.{take_more}
-use Rattle.board_prelude.proofs.Common.{Entry, Statement, line_feed, line_text, lines_text, log_text, statement_of}
+use Rattle.board_prelude.proofs.Common.{Entry, Statement, line_feed, line_text, log_text, statement_of}
 use Rattle.board_prelude.proofs.Common.{statements-newest}
 use Rattle.board_spec.specs.declared.event.Reply.{Reply}
 use Rattle.board_core.specs.Kept.{Playing, HasPlayed, entry_of}
 use Rattle.logs_and_maps.specs.LinesFrom.{entry_with}
-use Rattle.log_check.proofs.LogLines.{log_parts, lines-newest}
+use Rattle.log_check.proofs.LogLines.{log-newest as newest_line}
 use Rattle.command_texts.specs.ReplayLog.{HasLog}
 
 -- the newest entry has the last line
@@ -15,12 +15,8 @@ log-newest :
     (version : ℕ) (entry : Entry) (history : List Entry) (n : ℕ) → n ≡ length history + 1 →
     log_text version (entry ∷ history) ≡ log_text version history ++ (line_text n entry ++ line_feed ∷ [])
 log-newest version entry history n is =
-    let line : List ℕ = line_text (length history + 1) entry ++ line_feed ∷ [] in
-    log_parts version (entry ∷ history)
-    ∙ ap (λ (lines : List ℕ). log_text version [] ++ lines)
-    (sym (append-nil (lines_text (entry ∷ history))) ∙ lines-newest entry history [])
-    ∙ sym (append_assoc (log_text version []) (lines_text history) line)
-    ∙ ap (λ (front : List ℕ). front ++ line) (sym (log_parts version history))
+    sym (append-nil (log_text version (entry ∷ history)))
+    ∙ newest_line version entry history []
     ∙ ap (λ (k : ℕ). log_text version history ++ (line_text k entry ++ line_feed ∷ [])) (sym is)
 
 statement_is : (entry : Entry) (statement : Statement) → entry.actor ≡ statement.actor → entry.event ≡ statement.event →
@@ -40,14 +36,8 @@ log_with version old new said statement entry n text after actor event number pl
     record {
       history = entry ∷ history;
       played = now;
-      same =
-          statements-newest entry history
-          ∙ ap (λ (before : List Statement). before ++ statement_of entry ∷ []) so_far.same
-          ∙ ap (λ (last : Statement). said ++ last ∷ []) (statement_is entry statement actor event);
-      log =
-          more
-          ∙ ap (λ (front : List ℕ). front ++ (line_text n entry ++ line_feed ∷ [])) so_far.log
-          ∙ sym (log-newest version entry history n is);
+      same = rw (statements-newest entry history, so_far.same, statement_is entry statement actor event) refl;
+      log = rw (more, so_far.log, log-newest version entry history n is) refl;
     }
 
 -- and of a phase, one statement further
@@ -60,9 +50,7 @@ pub log_step :
     HasLog version new (said ++ take (i + 1) phase) after
 log_step version now new said phase i d entry n text after within asked number played more so_far =
     let here : Statement = get_or phase i d in
-    subst (λ (all : List Statement). HasLog version new all after)
-    (append_assoc said (take i phase) (here ∷ [])
-    ∙ ap (λ (front : List Statement). said ++ front) (sym (take_more phase i d within)))
+    rw (take_more phase i d within, ← append_assoc said (take i phase) (here ∷ []))
     (log_with version now new (said ++ take i phase) here entry n text after asked.0 asked.1 number played more so_far)
 
 -- and from a reply

@@ -1,7 +1,7 @@
 -- What a board with a serial port sent in a whole replay.
-use Rattle.std.proofs.Common.{◌≡◌, ℕ, ◌≤◌, true, List, [], ◌∷◌, ◌++◌, length, All, refl, sym, ap, subst, ◌∙◌}
-use Rattle.std.proofs.Common.{append-nil, arith, slice_index}
-use Rattle.board_prelude.proofs.Common.{Entry, Statement, Setup, reset_control, IsLegal, LegalKeepsLock, statements_of}
+use Rattle.std.proofs.Common.{◌≡◌, ℕ, ◌≤◌, true, List, [], ◌∷◌, length, All, refl, ap, ◌∙◌, append-nil, arith, sym}
+use Rattle.std.proofs.Common.{slice_index}
+use Rattle.board_prelude.proofs.Common.{Setup, reset_control, IsLegal, LegalKeepsLock, statements_of}
 use Rattle.board_core.specs.Kept.{Standing}
 use Rattle.script_spec.specs.Common.{Script as Said, IsInRangeScript, statements_in}
 use Rattle.uart_16550.specs.Common.{Uart, has_room, com1_at_reset, Serial, Sending, sending_at_reset}
@@ -23,13 +23,9 @@ reset_port : (serial : Serial Standing) → serial.com1 ≡ com1_at_reset → se
 unfolding reset_control
 reset_port serial com1 entries = port_is serial.com1 com1_at_reset _ 0 com1 (ap reset_control entries)
 
-none_later : (port : Sending) (input : List ℕ) → sent_in port input [] ≡ []
-unfolding happenings_in
-none_later port input = refl
-
-no_steps_later : (port : Sending) (input : List ℕ) → steps_in port input [] ≡ []
-unfolding steps_in
-no_steps_later port input = refl
+none_later : (port : Sending) (input : List ℕ) → (sent_in port input [] ≡ []) × (steps_in port input [] ≡ [])
+unfolding happenings_in steps_in
+none_later port input = (refl, refl)
 
 pub serial_told : LegalKeepsLock → (setup : Setup) (script : Said) (fresh last : Serial Standing)
     (input left sent text : List ℕ) → fresh.board.setup ≡ setup → fresh.board.entries ≡ [] → fresh.com1 ≡ com1_at_reset
@@ -38,32 +34,18 @@ pub serial_told : LegalKeepsLock → (setup : Setup) (script : Said) (fresh last
     (record { serial = last; input = left; sent = sent }) → IsLegal last.board.setup last.board.entries →
     text ≡ sent → IsSerialText setup script input text
 serial_told locks setup script fresh last input left sent text fitted none new went legal is =
-    let begin : port_of fresh ≡ sending_at_reset = reset_port fresh new none in
-    let same : last.board.setup ≡ setup = went.setup ∙ fitted in
+    let begin = reset_port fresh new none in
+    let all = append-nil (statements_in script) in
+    let later = none_later (port_of last) left in
     let history = last.board.entries in
-    let is_legal : IsLegal setup history = subst (λ (s : Setup). IsLegal s history) same legal in
-    let all : statements_in script ++ [] ≡ statements_in script = append-nil (statements_in script) in
+    let steps = rw (begin, none, all, later.1, append-nil (statements_of history)) at (went.steps []) in
+    let sends = rw (begin, all, later.0, append-nil sent) at (went.sent []) in
+    let is_legal : IsLegal setup history = rw (went.setup ∙ fitted) at legal in
     record {
       history = history;
-      replay = record {
-        legal = is_legal;
-        same =
-            sym (append-nil (statements_of history))
-            ∙ ap (λ (more : List Statement). statements_of history ++ more) (sym (no_steps_later (port_of last) left))
-            ∙ sym (went.steps [])
-            ∙ ap (λ (entries : List Entry). statements_of entries ++ steps_in (port_of fresh) input
-            (statements_in script ++ [])) none
-            ∙ ap (steps_in (port_of fresh) input) all
-            ∙ ap (λ (port : Sending). steps_in port input (statements_in script)) begin;
-      };
+      replay = record { legal = is_legal; same = sym steps };
       locked = locks setup history is_legal;
-      sent =
-          is
-          ∙ sym (append-nil sent)
-          ∙ ap (λ (more : List ℕ). sent ++ more) (sym (none_later (port_of last) left))
-          ∙ sym (went.sent [])
-          ∙ ap (sent_in (port_of fresh) input) all
-          ∙ ap (λ (port : Sending). sent_in port input (statements_in script)) begin;
+      sent = is ∙ sym sends;
     }
 
 -- the statements of a script are for its port

@@ -1,19 +1,18 @@
 -- What a transfer tells is that of the definition over what the history left.
-use Rattle.std.proofs.Common.{◌≡◌, ℕ, ◌<◌, List, [], ◌∷◌, ◌++◌, length, append_assoc, refl, ap, ◌∙◌, slice_index}
-use Rattle.std.proofs.Common.{Option, Result, Ok, Err, IfOk, OnOk}
-use Rattle.board_prelude.proofs.Common.{lt-ltb, One, Disk, Entry, Setup, installed, byte_of, disk_of, space, Cell}
-use Rattle.board_prelude.proofs.Common.{DramCell}
+use Rattle.std.proofs.Common.{◌≡◌, ℕ, ◌<◌, List, [], ◌∷◌, ◌++◌, length, append_assoc, refl, ◌∙◌, slice_index, Result}
+use Rattle.std.proofs.Common.{Ok, Err, IfOk, OnOk}
+use Rattle.board_prelude.proofs.Common.{lt-ltb, One, Entry, Setup, installed, byte_of, disk_of, space, Cell, DramCell}
 use Rattle.dram_store.specs.Dram.{dram_at, IsDramOf}
 use Rattle.dram_store.proofs.DramLemmas.{read_stored}
 use Rattle.pci_bars.specs.Contents.{IsContentsOf}
 use Rattle.board_chipset.specs.declared.store.Store.{Store}
 use Rattle.bus_master.specs.declared.done.Done.{Done}
-use Rattle.bus_master.specs.Common.{Master, register_of, Moving, transferred, done_of, master_after, medium_of}
-use Rattle.bus_master.specs.Common.{with_medium, cells_of, transfer_of, IsCell}
+use Rattle.bus_master.specs.Common.{Master, register_of, Moving, done_of, master_after, with_medium, cells_of}
+use Rattle.bus_master.specs.Common.{transfer_of, IsCell}
 use Rattle.command_words.specs.declared.transfer.Transfer.{Transfer}
 use Rattle.command_texts.specs.Laws.{RomsAreRead}
 use Rattle.command_texts.specs.Transfers.{AreCellsAfter, HasTransferText, started, sum_below, dram_sum, disk_sum}
-use Rattle.command_texts.specs.Transfers.{ended_line, sums_line, transfer_text}
+use Rattle.command_texts.specs.Transfers.{ended_line, sums_line}
 use Rattle.command_texts.proofs.Sums.{sum_below-same}
 
 pub cells_left : (setup : Setup) (history : List Entry) (store : Store) → IsDramOf setup history store.dram →
@@ -36,20 +35,9 @@ dram_told : (setup : Setup) (store : Store) (moving : Moving) → length store.d
     ((cell : Cell) → IsCell cell → cells_of store cell ≡ moving.cells cell) →
     sum_below (length store.dram) (slice_index store.dram) ≡ dram_sum setup moving.cells
 dram_told setup store moving size cells =
-    sum_below-same (length store.dram) (slice_index store.dram) (λ addr. moving.cells (DramCell addr))
-    (λ addr below. dram_here store.dram addr below ∙ cells (DramCell addr) tt)
-    ∙ ap (λ (n : ℕ). sum_below n (λ addr. moving.cells (DramCell addr))) size
-
-same_lines : {done other : Done} {status status' dram dram' disk disk' : ℕ} → done ≡ other → status ≡ status' →
-    dram ≡ dram' → disk ≡ disk'
-    → ended_line done status ++ sums_line dram disk ≡ ended_line other status' ++ sums_line dram' disk'
-same_lines one two three four = rw (one, two, three, four) refl
-
--- the text of the transfer by these registers over this disk
-abbrev text_by : Setup → List Entry → Transfer → Store → Master → Option Disk → List ℕ
-text_by setup history transfer store master disk =
-    transfer_text setup disk master
-    (transferred setup (byte_of setup history) master transfer.lba transfer.count (cells_of store) (medium_of disk))
+    rw (← size)
+    (sum_below-same (length store.dram) (slice_index store.dram) (λ addr. moving.cells (DramCell addr))
+    (λ addr below. dram_here store.dram addr below ∙ cells (DramCell addr) tt))
 
 pub transfer_told : (setup : Setup) (history : List Entry) (transfer : Transfer) (old new : Store)
     (master after : Master)
@@ -66,12 +54,8 @@ transfer_told setup history transfer old new master after done status dram disk 
       cells = cells_of old;
       stored = stored;
       lines =
-          lines
-          ∙ same_lines done_told (status_told ∙ ap (λ (m : Master). m.status) registers)
-          (dram_told' ∙ dram_told setup new moving size cells) (disk_told ∙ ap disk_sum disk_left)
-          ∙ ap (transfer_text setup old.disk master) moved
-          ∙ ap (λ (m : Master). text_by setup history transfer old m old.disk) begun
-          ∙ ap (λ (d : Option Disk). text_by setup history transfer old (started transfer) d) left;
+          rw (lines, done_told, status_told, registers, dram_told', dram_told setup new moving size cells)
+          (rw (disk_told, disk_left, moved, begun, left) refl);
     }
 
 pub ok_then : {T E : Type 0} {P Q : T → Type 0} (result : Result T E) → IfOk result P → ((x : T) → P x → Q x)
@@ -88,9 +72,5 @@ pub abort_added : {T E : Type 0} (result : Result T E) (old one two three new fi
     one ≡ old ++ first → two ≡ one ++ second → three ≡ two ++ space ∷ [] → OnOk result (new ≡ three ++ last) →
     OnOk result (new ≡ old ++ (first ++ second ++ space ∷ last))
 abort_added (Ok done) old one two three new first second last a b c d =
-    d ∙ ap (λ (t : List ℕ). t ++ last)
-    (c ∙ ap (λ (t : List ℕ). t ++ space ∷ []) (b ∙ ap (λ (t : List ℕ). t ++ second) a))
-    ∙ append_assoc (old ++ first ++ second) (space ∷ []) last
-    ∙ ap (λ (t : List ℕ). t ++ space ∷ last) (append_assoc old first second)
-    ∙ append_assoc old (first ++ second) (space ∷ last)
+    rw (d, c, b, a) (simp append_assoc)
 abort_added (Err fault) old one two three new first second last a b c d = tt

@@ -40,6 +40,7 @@ fn start(transfer: &Transfer) -> BusMaster
 }
 
 /// The sum of these bytes, of which there are at most a MiB.
+#[tactic(auto, unfolding(crate::specs::Transfers::sum_below))]
 fn sum_of(bytes: &[u8]) -> u64
     requires few { length bytes.now ≤ bank_size }
     ensures sum { result ≡ sum_below (length bytes.now) (slice_index bytes.now) }
@@ -53,6 +54,7 @@ fn sum_of(bytes: &[u8]) -> u64
 }
 
 /// The sum of all bytes of a DRAM of so many MiB. Those that are not kept are 0.
+#[tactic(auto, unfolding(crate::specs::Transfers::sum_below))]
 fn dram_sum(dram: &Dram, mib: u32) -> u64
     requires size { length dram.now ≡ mib * bank_size }
     ensures sum { result ≡ sum_below (length dram.now) (slice_index dram.now) }
@@ -78,6 +80,7 @@ fn disk_sum(disk: &Option<Ata>) -> u64
 }
 
 /// The sum of the bytes of all sectors.
+#[tactic(auto, unfolding(crate::specs::Transfers::sum_below))]
 fn sector_sum(disk: &Ata) -> u64
     ensures sum { result ≡ disk_sum (Some disk.now) }
 {

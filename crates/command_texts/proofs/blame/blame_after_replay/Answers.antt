@@ -19,21 +19,16 @@ blame-requires-clause-count c =
     ap length c.deref-2.ensures.value in
     omega (arith, is, few, count, noted, c.requires.fresh.in_range.statements)
 
-pub report_text-requires-clause-ranges : goal.report_text-requires-clause-ranges
-report_text-requires-clause-ranges c =
+pub report_text-requires : goal.report_text-requires
+report_text-requires c =
     let board = c.replay_noting.new.board in
-    all_since board.setup (reverse c.deref-2.result.now) c.in_ok-report.report.ranges.items
-    (length c.in_ok-writes.writes.entries.items)
-    (length-reverse c.deref-2.result.now ∙ ap length c.deref-2.ensures.value ∙ sym c.in_ok-writes.ensures.writes.count)
-    (c.in_ok-report.ensures.blame board.setup (search rules)).ranges
-
-pub report_text-requires-clause-keep : goal.report_text-requires-clause-keep
-report_text-requires-clause-keep c =
-    let board = c.replay_noting.new.board in
-    all_kept board.setup (reverse c.deref-2.result.now) c.in_ok-report.report.keep.items
-    (length c.in_ok-writes.writes.entries.items)
-    (length-reverse c.deref-2.result.now ∙ ap length c.deref-2.ensures.value ∙ sym c.in_ok-writes.ensures.writes.count)
-    (c.in_ok-report.ensures.blame board.setup (search rules)).keep
+    let blame = c.in_ok-report.ensures.blame board.setup (search rules) in
+    let count =
+    length-reverse c.deref-2.result.now ∙ ap length c.deref-2.ensures.value ∙ sym c.in_ok-writes.ensures.writes.count in
+    record {
+      ranges = all_since board.setup _ c.in_ok-report.report.ranges.items _ count blame.ranges;
+      keep = all_kept board.setup _ c.in_ok-report.report.keep.items _ count blame.keep;
+    }
 
 pub returns : goal.returns
 returns c =

@@ -1,4 +1,4 @@
-use Rattle.std.proofs.Common.{◌+◌, ◌-◌, ◌≤◌, arith}
+use Rattle.std.proofs.Common.{◌-◌, arith}
 use Rattle.command_texts.proofs.Happenings.{event_done}
 use Rattle.command_texts.proofs.serial.step.Goals as goal
 
@@ -11,10 +11,11 @@ returns-in_ok-push-clause-happened c =
 
 pub returns-in_ok-push-clause-spare : goal.returns-in_ok-push-clause-spare
 returns-in_ok-push-clause-spare c =
-    let few : c.args.serial.now.board.spare - 2 + 2 ≤ c.args.serial.now.board.spare = omega (arith, c.requires.spare) in
-    let left : c.args.serial.now.board.spare - 2 ≤ c.step-reply.new.self.board.spare =
-    c.step-reply.ensures.spare _ few in
-    omega (arith, left)
+    omega (
+      arith,
+      c.requires.spare,
+      c.step-reply.ensures.spare (c.args.serial.now.board.spare - 2) (omega (arith, c.requires.spare)),
+    )
 
 pub returns-in_default-clause-happened : goal.returns-in_default-clause-happened
 returns-in_default-clause-happened c =
@@ -25,7 +26,8 @@ returns-in_default-clause-happened c =
 
 pub returns-in_default-clause-spare : goal.returns-in_default-clause-spare
 returns-in_default-clause-spare c =
-    let few : c.args.serial.now.board.spare - 2 + 2 ≤ c.args.serial.now.board.spare = omega (arith, c.requires.spare) in
-    let left : c.args.serial.now.board.spare - 2 ≤ c.step-reply.new.self.board.spare =
-    c.step-reply.ensures.spare _ few in
-    omega (arith, left)
+    omega (
+      arith,
+      c.requires.spare,
+      c.step-reply.ensures.spare (c.args.serial.now.board.spare - 2) (omega (arith, c.requires.spare)),
+    )

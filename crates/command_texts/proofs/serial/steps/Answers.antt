@@ -1,5 +1,5 @@
 use Rattle.std.proofs.Common.{◌∙◌, arith}
-use Rattle.command_texts.proofs.SerialReplays.{for_port_as, went_nowhere, went_on_step, went_on_more, room_for_next}
+use Rattle.command_texts.proofs.SerialReplays.{went_nowhere, went_on_step, went_on_more, room_for_next}
 use Rattle.command_texts.proofs.serial.steps.Goals as goal
 
 pub loop-statement-init : goal.loop-statement-init
@@ -21,7 +21,7 @@ step-requires-clause-standing c = (c.receive_next-left.ensures.happened 0).stand
 
 pub step-requires-clause-for_port : goal.step-requires-clause-for_port
 step-requires-clause-for_port c =
-    for_port_as _ _ _ ((c.receive_next-left.ensures.happened 0).setup ∙ c.loop-statement.invariant.setup)
+    rw ((c.receive_next-left.ensures.happened 0).setup ∙ c.loop-statement.invariant.setup)
     (c.requires.for_port c.loop-statement.statement-index _ c.loop-statement-test.true)
 
 pub step-requires-clause-spare : goal.step-requires-clause-spare

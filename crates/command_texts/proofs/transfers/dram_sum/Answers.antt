@@ -1,12 +1,7 @@
-use Rattle.std.proofs.Common.{refl, arith, slice_index}
-use Rattle.command_texts.specs.Transfers.{sum_below}
+use Rattle.std.proofs.Common.{arith, slice_index}
 use Rattle.dram_store.specs.Bank.{bank_size}
 use Rattle.command_texts.proofs.Sums.{part_added}
 use Rattle.command_texts.proofs.transfers.dram_sum.Goals as goal
-
-pub loop-bank-init : goal.loop-bank-init
-unfolding sum_below
-loop-bank-init c = record { sum = refl; most = omega arith }
 
 pub loop-bank-preserved : goal.loop-bank-preserved
 loop-bank-preserved c =

@@ -1,11 +1,6 @@
-use Rattle.std.proofs.Common.{◌≤◌, length, ap, sym, ◌∙◌, refl, arith, slice_index}
-use Rattle.command_texts.specs.Transfers.{sum_below}
+use Rattle.std.proofs.Common.{◌≤◌, length, ap, sym, ◌∙◌, arith, slice_index}
 use Rattle.command_texts.proofs.Sums.{part_added, cut_byte, cut_length}
 use Rattle.command_texts.proofs.transfers.sector_sum.Goals as goal
-
-pub loop-lba-init : goal.loop-lba-init
-unfolding sum_below
-loop-lba-init c = record { sum = refl; most = omega arith }
 
 pub sum_of-sum-requires : goal.sum_of-sum-requires
 sum_of-sum-requires c =

@@ -1,11 +1,6 @@
-use Rattle.std.proofs.Common.{refl, arith, slice_index}
-use Rattle.command_texts.specs.Transfers.{sum_below}
+use Rattle.std.proofs.Common.{arith, slice_index}
 use Rattle.command_texts.proofs.Sums.{sum_below-more}
 use Rattle.command_texts.proofs.transfers.sum_of.Goals as goal
-
-pub loop-byte-init : goal.loop-byte-init
-unfolding sum_below
-loop-byte-init c = record { sum = refl; most = omega arith }
 
 pub loop-byte-preserved : goal.loop-byte-preserved
 loop-byte-preserved c = record {

@@ -1,6 +1,5 @@
-use Rattle.std.proofs.Common.{rules, ℕ, ◌≡◌, ◌+◌, ◌-◌, ◌∷◌, ◌++◌, [], length, sym, ap, ◌∙◌, subst}
+use Rattle.std.proofs.Common.{rules, ◌+◌, ◌-◌, length}
 use Rattle.board_prelude.proofs.Common.{Entry, next_entry}
-use Rattle.command_texts.specs.Writes.{AreWritesOf}
 use Rattle.command_texts.proofs.MapWrites.{writes_same, writes_more, writes_after}
 use Rattle.command_texts.proofs.writes.step_noting.Goals as goal
 use Rattle.command_texts.proofs.writes.step_noting.Goals.{in-Some+in_ok-add, in_default}
@@ -12,14 +11,11 @@ returns-clause-writes c =
     writes_after board c.step.new.self entry (board.spare - 1) c.match-map_change.writes c.step.ensures.entry
     (elim c.match-map_change.branch [
       | in-Some+in_ok-add w ↦
-          let count : w.len.result ≡ length board.entries =
-          w.len.ensures.length ∙ ap (λ past. length past.entries) w.history.ensures.history in
-          subst (AreWritesOf board.setup (entry ∷ board.entries)) (sym w.writes-is)
+          let count = rw w.history.ensures.history at w.len.ensures.length in
+          rw w.writes-is
           (writes_more board.setup entry board.entries w.in-Some.change c.args.writes.now w.add.new.self (search rules)
-          w.in_ok-add.ensures.change
-          (w.in_ok-add.ensures.entry ∙ ap (λ (n : ℕ). c.args.writes.now.entries.items ++ (n + 1) ∷ []) count)
-          c.requires.writes)
+          w.in_ok-add.ensures.change (rw count at w.in_ok-add.ensures.entry) c.requires.writes)
       | in_default w ↦
-          subst (AreWritesOf board.setup (entry ∷ board.entries)) (sym w.writes-is)
+          rw w.writes-is
           (writes_same board.setup entry board.entries c.args.writes.now (search rules) c.requires.writes)
     ])
