@@ -12,6 +12,4 @@ pub denials_in_order :
     (top : ℕ) (shut rom : Option Window) (addr : ℕ) →
     abort_denial top shut rom addr ≡ after_board (board_denial top addr) shut rom addr
 unfolding board_denial
-denials_in_order top (Some window) rom addr = grind (arith, nat_tests)
-denials_in_order top None (Some window) addr = grind (arith, nat_tests)
-denials_in_order top None None addr = grind (arith, nat_tests)
+denials_in_order top shut rom addr = grind (arith, nat_tests)

@@ -19,8 +19,7 @@ few_of_bases bytes dev k (_ ∷ later) = omega (arith, few_of_bases bytes dev (k
 
 few_of_rom :
     (bytes : Bytes) (dev : ℕ) (rom : Option ℕ) → length (flat_map window_edges (rom_window_of bytes dev rom)) ≤ 2
-few_of_rom bytes dev None = omega arith
-few_of_rom bytes dev (Some bits) = omega arith
+few_of_rom bytes dev rom = grind arith
 
 few_of_cards :
     (bytes : Bytes) (cards : List FittedCard) → All IsCard cards →

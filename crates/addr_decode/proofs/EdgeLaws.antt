@@ -1,6 +1,6 @@
 -- Between two edges all addresses have the same areas.
-use Rattle.std.proofs.Common.{◌≡◌, ℕ, ◌+◌, ◌*◌, ◌/◌, ◌^◌, ◌<◌, ◌≤◌, inl, inr, Bool, true, false, List, [], ◌∷◌}
-use Rattle.std.proofs.Common.{◌++◌, Option, Some, None, refl, arith, ◌==◌, All, flat_map, unwrap_or, IfSome, IsNone}
+use Rattle.std.proofs.Common.{◌≡◌, ℕ, ◌+◌, ◌*◌, ◌/◌, ◌^◌, ◌<◌, ◌≤◌, inl, inr, Bool, true, false, List, [], ◌∷◌, ◌++◌}
+use Rattle.std.proofs.Common.{Option, Some, None, refl, arith, ◌==◌, All, flat_map, unwrap_or, IfSome, IsNone}
 use Rattle.std.proofs.Common.{if◌then◌else◌, slice_index_or}
 use Rattle.board_prelude.proofs.Common.{list_any, cases_eq, ne_eqb, AllByRecursion, enumerate_from, cases_lt, nat_tests}
 use Rattle.board_prelude.proofs.Common.{pow_pos, recursion_from_All, Kind, FittedCard, Setup, smram_range, upper_memory}

@@ -80,13 +80,11 @@ end_at found = unwrap_or found address_count
 
 module _ (addr : ℕ) where
   nearer_falls : (edge : ℕ) (found : Option ℕ) → end_at (nearer addr found edge) ≤ end_at found
-  nearer_falls edge None = grind (arith, nat_tests)
-  nearer_falls edge (Some least) = grind (arith, nat_tests)
+  nearer_falls edge found = grind (arith, nat_tests)
 
   nearer_reaches : (edge : ℕ) (found : Option ℕ) → addr < edge → edge < address_count →
       end_at (nearer addr found edge) ≤ edge
-  nearer_reaches edge None above below = grind (arith, nat_tests)
-  nearer_reaches edge (Some least) above below = grind (arith, nat_tests)
+  nearer_reaches edge found above below = grind (arith, nat_tests)
 
   nearest_falls : (edges : List ℕ) (found : Option ℕ) → end_at (nearest addr found edges) ≤ end_at found
   unfolding nearest
@@ -115,8 +113,7 @@ module _ (addr : ℕ) where
   nearer_is : (edge : ℕ) (found : Option ℕ) →
       (nearer addr found edge ≡ found)
       ⊎ ((nearer addr found edge ≡ Some edge) × (addr < edge) × (edge < address_count))
-  nearer_is edge None = grind (arith, nat_tests)
-  nearer_is edge (Some least) = grind (arith, nat_tests)
+  nearer_is edge found = grind (arith, nat_tests)
 
   nearest_is : (edges : List ℕ) (found : Option ℕ) →
       (nearest addr found edges ≡ found)

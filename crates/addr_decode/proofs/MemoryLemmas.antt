@@ -13,16 +13,13 @@ use Rattle.addr_decode.specs.Common.{MapBytes, StandsFor, dram_area, above_dram,
 
 no_dram : (rom : Bool) (claim : Option Window) →
     first_of (line_where rom Rom ∷ option_map card_area claim ∷ []) Abort ≡ above_dram None rom claim
-no_dram true claim = refl
-no_dram false None = refl
-no_dram false (Some window) = refl
+no_dram rom claim = grind arith
 
 area_in_order :
     (row : Option ℕ) (smram open' hole rom : Bool) (claim : Option Window) (addr : ℕ) →
     area_under row smram (is_shadow_range addr && open') hole rom claim addr
     ≡ above_dram (dram_area row smram (is_shadow_range addr && open') hole addr) rom claim
-area_in_order None smram open' hole rom claim addr = grind (arith, nat_tests, no_dram)
-area_in_order (Some row) smram open' hole rom claim addr = grind (arith, nat_tests, no_dram)
+area_in_order row smram open' hole rom claim addr = grind (arith, nat_tests, no_dram)
 
 -- where DRAM answers, over the register bytes
 abbrev pub dram_by : Bytes → ℕ → Kind → Bool → Option Area
@@ -39,8 +36,7 @@ or_beside (Some area) rom claim = refl
 -- where DRAM answers nothing denies
 undenied : (row : Option ℕ) (opened shadowed hole : Bool) (addr : ℕ) (kind : Kind) (abort rom : Denial) →
     IfSome (dram_area row opened shadowed hole addr) (λ area. None ≡ denial_in area kind abort rom)
-undenied None opened shadowed hole addr kind abort rom = tt
-undenied (Some row) opened shadowed hole addr kind abort rom = grind (arith, nat_tests)
+undenied row opened shadowed hole addr kind abort rom = grind (arith, nat_tests)
 
 module _ (setup : Setup) (bytes : Bytes) (addr : ℕ) where
   answers :

@@ -12,7 +12,6 @@ use Rattle.std.proofs.lemmas.Option.{slice_get-get_or}
 use Rattle.pci_bars.proofs.CardListLemmas.{find-cards, at_position}
 use Rattle.addr_decode.specs.declared.register.MapRegister.{MapRegister}
 use Rattle.addr_decode.specs.declared.register.MapRegister.TheVariants.{Pam, RowBoundary, Single, Card}
-use Rattle.addr_decode.specs.declared.register.CardRegister.TheVariants.{Command, Base, ExpansionRom}
 use Rattle.addr_decode.specs.MapRegister.{place_of, IsNumbered, IsNumberedName, AreNumbered, in_bridge, in_isa_bridge}
 use Rattle.addr_decode.specs.MapRegister.{in_card, in_device, map_register, names_from, names_of, named_single}
 use Rattle.addr_decode.specs.Singles.{single, single_count, single_number}
@@ -136,8 +135,7 @@ bridge_names off =
 
 device_names : (fitted : Option FittedCard) (dev off : ℕ) → 2 ≤ dev →
     AreNamed (option_map (Card dev) (option_and_then (in_card off) fitted)) (card_register dev off)
-device_names None dev off above = tt
-device_names (Some card) dev off above = grind (arith, nat_tests)
+device_names fitted dev off above = grind (arith, nat_tests)
 
 names_at : (cards : List FittedCard) (reg : Reg) → AreNamed (map_register cards reg) reg
 names_at cards =
@@ -213,12 +211,7 @@ named_so_far cards cards' reg width k names d below same are =
 
 -- no register past offset FFh has a name
 small : (register : MapRegister) → IsNumbered register → (place_of register).off < 256
-small (Pam k) is = omega arith
-small (RowBoundary row) is = omega arith
-small (Single number) is = (single_is number is).byte
-small (Card dev Command) is = omega arith
-small (Card dev (Base k)) is = omega (arith, is.1)
-small (Card dev (ExpansionRom k)) is = omega (arith, is.1)
+small register is = grind (arith, nat_tests, single_is)
 
 no_name : (name : Option MapRegister) (reg : Reg) → 256 ≤ reg.off → AreNamed name reg → name ≡ None
 no_name None reg past is = refl

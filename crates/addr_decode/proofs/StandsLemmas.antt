@@ -1,10 +1,10 @@
 -- The registers of the address map among those of a board: after a reset, and where a byte is stored.
-use Rattle.std.proofs.Common.{◌≡◌, ◌≢◌, ℕ, ◌+◌, ◌<◌, ◌≤◌, ◌⊎◌, inl, inr, Option, Some, None, false, List, length, set}
-use Rattle.std.proofs.Common.{refl, sym, ◌∙◌, subst, arith, add-one, slice_index, get_or-set_other, get_or-set_same}
-use Rattle.std.proofs.Common.{option_map, Bool, true, if◌then◌else◌}
-use Rattle.board_prelude.proofs.Common.{cases_eq, cases_lt, nat_tests, Width, bytes_of, One, Reg, Store, FittedCard}
-use Rattle.board_prelude.proofs.Common.{Setup, byte, is_within, reset_byte, changed_byte, Bytes, bridge, isa, drb}
-use Rattle.board_prelude.proofs.Common.{card_register, reg_after, after_stores, byte_by_byte}
+use Rattle.std.proofs.Common.{◌≡◌, ◌≢◌, ℕ, ◌+◌, ◌<◌, ◌≤◌, ◌⊎◌, inl, inr, Option, Some, None, List, length, set, refl}
+use Rattle.std.proofs.Common.{sym, ◌∙◌, subst, arith, add-one, slice_index, get_or-set_other, get_or-set_same}
+use Rattle.std.proofs.Common.{option_map}
+use Rattle.board_prelude.proofs.Common.{cases_eq, nat_tests, Width, bytes_of, One, Reg, Store, FittedCard, Setup, byte}
+use Rattle.board_prelude.proofs.Common.{reset_byte, changed_byte, Bytes, bridge, isa, drb, card_register, reg_after}
+use Rattle.board_prelude.proofs.Common.{after_stores, byte_by_byte}
 use Rattle.pmc_regs.proofs.Common.{row_bytes, rows_are, rows_after_store}
 use Rattle.pam_windows.specs.Pam.{IsPamOffset, IsPamOf}
 use Rattle.pam_windows.proofs.PamLemmas.{pam_bytes, pam_are}
@@ -15,7 +15,6 @@ use Rattle.addr_decode.specs.Common.{single_count, single_number}
 use Rattle.addr_decode.proofs.StoreLemmas.{Differs, differs_back, stored-elsewhere, in_function_0}
 use Rattle.addr_decode.proofs.CardLemmas.{cards_agree, cards_beside, cards_decoded, of_decoded, of_registers}
 use Rattle.addr_decode.proofs.CardLemmas.{reset_cards}
-use Rattle.addr_decode.specs.declared.register.MapRegister.{MapRegister}
 use Rattle.addr_decode.proofs.SingleLemmas.{no_single, singles_apart, single_is}
 
 -- the registers of the bridges that a board's registers give
@@ -119,25 +118,13 @@ module _ (setup : Setup) (bytes : Bytes) (regs : MapBytes) (stands : StandsFor s
 
 -- a card has none of the bridges' registers, nor has a function other than 0, nor are any past offset FFh
 pub card_apart : (at : Reg) → 2 ≤ at.dev → IsApart at
-card_apart at above = record {
-  rows = λ row _. inl (omega arith);
-  windows = λ off _. inl (omega arith);
-  singles = λ k below. inl (omega (arith, (single_is k below).low));
-}
+card_apart at above = grind (arith, nat_tests, single_is)
 
 function_apart : (at : Reg) → at.fun ≢ 0 → IsApart at
-function_apart at fun = record {
-  rows = λ row _. inr (inl fun);
-  windows = λ off _. inr (inl fun);
-  singles = λ k below. inr (inl (λ e. fun (e ∙ (single_is k below).function)));
-}
+function_apart at fun = grind (arith, nat_tests, single_is)
 
 pub beyond_apart : (at : Reg) → 256 ≤ at.off → IsApart at
-beyond_apart at past = record {
-  rows = λ row below. inr (inr (omega arith));
-  windows = λ off inside. inr (inr (omega (arith, inside.1)));
-  singles = λ k below. inr (inr (omega (arith, (single_is k below).byte)));
-}
+beyond_apart at past = grind (arith, nat_tests, single_is)
 
 -- none of the registers of the map has this offset in the host bridge
 pub record IsBeside (off : ℕ) : Type 0 where
@@ -149,32 +136,19 @@ bridge_apart : (off : ℕ) → IsBeside off → IsApart (bridge off)
 bridge_apart off beside = grind (arith, nat_tests)
 
 isa_apart : (off : ℕ) → single_number (isa off) ≡ None → IsApart (isa off)
-isa_apart off none = record {
-  rows = λ row _. inl (omega arith);
-  windows = λ at _. inl (omega arith);
-  singles = no_single (isa off) none;
-}
+isa_apart off none = grind (arith, nat_tests, no_single)
 
 -- the name of a register of one byte
 named_none : (number : Option ℕ) → option_map Single number ≡ None → number ≡ None
 named_none None is = refl
 named_none (Some number) is = absurd (cc)
 
--- a test that gives no name fails
-not_named : (test : Bool) (name : MapRegister) (later : Option MapRegister) →
-    (if test then Some name else later) ≡ None → (test ≡ false) × (later ≡ None)
-not_named true name later is = absurd cc
-not_named false name later is = (refl, is)
-
 bridge_beside : (off : ℕ) → in_bridge off ≡ None → IsBeside off
-bridge_beside off none =
-    let pam = not_named (is_within 0x59 0x5F off) _ _ none in
-    let row = not_named (is_within 0x60 0x67 off) _ _ pam.1 in
-    record {
-      windows = elim (cases_lt off 0x59) [ inl below ↦ inl below | inr from ↦ inr (grind (arith, nat_tests, pam.0)) ];
-      rows = elim (cases_lt off 0x60) [ inl below ↦ inl below | inr from ↦ inr (grind (arith, nat_tests, row.0)) ];
-      singles = no_single (bridge off) (named_none (single_number (bridge off)) row.1);
-    }
+bridge_beside off none = record {
+  windows = grind (arith, nat_tests);
+  rows = grind (arith, nat_tests);
+  singles = no_single (bridge off) (grind (arith, nat_tests));
+}
 
 pub nameless_in_bridge : (cards : List FittedCard) (at : Reg) → at.dev ≡ 0 → at.fun ≡ 0 → map_register cards at ≡ None →
     IsBeside at.off

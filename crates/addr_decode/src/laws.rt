@@ -10,6 +10,7 @@ pub fn law_areas_change_at_edges()
 {}
 
 /// A board has at most `MOST_EDGES` edges, so that its memory map has at most one range more.
+#[tactic(auto, using(crate::proofs::EdgeCounts::few_edges))]
 pub fn law_few_edges()
     ensures few { FewEdges }
 {}

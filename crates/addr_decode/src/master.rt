@@ -17,6 +17,7 @@ use pmc_regs::row_of;
 
 /// The area that an access of a bus master reaches, and what denies it: None where the area answers, unless it is the
 /// ROM and the access writes.
+#[tactic(auto, using(std::proofs::lemmas::Bool::Decides::nat_tests), unfolding(crate::specs::Master::master_denial))]
 pub fn decode_master(regs: &MapRegs, addr: u32, kind: Kind) -> (Area, Option<Denial>)
     requires cards { AreFitted regs.now.cards.items }
     ensures area { (setup : Setup) (bytes : Bytes) → StandsFor setup bytes (map_bytes regs.now)

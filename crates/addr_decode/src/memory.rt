@@ -96,6 +96,7 @@ pub(crate) fn area_or(regs: &MapRegs, addr: u32, kind: Kind, smm: bool, beside: 
 
 /// What answers at an address where DRAM does not: the ROM, a card or nothing, whatever the kind of access.
 #[inline(always)]
+#[tactic(auto, using(std::proofs::lemmas::Bool::Decides::nat_tests))]
 pub(crate) fn area_beside_dram(regs: &MapRegs, addr: u32) -> Area
     requires cards { AreFitted regs.now.cards.items }
     ensures area { (setup : Setup) (bytes : Bytes) → StandsFor setup bytes (map_bytes regs.now)

@@ -146,6 +146,7 @@ fn read_cards(
 impl MapRegs {
     /// Adds the bytes of the state: those of the bridges, and 30 for each card. Of a card without an expansion ROM the
     /// register of that has to be 0, as it is on each board.
+    #[tactic(auto, using(std::proofs::lemmas::Bool::Decides::nat_tests))]
     pub fn save_state(&self, into: &mut Vec<u8>) -> Result<(), NoMemory>
         ensures saved { OnOk result (into.new.items ≡ into.old.items ++ regs_bytes self.now) }
         ensures sound { (setup : Setup) (bytes : Bytes) → AreCardsOf setup bytes self.now.cards.items
