@@ -1,10 +1,9 @@
 -- The bytes of banks that follow one another.
-use Rattle.std.proofs.Common.{◌≡◌, ◌≢◌, ℕ, suc, ◌+◌, ◌-◌, ◌*◌, ◌/◌, ◌%◌, ◌<◌, ◌≤◌, ◌&&◌, List, [], ◌∷◌, length, set}
-use Rattle.std.proofs.Common.{replicate, inl, inr, ◌∙◌, refl, arith, slice_index, nat_le, nat_lt, All, if◌then◌else◌}
+use Rattle.std.proofs.Common.{◌≡◌, ℕ, suc, ◌+◌, ◌-◌, ◌*◌, ◌/◌, ◌%◌, ◌<◌, ◌≤◌, List, [], ◌∷◌, length, set, replicate}
+use Rattle.std.proofs.Common.{inl, inr, ◌∙◌, refl, arith, slice_index, All}
 use Rattle.board_prelude.proofs.Common.{concat, length-append, length-set, get_or_append_left, get_or-append_right}
 use Rattle.board_prelude.proofs.Common.{get_or_past, get_or-set_same, get_or-set_other, All-head, All-tail, cases_lt}
-use Rattle.board_prelude.proofs.Common.{cases_eq, lt-ltb, nat_tests, Width, One, bytes_of, wide}
-use Rattle.board_prelude.proofs.Common.{All-get_or}
+use Rattle.board_prelude.proofs.Common.{cases_eq, lt-ltb, nat_tests, Width, One, bytes_of, wide, All-get_or}
 use Rattle.std.proofs.Math.ListN.{get_or}
 use Rattle.std.proofs.lemmas.List.{get_or_read}
 use Rattle.std.proofs.lemmas.List.Elements.{All-set}

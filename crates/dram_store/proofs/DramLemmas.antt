@@ -1,10 +1,9 @@
 -- The DRAM after a history, and after one entry more.
 use Rattle.std.proofs.Common.{◌≡◌, ℕ, ◌+◌, ◌-◌, ◌<◌, ◌≤◌, ◌&&◌, List, [], ◌∷◌, length, Option, Some, None, ◌∙◌, refl}
 use Rattle.std.proofs.Common.{ap, arith, slice_index, nat_le, nat_lt, if◌then◌else◌, replicate, unwrap_or}
-use Rattle.board_prelude.proofs.Common.{option_or, length-replicate, get_or-replicate, nat_tests, Width, Dram, One}
-use Rattle.board_prelude.proofs.Common.{bytes_of, largest_of, Entry, Setup, installed, byte, wide, DramCell, stored_of}
-use Rattle.board_prelude.proofs.Common.{byte_put, entry_put, dram_byte}
-use Rattle.board_base.specs.declared.access.Width.TheVariants.{Two, Four}
+use Rattle.board_prelude.proofs.Common.{option_or, length-replicate, get_or-replicate, nat_tests, Width, Dram, bytes_of}
+use Rattle.board_prelude.proofs.Common.{largest_of, Entry, Setup, installed, byte, wide, DramCell, stored_of, byte_put}
+use Rattle.board_prelude.proofs.Common.{entry_put, dram_byte}
 use Rattle.dram_store.specs.Dram.{dram_at, IsDramOf, IsWritten}
 
 pub fresh : (setup : Setup) (dram : List ℕ) → dram ≡ replicate (installed setup) 0 → IsDramOf setup [] dram
@@ -79,16 +78,9 @@ at_stored setup history dram at is =
 pub read_stored :
     (setup : Setup) (history : List Entry) (dram : List ℕ) (addr : ℕ) (width : Width) → IsDramOf setup history dram →
     wide (λ at. dram_at dram at) addr width ≡ wide (λ at. dram_byte setup history at) addr width
-read_stored setup history dram addr One is = at_stored setup history dram addr is
-read_stored setup history dram addr Two is =
-    rw (at_stored setup history dram addr is, at_stored setup history dram (addr + 1) is) refl
-read_stored setup history dram addr Four is =
-    rw (
-      at_stored setup history dram addr is,
-      at_stored setup history dram (addr + 1) is,
-      at_stored setup history dram (addr + 2) is,
-      at_stored setup history dram (addr + 3) is,
-    ) refl
+read_stored setup history dram addr width is =
+    let each = λ (at : ℕ). at_stored setup history dram at is in
+    grind (arith, each addr, each (addr + 1), each (addr + 2), each (addr + 3))
 
 pub read_past :
     (dram : List ℕ) (addr : ℕ) (width : Width) → length dram ≤ addr →

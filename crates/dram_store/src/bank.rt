@@ -44,6 +44,7 @@ impl Model for Bank {
 
 impl Bank {
     /// A bank of zeros, with room for all its bytes. No later call takes memory.
+    #[tactic(auto, using(crate::proofs::BankLemmas::same_byte))]
     pub(crate) fn open(alloc: Global) -> Result<Bank, NoMemory>
         ensures size { IfOk result IsBank }
         ensures zeros { IfOk result IsZero }

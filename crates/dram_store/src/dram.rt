@@ -85,6 +85,7 @@ impl Dram {
 
 impl Dram {
     /// How many bytes are installed.
+    #[tactic(auto, using(crate::proofs::ConcatLemmas::banks_length))]
     pub fn size(&self) -> usize
         ensures size { result ≡ length self.now }
     {
@@ -93,6 +94,7 @@ impl Dram {
 
     /// The bytes of a MiB that are kept, from its first on: those after them are 0, and are not filled in for this.
     /// None past the installed memory.
+    #[tactic(auto, using(crate::proofs::ConcatLemmas::banks_length))]
     pub fn kept(&self, mib: usize) -> Option<&[u8]>
         ensures none { result ≡ None → length self.now ≤ mib * bank_size }
         ensures some { IfSome result (λ kept. (mib + 1) * bank_size ≤ length self.now) }

@@ -1,7 +1,6 @@
 use Rattle.std.proofs.Common.{◌≡◌, ◌*◌, length, arith}
 use Rattle.board_prelude.proofs.Common.{err_from_is_err_and}
-use Rattle.byte_fields.specs.Pages.{memory_page, memory_fields}
-use Rattle.dram_store.specs.Bank.{bank_size}
+use Rattle.byte_fields.specs.Pages.{memory_page}
 use Rattle.dram_store.proofs.StateFormats.{page_bad, kept_length, page_kept, page_skipped, pages_done}
 use Rattle.dram_store.proofs.bank.read_kept.Goals as goal
 use Rattle.dram_store.proofs.bank.read_kept.Goals.{in-Some, in_default}
@@ -9,14 +8,12 @@ use Rattle.dram_store.proofs.bank.read_kept.Goals.{in-Some, in_default}
 pub returns-in_err-bytes-clause-took : goal.returns-in_err-bytes-clause-took
 returns-in_err-bytes-clause-took c =
     let p = err_from_is_err_and c.from_residual.result c.from_residual.ensures.1 in
-    rw p.1 (page_bad c.loop-page.kept.items c.loop-page.fields c.loop-page.page
-    (memory_fields bank_size c.args.fields.now) c.loop-page.invariant.read (length c.page.new.self)
-    c.loop-page-test.true c.in_err-bytes.ensures.took)
+    rw p.1 (page_bad c.loop-page.kept.items _ c.loop-page.page _ c.loop-page.invariant.read _ c.loop-page-test.true
+    c.in_err-bytes.ensures.took)
 
 pub loop-page-preserved : goal.loop-page-preserved
 loop-page-preserved c =
     let kept = c.loop-page.kept.items in
-    let total = memory_fields bank_size c.args.fields.now in
     let so_far = c.loop-page.invariant in
     elim c.match-branch-2.branch [
       | in-Some w ↦
@@ -29,8 +26,8 @@ loop-page-preserved c =
           rw w.kept-is
           record {
             read =
-                page_kept kept c.loop-page.fields c.loop-page.page total so_far.read page c.page.new.self so_far.before
-                c.loop-page-test.true took w.put_page.new.kept.items size put.bytes;
+                page_kept kept _ c.loop-page.page _ so_far.read page _ so_far.before c.loop-page-test.true took _ size
+                put.bytes;
             before = omega arith;
             pages = omega arith;
             room = omega arith;
@@ -39,8 +36,8 @@ loop-page-preserved c =
           rw w.kept-is
           record {
             read =
-                page_skipped kept c.loop-page.fields c.loop-page.page total so_far.read c.page.new.self so_far.before
-                c.loop-page-test.true (rw w.in_default.is at c.in_ok-bytes.ensures.took);
+                page_skipped kept _ c.loop-page.page _ so_far.read _ so_far.before c.loop-page-test.true
+                (rw w.in_default.is at c.in_ok-bytes.ensures.took);
             before = omega arith;
             pages = so_far.pages;
             room = so_far.room;
@@ -49,5 +46,4 @@ loop-page-preserved c =
 
 pub returns-clause-took : goal.returns-clause-took
 returns-clause-took c =
-    pages_done c.loop-page.kept.items c.loop-page.fields c.loop-page.page (memory_fields bank_size c.args.fields.now)
-    c.loop-page.invariant.read (omega (arith, c.loop-page-test.false, c.loop-page.auto.page-end))
+    pages_done c.loop-page.kept.items _ c.loop-page.page _ c.loop-page.invariant.read (omega (arith, c.loop-page-test.false, c.loop-page.auto.page-end))

@@ -1,23 +1,15 @@
-use Rattle.std.proofs.Common.{◌++◌, [], sym}
-use Rattle.board_prelude.proofs.Common.{concat}
+use Rattle.std.proofs.Common.{[], sym}
 use Rattle.std.proofs.lemmas.List.{get_or_read}
-use Rattle.byte_fields.specs.Pages.{memory_bytes}
 use Rattle.dram_store.proofs.StateFormats.{bank_added, banks_added}
 use Rattle.dram_store.proofs.state.save_banks.Goals as goal
 
 pub loop-bank-preserved : goal.loop-bank-preserved
 loop-bank-preserved c =
-    bank_added c.args.banks.now c.loop-bank.bank-index c.bank-item.result c.loop-bank.into.items
-    c.save_state.new.into.items (c.args.into.now.items ++ memory_bytes (concat c.args.banks.now)) c.requires.each
-    c.loop-bank-test.true
-    (sym (get_or_read c.args.banks.now c.loop-bank.bank-index c.bank-item.result c.loop-bank-test.true c.bank-item.is
-    []))
-    c.loop-bank.invariant c.in_ok-save_state.ensures.saved
+    bank_added c.args.banks.now c.loop-bank.bank-index _ _ _ _ c.requires.each c.loop-bank-test.true
+    (sym (get_or_read c.args.banks.now _ _ c.loop-bank-test.true c.bank-item.is [])) c.loop-bank.invariant
+    c.in_ok-save_state.ensures.saved
 
 pub returns : goal.returns
 returns c = record {
-  saved =
-      banks_added c.args.banks.now c.loop-bank.bank-index c.loop-bank.into.items
-      (c.args.into.now.items ++ memory_bytes (concat c.args.banks.now)) c.loop-bank-test.false
-      c.loop-bank.invariant;
+  saved = banks_added c.args.banks.now c.loop-bank.bank-index _ _ c.loop-bank-test.false c.loop-bank.invariant;
 }

@@ -13,7 +13,6 @@ returns c =
     record {
       saved =
           rw (← c.self.view_is)
-          (bank_saved c.self.inside.kept.items c.args.into.now.items c.push_memory.new.into.items
-          c.push_bytes.new.into.items _ c.self.invariant.pages c.self.invariant.within
+          (bank_saved c.self.inside.kept.items _ _ _ _ c.self.invariant.pages c.self.invariant.within
           (rw c.deref.ensures.value at c.in_ok-push_memory.ensures.added) zeros c.in_ok-push_bytes.ensures.added);
     }

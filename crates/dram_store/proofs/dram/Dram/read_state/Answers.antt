@@ -1,7 +1,6 @@
 use Rattle.std.proofs.Common.{arith}
 use Rattle.board_prelude.proofs.Common.{err_from_is_err_and, All-push, length_push}
 use Rattle.dram_store.specs.Bank.{IsBank}
-use Rattle.dram_store.specs.State.{dram_fields}
 use Rattle.dram_store.proofs.StateFormats.{bank_failed, bank_read, banks_done}
 use Rattle.dram_store.proofs.dram.Dram.read_state.Goals as goal
 
@@ -11,9 +10,8 @@ returns-in_err-load_state c =
     record {
       filled =
           rw (p.1, p.2)
-          (bank_failed c.args.mib c.loop.counter c.loop.banks.items c.loop.fields
-          (dram_fields c.args.mib c.args.fields.now) c.loop.invariant.read _ c.load_state.new.fields c.loop-test.true
-          c.in_err-load_state.ensures.filled);
+          (bank_failed c.args.mib c.loop.counter c.loop.banks.items _ _ c.loop.invariant.read _ c.load_state.new.fields
+          c.loop-test.true c.in_err-load_state.ensures.filled);
     }
 
 pub loop-preserved : goal.loop-preserved
@@ -22,14 +20,13 @@ loop-preserved c =
     let bank = c.in_ok-load_state.field-0 in
     rw c.in_ok-push.ensures.items (record {
       read =
-          bank_read c.args.mib c.loop.counter banks c.loop.fields (dram_fields c.args.mib c.args.fields.now)
-          c.loop.invariant.read bank c.load_state.new.fields c.loop-test.true c.in_ok-load_state.ensures.filled;
+          bank_read c.args.mib c.loop.counter banks _ _ c.loop.invariant.read bank _ c.loop-test.true
+          c.in_ok-load_state.ensures.filled;
       count = omega (arith, length_push banks bank, c.loop.invariant.count);
       each = All-push IsBank banks bank c.loop.invariant.each c.in_ok-load_state.ensures.size;
     })
 
 pub returns : goal.returns
 returns c = record {
-  filled = banks_done c.args.mib c.loop.counter c.loop.banks.items c.loop.fields
-      (dram_fields c.args.mib c.args.fields.now) c.loop.invariant.read c.loop-test.false;
+  filled = banks_done c.args.mib c.loop.counter c.loop.banks.items _ _ c.loop.invariant.read c.loop-test.false;
 }
