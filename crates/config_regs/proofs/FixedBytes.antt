@@ -1,7 +1,6 @@
 -- A register that nothing changes holds after every history what a reset leaves.
-use Rattle.std.proofs.Common.{◌≡◌, ◌≢◌, ◌<◌, ℕ, lit<, List, [], ◌∷◌, ◌⊎◌, false, Option, Some, None, refl, inl, inr}
-use Rattle.std.proofs.Common.{arith}
-use Rattle.board_prelude.proofs.Common.{cases_lt, ne_eqb, Reg, Entry, MapChange, Store, Reset, Setup, bridge, isa}
+use Rattle.std.proofs.Common.{◌≡◌, ◌≢◌, ◌<◌, ℕ, lit<, List, [], ◌∷◌, false, Option, Some, None, refl, arith}
+use Rattle.board_prelude.proofs.Common.{nat_tests, ne_eqb, Reg, Entry, MapChange, Store, Reset, Setup, bridge, isa}
 use Rattle.board_prelude.proofs.Common.{smram, is_same, reset_byte, byte_with, register_change, byte_of}
 use Rattle.pmc_regs.specs.Pmc.{IsFixedOffset}
 use Rattle.pmc_regs.proofs.Common.{writable_bits-fixed, reset_byte-small}
@@ -54,16 +53,12 @@ pub has_fixed : (setup : Setup) (history : List Entry) → HasFixed setup (byte_
 has_fixed setup history = record { bridge_bytes = bridge_always setup history; isa_bytes = isa_always setup history }
 
 other_offset : (off at : ℕ) → Differs (bridge off) (bridge at) → off ≢ at
-other_offset off at (inl dev) same = dev refl
-other_offset off at (inr (inl fun)) same = fun refl
-other_offset off at (inr (inr apart)) same = apart same
+other_offset off at apart same = grind (arith, nat_tests)
 
 pub fixed_beside : (off : ℕ) → off < 256 → IsBeside off → IsFixedOffset off
 fixed_beside off small beside =
     let not_hole = other_offset off 0x68 (beside.singles 0 (lit< tt)) in
     let not_smram = other_offset off 0x72 (beside.singles 1 (lit< tt)) in
-    let around_smram : (off < 0x72) ⊎ (0x72 < off) =
-    elim (cases_lt off 0x72) [ inl low ↦ inl low | inr high ↦ inr (omega arith) ] in (
-      (small, beside.windows, around_smram),
-      elim beside.rows [ inl below ↦ inl below | inr above ↦ inr (omega arith) ],
-    )
+    let windows = beside.windows in
+    let rows = beside.rows in
+    grind arith

@@ -45,6 +45,7 @@ pub fn read_from(regs: &MapRegs, south: &South, register: &ConfigRegister, width
 }
 
 /// The byte at an offset of the function that has a register.
+#[tactic(auto, using(std::proofs::lemmas::Bool::Decides::nat_tests))]
 fn read_byte(regs: &MapRegs, south: &South, register: &ConfigRegister, off: u8) -> u8
     requires cards { AreFitted regs.now.cards.items }
     requires function { HasRegister regs.now.cards.items register.now.function register.now.reg }

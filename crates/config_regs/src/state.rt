@@ -13,6 +13,7 @@ use xbus_select::Ide;
 
 impl South {
     /// Adds the 7 bytes of the state: those of the routes, and those of the IDE function.
+    #[tactic(auto, using(std::proofs::lemmas::Bool::Decides::nat_tests))]
     pub fn save_state(&self, into: &mut Vec<u8>) -> Result<(), NoMemory>
         ensures saved { OnOk result (into.new.items ≡ into.old.items ++ south_bytes self.now) }
         ensures sound { OnOk result (IsSouth self.now) }

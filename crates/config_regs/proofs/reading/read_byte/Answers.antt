@@ -1,24 +1,5 @@
 use Rattle.config_regs.proofs.reading.read_byte.Goals as goal
 
-pub card_byte-requires-clause-place : goal.card_byte-requires-clause-place
-card_byte-requires-clause-place c =
-    let of = rw c.in-Card.is at c.requires.function in
-    rw c.deref.ensures.0 of.2
-
-pub returns-in-HostBridge : goal.returns-in-HostBridge
-returns-in-HostBridge c = record {
-  byte = λ setup bytes is has.
-      let of = rw c.in-HostBridge.is at c.requires.function in
-      rw (of.0, of.1) (c.bridge_byte.ensures.byte setup bytes is.map has);
-}
-
-pub returns-in-IsaBridge : goal.returns-in-IsaBridge
-returns-in-IsaBridge c = record {
-  byte = λ setup bytes is has.
-      let of = rw c.in-IsaBridge.is at c.requires.function in
-      rw (of.0, of.1) (c.isa_byte.ensures.byte setup bytes is has);
-}
-
 pub returns-in-Ide : goal.returns-in-Ide
 returns-in-Ide c = record {
   byte = λ setup bytes is has.

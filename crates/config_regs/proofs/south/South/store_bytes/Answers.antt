@@ -10,8 +10,7 @@ use Rattle.config_regs.proofs.south.South.store_bytes.Goals as goal
 pub loop-index-init : goal.loop-index-init
 loop-index-init c = record {
   stored = λ setup bytes is.
-      none_stored (λ (b : Bytes). IsSouthOf b c.args.self.now) setup bytes (piix_register c.args.fun c.args.off)
-      c.args.value is;
+      none_stored (λ (b : Bytes). IsSouthOf b c.args.self.now) setup bytes (piix_register c.args.fun c.args.off) _ is;
 }
 
 pub loop-index-preserved : goal.loop-index-preserved
@@ -21,14 +20,13 @@ loop-index-preserved c =
     c.to_le_bytes-bytes.ensures in
     record {
       stored = λ setup bytes is.
-          one_more_stored (λ (b : Bytes). IsSouthOf b c.write.new.self) setup bytes
-          (piix_register c.args.fun c.args.off) c.args.value c.loop-index.index _ this
+          one_more_stored (λ (b : Bytes). IsSouthOf b c.write.new.self) setup bytes _ _ _ _ this
           (c.write.ensures.written setup _ (c.loop-index.invariant.stored setup bytes is));
     }
 
 pub returns : goal.returns
 returns c = record {
   stored = λ setup bytes is.
-      all_so_far setup bytes (piix_register c.args.fun c.args.off) c.args.width c.args.value c.loop-index.index
-      c.loop-index.self (omega arith) (c.loop-index.invariant.stored setup bytes is);
+      all_so_far setup bytes (piix_register c.args.fun c.args.off) c.args.width c.args.value c.loop-index.index _
+      (omega arith) (c.loop-index.invariant.stored setup bytes is);
 }
