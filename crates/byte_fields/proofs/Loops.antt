@@ -27,8 +27,7 @@ front_joined front value (Err left) = refl
 -- a loop begins, goes on by one value, stops where one is bad, and ends
 
 pub begins : {A : Type 0} (read : Result (List A × List ℕ) ℕ) → with_front [] read ≡ read
-begins (Ok got) = refl
-begins (Err left) = refl
+begins read = grind arith
 
 pub goes_on :
     {S A : Type 0} (one : S → Reading A) (next : S → A → S) (many : S → ℕ → Reading (List A)) → IsLoop one next many →

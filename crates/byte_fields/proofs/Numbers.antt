@@ -122,8 +122,7 @@ flag_tells : Tells flag_of flag_byte
 flag_tells = row flag_byte 0 false refl (row flag_byte 1 true refl (no_row flag_byte))
 
 flag_said : (flag : Bool) → Any flag → (flag_byte flag < 2 ^ 8) × (flag_of (flag_byte flag) ≡ Some flag)
-flag_said false any = (omega arith, refl)
-flag_said true any = (omega arith, refl)
+flag_said flag any = grind arith
 
 pub flag_format : IsFormat 1 flag_field (λ flag. flag_byte flag ∷ []) Any
 flag_format = byte_format flag_byte Any flag_said (λ n flag below is. (flag_tells n flag is, tt))
@@ -131,8 +130,7 @@ flag_format = byte_format flag_byte Any flag_said (λ n flag below is. (flag_tel
 -- ---- numbers that are good
 
 pub where_ok : {A : Type 0} (good : Bool) (x y : A) → where_true good x ≡ Some y → (good ≡ true) × (x ≡ y)
-where_ok true x y is = (refl, some_is x y is)
-where_ok false x y is = absurd cc
+where_ok good x y is = grind arith
 
 abbrev IsGoodNumber : ℕ → (ℕ → Bool) → ℕ → Type 0
 IsGoodNumber limit is_good n = (n < limit) × (is_good n ≡ true)
@@ -198,8 +196,7 @@ flag_small : (flag : Bool) → flag_byte flag < 2 ^ 8
 flag_small flag = grind arith
 
 flag_is : (flag : Bool) → flag ≡ (flag_byte flag == 1)
-flag_is false = refl
-flag_is true = refl
+flag_is flag = grind arith
 
 pub flag_where_format : (allowed : Bool) →
     IsFormat 1 (flag_where allowed) (λ flag. flag_byte flag ∷ []) (λ flag. flag_byte flag ≤ flag_byte allowed)
@@ -214,8 +211,7 @@ flag_where_format allowed =
 optional_to : (low high : ℕ) (o : Option ℕ) → IsWithin low high o →
     Ranges (bound_where (is_some o) low) (bound_where (is_some o) high) (unwrap_or o 0)
     × (o ≡ some_where (is_some o) (unwrap_or o 0))
-optional_to low high None is = ((omega arith, omega arith), refl)
-optional_to low high (Some n) is = (is, refl)
+optional_to low high o is = grind arith
 
 some_from :
     (spelled : ℕ → List ℕ) (low high : ℕ) (there : Bool) (n : ℕ) →

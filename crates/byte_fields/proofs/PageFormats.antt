@@ -24,8 +24,7 @@ IsOther plain page = (length page ≡ length plain) × (bytes_eq page plain ≡ 
 
 other_is : (same : Bool) (front page : List ℕ) → cond same None (Some front) ≡ Some page →
     (same ≡ false) × (front ≡ page)
-other_is true front page is = absurd cc
-other_is false front page is = (refl, cc)
+other_is same front page is = grind arith
 
 other_format : (plain : List ℕ) → IsFormat (length plain) (other_than plain) (λ page. page) (IsOther plain)
 other_format plain =
