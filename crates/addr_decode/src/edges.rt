@@ -149,6 +149,7 @@ impl Nearest {
     }
 
     /// The ends of the memory bases and of the expansion ROM of this card.
+    #[tactic(auto, using(crate::proofs::EdgeSearchLemmas::in_two))]
     fn see_card(&mut self, card: &CardRegs)
         requires card { IsCard card.now.card }
         ensures nearest { self.new.edge ≡ nearest self.old.addr self.old.edge (ends_of_card card.now) }

@@ -141,6 +141,7 @@ impl MapRegs {
     }
 
     /// The name of the register `k` offsets after another. Past offset FFh there is none.
+    #[tactic(auto, using(crate::proofs::NameLemmas::none_past))]
     fn register_after(&self, reg: Reg, k: u8) -> Option<MapRegister>
         ensures named { result ≡ map_register (cards_of self.now.cards.items) (reg_after reg k) }
     {
