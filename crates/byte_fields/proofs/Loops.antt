@@ -1,5 +1,5 @@
 -- Reading one value after another, as a loop does.
-use Rattle.std.proofs.Common.{◌≡◌, ℕ, suc, ◌+◌, ◌-◌, ◌<◌, ◌≤◌, List, [], ◌∷◌, ◌++◌, Result, Ok, Err, refl, sym, ap, ◌∙◌}
+use Rattle.std.proofs.Common.{◌≡◌, ℕ, suc, ◌+◌, ◌-◌, ◌<◌, ◌≤◌, List, [], ◌∷◌, ◌++◌, Result, Ok, Err, sym, ◌∙◌}
 use Rattle.std.proofs.Common.{append_assoc, arith}
 use Rattle.std.proofs.lemmas.List.{append-nil}
 use Rattle.byte_fields.specs.Fields.{Reading, then_read, gives}
@@ -21,8 +21,7 @@ with_front front read = then_read read (λ later. gives (front ++ later))
 
 pub front_joined : {A : Type 0} (front : List A) (value : A) (read : Result (List A × List ℕ) ℕ) →
     with_front front (then_read read (λ values. gives (value ∷ values))) ≡ with_front (front ++ value ∷ []) read
-front_joined front value (Ok got) = ap (λ values. Ok (values, got.1)) (sym (append_assoc front (value ∷ []) got.0))
-front_joined front value (Err left) = refl
+front_joined front value read = grind (arith, append_assoc)
 
 -- a loop begins, goes on by one value, stops where one is bad, and ends
 

@@ -256,8 +256,7 @@ push_ends size done into plain bytes total same over so_far =
 
 pub joined : (front page : List ℕ) (read : Result (List ℕ × List ℕ) ℕ) →
     with_front front (then_read read (λ rest. gives (page ++ rest))) ≡ with_front (front ++ page) read
-joined front page (Ok got) = ap (λ (bytes : List ℕ). Ok (bytes, got.1)) (sym (append_assoc front page got.0))
-joined front page (Err left) = refl
+joined front page read = grind (arith, append_assoc)
 
 module _ (size done count : ℕ) (plain front bytes : List ℕ) (total : Result (List ℕ × List ℕ) ℕ) (some : 0 < size)
     (below : done < length plain) (is : count ≡ min size (length plain - done))
@@ -372,16 +371,10 @@ bytes_append size (suc count) plain more bytes later some whole same =
 abbrev pub then_more : Result (List ℕ × List ℕ) ℕ → Reading (List ℕ) → Result (List ℕ × List ℕ) ℕ
 then_more first more = then_read first (λ bytes. more >>= λ rest. gives (bytes ++ rest))
 
-regroup_last : (front bytes : List ℕ) (last : Result (List ℕ × List ℕ) ℕ) →
-    then_read (then_read last (λ rest. gives (bytes ++ rest))) (λ rest. gives (front ++ rest))
-    ≡ then_read last (λ rest. gives ((front ++ bytes) ++ rest))
-regroup_last front bytes (Ok got) = ap (λ (all : List ℕ). Ok (all, got.1)) (sym (append_assoc front bytes got.0))
-regroup_last front bytes (Err left) = refl
-
 regroup : (front : List ℕ) (first : Result (List ℕ × List ℕ) ℕ) (more : Reading (List ℕ)) →
     then_read (then_more first more) (λ rest. gives (front ++ rest))
     ≡ then_more (then_read first (λ rest. gives (front ++ rest))) more
-regroup front (Ok got) more = regroup_last front got.0 (more got.1)
+regroup front (Ok got) more = joined front got.0 (more got.1)
 regroup front (Err left) more = refl
 
 regroup_first : (first : Result (List ℕ × List ℕ) ℕ) (whole part more : Reading (List ℕ)) →
@@ -401,8 +394,7 @@ fields_append size zero plain more bytes some whole =
     rw (none, no_fields size bytes) (sym (no_front (pages_fields size more bytes)))
   where
     no_front : (read : Result (List ℕ × List ℕ) ℕ) → then_read read (λ rest. gives ([] ++ rest)) ≡ read
-    no_front (Ok got) = refl
-    no_front (Err left) = refl
+    no_front read = grind arith
 fields_append size (suc count) plain more bytes some whole =
     let fits : size ≤ length plain = omega (arith, suc-mul count size) in
     rw (
