@@ -115,7 +115,7 @@ pub stored_nowhere :
     ((off < 0x60) ⊎ (0x68 < off)) → IsPmcOf bytes pmc → IsPmcOf (after_store setup bytes off written) pmc
 stored_nowhere setup bytes pmc off written below outside is_pmc =
     record {
-      rows = λ at within. is_pmc.rows at within ∙ sym (elsewhere setup bytes off written (0x60 + at) (λ e. grind arith));
+      rows = λ at low. is_pmc.rows at low ∙ sym (elsewhere setup bytes off written (0x60 + at) (λ e. grind arith));
       hole = is_pmc.hole ∙ sym (elsewhere setup bytes off written 0x68 (λ e. grind arith));
       fixed = fixed_stay setup bytes off written below is_pmc.fixed;
     }

@@ -6,7 +6,8 @@ use Rattle.pci_bars.proofs.claims.bits_at.Goals as goal
 
 pub window_bits-requires : goal.window_bits-requires
 window_bits-requires c =
-    let fit = (found (λ card. IsCard card.card) c.args.cards.now _ _ c.requires.cards (sym c.in-Some.ensures.found)).0 in
+    let fit = (found (λ card. IsCard card.card) c.args.cards.now _ _ c.requires.cards
+    (sym c.in-Some.ensures.found)).0 in
     record { card = rw (← c.card.view_is) at fit }
 
 pub returns-in-Some-clause-bits : goal.returns-in-Some-clause-bits
