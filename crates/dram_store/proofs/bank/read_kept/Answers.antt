@@ -46,4 +46,5 @@ loop-page-preserved c =
 
 pub returns-clause-took : goal.returns-clause-took
 returns-clause-took c =
-    pages_done c.loop-page.kept.items _ c.loop-page.page _ c.loop-page.invariant.read (omega (arith, c.loop-page-test.false, c.loop-page.auto.page-end))
+    pages_done c.loop-page.kept.items _ c.loop-page.page _ c.loop-page.invariant.read
+    (omega (arith, c.loop-page-test.false, c.loop-page.auto.page-end))
