@@ -1,12 +1,10 @@
 -- A command moves exactly its count of sectors, or stops at the first that fails.
-use Rattle.std.proofs.Common.{◌≡◌, ◌≢◌, ℕ, zero, suc, ◌+◌, ◌*◌, ◌%◌, ◌<◌, ◌≤◌, ◌⊎◌, Bool, true, false, eqb, List, []}
-use Rattle.std.proofs.Common.{◌∷◌, ◌++◌, length, Some, Result, Ok, Err, inl, inr, refl, ap, subst, ◌∙◌, arith}
-use Rattle.std.proofs.Common.{length-set}
-use Rattle.device_spec.proofs.Common.{cond-true, cond-false, eq-eqb, ne_eqb, Medium, Activity, Reading, Writing, Drive}
-use Rattle.device_spec.proofs.Common.{Disk, sectors_of, sector_bytes, stored, named, left_of, readable, found}
-use Rattle.device_spec.proofs.Common.{reads_found, writes_found, finished, ended, begin_read, begin_write, sector_read}
-use Rattle.device_spec.proofs.Common.{sector_written, verified, counted_down, moved_to, word_of, word_read}
-use Rattle.device_spec.proofs.Common.{word_written, with_drive, nat_tests}
+use Rattle.std.proofs.Common.{◌≡◌, ◌≢◌, ℕ, zero, suc, ◌+◌, ◌*◌, ◌<◌, ◌≤◌, ◌⊎◌, Bool, true, false, eqb, List, [], ◌∷◌}
+use Rattle.std.proofs.Common.{◌++◌, length, Some, Result, Ok, Err, inl, inr, refl, ap, subst, ◌∙◌, arith, length-set}
+use Rattle.device_spec.proofs.Common.{cond-false, ne_eqb, Medium, Activity, Reading, Writing, Drive, Disk, sectors_of}
+use Rattle.device_spec.proofs.Common.{sector_bytes, stored, named, left_of, readable, found, reads_found, writes_found}
+use Rattle.device_spec.proofs.Common.{finished, ended, begin_read, begin_write, sector_read, sector_written, verified}
+use Rattle.device_spec.proofs.Common.{counted_down, moved_to, word_of, word_read, word_written, with_drive, nat_tests}
 use Rattle.ata_pio.specs.Ata.Laws.{IsWhole, IsChosen, words_read, after_words_read, after_words_written, sector_words}
 use Rattle.ata_pio.specs.Ata.Laws.{bytes_of_words, moved_on, AllReadable, MovesOn, words_of_sectors, reading_disk}
 use Rattle.ata_pio.specs.Ata.Laws.{ReadMovesItsSectors, VerifyLooksAtItsSectors, writing_disk, all_stored, AreSectors}
@@ -24,9 +22,6 @@ record IsNext (sector : ℕ) (before now : Drive) : Type 0 where
   names : named now.registers ≡ Some (sector + 1)
   left : left_of now.registers + 1 ≡ left_of before.registers
   chosen : IsChosen now
-
-one_less : (n m : ℕ) → m ≡ n % 256 → 0 < n % 256 → (m + 255) % 256 + 1 ≡ n % 256
-one_less n m e h = omega arith
 
 goes_on : (drive : Drive) (sector : ℕ) → IsChosen drive → 0 < left_of drive.registers → sector + 1 ≤ 65536 →
     IsNext sector drive (next sector drive)
@@ -55,21 +50,19 @@ later_readable m sector n h = λ k l.
     subst (λ s. readable m (Some s) ≡ Ok s) same (h (suc k) (omega arith))
 
 -- reads of the data port, one run after another
-words_read-add : (a b : ℕ) (disk : Disk) → words_read (a + b) disk ≡ words_read a disk ++ words_read b
-    (after_words_read a disk)
+reads_add : (a b : ℕ) (disk : Disk) →
+    (words_read (a + b) disk ≡ words_read a disk ++ words_read b (after_words_read a disk))
+    × (after_words_read (a + b) disk ≡ after_words_read b (after_words_read a disk))
 unfolding words_read after_words_read
-words_read-add zero b disk = let none : zero + b ≡ b = omega arith in ap (λ n. words_read n disk) none
-words_read-add (suc a) b disk =
+reads_add zero b disk =
+    let none : zero + b ≡ b = omega arith in
+    (ap (λ n. words_read n disk) none, ap (λ n. after_words_read n disk) none)
+reads_add (suc a) b disk =
     let next_is : suc a + b ≡ suc (a + b) = omega arith in
-    ap (λ n. words_read n disk) next_is ∙ ap (λ ws. word_of disk ∷ ws) (words_read-add a b (word_read disk))
-
-after_words_read-add : (a b : ℕ) (disk : Disk) →
-    after_words_read (a + b) disk ≡ after_words_read b (after_words_read a disk)
-unfolding after_words_read
-after_words_read-add zero b disk = let none : zero + b ≡ b = omega arith in ap (λ n. after_words_read n disk) none
-after_words_read-add (suc a) b disk =
-    let next_is : suc a + b ≡ suc (a + b) = omega arith in
-    ap (λ n. after_words_read n disk) next_is ∙ after_words_read-add a b (word_read disk)
+    let later = reads_add a b (word_read disk) in (
+      ap (λ n. words_read n disk) next_is ∙ ap (λ ws. word_of disk ∷ ws) later.0,
+      ap (λ n. after_words_read n disk) next_is ∙ later.1,
+    )
 
 -- a read looks at its sector whatever was under way
 reads_found-other : (x : Result ℕ ℕ) (d : Drive) (a : Activity) (q : Bool) →
@@ -105,7 +98,7 @@ sector_read-more m sector d h =
 sector_read-last : (m : Medium) (sector : ℕ) (d : Drive) → left_of d.registers ≡ 0 →
     sector_read m sector (reading sector d) ≡ finished (counted_down d)
 unfolding sector_read
-sector_read-last m sector d h = cond-true (eqb (left_of d.registers) 0) _ _ (eq-eqb (left_of d.registers) 0 h)
+sector_read-last m sector d h = grind (arith, nat_tests)
 
 -- one whole sector of a read
 sector_passes : (disk : Disk) (sector : ℕ) (d : Drive) → IsChosen d → named d.registers ≡ Some sector →
@@ -121,62 +114,51 @@ sector_passes disk sector d h e r =
 times : (n : ℕ) → suc n * 256 ≡ 256 + n * 256
 times n = omega arith
 
-reads_words : (n : ℕ) (disk : Disk) (sector : ℕ) (d : Drive) → IsChosen d → named d.registers ≡ Some sector →
+reads : (n : ℕ) (disk : Disk) (sector : ℕ) (d : Drive) → IsChosen d → named d.registers ≡ Some sector →
     n ≤ left_of d.registers → sector + n ≤ 65536 → AllReadable disk.medium sector n
-    → words_read (n * 256) (reading_disk disk d) ≡ words_of_sectors disk.medium sector n
-unfolding words_read
-reads_words zero disk sector d h e n l r = refl
-reads_words (suc n) disk sector d h e more l r =
-    let one = first_readable disk.medium sector n r in
-    let passes = sector_passes disk sector d h e one in
+    → (words_read (n * 256) (reading_disk disk d) ≡ words_of_sectors disk.medium sector n)
+    × (after_words_read (n * 256) (reading_disk disk d) ≡ reading_disk disk (moved_on sector n d))
+unfolding words_read after_words_read moved_on
+reads zero disk sector d h e n l r = (refl, refl)
+reads (suc n) disk sector d h e more l r =
+    let passes = sector_passes disk sector d h e (first_readable disk.medium sector n r) in
     let first = goes_on d sector h (omega arith) (omega arith) in
     let fits : n ≤ left_of (next sector d).registers = omega (arith, first.left) in
     let after : after_words_read 256 (reading_disk disk d) ≡ reading_disk disk (next sector d) =
     passes.1 ∙ ap (with_drive disk) (sector_read-more disk.medium sector d (omega arith)) in
-    ap (λ k. words_read k (reading_disk disk d)) (times n)
-    ∙ words_read-add 256 (n * 256) (reading_disk disk d)
-    ∙ ap (λ ws. ws ++ words_read (n * 256) (after_words_read 256 (reading_disk disk d))) passes.0
-    ∙ ap (λ (x : Disk). sector_words disk.medium sector 0 256 ++ words_read (n * 256) x) after
-    ∙ ap (λ ws. sector_words disk.medium sector 0 256 ++ ws)
-    (reads_words n disk (sector + 1) (next sector d) first.chosen first.names fits (omega arith)
-    (later_readable disk.medium sector n r))
-
-reads_on : (n : ℕ) (disk : Disk) (sector : ℕ) (d : Drive) → IsChosen d → named d.registers ≡ Some sector →
-    n ≤ left_of d.registers → sector + n ≤ 65536 → AllReadable disk.medium sector n
-    → after_words_read (n * 256) (reading_disk disk d) ≡ reading_disk disk (moved_on sector n d)
-unfolding after_words_read moved_on
-reads_on zero disk sector d h e n l r = refl
-reads_on (suc n) disk sector d h e more l r =
-    let one = first_readable disk.medium sector n r in
-    let passes = sector_passes disk sector d h e one in
-    let first = goes_on d sector h (omega arith) (omega arith) in
-    let fits : n ≤ left_of (next sector d).registers = omega (arith, first.left) in
-    ap (λ k. after_words_read k (reading_disk disk d)) (times n)
-    ∙ after_words_read-add 256 (n * 256) (reading_disk disk d)
-    ∙ ap (after_words_read (n * 256))
-    (passes.1 ∙ ap (with_drive disk) (sector_read-more disk.medium sector d (omega arith)))
-    ∙ reads_on n disk (sector + 1) (next sector d) first.chosen first.names fits (omega arith)
-    (later_readable disk.medium sector n r)
+    let parts = reads_add 256 (n * 256) (reading_disk disk d) in
+    let later =
+    reads n disk (sector + 1) (next sector d) first.chosen first.names fits (omega arith)
+    (later_readable disk.medium sector n r) in (
+      ap (λ k. words_read k (reading_disk disk d)) (times n)
+          ∙ parts.0
+          ∙ ap (λ ws. ws ++ words_read (n * 256) (after_words_read 256 (reading_disk disk d))) passes.0
+          ∙ ap (λ (x : Disk). sector_words disk.medium sector 0 256 ++ words_read (n * 256) x) after
+          ∙ ap (λ ws. sector_words disk.medium sector 0 256 ++ ws) later.0,
+      ap (λ k. after_words_read k (reading_disk disk d)) (times n) ∙ parts.1
+          ∙ ap (after_words_read (n * 256)) after
+          ∙ later.1,
+    )
 
 times_end : (n : ℕ) → suc n * 256 ≡ n * 256 + 256
 times_end n = omega arith
 
 pub read_moves_its_sectors : ReadMovesItsSectors
 read_moves_its_sectors disk sector n h e more l r =
-    let on = reads_on n disk sector disk.drive h e more l r in
+    let on = reads n disk sector disk.drive h e more l r in
     let d = moved_on sector n disk.drive in
     let stands = moves_on disk.drive sector n h e more l in
     record {
-      words = reads_words n disk sector disk.drive h e more l r;
-      rest = on;
+      words = on.0;
+      rest = on.1;
       fails = λ error bad.
-          on ∙ ap (with_drive disk) (begin_read-is disk.medium d (Err error)
+          on.1 ∙ ap (with_drive disk) (begin_read-is disk.medium d (Err error)
           (ap (readable disk.medium) stands.names ∙ bad));
       ends = λ good last.
           let none : left_of d.registers ≡ 0 = omega (arith, stands.left) in
           ap (λ k. after_words_read k (reading_disk disk disk.drive)) (times_end n)
-          ∙ after_words_read-add (n * 256) 256 (reading_disk disk disk.drive)
-          ∙ ap (after_words_read 256) on
+          ∙ (reads_add (n * 256) 256 (reading_disk disk disk.drive)).1
+          ∙ ap (after_words_read 256) on.1
           ∙ (sector_passes disk (sector + n) d stands.chosen stands.names good).1
           ∙ ap (with_drive disk) (sector_read-last disk.medium (sector + n) d none);
     }
@@ -240,7 +222,7 @@ sector_written-more m sector q d h =
 sector_written-last : (m : Medium) (sector : ℕ) (q : Bool) (d : Drive) → left_of d.registers ≡ 0 →
     sector_written m sector (ended (writing sector q d)) ≡ finished (counted_down d)
 unfolding sector_written
-sector_written-last m sector q d h = cond-true (eqb (left_of d.registers) 0) _ _ (eq-eqb (left_of d.registers) 0 h)
+sector_written-last m sector q d h = grind (arith, nat_tests)
 
 -- one whole sector of a write
 sector_comes : (m : Medium) (sector : ℕ) (q : Bool) (d : Drive) (words : List ℕ) → IsChosen d →

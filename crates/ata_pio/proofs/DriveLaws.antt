@@ -1,30 +1,11 @@
 -- What is under way stays one of the disk's sectors.
-use Rattle.std.proofs.Common.{arith, ◌≡◌, ℕ, zero, suc, ◌+◌, ◌<◌, Bool, cond, eqb, ◌||◌, Option, Result, Ok, Err, refl}
-use Rattle.std.proofs.Common.{sym, subst}
-use Rattle.device_spec.proofs.Common.{is_bit, Medium, Activity, Ready, Failed, Drive, sectors_of, is_drq, named, found}
-use Rattle.device_spec.proofs.Common.{readable, counted_down, moved_to, reads_found, writes_found, begin_read}
-use Rattle.device_spec.proofs.Common.{begin_write, sector_read, sector_written, verified, obeyed, commanded}
-use Rattle.device_spec.proofs.Common.{after_activity_word, after_word, register_written, control_written, nat_tests}
+use Rattle.std.proofs.Common.{arith, ◌≡◌, ℕ, zero, suc, ◌+◌, Bool, cond, eqb, Result, Ok, Err, refl, sym, subst}
+use Rattle.device_spec.proofs.Common.{is_bit, Medium, Activity, Ready, Failed, Drive, sectors_of, is_drq, named}
+use Rattle.device_spec.proofs.Common.{readable, counted_down, moved_to, begin_read, begin_write, sector_read}
+use Rattle.device_spec.proofs.Common.{sector_written, verified, obeyed, commanded, after_activity_word, after_word}
+use Rattle.device_spec.proofs.Common.{register_written, control_written, nat_tests}
 use Rattle.ata_pio.specs.Ata.Laws.{IsUnderWay}
 use Rattle.ata_pio.proofs.Verifies.{verified-fails, verified-end, verified-next}
-
--- a result that is a sector of the disk, or an error
-abbrev IsThere : ℕ → Result ℕ ℕ → Type 0
-IsThere n (Ok sector) = sector < n
-IsThere n (Err error) = Unit {0}
-
-found-there : (m : Medium) (o : Option ℕ) → IsThere (sectors_of m) (found m o)
-found-there m o = grind (arith, nat_tests)
-
-readable-there : (m : Medium) (o : Option ℕ) → IsThere (sectors_of m) (readable m o)
-readable-there m o = grind (arith, nat_tests)
-
-reads_found-under_way : (n : ℕ) (x : Result ℕ ℕ) (d : Drive) → IsThere n x → IsUnderWay n (reads_found x d).activity
-reads_found-under_way n x d h = grind (arith, nat_tests)
-
-writes_found-under_way : (n : ℕ) (x : Result ℕ ℕ) (q : Bool) (d : Drive) → IsThere n x →
-    IsUnderWay n (writes_found x q d).activity
-writes_found-under_way n x q d h = grind (arith, nat_tests)
 
 begin_read-under_way : (m : Medium) (d : Drive) → IsUnderWay (sectors_of m) (begin_read m d).activity
 unfolding begin_read
@@ -85,7 +66,7 @@ commanded-under_way m code d h = grind (arith, nat_tests, obeyed-under_way)
 pub register_written-under_way : (n port byte : ℕ) (d : Drive) → IsUnderWay n d.activity →
     IsUnderWay n (register_written port byte d).activity
 unfolding register_written
-register_written-under_way n port byte d h = either n (d.registers.srst || is_drq d) _ _ h h
+register_written-under_way n port byte d h = grind (arith, nat_tests)
 
 pub control_written-under_way : (n byte : ℕ) (d : Drive) → IsUnderWay n d.activity →
     IsUnderWay n (control_written byte d).activity

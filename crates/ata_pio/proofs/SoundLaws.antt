@@ -20,26 +20,14 @@ same_medium : (disk : Disk) (d : Drive) → IsSound disk → IsUnderWay (sectors
     Keeps disk (with_drive disk d)
 same_medium disk d h u = (record { whole = h.whole; under_way = u }, refl)
 
-either_keeps : (before : Disk) (b : Bool) (x y : Disk) → Keeps before x → Keeps before y → Keeps before (cond b x y)
-either_keeps before b x y p q = grind (arith, nat_tests)
+cond_keeps : (before : Disk) (b : Bool) (x y : Disk) → Keeps before x → Keeps before y → Keeps before (cond b x y)
+cond_keeps before b x y p q = grind (arith, nat_tests)
 
 -- a sector that has all its bytes is stored
 bytes_written-keeps : (disk : Disk) (s : ℕ) (bytes : List ℕ) → IsSound disk → s < sectors_of disk.medium →
     Keeps disk (bytes_written s bytes disk)
 bytes_written-keeps disk s bytes h l =
-    grind (
-      arith,
-      nat_tests,
-      cases_Bool,
-      eqb,
-      length-set,
-      sector_written-under_way,
-      stored-whole,
-      eqb-true,
-      cond-true,
-      same_medium,
-      cond-false,
-    )
+    grind (arith, nat_tests, eqb, length-set, sector_written-under_way, stored-whole, eqb-true)
 
 activity_written-keeps : (a : Activity) (word : ℕ) (disk : Disk) → IsSound disk →
     IsUnderWay (sectors_of disk.medium) a → Keeps disk (activity_written a word disk)
@@ -48,7 +36,7 @@ activity_written-keeps _ word disk h u = (h, refl)
 
 word_written-keeps : (word : ℕ) (disk : Disk) → IsSound disk → Keeps disk (word_written word disk)
 unfolding word_written
-word_written-keeps word disk h = search (rules, either_keeps, activity_written-keeps)
+word_written-keeps word disk h = search (rules, cond_keeps, activity_written-keeps)
 
 pub word_written-sound : (word : ℕ) (disk : Disk) → IsSound disk → IsSound (word_written word disk)
 word_written-sound word disk h = (word_written-keeps word disk h).0
@@ -58,31 +46,21 @@ word_read-keeps disk h = grind (arith, nat_tests, same_medium, after_word-under_
 
 byte_written-keeps : (port byte : ℕ) (disk : Disk) → IsSound disk → Keeps disk (byte_written port byte disk)
 byte_written-keeps port byte disk h =
-    search (
-      rules,
-      either_keeps,
-      eqb,
-      same_medium,
-      commanded-under_way,
-      control_written-under_way,
-      register_written-under_way,
-    )
-
-then_keeps : (a b c : Disk) → Keeps a b → Keeps b c → Keeps a c
-then_keeps a b c p q = (q.0, q.1 ∙ p.1)
+    search (rules, cond_keeps, same_medium, commanded-under_way, control_written-under_way, register_written-under_way)
 
 step_keeps : (access : Access) (disk : Disk) → IsSound disk → Keeps disk (stepped access disk)
 step_keeps (Read port One) disk h = grind (arith, nat_tests)
 step_keeps (Read port Two) disk h = word_read-keeps disk h
 step_keeps (Read port Four) disk h =
     let first = word_read-keeps disk h in
-    then_keeps disk (word_read disk) _ first (word_read-keeps (word_read disk) first.0)
+    let second = word_read-keeps (word_read disk) first.0 in
+    (second.0, second.1 ∙ first.1)
 step_keeps (Write port One value) disk h = byte_written-keeps port (value % 256) disk h
 step_keeps (Write port Two value) disk h = word_written-keeps (value % 65536) disk h
 step_keeps (Write port Four value) disk h =
     let first = word_written-keeps (value % 65536) disk h in
-    then_keeps disk (word_written (value % 65536) disk) _ first
-    (word_written-keeps (value / 65536) (word_written (value % 65536) disk) first.0)
+    let second = word_written-keeps (value / 65536) (word_written (value % 65536) disk) first.0 in
+    (second.0, second.1 ∙ first.1)
 step_keeps (Spoil s) disk h = grind (arith, nat_tests, length-set)
 step_keeps Restart disk h = same_medium disk _ h tt
 

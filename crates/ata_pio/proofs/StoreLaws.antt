@@ -1,6 +1,6 @@
 -- A sector that is stored, and the other ones.
-use Rattle.std.proofs.Common.{◌≡◌, ◌≢◌, ℕ, ◌+◌, ◌-◌, ◌*◌, ◌<◌, ◌≤◌, List, ◌++◌, length, take, drop, get_or, inl, inr}
-use Rattle.std.proofs.Common.{ap, sym, ◌∙◌, arith, length-set, get_or-take, get_or-drop}
+use Rattle.std.proofs.Common.{◌≡◌, ◌≢◌, ℕ, ◌+◌, ◌-◌, ◌*◌, ◌<◌, ◌≤◌, List, ◌++◌, length, take, drop, get_or, ap, sym}
+use Rattle.std.proofs.Common.{◌∙◌, arith, length-set, get_or-take, get_or-drop}
 use Rattle.device_spec.proofs.Common.{cases_lt, drop-drop, Medium, sectors_of, sector_bytes, stored, word_at, nat_tests}
 use Rattle.std.proofs.lemmas.Slice.{take-put_mid_below, drop-put_mid, between-put_mid, between_is}
 use borrow.Rule.Slice.PartMut.{put_mid}
@@ -44,10 +44,7 @@ below m s t ys h l =
 
 pub stored-other : (m : Medium) (s t : ℕ) (ys : List ℕ) → IsWhole m → s < sectors_of m → length ys ≡ 512 → s ≢ t →
     sector_bytes (stored m s ys) t ≡ sector_bytes m t
-stored-other m s t ys w h e ne = elim (cases_lt s t) [
-  | inl l ↦ above m s t ys (room m s w h) e l
-  | inr g ↦ below m s t ys (room m s w h) (omega arith)
-]
+stored-other m s t ys w h e ne = grind (arith, nat_tests, cases_lt, above, below, room)
 
 pub stored-whole : (m : Medium) (s : ℕ) (ys : List ℕ) → IsWhole m → s < sectors_of m → length ys ≡ 512 →
     IsWhole (stored m s ys)

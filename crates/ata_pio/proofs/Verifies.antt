@@ -1,18 +1,15 @@
 -- One turn of verify: it fails, it was the last sector, or it goes on.
-use Rattle.std.proofs.Common.{◌≡◌, ◌≢◌, ℕ, suc, ◌+◌, ◌%◌, cond, Bool, Ok, Err, refl, ap, sym, ◌∙◌, arith}
-use Rattle.device_spec.proofs.Common.{Medium, Registers, Drive, is_lba, named, naming, counted, left_of, readable}
-use Rattle.device_spec.proofs.Common.{failed, finished, counted_down, moved_to, verified, nat_tests}
+use Rattle.std.proofs.Common.{◌≡◌, ◌≢◌, ℕ, suc, ◌+◌, ◌%◌, Ok, Err, refl, ap, sym, ◌∙◌, arith}
+use Rattle.device_spec.proofs.Common.{Medium, Registers, Drive, named, naming, counted, left_of, readable, failed}
+use Rattle.device_spec.proofs.Common.{finished, counted_down, moved_to, verified, nat_tests}
 
 -- the sectors that are left, but for the next
 more_left : (n : ℕ) → n % 256 ≢ 0 → n % 256 ≡ suc ((n % 256 + 255) % 256)
 more_left n h = omega arith
 
-cond-count : (b : Bool) (x y : Registers) (n : ℕ) → x.count ≡ n → y.count ≡ n → (cond b x y).count ≡ n
-cond-count b x y n e f = grind (arith, nat_tests)
-
 -- a sector that is written back keeps the count
 pub naming-count : (r : Registers) (s : ℕ) → (naming r s).count ≡ r.count
-naming-count r s = cond-count (is_lba r) _ _ r.count refl refl
+naming-count r s = grind (arith, nat_tests)
 
 pub verified-fails : (m : Medium) (left e : ℕ) (d : Drive) → readable m (named d.registers) ≡ Err e →
     verified m left d ≡ failed e d

@@ -22,9 +22,6 @@ disk_acting disk a = record disk { drive = acting disk.drive a }
 drq-reading : (d : Drive) (s w : ℕ) → IsChosen d → is_drq (acting d (Reading s w)) ≡ true
 drq-reading d s w h = rw (h.drive_zero, h.free) refl
 
-drq-writing : (d : Drive) (s : ℕ) (bytes : List ℕ) → IsChosen d → is_drq (acting d (Writing s bytes)) ≡ true
-drq-writing d s bytes h = rw (h.drive_zero, h.free) refl
-
 -- what was under way shows nowhere in what follows a sector that was read
 found-acting : (x : Result ℕ ℕ) (d : Drive) (a : Activity) → reads_found x (acting d a) ≡ reads_found x d
 found-acting x d a = grind (arith, nat_tests)
@@ -42,7 +39,7 @@ sector_read-acting m s d a =
 -- one word of a sector that is read
 word_of-reading : (disk : Disk) (s w : ℕ) → IsChosen disk.drive →
     word_of (disk_acting disk (Reading s w)) ≡ word_at disk.medium s w
-word_of-reading disk s w h = cond-true (is_drq (acting disk.drive (Reading s w))) _ _ (drq-reading disk.drive s w h)
+word_of-reading disk s w h = grind (arith, nat_tests, drq-reading)
 
 word_read-more : (disk : Disk) (s w : ℕ) → IsChosen disk.drive → w ≢ 255 →
     word_read (disk_acting disk (Reading s w)) ≡ disk_acting disk (Reading s (w + 1))
@@ -55,30 +52,28 @@ unfolding after_word
 word_read-last disk s w h e = grind (arith, nat_tests, cond-true, drq-reading, eqb, eq-eqb, sector_read-acting)
 
 -- the rest of a sector that is read, from a word on
-words_rest : (n : ℕ) (disk : Disk) (s w : ℕ) → IsChosen disk.drive → w + n ≡ 255 →
-    words_read (suc n) (disk_acting disk (Reading s w)) ≡ sector_words disk.medium s w (suc n)
-unfolding words_read sector_words
-words_rest zero disk s w h e = ap (λ x. x ∷ []) (word_of-reading disk s w h)
-words_rest (suc n) disk s w h e =
+rest_is_read : (n : ℕ) (disk : Disk) (s w : ℕ) → IsChosen disk.drive → w + n ≡ 255 →
+    (words_read (suc n) (disk_acting disk (Reading s w)) ≡ sector_words disk.medium s w (suc n))
+    × (after_words_read (suc n) (disk_acting disk (Reading s w))
+    ≡ with_drive disk (sector_read disk.medium s disk.drive))
+unfolding words_read after_words_read sector_words
+rest_is_read zero disk s w h e =
+    (ap (λ x. x ∷ []) (word_of-reading disk s w h), word_read-last disk s w h (omega arith))
+rest_is_read (suc n) disk s w h e =
     let next : w + 1 ≡ suc w = omega arith in
-    ap (λ x. x ∷ words_read (suc n) (word_read (disk_acting disk (Reading s w)))) (word_of-reading disk s w h)
-    ∙ ap (λ (x : Disk). word_at disk.medium s w ∷ words_read (suc n) x) (word_read-more disk s w h (omega arith)
-    ∙ ap (λ v. disk_acting disk (Reading s v)) next)
-    ∙ ap (λ xs. word_at disk.medium s w ∷ xs) (words_rest n disk s (suc w) h (omega arith))
-
-after_rest : (n : ℕ) (disk : Disk) (s w : ℕ) → IsChosen disk.drive → w + n ≡ 255
-    → after_words_read (suc n) (disk_acting disk (Reading s w)) ≡ with_drive disk (sector_read disk.medium s disk.drive)
-unfolding after_words_read
-after_rest zero disk s w h e = word_read-last disk s w h (omega arith)
-after_rest (suc n) disk s w h e =
-    ap (after_words_read (suc n)) (word_read-more disk s w h (omega arith))
-    ∙ after_rest n disk s (w + 1) h (omega arith)
+    let more = word_read-more disk s w h (omega arith) ∙ ap (λ v. disk_acting disk (Reading s v)) next in
+    let later = rest_is_read n disk s (suc w) h (omega arith) in (
+      ap (λ x. x ∷ words_read (suc n) (word_read (disk_acting disk (Reading s w)))) (word_of-reading disk s w h)
+          ∙ ap (λ (x : Disk). word_at disk.medium s w ∷ words_read (suc n) x) more
+          ∙ ap (λ xs. word_at disk.medium s w ∷ xs) later.0,
+      ap (after_words_read (suc n)) more ∙ later.1,
+    )
 
 pub sector_is_read : SectorIsRead
 sector_is_read disk s h e =
     record {
-      words = ap (λ a. words_read 256 (disk_acting disk a)) e ∙ words_rest 255 disk s 0 h refl;
-      rest = ap (λ a. after_words_read 256 (disk_acting disk a)) e ∙ after_rest 255 disk s 0 h refl;
+      words = ap (λ a. words_read 256 (disk_acting disk a)) e ∙ (rest_is_read 255 disk s 0 h refl).0;
+      rest = ap (λ a. after_words_read 256 (disk_acting disk a)) e ∙ (rest_is_read 255 disk s 0 h refl).1;
     }
 
 -- one word of a sector that is written
