@@ -1,10 +1,9 @@
 -- The registers of the 82371SB that cannot be written, in the table of registers.
-use Rattle.std.proofs.Common.{◌≡◌, ◌≢◌, ℕ, ◌-◌, ◌<◌, ◌≤◌, List, [], ◌∷◌, false, None, ◌∙◌, ap, sym, refl, subst, arith}
-use Rattle.std.proofs.Common.{inl, inr, slice_index}
-use Rattle.board_prelude.proofs.Common.{cases_lt, cases_eq, cases_Bool, cond-true, cond-false, nat_tests, get_or_past}
-use Rattle.board_prelude.proofs.Common.{Width, Reg, Store, Setup, is_within, byte, merged, isa_bridge, ide_function}
-use Rattle.board_prelude.proofs.Common.{reset_byte, writable_bits, isa, ide, smram, is_same, covers, byte_after}
-use Rattle.board_prelude.proofs.Common.{changed_byte, merged-none, Each, each_below}
+use Rattle.std.proofs.Common.{◌≡◌, ◌≢◌, ℕ, ◌-◌, ◌<◌, ◌≤◌, List, [], ◌∷◌, false, None, sym, refl, subst, arith, inl, inr}
+use Rattle.std.proofs.Common.{slice_index}
+use Rattle.board_prelude.proofs.Common.{cases_lt, cases_eq, cases_Bool, nat_tests, get_or_past, Width, Reg, Store}
+use Rattle.board_prelude.proofs.Common.{Setup, is_within, byte, isa_bridge, ide_function, reset_byte, writable_bits}
+use Rattle.board_prelude.proofs.Common.{isa, ide, smram, is_same, changed_byte, merged-none, Each, each_below}
 use Rattle.board_prelude.proofs.Common.{common_steps}
 
 -- a register has this byte at all times

@@ -5,7 +5,6 @@ use Rattle.board_prelude.proofs.Common.{writable_bits, changed_byte, Bytes, ide,
 use Rattle.board_prelude.proofs.Common.{merged-all, changed_byte-one_same, changed_byte-one_other}
 use Rattle.xbus_select.specs.Ide.{IdeBytes, IsIdeFixed, IsIdeOf}
 use Rattle.xbus_select.proofs.FixedLemmas.{IsFixedAt, ide_header, ide_fixed, kept_byte, bare}
-use Rattle.board_prelude.proofs.Common.{common_steps}
 
 fixed_at : (setup : Setup) (off : ℕ) → IsIdeFixed off → IsFixedAt setup (ide off) (slice_index ide_header off)
 fixed_at setup off is_fixed =

@@ -6,13 +6,12 @@ use Rattle.board_prelude.proofs.Common.{cases_Bool, cond-true, cond-false, false
 use Rattle.board_prelude.proofs.Common.{Keyboard, Ata, Target, Device, Denial, Register, bytes_of, is_port_of}
 use Rattle.board_prelude.proofs.Common.{device_at, Setup, is_bit, Bytes, Window, io_claim, xbcs as select_register}
 use Rattle.board_prelude.proofs.Common.{ide_command, idetim, idetim_high, device, nobody, card_port, unselected}
-use Rattle.board_prelude.proofs.Common.{device_port, is_config_port, port_target_of}
+use Rattle.board_prelude.proofs.Common.{device_port, is_config_port, port_target_of, common_steps}
 use Rattle.board_base.specs.declared.target.Dev.TheVariants.{Clock}
 use Rattle.device_spec.specs.Common.{PortsApart, ConfigApart}
 use Rattle.xbus_select.specs.Ide.{is_ide_decoded}
 use Rattle.xbus_select.specs.Piix.{is_keyboard_port, is_clock_port, is_disk_port, is_selected}
 use Rattle.xbus_select.specs.PortSelects.{KeyboardAnswers, ClockAnswers, DiskAnswers}
-use Rattle.board_prelude.proofs.Common.{common_steps}
 
 -- ---- a device is no card and not nobody
 
