@@ -16,14 +16,10 @@ latches-stay test inputs =
     levels_where-same _ test (λ level small. rw (has-levels_where test level small)
     (no-edge (test level) (has inputs level)))
 
-set-already : (level two : ℕ) (latches : Levels) → (eqb level two || (eqb level two || has latches level))
-    ≡ (eqb level two || has latches level)
-set-already level two latches = elim (cases_Bool (eqb level two)) [ inl e ↦ rw e refl | inr e ↦ rw e refl ]
-
 set-again : (latches : Levels) (two : ℕ) → with_level (with_level latches two) two ≡ with_level latches two
 set-again latches two =
     levels_where-same _ _ (λ level small. rw (has-levels_where (λ l. eqb l two || has latches l) level small)
-    (set-already level two latches))
+    (grind arith))
 
 pub inputs-again : (chip : Chip) (inputs triggers : Levels) →
     chip_after_inputs (chip_after_inputs chip inputs triggers) inputs triggers ≡ chip_after_inputs chip inputs triggers

@@ -7,6 +7,7 @@ ghost use Rattle.device_spec.specs.RoutingLaws.{ReservedLinesRest};
 // The ports
 
 /// No two devices take the same access, and none one at the ports of configuration data.
+#[tactic(auto, using(crate::proofs::PortLaws::ports_apart, crate::proofs::PortLaws::config_apart))]
 pub fn ports_are_apart()
     ensures devices { PortsApart }
     ensures config { ConfigApart }
