@@ -1,6 +1,6 @@
 -- A setup is spelled and read back.
-use Rattle.std.proofs.Common.{◌≡◌, ℕ, ◌^◌, ◌<◌, ◌≤◌, inl, inr, true, List, length}
-use Rattle.std.proofs.Common.{Option, Some, None, refl, sym, ◌∙◌, arith, ◌==◌}
+use Rattle.std.proofs.Common.{◌≡◌, ℕ, ◌^◌, ◌<◌, ◌≤◌, inl, inr, true, List, length, Option, Some, None, refl, sym, ◌∙◌}
+use Rattle.std.proofs.Common.{arith, ◌==◌}
 use Rattle.board_prelude.proofs.Common.{cases_Bool, eqb-true, nat_tests, nil_from_length, IsSetup, IsRomSize}
 use Rattle.board_prelude.proofs.Common.{is_rom_size, IsDisk, most_card_memory}
 use Rattle.board_prelude.specs.Common.{most_mib}
@@ -83,14 +83,6 @@ setup_format =
       refl,
     ))
     (λ t.
-    let cards = t.2.2.1 in (
-      record {
-        some_memory = t.1.0;
-        most_memory = t.1.1;
-        cards = record { count = rw cards.0 t.2.1.1; each = cards.1; rises = cards.2 };
-        windows = cards.3;
-        rom = t.2.2.2.1;
-        disk = t.2.2.2.2.1;
-      },
-      rw cards.0 refl,
-    ))) (omega arith)
+    let cards = t.2.2.1 in
+    let few : length t.2.2.0 ≤ 8 = rw cards.0 t.2.1.1 in
+    (assumption (few, cards), rw cards.0 refl))) (omega arith)
