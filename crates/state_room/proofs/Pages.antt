@@ -4,8 +4,7 @@ use Rattle.std.proofs.Common.{◌∷◌, ◌++◌, length, take, drop, get_or, r
 use Rattle.std.proofs.Common.{ap, ◌∙◌, arith}
 use Rattle.board_prelude.proofs.Common.{bytes_eq-Decides, cases_lt, length-append, length-replicate, length-take}
 use Rattle.board_prelude.proofs.Common.{length-drop, take_at, take_all, drop_all, take-append-drop, append-nil}
-use Rattle.board_prelude.proofs.Common.{get_or-take, get_or-drop, get_or_append_left, get_or-append_right}
-use Rattle.board_prelude.proofs.Common.{get_or_past}
+use Rattle.board_prelude.proofs.Common.{get_or-take, get_or-drop, get_or_append_left, get_or-append_right, get_or_past}
 use Rattle.std.proofs.lemmas.Grind.{same_number_lists}
 use Rattle.std.proofs.lemmas.List.{take-replicate, drop-replicate, replicate-append-replicate, take_min, take_rest}
 use Rattle.std.specs.Cmp.{both_ways}
@@ -56,13 +55,11 @@ module _ (kept : List ℕ) (is_zero : Bool) (within : length kept ≤ memory_pag
   pub told_page : memory_bytes (page_of kept) ≡ cond is_zero (0 ∷ []) (1 ∷ page_of kept)
   told_page = rw is (one_page (page_of kept) (page_length kept within))
 
-  pub size_told : length (memory_bytes (page_of kept)) ≡ cond is_zero 1 4097
-  size_told = sized is_zero told_page
-    where
-      sized : (is_zero : Bool) → memory_bytes (page_of kept) ≡ cond is_zero (0 ∷ []) (1 ∷ page_of kept) →
-          length (memory_bytes (page_of kept)) ≡ cond is_zero 1 4097
-      sized true told = ap length told
-      sized false told = omega (arith, ap length told, page_length kept within)
+  pub size_zero : is_zero ≡ true → length (memory_bytes (page_of kept)) ≡ 1
+  size_zero zero = ap length (rw zero at told_page)
+
+  pub size_full : is_zero ≡ false → length (memory_bytes (page_of kept)) ≡ 4097
+  size_full full = omega (arith, ap length (rw full at told_page), page_length kept within)
 
 -- what follows the bytes that are kept
 pub rest_zeros : (kept zeros : List ℕ) → zeros ≡ replicate memory_page 0 →

@@ -7,8 +7,7 @@ use Rattle.state_room.specs.Room.{IsPutAt}
 
 pub put_length : (at : ℕ) (bytes before after : List ℕ) → IsPutAt at bytes before after → length after ≡ length before
 put_length at bytes before after is =
-    let fits = is.fits in
-    rw is.put (simp (length-append, length-take, length-drop) (omega arith))
+    rw is.put (simp (length-append, length-take, length-drop) (omega (arith, is.fits)))
 
 -- none are put
 pub put_none : (at : ℕ) (room : List ℕ) → at ≤ length room → IsPutAt at [] room room
@@ -24,14 +23,12 @@ pub put_then :
 put_then at mid xs ys all before between after one is two whole =
     let rest : List ℕ = drop (at + length xs) before in
     let front : List ℕ = take at before ++ xs in
-    let same = put_length at xs before between one in
-    let fits = one.fits in
-    let long : length front ≡ mid = omega (arith, length-append (take at before) xs, length-take at before) in
-    let begins : between ≡ front ++ rest = one.put ∙ sym (append_assoc (take at before) xs rest) in
     let both = length-append xs ys in
+    let long : length front ≡ mid = omega (arith, length-append (take at before) xs, length-take at before, one.fits) in
+    let begins : between ≡ front ++ rest = one.put ∙ sym (append_assoc (take at before) xs rest) in
     let sum : at + (length xs + length ys) ≡ at + length xs + length ys = omega arith in
     record {
-      fits = let later = two.fits in rw whole (omega arith);
+      fits = rw whole (omega (arith, both, two.fits, put_length at xs before between one));
       put =
           rw (
             two.put,

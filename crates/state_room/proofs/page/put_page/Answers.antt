@@ -1,12 +1,12 @@
 use Rattle.std.proofs.Common.{◌∙◌, refl, arith}
 use Rattle.state_room.proofs.Puts.{put_three}
-use Rattle.state_room.proofs.Pages.{told_page, size_told, rest_zeros, rest_length}
+use Rattle.state_room.proofs.Pages.{told_page, size_zero, size_full, rest_zeros, rest_length}
 use Rattle.state_room.proofs.page.put_page.Goals as goal
 
 pub put-requires : goal.put-requires
 put-requires c =
-    let size = rw c.if-is_zero.true at (size_told c.args.kept.now _ c.requires.within c.is_zero.ensures.zero) in
-    record { room = omega arith }
+    let size = size_zero c.args.kept.now _ c.requires.within c.is_zero.ensures.zero c.if-is_zero.true in
+    record { room = omega (arith, size) }
 
 pub returns-then-is_zero-clause-put : goal.returns-then-is_zero-clause-put
 returns-then-is_zero-clause-put c =
@@ -14,24 +14,22 @@ returns-then-is_zero-clause-put c =
 
 pub returns-then-is_zero-clause-end : goal.returns-then-is_zero-clause-end
 returns-then-is_zero-clause-end c =
-    let size = rw c.if-is_zero.true at (size_told c.args.kept.now _ c.requires.within c.is_zero.ensures.zero) in
-    omega arith
+    omega (arith, size_zero c.args.kept.now _ c.requires.within c.is_zero.ensures.zero c.if-is_zero.true)
 
 pub put-start-requires : goal.put-start-requires
 put-start-requires c =
-    let size = rw c.if-is_zero.false at (size_told c.args.kept.now _ c.requires.within c.is_zero.ensures.zero) in
-    record { room = omega arith }
+    let size = size_full c.args.kept.now _ c.requires.within c.is_zero.ensures.zero c.if-is_zero.false in
+    record { room = omega (arith, size) }
 
 pub put-end-requires : goal.put-end-requires
 put-end-requires c =
-    let size = rw c.if-is_zero.false at (size_told c.args.kept.now _ c.requires.within c.is_zero.ensures.zero) in
-    record { room = omega arith }
+    let size = size_full c.args.kept.now _ c.requires.within c.is_zero.ensures.zero c.if-is_zero.false in
+    record { room = omega (arith, size) }
 
 pub put-requires-2 : goal.put-requires-2
 put-requires-2 c =
-    let size = rw c.if-is_zero.false at (size_told c.args.kept.now _ c.requires.within c.is_zero.ensures.zero) in
-    let rest = rest_length c.args.kept.now c.args.zeros.now c.requires.zeros in
-    record { room = omega arith }
+    let size = size_full c.args.kept.now _ c.requires.within c.is_zero.ensures.zero c.if-is_zero.false in
+    record { room = omega (arith, size, rest_length c.args.kept.now c.args.zeros.now c.requires.zeros) }
 
 pub returns-clause-put : goal.returns-clause-put
 returns-clause-put c =
@@ -43,6 +41,5 @@ returns-clause-put c =
 
 pub returns-clause-end : goal.returns-clause-end
 returns-clause-end c =
-    let size = rw c.if-is_zero.false at (size_told c.args.kept.now _ c.requires.within c.is_zero.ensures.zero) in
-    let rest = rest_length c.args.kept.now c.args.zeros.now c.requires.zeros in
-    omega arith
+    let size = size_full c.args.kept.now _ c.requires.within c.is_zero.ensures.zero c.if-is_zero.false in
+    omega (arith, size, rest_length c.args.kept.now c.args.zeros.now c.requires.zeros)
