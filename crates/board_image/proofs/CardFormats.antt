@@ -1,16 +1,13 @@
 -- The fields of cards.
-use Rattle.std.proofs.Common.{◌≡◌, ℕ, ◌+◌, ◌-◌, ◌*◌, ◌^◌, ◌<◌, ◌≤◌, true, List, [], ◌∷◌, length}
-use Rattle.std.proofs.Common.{Option, Some, refl, arith, map, flat_map, sum_by, All}
-use Rattle.std.proofs.Common.{unwrap_or}
-use Rattle.board_prelude.proofs.Common.{AllByRecursion, w8}
-use Rattle.board_prelude.proofs.Common.{flat_map-cons, recursion_from_All}
-use Rattle.board_prelude.proofs.Common.{sum_by-cons, sum_by-append, Base, FittedCard}
-use Rattle.board_prelude.proofs.Common.{IsBase, IsCard, IsExpansionRom, Rises, memory_of_cards}
-use Rattle.board_prelude.proofs.Common.{memory_size, nat_tests}
+use Rattle.std.proofs.Common.{◌≡◌, ℕ, ◌+◌, ◌-◌, ◌*◌, ◌^◌, ◌<◌, ◌≤◌, true, List, [], ◌∷◌, length, Option, Some, refl}
+use Rattle.std.proofs.Common.{arith, map, flat_map, sum_by, All, unwrap_or}
+use Rattle.board_prelude.proofs.Common.{AllByRecursion, w8, flat_map-cons, recursion_from_All, sum_by-cons}
+use Rattle.board_prelude.proofs.Common.{sum_by-append, Base, FittedCard, IsBase, IsCard, IsExpansionRom, Rises}
+use Rattle.board_prelude.proofs.Common.{memory_of_cards, memory_size, nat_tests}
 use Rattle.std.proofs.lemmas.List.Elements.{All-from_recursion}
 use Rattle.std.proofs.lemmas.List.Concat.{flat_map_single}
-use Rattle.board_image.specs.Common.{base_byte, card_bytes, number, base_of_byte}
-use Rattle.board_image.specs.Common.{has_room, base_in, rom_of, bases_fields, card_fields, cards_fields}
+use Rattle.board_image.specs.Common.{base_byte, card_bytes, number, base_of_byte, has_room, base_in, rom_of}
+use Rattle.board_image.specs.Common.{bases_fields, card_fields, cards_fields}
 use Rattle.byte_fields.proofs.Formats.{IsFormat, format_as, fields_format, ◌then◌, ◌&◌, last_field, many_format}
 use Rattle.byte_fields.proofs.Formats.{AreGood}
 use Rattle.byte_fields.proofs.Numbers.{flag_format, byte_format, byte_within, Ranges, where_ok}

@@ -1,16 +1,15 @@
 -- The fields of steps.
-use Rattle.std.proofs.Common.{◌≡◌, ℕ, ◌+◌, ◌%◌, ◌^◌, ◌<◌, ◌≤◌, inl, inr, Bool, true, false, [], ◌∷◌, Some, ◌⊎◌, refl}
-use Rattle.std.proofs.Common.{Option, None, List, ◌∙◌, ap, arith, ◌≢◌, ◌==◌}
-use Rattle.board_prelude.proofs.Common.{nat_tests, eq-eqb, eqb-true, Kind, Fetch}
-use Rattle.board_prelude.proofs.Common.{Read, Write, Width, One, PortAccess, bytes_of, is_write}
-use Rattle.board_prelude.proofs.Common.{IsBusAccess, IsWideAccess, FitsBytes}
+use Rattle.std.proofs.Common.{◌≡◌, ℕ, ◌+◌, ◌%◌, ◌^◌, ◌<◌, ◌≤◌, Bool, true, [], ◌∷◌, Some, ◌⊎◌, refl, Option, None, List}
+use Rattle.std.proofs.Common.{◌∙◌, ap, arith, ◌≢◌, ◌==◌}
+use Rattle.board_prelude.proofs.Common.{nat_tests, eq-eqb, eqb-true, Fetch, Read, Write, Width, One, PortAccess}
+use Rattle.board_prelude.proofs.Common.{bytes_of, is_write, IsBusAccess, IsWideAccess, FitsBytes, Stimulus}
+use Rattle.board_prelude.proofs.Common.{stimulus_of_code, code_found, option_map}
 use Rattle.std.proofs.Math.Nat.{one-le-pow}
 use Rattle.board_base.specs.declared.access.Width.TheVariants.{Two, Four}
 use Rattle.board_base.specs.declared.access.Access.{Access}
 use Rattle.board_image.specs.Common.{kind_byte, tag_byte, memory_bytes, port_bytes, wide_bytes, kind_of, kind_field}
 use Rattle.board_image.specs.Common.{width_of, width_field, tag_of, tag_field, most_value, is_wide_size, is_wide_place}
 use Rattle.board_image.specs.Common.{memory_fields, port_fields, wide_fields}
-use Rattle.board_prelude.proofs.Common.{Stimulus, stimulus_of_code, code_found, option_map}
 use Rattle.board_spec.specs.declared.stimulus.Stimulus.TheVariants.{Wire}
 use Rattle.image_writer.specs.declared.tag.Tag.{Tag}
 use Rattle.image_writer.specs.declared.tag.Tag.TheVariants as tags

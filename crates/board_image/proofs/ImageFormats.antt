@@ -1,24 +1,22 @@
 -- The fields of a whole image.
-use Rattle.std.proofs.Common.{◌≡◌, ℕ, ◌+◌, ◌%◌, ◌/◌, ◌^◌, ◌<◌, ◌≤◌, ◌↔◌, IsTrue, inl, inr, Bool, true, false}
-use Rattle.std.proofs.Common.{List, [], ◌∷◌, ◌++◌, length, Option, Some, None, Ok, Err, refl, sym, ap}
-use Rattle.std.proofs.Common.{◌∙◌, append_assoc, arith, flat_map, All, is_some}
-use Rattle.std.proofs.Common.{unwrap_or}
-use Rattle.board_prelude.proofs.Common.{AllByRecursion, w16, w32, to_le_bytes, nat_tests, eq-eqb, eqb-true}
-use Rattle.board_prelude.proofs.Common.{cases_Bool, false≢true}
-use Rattle.board_prelude.proofs.Common.{length-append, nil_from_length, append-nil}
-use Rattle.board_prelude.proofs.Common.{recursion_from_All, Statement, Setup, IsRomSize, is_rom_size}
-use Rattle.board_prelude.proofs.Common.{IsDisk, IsDiskSize, is_disk_length, most_statements, most_card_memory}
+use Rattle.std.proofs.Common.{◌≡◌, ℕ, ◌+◌, ◌%◌, ◌/◌, ◌^◌, ◌<◌, ◌≤◌, ◌↔◌, IsTrue, inl, inr, Bool, true, false, List, []}
+use Rattle.std.proofs.Common.{◌∷◌, ◌++◌, length, Option, Some, None, Ok, Err, refl, sym, ap, ◌∙◌, append_assoc, arith}
+use Rattle.std.proofs.Common.{flat_map, All, is_some, unwrap_or}
+use Rattle.board_prelude.proofs.Common.{AllByRecursion, w16, w32, to_le_bytes, nat_tests, eq-eqb, eqb-true, cases_Bool}
+use Rattle.board_prelude.proofs.Common.{false≢true, length-append, nil_from_length, append-nil, recursion_from_All}
+use Rattle.board_prelude.proofs.Common.{Statement, Setup, IsRomSize, is_rom_size, IsDisk, IsDiskSize, is_disk_length}
+use Rattle.board_prelude.proofs.Common.{most_statements, most_card_memory}
+use Rattle.board_prelude.specs.Common.{most_mib}
 use Rattle.std.proofs.lemmas.List.Elements.{All-from_recursion}
 use Rattle.board_image.specs.declared.head.Head.{Head}
 use Rattle.board_image.specs.Common.{Saved, magic, image_version, flag_byte, card_bytes, disk_bytes, size_bytes}
-use Rattle.board_image.specs.Common.{head_bytes, step_bytes, image_bytes, IsImageStep, IsImage, then_read, gives}
-use Rattle.board_image.specs.Common.{ended, has_disk_size, disk_where, head_fields, setup_fields, steps_fields}
-use Rattle.board_image.specs.Common.{saved_fields, image_fields}
+use Rattle.board_image.specs.Common.{head_bytes, step_bytes, image_bytes, IsImageStep, IsImage, then_read, gives, ended}
+use Rattle.board_image.specs.Common.{has_disk_size, disk_where, head_fields, setup_fields, steps_fields, saved_fields}
+use Rattle.board_image.specs.Common.{image_fields}
 use Rattle.byte_fields.specs.Fields.{AreBytes}
 use Rattle.byte_fields.proofs.Formats.{ok_is, not_err, err_is, then_ok, then_err, IsFormat, format_as, fields_format}
 use Rattle.byte_fields.proofs.Formats.{◌then◌, ◌&◌, last_field, many_format, plain_format, AreGood}
-use Rattle.byte_fields.proofs.Numbers.{flag_format, wide16, wide32, byte_within, within_format, where_format}
-use Rattle.byte_fields.proofs.Numbers.{Ranges}
+use Rattle.byte_fields.proofs.Numbers.{flag_format, wide16, wide32, byte_within, within_format, where_format, Ranges}
 use Rattle.byte_fields.proofs.Exactly.{exactly_format}
 use Rattle.board_image.proofs.EventFormats.{wider}
 use Rattle.board_image.proofs.StepFormats.{step_format}
@@ -263,20 +261,9 @@ saved_format =
     let saved : Saved = record { setup = setup; steps = t.2.2.0 } in
     let same : head_of saved ≡ t.0 =
     same_head (head_of saved) t.0 fit.mib fit.cards.0 fit.disk fit.rom fit.disk_size t.2.2.1.0 in
-    let head : IsHead (head_of saved) = rw same t.1 in (
-      record {
-        fitted = record {
-          some_memory = head.mib.0;
-          most_memory = omega (arith, head.mib.1);
-          cards = record { count = head.cards.1; each = fit.cards.1; rises = fit.cards.2 };
-          windows = fit.cards.3;
-          rom = head.rom;
-          disk = disk_of_setup setup.disk head.disk;
-        };
-        few_mib = head.mib.1;
-        count = head.steps.1;
-        each = t.2.2.1.1;
-      },
+    let head : IsHead (head_of saved) = rw same t.1 in
+    let most : setup.mib ≤ most_mib = omega (arith, head.mib.1) in (
+      assumption (most, head, fit.cards, disk_of_setup setup.disk head.disk),
       sym (grouped (head_spelled (head_of saved)) (flat_map card_bytes setup.cards) setup.rom (disk_bytes setup)
           (flat_map step_bytes t.2.2.0))
           ∙ ap (λ (head : Head). head_spelled head ++ (setup_spelled setup ++ flat_map step_bytes t.2.2.0)) same,

@@ -1,11 +1,9 @@
 -- The fields of steps, by their tags.
-use Rattle.std.proofs.Common.{◌≡◌, ℕ, ◌^◌, ◌<◌, ◌&&◌, Bool, true, false, Option, refl, sym, ap}
-use Rattle.std.proofs.Common.{subst, ◌∙◌, arith}
-use Rattle.board_prelude.proofs.Common.{nat_tests, option_map_or, Kind, Fetch, PortAccess}
-use Rattle.board_prelude.proofs.Common.{WideAccess, Moment, IsMoment, days_in_month, moment_of, Event, Memory}
-use Rattle.board_prelude.proofs.Common.{Wide, Port, Ack, Pulses, Time, BadSector, Setup, IsWideAccess}
-use Rattle.board_prelude.proofs.Common.{IsInRange, IsScriptSector, Stimulus, Applied, stimulus_form, applied}
-use Rattle.board_prelude.proofs.Common.{applied_by, applied_again, event_applied}
+use Rattle.std.proofs.Common.{◌≡◌, ℕ, ◌^◌, ◌<◌, ◌&&◌, Bool, true, false, Option, refl, sym, ap, subst, ◌∙◌, arith}
+use Rattle.board_prelude.proofs.Common.{nat_tests, option_map_or, Kind, Fetch, PortAccess, WideAccess, Moment, IsMoment}
+use Rattle.board_prelude.proofs.Common.{days_in_month, moment_of, Event, Memory, Wide, Port, Ack, Pulses, Time}
+use Rattle.board_prelude.proofs.Common.{BadSector, Setup, IsWideAccess, IsInRange, IsScriptSector, Stimulus, Applied}
+use Rattle.board_prelude.proofs.Common.{stimulus_form, applied, applied_by, applied_again, event_applied}
 use Rattle.board_base.specs.declared.access.Access.{Access}
 use Rattle.board_spec.specs.declared.event.Event.TheVariants.{Look as LookAt}
 use Rattle.board_spec.specs.declared.stimulus.Stimulus.TheVariants as stimuli
