@@ -1,10 +1,10 @@
 -- A denial is given exactly where nobody answers, and where the ROM is written.
 use Rattle.board_prelude.proofs.Common.{nat_tests, cases_Bool, All-nil, All-cons, Width, Kind, WideAccess, Reg, Area}
-use Rattle.board_prelude.proofs.Common.{Dev, Target, Device, Denial, bytes_of, device_at, Memory, Wide, Port, Part}
-use Rattle.board_prelude.proofs.Common.{Reply, Bus, Entry, Setup, is_config_port, config_address, config_register}
-use Rattle.board_prelude.proofs.Common.{byte_of, Bytes, denial_in, denial_of, Decoded, config_port, device_port}
-use Rattle.board_prelude.proofs.Common.{port_target_of, is_write, part_at, parts_from, target_at, memory_target}
-use Rattle.board_prelude.proofs.Common.{memory_denial, memory_answer, part_answer, port_answer}
+use Rattle.board_prelude.proofs.Common.{Dev, Target, Device, Denial, device_at, Memory, Wide, Port, Part, Reply, Bus}
+use Rattle.board_prelude.proofs.Common.{Entry, Setup, is_config_port, config_address, config_register, byte_of, Bytes}
+use Rattle.board_prelude.proofs.Common.{denial_in, denial_of, Decoded, config_port, device_port, port_target_of}
+use Rattle.board_prelude.proofs.Common.{is_write, part_at, parts_from, target_at, memory_target, memory_denial}
+use Rattle.board_prelude.proofs.Common.{memory_answer, part_answer, port_answer}
 use Rattle.std.proofs.Common.{arith, ◌≡◌, ℕ, zero, suc, Bool, false, List, Option, None, is_some, sym, subst, inl, inr}
 use Rattle.std.proofs.Common.{◌==◌, if◌then◌else◌, map, All}
 use Rattle.board_base.specs.declared.access.Access.{Access}
@@ -45,7 +45,7 @@ denied_port :
     IsRight (port_target_of setup bytes address disk port width)
 unfolding port_target_of
 denied_port setup bytes address disk port width =
-    grind (arith, nat_tests, right_choice, is_config_port, right_config, config_register, right_port, device_at, bytes_of)
+    grind (arith, nat_tests, right_choice, is_config_port, right_config, config_register, right_port, device_at)
 
 -- ---- replies
 

@@ -72,8 +72,7 @@ interrupt_first chip level e = grind (arith, nat_tests, found-first, priority_or
 
 pub interrupt_unmasked : (chip : Chip) (level : ℕ) → interrupt chip ≡ Some level → has chip.masked level ≡ false
 interrupt_unmasked chip level e =
-    let first = interrupt_first chip level e in
-    not-true (has chip.masked level) (and_parts (has (pending chip) level) (not (has chip.masked level)) first.asks).1
+    not-true (has chip.masked level) (and_parts (has (pending chip) level) _ (interrupt_first chip level e).asks).1
 
 -- a requested level is one of the eight
 requested-small : (chip : Chip) (level : ℕ) → is_requested chip level ≡ true → level < 8
@@ -128,14 +127,9 @@ answer-at pair o e = ap (answer_at pair) e
 
 spurious-by : (pair : Pair) (master slave : Option ℕ) → interrupt pair.master ≡ master → interrupt pair.slave ≡ slave →
     (answer_of pair).is_spurious ≡ true → IsSpuriousAt pair
-spurious-by pair None slave e s spurious =
-    let answer = answer-at pair None e in
-    let after = after-at pair None e in
-    grind (arith, nat_tests)
+spurious-by pair None slave e s spurious = grind (arith, nat_tests, answer-at pair None e, after-at pair None e)
 spurious-by pair (Some level) slave e s spurious =
-    let answer = answer-at pair (Some level) e in
-    let after = after-at pair (Some level) e in
-    grind (arith, nat_tests, settled-slave)
+    grind (arith, nat_tests, settled-slave, answer-at pair (Some level) e, after-at pair (Some level) e)
 
 pub spurious_leaves : (pair : Pair) → (answer_of pair).is_spurious ≡ true → IsSpuriousAt pair
 spurious_leaves pair spurious = spurious-by pair _ _ refl refl spurious

@@ -4,9 +4,9 @@ use Rattle.std.proofs.Common.{None, List, [], ◌∷◌, length, get_or, drop, r
 use Rattle.std.proofs.Common.{length-append}
 use Rattle.board_prelude.proofs.Common.{find, list_all, cases_Bool, cases_lt, agree_below_at, eqb-true, nat_tests}
 use Rattle.board_prelude.proofs.Common.{and_parts, false≢true, drop_of_length-le, get_or-append_seam}
-use Rattle.board_prelude.proofs.Common.{get_or_append_left, without_level, Chip, priority_order, is_blocking}
-use Rattle.board_prelude.proofs.Common.{blocks_itself, is_requested, request, first_blocking, chip_after_write, scan}
-use Rattle.board_prelude.proofs.Common.{request-is, scan-found, scan-past, find-past, find-here, first_blocking-is}
+use Rattle.board_prelude.proofs.Common.{get_or_append_left, Chip, priority_order, is_blocking, blocks_itself}
+use Rattle.board_prelude.proofs.Common.{is_requested, request, first_blocking, chip_after_write, scan, request-is}
+use Rattle.board_prelude.proofs.Common.{scan-found, scan-past, find-past, find-here, first_blocking-is}
 use Rattle.board_prelude.proofs.Common.{priority_order-small}
 use Rattle.board_base.specs.Bits.{is_bit}
 use Rattle.device_spec.specs.Pic.{ended}
@@ -166,9 +166,7 @@ pub non_specific_first : NonSpecificEndEndsFirst
 non_specific_first chip byte level h b4 b3 command first =
     let is : first_blocking chip ≡ Some level = first_blocking-is chip (priority_order chip.lowest) refl
     ∙ served (place_of chip.lowest level) 0 chip level h first (omega arith) in
-    let after : chip_after_write chip false byte ≡ record chip { in_service = without_level chip.in_service level } =
-    non-specific chip byte b4 b3 command ∙ ap (ended false chip) is in
-    rw after (without-one chip level first.inside)
+    rw (non-specific chip byte b4 b3 command, is) (without-one chip level first.inside)
 
 none-served : (d i : ℕ) (chip : Chip) → chip.lowest < 8 → ((level : ℕ) → level < 8 → is_blocking chip level ≡ false) →
     i + d ≡ 8

@@ -5,10 +5,10 @@ use Rattle.board_prelude.proofs.Common.{triggers_at_reset, Levels, no_levels, le
 use Rattle.board_prelude.proofs.Common.{chip_after_inputs, latches_after, Pair, pair_at_reset, master_inputs}
 use Rattle.board_prelude.proofs.Common.{pair_after_lines, levels_where-same, has-levels_where, Event, Port, Reply}
 use Rattle.board_prelude.proofs.Common.{Entry, Setup, reset_control_port, control_written, resets_hard, control_after}
-use Rattle.board_prelude.proofs.Common.{is_hard_reset, reset_control, config_address, byte_with, byte_of, Cell}
-use Rattle.board_prelude.proofs.Common.{port_put, entry_put, Bytes, device, port_target_of, wire_set, line_set, wire_of}
-use Rattle.board_prelude.proofs.Common.{irq_of, triggers_of, plain_of, timer_of, clock_of, disk_with, levels_of}
-use Rattle.board_prelude.proofs.Common.{elcr_of, pair_stepped, pair_reset_or_after, pair_of, port_answer, IsAnswer}
+use Rattle.board_prelude.proofs.Common.{is_hard_reset, reset_control, config_address, byte_of, Cell, port_put}
+use Rattle.board_prelude.proofs.Common.{entry_put, Bytes, device, port_target_of, wire_set, line_set, wire_of, irq_of}
+use Rattle.board_prelude.proofs.Common.{triggers_of, plain_of, timer_of, clock_of, disk_with, levels_of, elcr_of}
+use Rattle.board_prelude.proofs.Common.{pair_stepped, pair_reset_or_after, pair_of, port_answer, IsAnswer}
 use Rattle.board_base.specs.declared.target.Dev.TheVariants.{Reset as ResetPort}
 use Rattle.board_laws.specs.ResetLaws.{HardResetResets, HardResetKeeps}
 use Rattle.board_laws.proofs.StoredLaws.{stored-left}
@@ -60,19 +60,7 @@ pair-hard setup before entry hard =
 pub hard_reset_resets : HardResetResets
 unfolding byte_of config_address reset_control plain_of timer_of clock_of disk_with
 hard_reset_resets setup before entry hard =
-    grind (
-      arith,
-      nat_tests,
-      byte_with,
-      byte_of,
-      cond-true,
-      is_hard_reset,
-      reset_value,
-      reset_control,
-      control_written,
-      triggers-reset,
-      pair-hard,
-    )
+    grind (arith, nat_tests, cond-true, is_hard_reset, reset_value, control_written, triggers-reset, pair-hard)
 
 -- ---- what stays
 

@@ -120,8 +120,9 @@ module _ (setup : Setup) (before : List Entry) (access : WideAccess) where
       elim (cases_lt addr (from + bytes_of width)) [
         | inl here ↦
             rw (put-apart (from + bytes_of width) (DramCell addr) later writes others (inl here))
-            (memory_put-within part (memory_target setup before part) writes (All-head (Lands setup before) part _ lands)
-            addr above here ∙ ap (λ (n : ℕ). Some n) (byte-part access from addr width start above here))
+            (memory_put-within part (memory_target setup before part) writes
+            (All-head (Lands setup before) part _ lands) addr above here
+            ∙ ap (λ (n : ℕ). Some n) (byte-part access from addr width start above here))
         | inr past ↦
             rw (put-within (from + bytes_of width) addr later writes others (omega arith) past (omega arith)) refl
       ]
