@@ -1,12 +1,13 @@
 -- Registers of the address map are those of some board, whatever its other registers hold: each stands for a byte of
 -- its own.
-use Rattle.board_prelude.proofs.Common.{common_steps, option_map_or, cases_Bool, eq-eqb, ne_eqb, get_or-map, length-map}
-use Rattle.board_prelude.proofs.Common.{nat_tests, Setup, Rises, IsCard, IsCardList, byte, is_within, card_register}
-use Rattle.board_prelude.proofs.Common.{bridge, Bytes, Reg}
+use Rattle.board_prelude.proofs.Common.{common_steps, option_map_or, eq-eqb, ne_eqb, get_or-map, length-map, nat_tests}
+use Rattle.board_prelude.proofs.Common.{Setup, Rises, IsCard, IsCardList, byte, is_within, card_register, bridge, Bytes}
+use Rattle.board_prelude.proofs.Common.{Reg}
 use Rattle.std.proofs.Common.{◌≡◌, ℕ, zero, suc, ◌+◌, ◌-◌, ◌*◌, ◌/◌, ◌%◌, ◌^◌, ◌<◌, ◌≤◌, List, [], ◌∷◌, length, get_or}
 use Rattle.std.proofs.Common.{Option, Some, None, refl, ◌∙◌, arith, ◌==◌, nat_lt, if◌then◌else◌, false, ◌&&◌, All, find}
-use Rattle.std.proofs.Common.{is_some, slice_index, option_map}
+use Rattle.std.proofs.Common.{is_some, slice_index}
 use Rattle.pci_bars.specs.Cards.{CardBytes, HoldsLong, HoldsRom, DecodesAs, AreFitted, cards_of}
+use Rattle.pci_bars.proofs.CardListLemmas.{find-cards}
 use Rattle.addr_decode.specs.Common.{MapBytes, StandsFor, AreSinglesOf, single_number}
 use Rattle.addr_decode.proofs.SingleLemmas.{numbered, block_unnumbered, card_unnumbered}
 use Rattle.map_builder.specs.Map.{IsOfSomeBoard, HoldsDoublewords, HaveWidths}
@@ -71,16 +72,6 @@ found (card ∷ later) rises (suc k) d within =
     at (rises.0 k d.card (omega (arith, length-map later (λ (it : CardBytes). it.card)))) in
     rw (ne_eqb card.card.dev (get_or later k d).card.dev (omega arith)) (found later rises.1 k d (omega arith))
 
-pub find-map : (dev : ℕ) (cards : List CardBytes) →
-    find (λ card. card.dev == dev) (cards_of cards) ≡ option_map (λ (card : CardBytes). card.card) (card_with dev cards)
-unfolding card_with
-find-map dev [] = refl
-find-map dev (card ∷ later) = grind (arith, nat_tests, common_steps, cases_Bool, find-map dev later)
-
-command_byte : (other : ℕ) (card : CardBytes) → card_byte other 0x04 card ≡ card.command
-unfolding card_byte
-command_byte other card = refl
-
 base_byte : (other : ℕ) (card : CardBytes) (k j : ℕ) → k < 6 → j < 4 →
     card_byte other (0x10 + 4 * k + j) card ≡ byte (slice_index card.bases k) j
 unfolding card_byte
@@ -120,9 +111,10 @@ module _ (regs : MapBytes) (others : Bytes) (card : CardBytes) (fit : IsCard car
 
   pub decodes : (setup : Setup) → setup.cards ≡ cards_of regs.cards → HoldsDoublewords card →
       DecodesAs setup (overlaid regs others) card
+  unfolding card_byte card_with
   decodes setup same doublewords = record {
-    fitted = rw (same, find-map card.card.dev regs.cards, there) refl;
-    command = stands 0x04 ∙ command_byte _ card;
+    fitted = rw (same, ← find-cards regs.cards card.card.dev, there) refl;
+    command = stands 0x04;
     bases = λ k few.
         long_held (overlaid regs others) card.card.dev (0x10 + 4 * k) (slice_index card.bases k)
         (doublewords.bases k)

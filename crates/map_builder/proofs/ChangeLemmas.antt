@@ -1,11 +1,9 @@
 -- After a change the ranges of a map are right again for each address outside the bounds of the changed windows.
-use Rattle.std.proofs.Common.{◌≡◌, ℕ, zero, suc, ◌+◌, ◌<◌, ◌≤◌, Bool, true, false, inl, inr, List, [], ◌∷◌, ◌++◌}
-use Rattle.std.proofs.Common.{length, get_or, Option, Some, refl, sym, ◌∙◌, ap, arith, IfSome, ◌||◌, not, flat_map}
-use Rattle.std.proofs.Common.{is_some, map, subst}
-use Rattle.board_spec.proofs.FlatMapLaws.{tiles_below}
-use Rattle.board_prelude.proofs.Common.{cases_Bool, true≢false, append-nil, list_any, Width, One, Reg, MapChange, Store}
-use Rattle.board_prelude.proofs.Common.{Reset, FittedCard, Setup, touches_map, Bytes, address_count, six_areas}
-use Rattle.board_prelude.proofs.Common.{MapRange, Tiles, nat_tests, false≢true}
+use Rattle.std.proofs.Common.{◌≡◌, ℕ, ◌+◌, ◌<◌, ◌≤◌, Bool, true, false, List, [], ◌∷◌, ◌++◌, Option, Some, refl, sym}
+use Rattle.std.proofs.Common.{◌∙◌, ap, arith, IfSome, ◌||◌, not, flat_map, is_some, map, subst}
+use Rattle.board_prelude.proofs.Common.{true≢false, append-nil, list_any, Width, One, Reg, MapChange, Store, Reset}
+use Rattle.board_prelude.proofs.Common.{FittedCard, Setup, touches_map, Bytes, address_count, six_areas, MapRange}
+use Rattle.board_prelude.proofs.Common.{nat_tests, false≢true}
 use Rattle.pci_bars.specs.Cards.{CardBytes, AreFitted, cards_of}
 use Rattle.addr_decode.proofs.Common.{no_low_card, names_touch}
 use Rattle.addr_decode.specs.declared.register.MapRegister.{MapRegister}
@@ -14,64 +12,70 @@ use Rattle.addr_decode.specs.Common.{is_of_card, names_from, names_of, MapBytes,
 use Rattle.map_ranges.specs.declared.range.Changed.{Changed}
 use Rattle.map_builder.specs.Changed.{register_windows}
 use Rattle.map_builder.specs.Common.{IsOfSomeBoard, IsMapOf, IsMapWhere, IsBeside, sorted, Rise, rows_in, AreChanged}
-use Rattle.map_builder.specs.Common.{after, bounds, is_card_name, rest_on_registers, name_windows, windows_covered}
-use Rattle.map_builder.specs.Common.{changed_windows, most_rows, AreMoved, IsHeldAt, IsSameByte, Mapped}
+use Rattle.map_builder.specs.Common.{after, bounds, rest_on_registers, name_windows, windows_covered, changed_windows}
+use Rattle.map_builder.specs.Common.{most_rows, AreMoved, IsHeldAt, IsSameByte, Mapped}
 use Rattle.map_builder.proofs.BoundsLemmas.{covered_ordered, changed_ordered, bounds_twice}
 use Rattle.map_builder.proofs.SortedLemmas.{rise_sorted, outside_sorted, beside_sorted, rows_few, sorted_twice}
-use Rattle.map_builder.proofs.MovedRows.{covers_rows, rows_keep, moved_rise, moved_within, moved_few}
+use Rattle.map_builder.proofs.MovedRows.{covers_rows, rows_keep, moved_within}
 use Rattle.map_builder.proofs.KeptStores.{same_bytes, unchanged_keep, top_after, changes_keep}
 use Rattle.map_builder.proofs.WindowLemmas.{covered_by_names}
 use Rattle.map_builder.proofs.SameBoards.{boards_same, untouched_areas}
-use Rattle.map_builder.proofs.RebuildLemmas.{all_right}
+use Rattle.map_builder.proofs.RebuildLemmas.{all_right, range_below}
 use Rattle.map_builder.specs.Applied.{IsChangedBy, IsStored}
-
--- the last address of a range is an address
-range_below : (from : ℕ) (ranges : List MapRange) → Tiles from ranges → (k : ℕ) (d : MapRange) → k < length ranges →
-    (get_or ranges k d).hi < address_count
-range_below from [] tiles k d within = absurd (omega arith)
-range_below from (range ∷ later) tiles zero d within =
-    let next : range.hi + 1 ≤ address_count = tiles_below (range.hi + 1) later tiles.2 in omega arith
-range_below from (range ∷ later) tiles (suc k) d within = range_below (range.hi + 1) later tiles.2 k d (omega arith)
 
 -- the registers of a board before a change and after it
 abbrev pub Next : (old new : MapBytes) → MapChange → Type 0
 Next old new change =
     (setup : Setup) (bytes : Bytes) → StandsFor setup bytes old → StandsFor setup (after setup change bytes) new
 
--- the board of a map after a change
-pub board_after : {old new : MapBytes} (change : MapChange) → IsOfSomeBoard old → Next old new change →
-    IsOfSomeBoard new
-board_after change board next = record {
-  setup = board.setup;
-  bytes = after board.setup change board.bytes;
-  cards = board.cards;
-  top = top_after board.setup board.bytes change board.top;
-  stands = next board.setup board.bytes board.stands;
-}
-
 -- the areas of an address of a board stay
 abbrev pub Stay : {regs : MapBytes} → IsOfSomeBoard regs → MapChange → (addr : ℕ) → Type 0
 Stay board change addr =
     six_areas board.setup (after board.setup change board.bytes) addr ≡ six_areas board.setup board.bytes addr
 
--- the ranges of a map are those of the new registers wherever the areas stay
-pub where_kept : {old new : MapBytes} (change : MapChange) {ranges : List MapRange} {Out : ℕ → Type 0}
-    (is_map : IsMapOf old ranges) → Next old new change →
-    ((addr : ℕ) → addr < address_count → Out addr → Stay is_map.board change addr) → IsMapWhere new Out ranges
-where_kept {new = new} change {ranges} is_map next keeps =
-    let board = is_map.board in
-    let was_map = is_map.map board.setup board.bytes board.stands in
-    record {
-      tiles = is_map.tiles;
-      least = was_map.least;
-      right = λ setup bytes now k d within. record {
-        at_each = λ addr low high out.
-            sym (boards_same new board.setup setup (after board.setup change board.bytes) bytes board.cards
-            (next board.setup board.bytes board.stands) now addr)
-            ∙ keeps addr (omega (arith, range_below 0 ranges is_map.tiles k d within)) out
-            ∙ (was_map.right k d within).at_each addr low high;
-      };
-    }
+module _ {old new : MapBytes} (change : MapChange) (next : Next old new change) where
+  -- the board of a map after a change
+  pub board_after : IsOfSomeBoard old → IsOfSomeBoard new
+  board_after board = record {
+    setup = board.setup;
+    bytes = after board.setup change board.bytes;
+    cards = board.cards;
+    top = top_after board.setup board.bytes change board.top;
+    stands = next board.setup board.bytes board.stands;
+  }
+
+  -- the ranges of a map are those of the new registers wherever the areas stay
+  pub where_kept : {ranges : List MapRange} {Out : ℕ → Type 0} (is_map : IsMapOf old ranges) →
+      ((addr : ℕ) → addr < address_count → Out addr → Stay is_map.board change addr) → IsMapWhere new Out ranges
+  where_kept {ranges} is_map keeps =
+      let board = is_map.board in
+      let was_map = is_map.map board.setup board.bytes board.stands in
+      record {
+        tiles = is_map.tiles;
+        least = was_map.least;
+        right = λ setup bytes now k d within. record {
+          at_each = λ addr low high out.
+              sym (boards_same new board.setup setup (after board.setup change board.bytes) bytes board.cards
+              (next board.setup board.bytes board.stands) now addr)
+              ∙ keeps addr (omega (arith, range_below 0 ranges is_map.tiles k d within)) out
+              ∙ (was_map.right k d within).at_each addr low high;
+        };
+      }
+
+  -- a change that covers no byte on which the map depends leaves the map
+  pub untouched_map : {ranges : List MapRange} (is_map : IsMapOf old ranges) →
+      touches_map is_map.board.setup change ≡ false → AreFitted new.cards → IsMapOf new ranges
+  untouched_map {ranges} is_map not fitted =
+      let board = is_map.board in
+      record {
+        fitted = fitted;
+        board = board_after board;
+        tiles = is_map.tiles;
+        map =
+            all_right new ranges (where_kept is_map
+            (λ addr address out. untouched_areas board.setup board.bytes change board.cards not addr));
+        few = is_map.few;
+      }
 
 -- a register keeps its byte, on each board that has the registers before, and on each that has those after
 pub record KeepsByte (old new : MapBytes) (change : MapChange) : Type 0 where
@@ -97,76 +101,57 @@ pub record AreFound (setup : Setup) (bytes : Bytes) (change : MapChange) (all : 
   pub sorted_same : sorted all ≡ sorted (changed_windows setup bytes change)
 
 -- those of registers of the bridges do not rest on what the registers hold
-name_fixed : (setup : Setup) (bytes bytes' : Bytes) (name : Option MapRegister) → is_card_name name ≡ false →
-    name_windows setup bytes name ≡ name_windows setup bytes' name
-name_fixed setup bytes bytes' (Some (Card dev register)) bridge = absurd (true≢false bridge)
-name_fixed setup bytes bytes' _ bridge = refl
-
-all_fixed : (setup : Setup) (bytes bytes' : Bytes) (name : ℕ → Option MapRegister) (ks : List ℕ) →
-    rest_on_registers (map name ks) ≡ false →
-    flat_map (λ k. name_windows setup bytes (name k)) ks ≡ flat_map (λ k. name_windows setup bytes' (name k)) ks
-all_fixed setup bytes bytes' name [] bridges = refl
-all_fixed setup bytes bytes' name (k ∷ later) bridges =
-    let here : is_card_name (name k) ≡ false = grind (arith, nat_tests) in
-    rw (
-      name_fixed setup bytes bytes' (name k) here,
-      all_fixed setup bytes bytes' name later (rw here at bridges),
-    ) refl
+names_fixed : (setup : Setup) (bytes bytes' : Bytes) (names : List (Option MapRegister)) →
+    rest_on_registers names ≡ false → flat_map (name_windows setup bytes) names
+    ≡ flat_map (name_windows setup bytes') names
+names_fixed setup bytes bytes' [] bridges = refl
+names_fixed setup bytes bytes' (Some (Card dev register) ∷ later) bridges = absurd (true≢false bridges)
+names_fixed setup bytes bytes' (name ∷ later) bridges = rw (names_fixed setup bytes bytes' later bridges) refl
 
 fixed_same : (setup : Setup) (bytes bytes' : Bytes) (change : MapChange) →
     rest_on_registers (names_of setup.cards change) ≡ false →
     windows_covered setup bytes change ≡ windows_covered setup bytes' change
 unfolding windows_covered
 fixed_same setup bytes bytes' Reset fixed = refl
-fixed_same setup bytes bytes' (Store reg width value) fixed = grind (arith, nat_tests)
+fixed_same setup bytes bytes' (Store reg width value) fixed =
+    let change : MapChange = Store reg width value in
+    let names : List (Option MapRegister) = names_of setup.cards change in
+    sym (covered_by_names setup bytes change reg width value setup.cards names refl refl refl)
+    ∙ names_fixed setup bytes bytes' names fixed
+    ∙ covered_by_names setup bytes' change reg width value setup.cards names refl refl refl
 
-kept_same : (old new : MapBytes) (setup : Setup) (bytes : Bytes) (change : MapChange) → StandsFor setup bytes old →
-    StandsFor setup (after setup change bytes) new → KeepsByte old new change →
-    windows_covered setup (after setup change bytes) change ≡ windows_covered setup bytes change
-kept_same old new setup bytes change stands now byte =
-    let each = same_bytes setup bytes change byte.byte (byte.before setup bytes stands)
-    (byte.later setup (after setup change bytes) now) in
-    ap (λ (it : Bytes). windows_covered setup it change) (λ i reg. each reg i)
+module _ (setup : Setup) (bytes : Bytes) (change : MapChange) where
+  abbrev covered : Bytes → List Changed
+  covered it = windows_covered setup it change
 
--- where they are the same after the change, once is as good as twice
-found_once : (setup : Setup) (bytes : Bytes) (change : MapChange) (all : List Changed) →
-    all ≡ windows_covered setup bytes change →
-    windows_covered setup (after setup change bytes) change ≡ windows_covered setup bytes change →
-    AreFound setup bytes change all
-found_once setup bytes change all once same =
-    let covered : List Changed = windows_covered setup bytes change in
-    record {
-      bounds_same = rw (once, same) (sym (bounds_twice covered));
-      sorted_same = rw (once, same) (sym (sorted_twice covered (covered_ordered setup bytes change)));
-    }
+  -- the same after the change
+  abbrev pub AreSame : Type 0
+  AreSame = covered (after setup change bytes) ≡ covered bytes
 
--- as they are pushed: by what the registers held, and again by what they hold, unless that is known to be the same
-pub pushed_found : (old new : MapBytes) (change : MapChange) (names : List (Option MapRegister))
-    (none first all : List Changed) (kept same : Bool) →
-    names ≡ names_of (cards_of old.cards) change →
-    (kept ≡ true → KeepsByte old new change) → same ≡ (kept || not (rest_on_registers names)) → none ≡ [] →
-    ((setup : Setup) (bytes : Bytes) → StandsFor setup bytes old → first ≡ none ++ windows_covered setup bytes change) →
-    (same ≡ true → all ≡ first) →
-    (same ≡ false → (setup : Setup) (bytes : Bytes) → StandsFor setup bytes new →
-    all ≡ first ++ windows_covered setup bytes change) →
-    (setup : Setup) (bytes : Bytes) → StandsFor setup bytes old → StandsFor setup (after setup change bytes) new →
-    AreFound setup bytes change all
-pushed_found old new change names none first all kept same named keeps same_is none_is first_is once twice setup bytes
-    stands now =
-    let covered = rw none_is at (first_is setup bytes stands) in
-    elim (cases_Bool same) [
-      | inr move ↦
-          let is = rw covered at (twice move setup (after setup change bytes) now) in
-          record { bounds_same = ap bounds is; sorted_same = ap sorted is }
-      | inl stay ↦
-          found_once setup bytes change all (once stay ∙ covered)
-          (elim (cases_Bool kept) [
-            | inl is ↦ kept_same old new setup bytes change stands now (keeps is)
-            | inr not_kept ↦
-                let no_rest : rest_on_registers names ≡ false = grind (arith, nat_tests) in
-                fixed_same setup (after setup change bytes) bytes change (rw (stands.cards.0, ← named) no_rest)
-          ])
-    ]
+  pub kept_same : (old new : MapBytes) → StandsFor setup bytes old → StandsFor setup (after setup change bytes) new →
+      KeepsByte old new change → AreSame
+  kept_same old new stands now byte =
+      let each = same_bytes setup bytes change byte.byte (byte.before setup bytes stands)
+      (byte.later setup (after setup change bytes) now) in
+      ap covered (λ i reg. each reg i)
+
+  -- once is then as good as twice
+  found_once : {all : List Changed} → all ≡ covered bytes → AreSame → AreFound setup bytes change all
+  found_once once same = record {
+    bounds_same = rw (once, same) (sym (bounds_twice (covered bytes)));
+    sorted_same = rw (once, same) (sym (sorted_twice (covered bytes) (covered_ordered setup bytes change)));
+  }
+
+  -- as they are pushed: by what the registers held, and again by what they hold, unless that is known to be the same
+  pub pushed_found : {first all : List Changed} (kept same : Bool) → (kept ≡ true → AreSame) →
+      same ≡ (kept || not (rest_on_registers (names_of setup.cards change))) → first ≡ covered bytes →
+      (same ≡ true → all ≡ first) → (same ≡ false → all ≡ first ++ covered (after setup change bytes)) →
+      AreFound setup bytes change all
+  pushed_found kept false keeps same_is is once twice =
+      record { bounds_same = rw (twice refl, is) refl; sorted_same = rw (twice refl, is) refl }
+  pushed_found true true keeps same_is is once twice = found_once (once refl ∙ is) (keeps refl)
+  pushed_found false true keeps same_is is once twice =
+      found_once (once refl ∙ is) (fixed_same setup (after setup change bytes) bytes change (grind (arith, nat_tests)))
 
 -- those of one register of a bridge rest on nothing, so that they are the same on each board, before the change and
 -- after
@@ -185,113 +170,82 @@ bridge_found setup setup' bytes bytes' reg value register cards bridge same name
     rw same (subst (λ (names : List (Option MapRegister)). rest_on_registers names ≡ false) named (rw bridge refl)) in
     let covered : register_windows setup' bytes' register ++ [] ≡ windows_covered setup' bytes' change =
     covered_by_names setup' bytes' change reg One value cards (Some register ∷ []) refl same named in
-    (found_once setup' bytes' change (register_windows setup bytes register)
+    (found_once setup' bytes' change
     (bridge_windows setup setup' bytes bytes' register bridge ∙ sym (append-nil _) ∙ covered)
     (fixed_same setup' (after setup' change bytes') bytes' change bridges)).sorted_same
 
 -- ---- the windows that are built anew
 
--- none, where the register keeps its byte; what moves of them, where rows alone are stored; else those that change
-pub data Chosen (old new : MapBytes) (change : MapChange) (windows : List Changed) : Type 0 where
-  Still : KeepsByte old new change → windows ≡ [] → Chosen old new change windows
-  Moved : covers_rows change ≡ true → AreMoved old.drb new.drb windows → Chosen old new change windows
-  Sorted :
+-- they rise and lie in those that change, and beside them each address keeps its areas
+pub record Chosen {old : MapBytes} (board : IsOfSomeBoard old) (change : MapChange) (windows : List Changed) : Type 0
+  where
+    pub rise : Rise windows
+    pub few : (setup : Setup) (bytes : Bytes) → StandsFor setup bytes old →
+        rows_in (edges_after setup (after setup change bytes)) windows ≤ most_rows setup bytes change
+    pub keeps : (addr : ℕ) → addr < address_count → IsBeside windows addr → Stay board change addr
+    pub within : (setup : Setup) (bytes : Bytes) (addr : ℕ) → StandsFor setup bytes old →
+        IsBeside (changed_windows setup bytes change) addr → IsBeside windows addr
+
+module _ {old new : MapBytes} (change : MapChange) (next : Next old new change) (board : IsOfSomeBoard old)
+    {windows : List Changed} where
+  -- none, where the register keeps its byte; what moves of them, where rows alone are stored; else those that change
+  pub chosen : (all : List Changed) (kept alone : Bool) → (alone ≡ true → covers_rows change ≡ true) →
       ((setup : Setup) (bytes : Bytes) → StandsFor setup bytes old →
-      windows ≡ sorted (changed_windows setup bytes change)) → Chosen old new change windows
+      sorted all ≡ sorted (changed_windows setup bytes change)) →
+      (kept ≡ true → KeepsByte old new change) → (kept ≡ true → windows ≡ []) →
+      (kept ≡ false → alone ≡ false → windows ≡ sorted all) →
+      (kept ≡ false → alone ≡ true → AreMoved old.drb new.drb windows) → Chosen board change windows
+  chosen all true alone is_rows all_is same none others rows =
+      let byte = same refl in
+      rw (none refl) (record {
+        rise = tt;
+        few = λ setup bytes stands. omega arith;
+        keeps = λ addr address out.
+            unchanged_keep board.setup board.bytes change addr byte.byte board.cards
+            (byte.before board.setup board.bytes board.stands) (byte.later board.setup _
+            (next board.setup board.bytes board.stands));
+        within = λ setup bytes addr stands out. tt;
+      })
+  chosen all false true is_rows all_is same none others rows =
+      let moved = rows refl refl in
+      let within = λ (setup : Setup) (bytes : Bytes).
+      moved_within setup bytes (after setup change bytes) change windows (is_rows refl) moved in
+      record {
+        rise = (within board.setup board.bytes).0;
+        few = λ setup bytes stands. (within setup bytes).1;
+        keeps = λ addr address out.
+            rows_keep old new board.setup board.bytes change addr (is_rows refl) board.cards board.stands
+            (next board.setup board.bytes board.stands) (moved.beside addr out);
+        within = λ setup bytes addr stands out. (within setup bytes).2 addr out;
+      }
+  chosen all false false is_rows all_is same none others rows =
+      let is : (setup : Setup) (bytes : Bytes) → StandsFor setup bytes old →
+      windows ≡ sorted (changed_windows setup bytes change) =
+      λ setup bytes stands. others refl refl ∙ all_is setup bytes stands in
+      let here = is board.setup board.bytes board.stands in
+      record {
+        rise = rw here (rise_sorted _ (changed_ordered board.setup board.bytes change));
+        few = λ setup bytes stands.
+            rw (is setup bytes stands)
+            (rows_few setup (after setup change bytes) _ (changed_ordered setup bytes change));
+        keeps = λ addr address out.
+            changes_keep board.setup board.bytes change addr board.cards board.top address
+            (outside_sorted addr _ (rw here at out));
+        within = λ setup bytes addr stands out. rw (is setup bytes stands) (beside_sorted addr _ out);
+      }
 
--- as they are chosen
-pub chosen : (old new : MapBytes) (change : MapChange) (all windows : List Changed) (kept alone : Bool) →
-    (alone ≡ true → covers_rows change ≡ true) →
-    ((setup : Setup) (bytes : Bytes) → StandsFor setup bytes old →
-    sorted all ≡ sorted (changed_windows setup bytes change)) →
-    (kept ≡ true → KeepsByte old new change) → (kept ≡ true → windows ≡ []) →
-    (kept ≡ false → alone ≡ false → windows ≡ sorted all) →
-    (kept ≡ false → alone ≡ true → AreMoved old.drb new.drb windows) → Chosen old new change windows
-chosen old new change all windows true alone is_rows all_is same none others rows = Still (same refl) (none refl)
-chosen old new change all windows false true is_rows all_is same none others rows =
-    Moved (is_rows refl) (rows refl refl)
-chosen old new change all windows false false is_rows all_is same none others rows =
-    Sorted (λ setup bytes stands. others refl refl ∙ all_is setup bytes stands)
-
-pub build_rise : {old new : MapBytes} {change : MapChange} {windows : List Changed} → IsOfSomeBoard old →
-    Chosen old new change windows → Rise windows
-build_rise board (Still byte none) = rw none tt
-build_rise board (Moved rows moved) = moved_rise moved
-build_rise {change = change} board (Sorted is) =
-    rw (is board.setup board.bytes board.stands) (rise_sorted _ (changed_ordered board.setup board.bytes change))
-
-pub build_few : {old new : MapBytes} {change : MapChange} {windows : List Changed} (setup : Setup) (bytes : Bytes) →
-    StandsFor setup bytes old → Chosen old new change windows →
-    rows_in (edges_after setup (after setup change bytes)) windows ≤ most_rows setup bytes change
-build_few setup bytes stands (Still byte none) = rw none (omega arith)
-build_few {change = change} setup bytes stands (Moved rows moved) =
-    moved_few setup bytes (after setup change bytes) change rows moved
-build_few {change = change} setup bytes stands (Sorted is) =
-    rw (is setup bytes stands)
-    (rows_few setup (after setup change bytes) (changed_windows setup bytes change)
-    (changed_ordered setup bytes change))
-
--- beside them each address keeps its areas
-build_keeps : {old new : MapBytes} {change : MapChange} {windows : List Changed} (board : IsOfSomeBoard old)
-    (addr : ℕ) → Next old new change → addr < address_count → IsBeside windows addr →
-    Chosen old new change windows → Stay board change addr
-build_keeps {change = change} board addr next address out (Still byte none) =
-    unchanged_keep board.setup board.bytes change addr byte.byte board.cards
-    (byte.before board.setup board.bytes board.stands) (byte.later board.setup (after board.setup change board.bytes)
-    (next board.setup board.bytes board.stands))
-build_keeps {old} {new} {change} board addr next address out (Moved rows moved) =
-    rows_keep old new board.setup board.bytes change addr rows board.cards board.stands
-    (next board.setup board.bytes board.stands) (moved.beside addr out)
-build_keeps {change = change} board addr next address out (Sorted is) =
-    changes_keep board.setup board.bytes change addr board.cards board.top address
-    (outside_sorted addr (changed_windows board.setup board.bytes change)
-    (rw (is board.setup board.bytes board.stands) at out))
-
--- beside them the ranges are a map of the new registers
-pub build_beside : {old new : MapBytes} {change : MapChange} {windows : List Changed} {ranges : List MapRange} →
-    IsMapOf old ranges → Next old new change → Chosen old new change windows →
-    IsMapWhere new (IsBeside windows) ranges
-build_beside {change = change} is_map next are =
-    where_kept change is_map next (λ addr address out. build_keeps is_map.board addr next address out are)
-
--- they lie in those that change
-build_within : {old new : MapBytes} {change : MapChange} {windows : List Changed} (setup : Setup) (bytes : Bytes)
-    (addr : ℕ) → StandsFor setup bytes old → IsBeside (changed_windows setup bytes change) addr →
-    Chosen old new change windows → IsBeside windows addr
-build_within setup bytes addr stands out (Still byte none) = rw none tt
-build_within {change = change} setup bytes addr stands out (Moved rows moved) =
-    moved_within setup bytes change addr rows moved out
-build_within {change = change} setup bytes addr stands out (Sorted is) =
-    rw (is setup bytes stands) (beside_sorted addr (changed_windows setup bytes change) out)
-
--- so they are what a change changed, of each board that has the registers
-pub are_changed : {old new : MapBytes} {change : MapChange} {windows : List Changed} → IsOfSomeBoard old →
-    Next old new change → Chosen old new change windows → (setup : Setup) (bytes : Bytes) →
-    StandsFor setup bytes old → AreChanged setup bytes change windows
-are_changed {old} {new} {change} board next are setup bytes stands = record {
-  rise = build_rise board are;
-  beside = λ addr address out.
-      sym (boards_same new board.setup setup (after board.setup change board.bytes) (after setup change bytes)
-      board.cards (next board.setup board.bytes board.stands) (next setup bytes stands) addr)
-      ∙ build_keeps board addr next address out are
-      ∙ boards_same old board.setup setup board.bytes bytes board.cards board.stands stands addr;
-  within = λ addr out. build_within setup bytes addr stands out are;
-}
-
--- a change that covers no byte on which the map depends leaves the map
-pub untouched_map : {old new : MapBytes} (change : MapChange) {ranges : List MapRange} (is_map : IsMapOf old ranges) →
-    Next old new change → touches_map is_map.board.setup change ≡ false → AreFitted new.cards → IsMapOf new ranges
-untouched_map {new = new} change {ranges} is_map next not fitted =
-    let board = is_map.board in
-    record {
-      fitted = fitted;
-      board = board_after change board next;
-      tiles = is_map.tiles;
-      map =
-          all_right new ranges (where_kept change is_map next
-          (λ addr address out. untouched_areas board.setup board.bytes change board.cards not addr));
-      few = is_map.few;
-    }
+  -- so they are what a change changed, of each board that has the registers
+  pub are_changed : Chosen board change windows → (setup : Setup) (bytes : Bytes) → StandsFor setup bytes old →
+      AreChanged setup bytes change windows
+  are_changed are setup bytes stands = record {
+    rise = are.rise;
+    beside = λ addr address out.
+        sym (boards_same new board.setup setup (after board.setup change board.bytes) (after setup change bytes)
+        board.cards (next board.setup board.bytes board.stands) (next setup bytes stands) addr)
+        ∙ are.keeps addr address out
+        ∙ boards_same old board.setup setup board.bytes bytes board.cards board.stands stands addr;
+    within = λ addr out. are.within setup bytes addr stands out;
+  }
 
 -- the names of the registers that a store covers say whether it touches the map of a board with these cards
 pub names_touched : (setup : Setup) (cards : List CardBytes) (reg : Reg) (width : Width) (value : ℕ)

@@ -4,33 +4,13 @@ use Rattle.board_prelude.proofs.Common.{is_within, Bytes, top_of, row_of, is_in,
 use Rattle.board_prelude.proofs.Common.{is_open, is_shadow_range, is_shadowed, is_smram_range, is_rom_selected}
 use Rattle.board_prelude.proofs.Common.{pam_register, area_of, bridge, isa, card_register, six_areas, each_below}
 use Rattle.std.proofs.Common.{◌≡◌, ℕ, ◌+◌, ◌-◌, ◌/◌, ◌<◌, ◌≤◌, ◌⊎◌, inl, inr, Bool, true, false, [], ◌∷◌, None, refl}
-use Rattle.std.proofs.Common.{sym, ◌∙◌, ap, arith, ◌==◌, ◌&&◌, ◌||◌, nat_le, nat_lt, if◌then◌else◌, find, List, zero}
-use Rattle.std.proofs.Common.{suc, map, slice_index, rules}
+use Rattle.std.proofs.Common.{sym, ◌∙◌, ap, arith, ◌==◌, ◌&&◌, nat_le, nat_lt, if◌then◌else◌, find, List, zero, suc}
+use Rattle.std.proofs.Common.{map, slice_index, rules}
 use Rattle.addr_decode.specs.MapRegister.{map_register}
-use Rattle.map_builder.specs.Changed.{from_to, pam_windows, windows_of, IsOutside}
+use Rattle.map_builder.specs.Changed.{from_to, pam_windows, windows_of}
 use Rattle.map_builder.proofs.OutsideLemmas.{Outside}
 use Rattle.map_builder.proofs.KeptCards.{Kept, claim_same, each_or}
 use Rattle.map_builder.specs.Common.{is_below}
-
-outside_range : (addr lo hi : ℕ) → IsOutside addr (from_to lo hi) → is_within lo hi addr ≡ false
-outside_range addr lo hi (inl below) = grind (arith, nat_tests)
-outside_range addr lo hi (inr above) = grind (arith, nat_tests)
-
--- ---- ranges of addresses that no register governs
-
-in_no_hole : (fdhc addr : ℕ) → IsOutside addr (from_to 0x8_0000 0x9_FFFF) →
-    IsOutside addr (from_to 0xF0_0000 0xFF_FFFF) →
-    is_in (hole_of fdhc) addr ≡ false
-in_no_hole fdhc addr low high = grind (arith, nat_tests)
-
-always_rom : ℕ → Bool
-always_rom addr = is_within 0xF_0000 0xF_FFFF addr || is_within 0xFFFF_0000 0xFFFF_FFFF addr
-
-rom_outside : (xbcs addr : ℕ) → IsOutside addr (from_to 0xE_0000 0xE_FFFF) →
-    IsOutside addr (from_to 0xFFF8_0000 0xFFFE_FFFF) →
-    is_rom_selected xbcs addr ≡ always_rom addr
-unfolding always_rom
-rom_outside xbcs addr low high = grind (arith, nat_tests)
 
 -- ---- the windows of PAM
 

@@ -49,10 +49,6 @@ row_named cards at k (Some (RowBoundary row)) is row_is =
     }
 row_named cards at k _ is row_is = absurd (false≢true row_is)
 
-row_at : (cards : List FittedCard) (at : Reg) (k : ℕ) → is_row_name (map_register cards (reg_after at k)) ≡ true →
-    IsRowAt at k
-row_at cards at k is = row_named cards at k (map_register cards (reg_after at k)) refl is
-
 rows_between : (at : Reg) (width : Width) (value last : ℕ) → last + 1 ≡ bytes_of width → IsRowAt at 0 →
     IsRowAt at last →
     covers_rows (Store at width value) ≡ true
@@ -63,15 +59,17 @@ pub rows_by_names : (cards : List FittedCard) (change : MapChange) → stores_ro
     covers_rows change ≡ true
 rows_by_names cards Reset is = absurd (false≢true is)
 rows_by_names cards (Store at One value) is =
-    let first = row_at cards at 0 (and_parts _ _ (and_parts _ _ is).1).0 in
+    let first = row_named cards at 0 _ refl (and_parts _ _ (and_parts _ _ is).1).0 in
     rows_between at One value 0 refl first first
 rows_by_names cards (Store at Two value) is =
     let each = and_parts _ _ (and_parts _ _ is).1 in
-    rows_between at Two value 1 refl (row_at cards at 0 each.0) (row_at cards at 1 (and_parts _ _ each.1).0)
+    rows_between at Two value 1 refl (row_named cards at 0 _ refl each.0)
+    (row_named cards at 1 _ refl (and_parts _ _ each.1).0)
 rows_by_names cards (Store at Four value) is =
     let each = and_parts _ _ (and_parts _ _ is).1 in
     let third = and_parts _ _ (and_parts _ _ each.1).1 in
-    rows_between at Four value 3 refl (row_at cards at 0 each.0) (row_at cards at 3 (and_parts _ _ third.1).0)
+    rows_between at Four value 3 refl (row_named cards at 0 _ refl each.0)
+    (row_named cards at 3 _ refl (and_parts _ _ third.1).0)
 
 -- ---- the areas outside of what moves
 
@@ -131,23 +129,16 @@ rows_keep old new setup bytes (Store at width value) addr rows list stands stand
 
 -- ---- how many rows are looked up
 
-pub moved_rise : {old new : List ℕ} {windows : List Changed} → AreMoved old new windows → Rise windows
-moved_rise {windows = []} moved = tt
-moved_rise {windows = window ∷ []} moved = (moved.each.0.0, tt, tt)
-moved_rise {windows = window ∷ other ∷ later} moved = absurd (omega (arith, moved.one))
-
 -- the windows of a store begin with that of all rows
-record BeginsWithRows (windows : List Changed) : Type 0 where
-  pub rest : List Changed
-  pub is : windows ≡ from_to 0 0x7F7F_FFFF ∷ rest
+abbrev BeginsWithRows : List Changed → Type 0
+BeginsWithRows windows = (rest : List Changed) × (windows ≡ from_to 0 0x7F7F_FFFF ∷ rest)
 
 first_offset : (windows : ℕ → List Changed) (width : Width) (more : List Changed) →
     windows 0 ≡ from_to 0 0x7F7F_FFFF ∷ [] →
     BeginsWithRows (flat_map windows (take (bytes_of width) (0 ∷ 1 ∷ 2 ∷ 3 ∷ [])) ++ more)
-first_offset windows One more first = record { rest = more; is = rw first refl }
-first_offset windows Two more first = record { rest = flat_map windows (1 ∷ []) ++ more; is = rw first refl }
-first_offset windows Four more first =
-    record { rest = flat_map windows (1 ∷ 2 ∷ 3 ∷ []) ++ more; is = rw first refl }
+first_offset windows One more first = (more, rw first refl)
+first_offset windows Two more first = (flat_map windows (1 ∷ []) ++ more, rw first refl)
+first_offset windows Four more first = (flat_map windows (1 ∷ 2 ∷ 3 ∷ []) ++ more, rw first refl)
 
 begins : (setup : Setup) (bytes : Bytes) (change : MapChange) → covers_rows change ≡ true →
     BeginsWithRows (changed_windows setup bytes change)
@@ -173,48 +164,37 @@ inside_rows : (window : Changed) (rest : List Changed) (edge : ℕ) → IsInRows
     is_inside (from_to 0 0x7F7F_FFFF ∷ rest) edge ≡ false → is_above_first edge window ≡ false
 inside_rows window rest edge within not = let high = within.1 in grind (arith, nat_tests)
 
-few_in_rows : (setup : Setup) (bytes : Bytes) (window : Changed) (windows : List Changed) → IsInRows window →
-    BeginsWithRows windows →
+few_in_rows : (setup : Setup) (bytes : Bytes) (window : Changed) (rest : List Changed) → IsInRows window →
     edges_after setup bytes window.lo - edges_after setup bytes window.hi + 1
-    ≤ count_of windows + edges_inside setup bytes windows
-few_in_rows setup bytes window windows within begin =
-    rw begin.is
-    (omega (
+    ≤ count_of (from_to 0 0x7F7F_FFFF ∷ rest) + edges_inside setup bytes (from_to 0 0x7F7F_FFFF ∷ rest)
+few_in_rows setup bytes window rest within =
+    omega (
       arith,
       one_window window (edges_of setup bytes),
-      filter_more (λ edge. is_above_first edge window) (is_inside (from_to 0 0x7F7F_FFFF ∷ begin.rest))
-          (edges_of setup bytes) (λ edge. inside_rows window begin.rest edge within),
-      count_some (from_to 0 0x7F7F_FFFF) begin.rest,
-    ))
+      filter_more (λ edge. is_above_first edge window) (is_inside (from_to 0 0x7F7F_FFFF ∷ rest))
+          (edges_of setup bytes) (λ edge. inside_rows window rest edge within),
+      count_some (from_to 0 0x7F7F_FFFF) rest,
+    )
 
-pub moved_few : (setup : Setup) (bytes new : Bytes) (change : MapChange) {old_rows new_rows : List ℕ}
-    {windows : List Changed} → covers_rows change ≡ true →
-    AreMoved old_rows new_rows windows →
-    rows_in (edges_after setup new) windows ≤ count_of (changed_windows setup bytes change) + edges_inside setup new
-    (changed_windows setup bytes change)
-moved_few setup bytes new change {windows = []} rows moved = omega arith
-moved_few setup bytes new change {windows = window ∷ []} rows moved =
-    grind (arith, nat_tests, common_steps, few_in_rows, begins)
-moved_few setup bytes new change {windows = window ∷ other ∷ later} rows moved = absurd (omega (arith, moved.one))
-
--- what moves lies in the windows that change
 past_rows : (addr : ℕ) (window : Changed) → IsInRows window → IsOutside addr (from_to 0 0x7F7F_FFFF) →
     IsOutside addr window
-past_rows addr window within (inl below) = absurd (omega (arith, below))
-past_rows addr window within (inr above) = inr (let high = within.1 in omega (arith, high, above))
+past_rows addr window within out = let high = within.1 in grind (arith, nat_tests)
 
-pub moved_within : (setup : Setup) (bytes : Bytes) (change : MapChange) {old_rows new_rows : List ℕ}
-    {windows : List Changed} (addr : ℕ) →
-    covers_rows change ≡ true → AreMoved old_rows new_rows windows →
-    AllByRecursion (IsOutside addr) (changed_windows setup bytes change) →
-    AllByRecursion (IsOutside addr) windows
-moved_within setup bytes change {windows = []} addr rows moved out = tt
-moved_within setup bytes change {windows = window ∷ []} addr rows moved out =
-    let begin = begins setup bytes change rows in
-    let outs = rw begin.is at out in
-    (past_rows addr window moved.each.0 outs.0, tt)
-moved_within setup bytes change {windows = window ∷ other ∷ later} addr rows moved out =
-    absurd (omega (arith, moved.one))
+-- what moves rises and lies in the windows that change, and so few rows are looked up in it
+pub moved_within : (setup : Setup) (bytes new : Bytes) (change : MapChange) {old_rows new_rows : List ℕ}
+    (windows : List Changed) → covers_rows change ≡ true → AreMoved old_rows new_rows windows →
+    Rise windows × (rows_in (edges_after setup new) windows ≤ count_of (changed_windows setup bytes change)
+    + edges_inside setup new (changed_windows setup bytes change)) × ((addr : ℕ) →
+    AllByRecursion (IsOutside addr) (changed_windows setup bytes change) → AllByRecursion (IsOutside addr) windows)
+moved_within setup bytes new change [] rows moved = (tt, omega arith, λ addr out. tt)
+moved_within setup bytes new change (window ∷ []) rows moved =
+    let within = moved.each.0 in
+    let begin = begins setup bytes change rows in (
+      (within.0, tt, tt),
+      rw begin.1 (omega (arith, few_in_rows setup new window begin.0 within)),
+      λ addr out. (past_rows addr window within (rw begin.1 at out).0, tt),
+    )
+moved_within setup bytes new change (window ∷ other ∷ later) rows moved = absurd (omega (arith, moved.one))
 
 -- ---- one row after the other, as the code takes them
 

@@ -1,8 +1,8 @@
 -- Addresses outside windows and outside their bounds.
 use Rattle.board_prelude.proofs.Common.{common_steps, nat_tests, AllByRecursion, ne_eqb, pow_pos, Window, is_covered}
 use Rattle.board_prelude.proofs.Common.{and-false, map-append}
-use Rattle.std.proofs.Common.{◌≡◌, ℕ, inl, inr, Bool, false, List, [], ◌∷◌, ◌++◌, map, Option, Some, None, refl, arith}
-use Rattle.std.proofs.Common.{◌&&◌, unwrap_or, find}
+use Rattle.std.proofs.Common.{◌≡◌, ◌<◌, ◌⊎◌, ℕ, inl, inr, Bool, false, List, [], ◌∷◌, ◌++◌, map, Option, Some, None}
+use Rattle.std.proofs.Common.{refl, arith, ◌&&◌, unwrap_or, find}
 use Rattle.std.proofs.Math.Pow.{split}
 use Rattle.map_ranges.specs.declared.range.Changed.{Changed}
 use Rattle.map_builder.specs.Changed.{from_to, decoded, bounds, bounds_or_zero, both, joined, IsOutside}
@@ -17,15 +17,19 @@ abbrev pub OutsideSome : ℕ → Option Changed → Type 0
 OutsideSome addr None = Unit {0}
 OutsideSome addr (Some interval) = IsOutside addr interval
 
-pub outside_both : (addr : ℕ) (here there : Changed) → IsOutside addr (both here there) →
-    IsOutside addr here × IsOutside addr there
-outside_both addr here there (inl below) = (inl (omega arith), inl (omega arith))
-outside_both addr here there (inr above) = (inr (omega arith), inr (omega arith))
+-- an interval begins after an address, or ends below another. Where they are one address, it lies outside
+abbrev pub Misses : (low high : ℕ) → Changed → Type 0
+Misses low high interval = (low < interval.lo) ⊎ (interval.hi < high)
+
+pub misses_both : {low high : ℕ} (here there : Changed) → Misses low high (both here there) →
+    Misses low high here × Misses low high there
+misses_both here there (inl below) = (inl (omega arith), inl (omega arith))
+misses_both here there (inr above) = (inr (omega arith), inr (omega arith))
 
 outside_joined : (addr : ℕ) (here : Changed) (there : Option Changed) → OutsideSome addr (Some (joined here there)) →
     IsOutside addr here × OutsideSome addr there
 outside_joined addr here None out = (out, tt)
-outside_joined addr here (Some there) out = outside_both addr here there out
+outside_joined addr here (Some there) out = misses_both here there out
 
 pub outside_each : (addr : ℕ) (windows : List Changed) → OutsideSome addr (bounds windows) → Outside addr windows
 unfolding bounds

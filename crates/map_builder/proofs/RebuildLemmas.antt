@@ -1,9 +1,11 @@
 -- What stays of a map that differs in some windows alone: the ranges below them, between them and above them.
-use Rattle.board_prelude.proofs.Common.{nat_tests, get_or-map, length-map, drop_more, drop_all, Area, Setup, Bytes}
-use Rattle.board_prelude.proofs.Common.{address_count, MapRange, NeighboursDiffer, IsFlatMapOf}
+use Rattle.board_prelude.proofs.Common.{nat_tests, get_or-map, length-map, length-drop, drop_more, drop_all, append-nil}
+use Rattle.board_prelude.proofs.Common.{Area, Setup, Bytes, address_count, MapRange, NeighboursDiffer, IsFlatMapOf}
+use Rattle.board_prelude.proofs.Common.{Tiles}
 use Rattle.std.proofs.Common.{◌≡◌, ◌≢◌, ℕ, zero, suc, ◌+◌, ◌-◌, ◌<◌, ◌≤◌, inl, inr, List, [], ◌∷◌, ◌++◌, length, map}
-use Rattle.std.proofs.Common.{take, drop, get_or, refl, sym, ap, subst, arith, min}
-use Rattle.std.proofs.lemmas.List.{map_more}
+use Rattle.std.proofs.Common.{take, drop, get_or, refl, sym, ap, subst, arith, ◌∙◌, append_assoc}
+use Rattle.std.proofs.lemmas.List.{map_more, get_or-drop}
+use Rattle.board_spec.proofs.FlatMapLaws.{tiles_below}
 use Rattle.addr_decode.specs.MapRegs.{MapBytes, StandsFor}
 use Rattle.map_ranges.specs.declared.range.Changed.{Changed}
 use Rattle.map_ranges.specs.declared.range.Range.{Range}
@@ -31,6 +33,23 @@ differ_at (here ∷ next ∷ later) zero differ within = λ same. differ.0 (sym 
 differ_at (here ∷ next ∷ later) (suc k) differ within =
     let place : suc k + 1 ≡ suc (k + 1) = omega arith in rw place (differ_at (next ∷ later) k differ.1 (omega arith))
 
+-- the last address of a range is an address
+pub range_below : (from : ℕ) (ranges : List MapRange) → Tiles from ranges → (k : ℕ) (d : MapRange) → k < length ranges →
+    (get_or ranges k d).hi < address_count
+range_below from [] tiles k d within = absurd (omega arith)
+range_below from (range ∷ later) tiles zero d within =
+    let next : range.hi + 1 ≤ address_count = tiles_below (range.hi + 1) later tiles.2 in omega arith
+range_below from (range ∷ later) tiles (suc k) d within = range_below (range.hi + 1) later tiles.2 k d (omega arith)
+
+-- one more of the ranges from an index on
+taken_more : (ranges : List Range) (n c : ℕ) → n + c < length ranges →
+    map range_of (take (suc c) (drop n ranges))
+    ≡ map range_of (take c (drop n ranges)) ++ range_of (range_at ranges (n + c)) ∷ []
+taken_more ranges n c within =
+    let place : suc c ≡ c + 1 = omega arith in
+    rw (place, ← get_or-drop n ranges c no_range)
+    (map_more range_of (drop n ranges) c no_range (omega (arith, length-drop n ranges)))
+
 -- a map that agrees at some addresses agrees at fewer
 pub fewer_where : {regs : MapBytes} {Where Less : ℕ → Type 0} {ranges : List MapRange} →
     ((addr : ℕ) → Less addr → Where addr) → IsMapWhere regs Where ranges → IsMapWhere regs Less ranges
@@ -49,49 +68,107 @@ right_at ranges is setup bytes k stands within =
     rw (get_or-map range_of ranges k no_range (range_of no_range) within)
     at (is.right setup bytes stands k (range_of no_range) (omega (arith, length-map ranges range_of)))
 
+-- ---- ranges that are right after an address, up to another
+
+module _ {regs : MapBytes} (after until : ℕ) (address : until < address_count) (old : List Range)
+    (agrees : IsMapWhere regs (IsBetween after until) (map range_of old)) where
+  is : Placed 0 old
+  is = placed 0 old (omega arith) agrees.tiles
+
+  -- on through a range, from an address in it on
+  pub kept_on : {ranges ranges' : List MapRange} {last last' : MapRange} {k lo addr hi : ℕ} → Holds old k lo →
+      lo ≡ addr + 1 → after ≤ addr → lo ≤ hi → hi ≤ until → hi ≤ (range_at old k).hi →
+      ContinuesAt ranges ranges' last last' lo (row_at old k) → IsBuilt regs ranges last addr →
+      IsBuilt regs ranges' last' hi
+  kept_on {k = k} {lo = lo} holds joined from order within high on built =
+      let low = holds.above in
+      built_range lo (row_at old k) joined order (omega arith)
+      (λ x from_x to_x setup bytes stands.
+      sym ((right_at old agrees setup bytes k stands holds.within).at_each x (omega arith) (omega arith) (
+        omega arith,
+        omega arith,
+      ))) on built
+
+  -- the next range follows one that was built to its end
+  next_kept : (k : ℕ) {hi : ℕ} {ranges : List MapRange} {last : MapRange} → Holds old (k + 1) hi → hi ≤ until →
+      after ≤ (range_at old k).hi → last.areas ≡ row_at old k → IsBuilt regs ranges last (range_at old k).hi →
+      IsBuilt regs (ranges ++ range last.lo (range_at old k).hi last.areas ∷ []) (open_at old (k + 1)) hi
+  next_kept k holds within from same built =
+      let next = is.next k holds.within in
+      let whole = is.whole (k + 1) holds.within in
+      let end : (range_at old k).hi ≡ (range_at old (k + 1)).lo - 1 = omega arith in
+      kept_on (record { within = holds.within; above = omega arith; below = whole }) next from holds.above within
+      holds.below (inr ((λ alike. differ_at old k agrees.least holds.within (alike ∙ same)), rw end refl, refl)) built
+
+  -- each later range ends later
+  ends_after : (k c : ℕ) → k + c < length old → after ≤ (range_at old k).hi → after ≤ (range_at old (k + c)).hi
+  ends_after k zero within from = let place : k + 0 ≡ k = omega arith in rw place from
+  ends_after k (suc c) within from =
+      let place : k + suc c ≡ k + c + 1 = omega arith in
+      let next = is.next (k + c) (omega arith) in
+      let whole = is.whole (k + c + 1) (omega arith) in
+      rw place (omega (arith, ends_after k c (omega arith) from))
+
+  -- and so do some ranges and one more
+  pub copied : (k : ℕ) {ranges : List MapRange} {last : MapRange} (c hi : ℕ) → Holds old (k + c + 1) hi → hi ≤ until →
+      after ≤ (range_at old k).hi → last.areas ≡ row_at old k → IsBuilt regs ranges last (range_at old k).hi →
+      IsBuilt regs ((ranges ++ range last.lo (range_at old k).hi last.areas ∷ [])
+      ++ map range_of (take c (drop (k + 1) old))) (open_at old (k + c + 1)) hi
+  copied k {ranges} {last} zero hi holds within from same built =
+      let place : k + 0 ≡ k = omega arith in
+      rw (place, append-nil (ranges ++ range last.lo (range_at old k).hi last.areas ∷ []))
+      (next_kept k (rw place at holds) within from same built)
+  copied k {ranges} {last} (suc c) hi holds within from same built =
+      let place : k + suc c ≡ k + c + 1 = omega arith in
+      let there = rw place at holds in
+      let next = is.next (k + c + 1) there.within in
+      let whole = is.whole (k + c + 1) (omega (arith, there.within)) in
+      let below = there.above in
+      let later : k + (c + 1) ≡ k + c + 1 = omega arith in
+      let after_this = rw later at (ends_after k (c + 1) (omega (arith, there.within)) from) in
+      let front : List MapRange = ranges ++ range last.lo (range_at old k).hi last.areas ∷ [] in
+      let inner = copied k c (range_at old (k + c + 1)).hi
+      (record { within = omega (arith, there.within); above = whole; below = omega arith }) (omega arith) from same
+      built in
+      let swapped : k + 1 + c ≡ k + c + 1 = omega arith in
+      rw (place, taken_more old (k + 1) c (omega (arith, there.within)), swapped, ← append_assoc front _ _)
+      (next_kept (k + c + 1) there within after_this refl inner)
+
 -- ---- below the first window
 
-module _ (regs : MapBytes) (lo : ℕ) (address : lo < address_count) (ranges : List Range)
-    (agrees : IsMapWhere regs (IsBelow lo) (map range_of ranges)) where
-  is : Placed 0 ranges
-  is = placed 0 ranges (omega arith) agrees.tiles
+-- the ranges before the one that holds an address, and that one as the last, are built up to the address
+built_below : {regs : MapBytes} (lo : ℕ) (address : lo < address_count) (old : List Range) →
+    IsMapWhere regs (IsBelow lo) (map range_of old) → (k addr : ℕ) → Holds old k addr → addr < lo →
+    IsBuilt regs (map range_of (take k old)) (open_at old k) addr
+built_below {regs} lo address old agrees zero addr holds outer =
+    let high = holds.below in
+    let first = (placed 0 old (omega arith) agrees.tiles).first in
+    let right : (x : ℕ) → 0 ≤ x → x ≤ addr → AreasAt regs x (row_at old 0) = λ x low to setup bytes stands.
+    sym ((right_at old agrees setup bytes 0 stands holds.within).at_each x (omega arith) (omega arith) (omega arith)) in
+    rw first
+    (built_over (omega arith) (same_at_each regs 0 addr (row_at old 0) (omega arith) right)
+    (is_built_first (row_at old 0) (right 0 (omega arith) (omega arith))))
+built_below lo address old agrees (suc k) addr holds outer =
+    let place : suc k ≡ k + 1 = omega arith in
+    let there = rw place at holds in
+    let is = placed 0 old (omega arith) agrees.tiles in
+    let next = is.next k there.within in
+    let low = there.above in
+    let within : k < length old = omega (arith, there.within) in
+    rw (place, map_more range_of old k no_range within)
+    (next_kept 0 (lo - 1) (omega arith) old (fewer_where (λ x between. omega arith) agrees) k there (omega arith)
+    (omega arith) refl
+    (built_below lo address old agrees k (range_at old k).hi
+    (record { within = within; above = is.whole k within; below = omega arith }) (omega arith)))
 
-  right_below : (k addr : ℕ) → k < length ranges → (range_at ranges k).lo ≤ addr → addr ≤ (range_at ranges k).hi →
-      addr < lo → AreasAt regs addr (row_at ranges k)
-  right_below k addr within above below outer setup bytes stands =
-      sym ((right_at ranges agrees setup bytes k stands within).at_each addr above below outer)
-
-  -- the ranges before the one that holds an address, and that one as the last, are built up to the address
-  built_below : (k addr : ℕ) → k < length ranges → (range_at ranges k).lo ≤ addr → addr ≤ (range_at ranges k).hi →
-      addr < lo → IsBuilt regs (map range_of (take k ranges)) (open_at ranges k) addr
-  built_below zero addr within above below outer =
-      let right = λ (x : ℕ) (low : 0 ≤ x) (high : x ≤ addr).
-      right_below 0 x within (omega (arith, is.first)) (omega arith) (omega arith) in
-      rw is.first
-      (built_over (omega arith) (same_at_each regs 0 addr (row_at ranges 0) (omega arith) right)
-      (is_built_first (row_at ranges 0) (right 0 (omega arith) (omega arith))))
-  built_below (suc k) addr within above below outer =
-      let here : Range = range_at ranges k in
-      let next : Range = range_at ranges (suc k) in
-      let place : k + 1 ≡ suc k = omega arith in
-      let joined : next.lo ≡ here.hi + 1 = rw place at (is.next k (omega arith)) in
-      let end : here.hi ≡ next.lo - 1 = omega arith in
-      let pushed : map range_of (take (suc k) ranges) ≡ map range_of (take k ranges)
-      ++ range here.lo (next.lo - 1) here.row.areas ∷ [] =
-      rw (← end) (rw place at (map_more range_of ranges k no_range (omega arith))) in
-      built_range next.lo next.row.areas joined above (omega arith)
-      (λ x low high. right_below (suc k) x within low (omega arith) (omega arith))
-      (inr (rw place at (differ_at ranges k agrees.least (omega arith)), pushed, refl))
-      (built_below k here.hi (omega arith) (is.whole k (omega arith)) (omega arith) (omega arith))
-
-  -- and go on at the first address of the interval
-  pub built_to_interval : (k : ℕ) {ranges' : List MapRange} {last' : MapRange} (areas : List Area) →
-      Holds ranges k (lo - 1) → 0 < lo → AreasAt regs lo areas →
-      ContinuesAt (map range_of (take k ranges)) ranges' (open_at ranges k) last' lo areas →
-      IsBuilt regs ranges' last' lo
-  built_to_interval k areas holds above at_lo on =
-      built_step areas (omega arith) address (one_address regs (lo - 1) lo (omega arith)) at_lo on
-      (built_below k (lo - 1) holds.within holds.above holds.below (omega arith))
+-- and go on at the first address of the interval
+pub built_to_interval : {regs : MapBytes} (lo : ℕ) → lo < address_count → (old : List Range) →
+    IsMapWhere regs (IsBelow lo) (map range_of old) → (k : ℕ) {ranges' : List MapRange} {last' : MapRange}
+    (areas : List Area) → Holds old k (lo - 1) → 0 < lo → AreasAt regs lo areas →
+    ContinuesAt (map range_of (take k old)) ranges' (open_at old k) last' lo areas → IsBuilt regs ranges' last' lo
+built_to_interval {regs} lo address old agrees k areas holds above at_lo on =
+    built_step areas (omega arith) address (one_address regs (lo - 1) lo (omega arith)) at_lo on
+    (built_below lo address old agrees k (lo - 1) holds (omega arith))
 
 -- ---- between windows
 
@@ -109,21 +186,6 @@ begins_later begins order = record { within = begins.within; above = omega (arit
 pub holds_begins : {ranges : List Range} {k addr later : ℕ} → Holds ranges k addr → addr ≤ later →
     BeginsBelow ranges k later
 holds_begins holds order = record { within = holds.within; above = omega (arith, holds.above) }
-
-pub kept_on : {regs : MapBytes} {ranges ranges' : List MapRange} {last last' : MapRange} {old : List Range} {k hi : ℕ}
-    (after until : ℕ) →
-    IsMapWhere regs (IsBetween after until) (map range_of old) → Holds old k (hi + 1) → after ≤ hi → hi < until →
-    until < address_count → ContinuesAt ranges ranges' last last' (hi + 1) (row_at old k) →
-    IsBuilt regs ranges last hi → IsBuilt regs ranges' last' (min until (range_at old k).hi)
-kept_on {old = old} {k = k} {hi = hi} after until agrees holds from order address on built =
-    let low = holds.above in
-    let high = holds.below in
-    built_range (hi + 1) (row_at old k) refl (omega arith) (omega arith)
-    (λ x from_x to_x setup bytes stands.
-    sym ((right_at old agrees setup bytes k stands holds.within).at_each x (omega arith) (omega arith) (
-      omega arith,
-      omega arith,
-    ))) on built
 
 -- ---- windows one after the other
 
@@ -238,7 +300,3 @@ pub rows_at : (edges_above : ℕ → ℕ) (windows : List Changed) (k : ℕ) →
     ≡ edges_above (window_at windows k).lo - edges_above (window_at windows k).hi + 1 + rows_in edges_above
     (drop (k + 1) windows)
 rows_at edges_above windows k within = ap (rows_in edges_above) (next_window windows k within)
-
-pub no_rows : (edges_above : ℕ → ℕ) (windows : List Changed) (k : ℕ) → length windows ≤ k →
-    rows_in edges_above (drop k windows) ≡ 0
-no_rows edges_above windows k past = ap (rows_in edges_above) (drop_all k windows past)

@@ -1,19 +1,20 @@
 -- Boards that have the same registers have the same areas at each address.
-use Rattle.board_prelude.proofs.Common.{common_steps}
-use Rattle.std.proofs.Common.{◌≡◌, ℕ, ◌+◌, ◌-◌, ◌*◌, ◌/◌, ◌%◌, ◌<◌, ◌≤◌, inl, inr, Bool, true, false, List, [], ◌∷◌}
-use Rattle.std.proofs.Common.{Option, Some, None, refl, sym, ◌∙◌, arith, ◌==◌, ◌&&◌, ◌||◌, is_some, find}
-use Rattle.board_prelude.proofs.Common.{AllByRecursion, cases_Bool, false≢true, nat_tests, recursion_from_All, Kind}
-use Rattle.board_prelude.proofs.Common.{Fetch, Read, Write, Reg, FittedCard, Setup, IsCardList, card_at, is_within}
-use Rattle.board_prelude.proofs.Common.{Bytes, memory_claim, area_of, bridge, isa, card_register, six_areas, has_rom}
-use Rattle.board_prelude.proofs.Common.{touches_map, MapChange, untouched, SameMapBytes, map_bytes_decide, is_host_byte}
+use Rattle.std.proofs.Common.{◌≡◌, ℕ, ◌+◌, ◌*◌, ◌/◌, ◌%◌, ◌<◌, ◌≤◌, Bool, false, true, Option, Some, None, refl, sym}
+use Rattle.std.proofs.Common.{◌∙◌, arith, ◌==◌, is_some, find, lit<}
+use Rattle.board_prelude.proofs.Common.{common_steps, false≢true, nat_tests, ne_eqb, Kind, Fetch, Read, Write, Reg}
+use Rattle.board_prelude.proofs.Common.{Setup, IsCardList, Bytes, memory_claim, area_of, card_register, six_areas}
+use Rattle.board_prelude.proofs.Common.{touches_map, MapChange, untouched, SameMapBytes, map_bytes_decide, is_map_byte}
 use Rattle.map_builder.specs.Changed.{after}
-use Rattle.pci_bars.specs.Cards.{CardBytes, HoldsRom, DecodesAs, cards_of}
+use Rattle.pci_bars.specs.Cards.{CardBytes, HoldsRom, DecodesAs}
+use Rattle.pci_bars.proofs.CardListLemmas.{found, card_is}
 use Rattle.addr_decode.specs.declared.register.MapRegister.{MapRegister}
 use Rattle.addr_decode.specs.declared.register.MapRegister.TheVariants.{Pam, RowBoundary, Single, Card}
-use Rattle.addr_decode.specs.MapRegister.{place_of, IsNumbered, in_bridge, in_isa_bridge}
+use Rattle.addr_decode.specs.declared.register.CardRegister.{CardRegister}
+use Rattle.addr_decode.specs.declared.register.CardRegister.TheVariants.{Command, Base, ExpansionRom}
+use Rattle.addr_decode.specs.MapRegister.{place_of, offset_of, IsNumbered, IsCardNumber, map_register}
 use Rattle.addr_decode.specs.MapRegs.{MapBytes, StandsFor}
-use Rattle.addr_decode.proofs.NameLemmas.{IsNameAt, is_isa_byte, bridge_named, isa_named, bridge_place, single_place}
-use Rattle.addr_decode.proofs.StoreLemmas.{same_register}
+use Rattle.addr_decode.proofs.CardLemmas.{no_low_fitted}
+use Rattle.addr_decode.proofs.NameLemmas.{is_name, named}
 
 module _ (regs : MapBytes) (setup setup' : Setup) (bytes bytes' : Bytes) (stands : StandsFor setup bytes regs)
     (stands' : StandsFor setup' bytes' regs) where
@@ -21,115 +22,57 @@ module _ (regs : MapBytes) (setup setup' : Setup) (bytes bytes' : Bytes) (stands
   abbrev pub Same : Reg → Type 0
   Same reg = bytes reg ≡ bytes' reg
 
-  -- ---- registers of the bridges
+  -- ---- a register of a card, where it is a map byte
 
-  register_same : (register : MapRegister) → IsNumbered register → (place_of register).dev < 2 →
-      bytes (place_of register) ≡ bytes' (place_of register)
-  register_same (Pam k) number low = grind (arith, nat_tests)
-  register_same (RowBoundary row) number low = sym (stands.rows row number) ∙ stands'.rows row number
-  register_same (Single k) number low = sym (stands.singles k number) ∙ stands'.singles k number
-  register_same (Card dev register) number low = absurd (omega (arith, number.0))
+  rom_same : (dev register k : ℕ) (rom : Option ℕ) → k < 4 → is_some rom ≡ true → HoldsRom bytes dev register rom →
+      HoldsRom bytes' dev register rom → Same (card_register dev (0x30 + k))
+  rom_same dev register k None below has holds holds' = absurd (false≢true has)
+  rom_same dev register k (Some bits) below has holds holds' = holds.each k below ∙ sym (holds'.each k below)
 
-  named_same : (reg : Reg) (name : Option MapRegister) → reg.dev < 2 → is_some name ≡ true →
-      ((register : MapRegister) → name ≡ Some register → IsNameAt register reg) → Same reg
-  named_same reg None low is names = absurd (cc)
-  named_same reg (Some register) low is names =
-      let it = names register refl in
-      rw it.place at (register_same register it.number (rw it.place low))
+  decoded_same : (card : CardBytes) (register : CardRegister) → 2 ≤ card.card.dev → IsCardNumber register →
+      DecodesAs setup bytes card → DecodesAs setup' bytes' card →
+      is_map_byte setup (card_register card.card.dev (offset_of register)) ≡ true →
+      Same (card_register card.card.dev (offset_of register))
+  decoded_same card Command above number decodes decodes' is = decodes.command ∙ sym decodes'.command
+  decoded_same card (Base k) above number decodes decodes' is =
+      let place : 0x10 + 4 * (k / 4) + k % 4 ≡ 0x10 + k = omega arith in
+      rw place at ((decodes.bases (k / 4) (omega (arith, number))).each (k % 4) (omega arith)
+      ∙ sym ((decodes'.bases (k / 4) (omega (arith, number))).each (k % 4) (omega arith)))
+  decoded_same card (ExpansionRom k) above number decodes decodes' is =
+      let here = rw (ne_eqb card.card.dev 0 (omega arith), ne_eqb card.card.dev 1 (omega arith), decodes.fitted) at is in
+      rom_same card.card.dev card.rom k card.card.rom number (grind (arith, nat_tests)) decodes.rom decodes'.rom
 
-  bridge_same : (off : ℕ) → is_host_byte off ≡ true → bytes (bridge off) ≡ bytes' (bridge off)
-  bridge_same off is = named_same (bridge off) (in_bridge off) (omega arith) (bridge_named off ∙ is) (bridge_place off)
+  found_same : (card : Option CardBytes) (dev : ℕ) (register : CardRegister) → 2 ≤ dev → IsCardNumber register →
+      find (λ card. card.card.dev == dev) regs.cards ≡ card →
+      is_map_byte setup (card_register dev (offset_of register)) ≡ true → Same (card_register dev (offset_of register))
+  found_same None dev register above number there is =
+      let none = card_is setup regs.cards dev None stands.cards.0 (sym there) in
+      absurd (false≢true (rw (ne_eqb dev 0 (omega arith), ne_eqb dev 1 (omega arith), ← none) at is))
+  found_same (Some card) dev register above number there is =
+      let one = found (DecodesAs setup bytes) regs.cards dev card stands.cards.1 there in
+      let two = found (DecodesAs setup' bytes') regs.cards dev card stands'.cards.1 there in
+      rw one.1 at (decoded_same card register (rw one.1 above) number one.0 two.0 (rw one.1 is))
 
-  isa_same : (off : ℕ) → is_isa_byte off ≡ true → bytes (isa off) ≡ bytes' (isa off)
-  isa_same off is =
-      named_same (isa off) (in_isa_bridge off) (omega arith) (isa_named off ∙ is) (single_place (isa off))
+  -- ---- each register with a name
 
-  -- ---- registers of cards
+  register_same : (register : MapRegister) → IsNumbered register → is_map_byte setup (place_of register) ≡ true →
+      Same (place_of register)
+  register_same (Pam k) number is = grind (arith, nat_tests)
+  register_same (RowBoundary row) number is = sym (stands.rows row number) ∙ stands'.rows row number
+  register_same (Single k) number is = sym (stands.singles k number) ∙ stands'.singles k number
+  register_same (Card dev register) number is = found_same _ dev register number.0 number.1 refl is
 
-  decoded_same : (card : CardBytes) (off : ℕ) → (off == 0x04 || is_within 0x10 0x27 off) ≡ true →
-      DecodesAs setup bytes card → DecodesAs setup' bytes' card → Same (card_register card.card.dev off)
-  decoded_same card off is decodes decodes' =
-      elim (cases_Bool (off == 0x04)) [
-        | inl command ↦
-            let place : off ≡ 0x04 = grind (arith, nat_tests) in rw place (decodes.command ∙ sym decodes'.command)
-        | inr base ↦
-            let from : 0x10 ≤ off = grind (arith, nat_tests) in
-            let to : off ≤ 0x27 = grind (arith, nat_tests) in
-            let k : ℕ = (off - 0x10) / 4 in
-            let j : ℕ = (off - 0x10) % 4 in
-            let place : 0x10 + 4 * k + j ≡ off = omega arith in
-            rw place at ((decodes.bases k (omega arith)).each j (omega arith)
-            ∙ sym ((decodes'.bases k (omega arith)).each j (omega arith)))
-      ]
+  named_same : (reg : Reg) (name : Option MapRegister) → map_register setup.cards reg ≡ name → is_some name ≡ true →
+      is_map_byte setup reg ≡ true → Same reg
+  named_same reg None named some is = absurd (false≢true some)
+  named_same reg (Some register) named some is =
+      let name = is_name setup.cards reg register named in
+      rw name.place at (register_same register name.number (rw name.place is))
 
-  held_same : (dev register : ℕ) (rom : Option ℕ) (off : ℕ) → is_some rom ≡ true → is_within 0x30 0x33 off ≡ true →
-      HoldsRom bytes dev register rom → HoldsRom bytes' dev register rom → Same (card_register dev off)
-  held_same dev register None off has is holds holds' = absurd (false≢true has)
-  held_same dev register (Some bits) off has is holds holds' =
-      let from : 0x30 ≤ off = grind (arith, nat_tests) in
-      let to : off ≤ 0x33 = grind (arith, nat_tests) in
-      let place : 0x30 + (off - 0x30) ≡ off = omega arith in
-      rw place at (holds.each (off - 0x30) (omega arith) ∙ sym (holds'.each (off - 0x30) (omega arith)))
-
-  -- of the card that is found and has what counts
-  found_same : (off : ℕ) (has : Option FittedCard → Bool) → has None ≡ false →
-      ((card : CardBytes) → has (Some card.card) ≡ true → DecodesAs setup bytes card → DecodesAs setup' bytes' card →
-      Same (card_register card.card.dev off)) →
-      (cards : List CardBytes) (dev : ℕ) → has (find (λ card. card.dev == dev) (cards_of cards)) ≡ true →
-      AllByRecursion (DecodesAs setup bytes) cards → AllByRecursion (DecodesAs setup' bytes') cards →
-      Same (card_register dev off)
-  found_same off has none one [] dev found each each' = absurd (false≢true (sym none ∙ found))
-  found_same off has none one (card ∷ later) dev found each each' =
-      elim (cases_Bool (card.card.dev == dev)) [
-        | inl here ↦
-            let place : card.card.dev ≡ dev = grind (arith, nat_tests) in
-            rw place at (one card (rw here at found) each.0 each'.0)
-        | inr not_here ↦ found_same off has none one later dev (rw not_here at found) each.1 each'.1
-      ]
-
-  fitted_same : (off : ℕ) (has : Option FittedCard → Bool) → has None ≡ false →
-      ((card : CardBytes) → has (Some card.card) ≡ true → DecodesAs setup bytes card → DecodesAs setup' bytes' card →
-      Same (card_register card.card.dev off)) →
-      (dev : ℕ) → has (card_at setup dev) ≡ true → Same (card_register dev off)
-  fitted_same off has none one dev fitted =
-      found_same off has none one regs.cards dev (rw stands.cards.0 at fitted)
-      (recursion_from_All (DecodesAs setup bytes) regs.cards stands.cards.1)
-      (recursion_from_All (DecodesAs setup' bytes') regs.cards stands'.cards.1)
-
-  -- ---- all of them
-
-  same_at : (reg other : Reg) → other.dev ≡ reg.dev → other.fun ≡ reg.fun → other.off ≡ reg.off → Same other → Same reg
-  same_at reg other dev fun off same = rw (same_register other reg dev fun off) at same
-
-  map_bytes_same : SameMapBytes setup bytes bytes'
-  map_bytes_same reg is =
-      elim (cases_Bool (reg.dev == 0 && reg.fun == 0 && is_host_byte reg.off)) [
-        | inl host ↦
-            same_at reg (bridge reg.off) (grind (arith, nat_tests)) (grind (arith, nat_tests)) refl
-            (bridge_same reg.off (grind (arith, nat_tests)))
-        | inr not_host ↦
-            elim (cases_Bool (reg.dev == 1 && reg.fun == 0 && is_isa_byte reg.off)) [
-              | inl south ↦
-                  same_at reg (isa reg.off) (grind (arith, nat_tests)) (grind (arith, nat_tests)) refl
-                  (isa_same reg.off (grind (arith, nat_tests)))
-              | inr not_south ↦
-                  elim (cases_Bool (is_some (card_at setup reg.dev) && reg.fun
-                  == 0 && (reg.off == 0x04 || is_within 0x10 0x27 reg.off))) [
-                    | inl card ↦
-                        let off : (reg.off == 0x04 || is_within 0x10 0x27 reg.off) ≡ true = grind (arith, nat_tests) in
-                        same_at reg (card_register reg.dev reg.off) refl (grind (arith, nat_tests)) refl
-                        (fitted_same reg.off is_some refl (λ card some. decoded_same card reg.off off) reg.dev
-                        (grind (arith, nat_tests)))
-                    | inr not_card ↦
-                        let rom = rw (not_host, not_south, not_card) at is in
-                        let off : is_within 0x30 0x33 reg.off ≡ true = grind (arith, nat_tests) in
-                        same_at reg (card_register reg.dev reg.off) refl (grind (arith, nat_tests)) refl
-                        (fitted_same reg.off has_rom refl
-                        (λ card has one two. held_same card.card.dev card.rom card.card.rom reg.off has off one.rom
-                        two.rom) reg.dev (grind (arith, nat_tests)))
-                  ]
-            ]
-      ]
+  map_bytes_same : IsCardList setup.cards → SameMapBytes setup bytes bytes'
+  map_bytes_same list reg is =
+      named_same reg _ refl (named setup reg (no_low_fitted setup 0 (lit< tt) list)
+      (no_low_fitted setup 1 (lit< tt) list) ∙ is) is
 
 -- of a board the cards alone count
 area_by_cards : (setup setup' : Setup) (bytes : Bytes) (addr : ℕ) (kind : Kind) (smm : Bool) →
@@ -142,8 +85,8 @@ area_same : (regs : MapBytes) (setup setup' : Setup) (bytes bytes' : Bytes) → 
     StandsFor setup bytes regs → StandsFor setup' bytes' regs →
     (addr : ℕ) (kind : Kind) (smm : Bool) → area_of setup bytes addr kind smm ≡ area_of setup' bytes' addr kind smm
 area_same regs setup setup' bytes bytes' list stands stands' addr kind smm =
-    (map_bytes_decide setup bytes bytes' list (map_bytes_same regs setup setup' bytes bytes' stands stands') addr kind
-    smm).0
+    (map_bytes_decide setup bytes bytes' list (map_bytes_same regs setup setup' bytes bytes' stands stands' list) addr
+    kind smm).0
     ∙ area_by_cards setup setup' bytes' addr kind smm (stands.cards.0 ∙ sym stands'.cards.0)
 
 six_same : (setup setup' : Setup) (bytes bytes' : Bytes) (addr : ℕ) →

@@ -1,15 +1,15 @@
 -- Windows in rising order hold the addresses of those that were sorted, and are no more than there are different ones.
-use Rattle.board_prelude.proofs.Common.{common_steps, AllByRecursion, list_any, cases_Bool, or_cases, false≢true}
+use Rattle.board_prelude.proofs.Common.{common_steps, AllByRecursion, list_any, cases_Bool, cases_lt, false≢true}
 use Rattle.board_prelude.proofs.Common.{nat_tests, Setup, Bytes, each_below}
-use Rattle.std.proofs.Common.{◌≡◌, ℕ, ◌+◌, ◌<◌, ◌≤◌, ◌⊎◌, inl, inr, Bool, true, false, List, [], ◌∷◌, ◌++◌, length}
-use Rattle.std.proofs.Common.{refl, arith, nat_lt, min, max, filter, rules}
+use Rattle.std.proofs.Common.{◌≡◌, ℕ, ◌+◌, ◌<◌, ◌≤◌, inl, inr, Bool, true, false, List, [], ◌∷◌, ◌++◌, length, refl}
+use Rattle.std.proofs.Common.{arith, nat_lt, min, max, filter, rules}
 use Rattle.addr_decode.specs.Edges.{edges_of, edges_after}
 use Rattle.addr_decode.specs.Singles.{single_count}
 use Rattle.map_ranges.specs.declared.range.Changed.{Changed}
 use Rattle.map_builder.specs.Common.{both, is_above_first, is_inside, edges_inside, is_window, count_of, IsOutside}
 use Rattle.map_builder.specs.Common.{with_window, sorted, AreAbove, Rise, rows_in}
 use Rattle.map_builder.specs.Changed.{single_windows}
-use Rattle.map_builder.proofs.OutsideLemmas.{Outside, outside_both}
+use Rattle.map_builder.proofs.OutsideLemmas.{Outside, Misses, misses_both}
 use Rattle.map_builder.proofs.BoundsLemmas.{Ordered}
 
 -- a window goes behind the first of others that rise, before it, or they overlap and become one
@@ -83,25 +83,32 @@ beside_both addr other window low high (inr after) (inr above) = inr (omega (ari
 pub beside_sorted : (addr : ℕ) (windows : List Changed) → Outside addr windows → Outside addr (sorted windows)
 beside_sorted addr = each_sorted (IsOutside addr) (beside_both addr)
 
-outside_with : (addr : ℕ) (window : Changed) (windows : List Changed) → Outside addr (with_window window windows) →
-    IsOutside addr window × Outside addr windows
-unfolding with_window
-outside_with addr window [] out = out
-outside_with addr window (other ∷ later) out =
-    grind (
-      arith,
-      nat_tests,
-      outside_with addr window later,
-      outside_with addr other later,
-      outside_with addr (both other window) later,
-      outside_both,
-    )
+-- where the interval of two has it, both have
+abbrev Parts : (Changed → Type 0) → Type 0
+Parts P = (other window : Changed) → P (both other window) → P other × P window
+
+module _ (P : Changed → Type 0) (parts : Parts P) where
+  parts_with : (window : Changed) (windows : List Changed) → AllByRecursion P (with_window window windows) →
+      P window × AllByRecursion P windows
+  unfolding with_window
+  parts_with window [] each = each
+  parts_with window (other ∷ later) each =
+      with_step (λ made. AllByRecursion P made → P window × (P other × AllByRecursion P later)) window other later
+      (λ behind made. let rest = parts_with window later made.1 in (rest.0, (made.0, rest.1)))
+      (λ before made. (made.0, parts_with other later made.1))
+      (λ low high made.
+      let rest = parts_with (both other window) later made in
+      let two = parts other window rest.0 in
+      (two.1, (two.0, rest.1))) each
+
+  parts_sorted : (windows : List Changed) → AllByRecursion P (sorted windows) → AllByRecursion P windows
+  unfolding sorted
+  parts_sorted [] each = tt
+  parts_sorted (window ∷ later) each =
+      let two = parts_with window (sorted later) each in (two.0, parts_sorted later two.1)
 
 pub outside_sorted : (addr : ℕ) (windows : List Changed) → Outside addr (sorted windows) → Outside addr windows
-unfolding sorted
-outside_sorted addr [] out = tt
-outside_sorted addr (window ∷ later) out =
-    let parts = outside_with addr window (sorted later) out in (parts.0, outside_sorted addr later parts.1)
+outside_sorted addr = parts_sorted (IsOutside addr) (λ other window. misses_both other window)
 
 -- an address is inside none, or at the first address of one
 abbrev IsNotIn : ℕ → Changed → Type 0
@@ -138,52 +145,26 @@ length_with window (other ∷ later) =
     (λ before. omega (arith, length_with other later))
     (λ low high. omega (arith, length_with (both other window) later))
 
--- a window lies in one of some windows
+-- a window lies in one of some windows, which do not all miss its first or its last address
 abbrev Covers : Changed → List Changed → Type 0
-Covers window [] = ⊥
-Covers window (other ∷ later) = ((other.lo ≤ window.lo) × (window.hi ≤ other.hi)) ⊎ Covers window later
+Covers window windows = AllByRecursion (Misses window.lo window.hi) windows → ⊥
 
 covers_above : (addr : ℕ) (window : Changed) (windows : List Changed) → AreAbove addr windows → Covers window windows →
     addr < window.lo
-covers_above addr window [] above covers = absurd covers
-covers_above addr window (other ∷ later) above (inl here) = omega (arith, above.0, here.0)
-covers_above addr window (other ∷ later) above (inr rest) = covers_above addr window later above.1 rest
-
-covers_with : (old window : Changed) (windows : List Changed) → Covers old (window ∷ windows) →
-    Covers old (with_window window windows)
-unfolding with_window
-covers_with old window [] covers = covers
-covers_with old window (other ∷ later) (inl here) =
-    with_step (Covers old) window other later
-    (λ behind. inr (covers_with old window later (inl here)))
-    (λ before. inl here)
-    (λ low high. covers_with old (both other window) later (inl (omega (arith, here.0), omega (arith, here.1))))
-covers_with old window (other ∷ later) (inr (inl there)) =
-    with_step (Covers old) window other later
-    (λ behind. inl there)
-    (λ before. inr (covers_with old other later (inl there)))
-    (λ low high. covers_with old (both other window) later (inl (omega (arith, there.0), omega (arith, there.1))))
-covers_with old window (other ∷ later) (inr (inr rest)) =
-    with_step (Covers old) window other later
-    (λ behind. inr (covers_with old window later (inr rest)))
-    (λ before. inr (covers_with old other later (inr rest)))
-    (λ low high. covers_with old (both other window) later (inr rest))
+covers_above addr window [] above covers = absurd (covers tt)
+covers_above addr window (other ∷ later) above covers = elim (cases_lt addr window.lo) [
+  | inl is ↦ is
+  | inr not ↦ covers_above addr window later above.1 (λ each. covers (inl (omega (arith, above.0)), each))
+]
 
 covers_sorted : (old : Changed) (windows : List Changed) → Covers old windows → Covers old (sorted windows)
-unfolding sorted
-covers_sorted old [] covers = covers
-covers_sorted old (window ∷ later) (inl here) = covers_with old window (sorted later) (inl here)
-covers_sorted old (window ∷ later) (inr rest) =
-    covers_with old window (sorted later) (inr (covers_sorted old later rest))
+covers_sorted old windows covers each =
+    covers (parts_sorted (Misses old.lo old.hi) (λ other window. misses_both other window) windows each)
 
 covers_one : (window : Changed) (windows : List Changed) → list_any (is_window window) windows ≡ true →
     Covers window windows
-covers_one window [] is = absurd (false≢true is)
-covers_one window (other ∷ later) is =
-    elim (or_cases (is_window window other) (list_any (is_window window) later) is) [
-      | inl same ↦ inl (grind (arith, nat_tests), grind (arith, nat_tests))
-      | inr rest ↦ inr (covers_one window later rest)
-    ]
+covers_one window [] is each = false≢true is
+covers_one window (other ∷ later) is each = grind (arith, nat_tests, covers_one window later, each.0, each.1)
 
 -- ---- windows that were sorted before
 
@@ -198,20 +179,23 @@ with_first window (other ∷ later) order above rise =
 with_covered : (window : Changed) (windows : List Changed) → window.lo ≤ window.hi → Rise windows →
     Covers window windows → with_window window windows ≡ windows
 unfolding with_window
-with_covered window [] order rise covers = absurd covers
-with_covered window (other ∷ later) order rise (inl here) =
-    let low : min other.lo window.lo ≡ other.lo = omega (arith, here.0) in
-    let high : max other.hi window.hi ≡ other.hi = omega (arith, here.1) in
+with_covered window [] order rise covers = absurd (covers tt)
+with_covered window (other ∷ later) order rise covers =
+    let missed : Misses window.lo window.hi other → other.hi < window.lo = λ is.
+    covers_above other.hi window later rise.1 (λ each. covers (is, each)) in
     with_step (λ made. made ≡ other ∷ later) window other later
-    (λ behind. absurd (omega (arith, here.1)))
-    (λ before. absurd (omega (arith, here.0)))
-    (λ _ _. rw (low, high) (with_first other later rise.0 rise.1 rise.2))
-with_covered window (other ∷ later) order rise (inr rest) =
-    let above : other.hi < window.lo = covers_above other.hi window later rise.1 rest in
-    with_step (λ made. made ≡ other ∷ later) window other later
-    (λ behind. rw (with_covered window later order rise.2 rest) refl)
-    (λ before. absurd (omega (arith, rise.0)))
-    (λ low high. absurd (omega arith))
+    (λ behind. rw (with_covered window later order rise.2 (λ each. covers (inr (omega arith), each))) refl)
+    (λ before. absurd (omega (arith, rise.0, missed (inl (omega (arith, rise.0))))))
+    (λ start end. elim (cases_lt window.lo other.lo) [
+      | inl below ↦ absurd (omega (arith, missed (inl below)))
+      | inr from ↦ elim (cases_lt other.hi window.hi) [
+        | inl above ↦ absurd (omega (arith, missed (inr above)))
+        | inr to ↦
+            let low : min other.lo window.lo ≡ other.lo = omega arith in
+            let high : max other.hi window.hi ≡ other.hi = omega arith in
+            rw (low, high) (with_first other later rise.0 rise.1 rise.2)
+      ]
+    ])
 
 -- one that is there again adds none
 length_sorted : (windows : List Changed) → Ordered windows → length (sorted windows) ≤ count_of windows
@@ -234,8 +218,8 @@ sorted_again : (again windows : List Changed) → Ordered again → Rise (sorted
 unfolding sorted
 sorted_again [] windows ordered rise covered = refl
 sorted_again (window ∷ later) windows ordered rise covered =
-    rw (sorted_again later windows ordered.1 rise (λ other is. covered other (inr is)))
-    (with_covered window (sorted windows) ordered.0 rise (covered window (inl (omega arith, omega arith))))
+    rw (sorted_again later windows ordered.1 rise (λ other is. covered other (λ each. is each.1)))
+    (with_covered window (sorted windows) ordered.0 rise (covered window (λ each. grind (arith, each.0))))
 
 pub sorted_twice : (windows : List Changed) → Ordered windows → sorted (windows ++ windows) ≡ sorted windows
 sorted_twice windows ordered =

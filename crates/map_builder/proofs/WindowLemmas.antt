@@ -1,10 +1,10 @@
 -- The windows that registers govern, as the code finds them.
-use Rattle.board_prelude.proofs.Common.{common_steps, nat_tests, AllByRecursion, option_map_or, drop_all, drop_more}
-use Rattle.board_prelude.proofs.Common.{take_all, take_more, append-nil, pow-add, pow_pos, div-lt_iff_lt-mul, Width}
-use Rattle.board_prelude.proofs.Common.{Reg, FittedCard, Setup, Bytes, MapChange, Store}
+use Rattle.board_prelude.proofs.Common.{common_steps, nat_tests, AllByRecursion, option_map_or, take_all, take_more}
+use Rattle.board_prelude.proofs.Common.{pow-add, pow_pos, div-lt_iff_lt-mul, Width, Reg, FittedCard, Setup, Bytes}
+use Rattle.board_prelude.proofs.Common.{MapChange, Store}
 use Rattle.std.proofs.Common.{◌≡◌, ℕ, zero, suc, ◌+◌, ◌-◌, ◌*◌, ◌/◌, ◌^◌, ◌<◌, ◌≤◌, List, [], ◌∷◌, ◌++◌, length, map}
-use Rattle.std.proofs.Common.{drop, get_or, refl, sym, ◌∙◌, ap, arith, mul_comm, append_assoc, Option, None, slice_get}
-use Rattle.std.proofs.Common.{slice_index, flat_map, take}
+use Rattle.std.proofs.Common.{get_or, refl, sym, ◌∙◌, ap, arith, mul_comm, Option, None, slice_get, slice_index}
+use Rattle.std.proofs.Common.{flat_map, take}
 use Rattle.std.proofs.lemmas.Option.{slice_get-map, slice_get_past}
 use Rattle.std.proofs.lemmas.Nat.{mul-add-lt}
 use Rattle.pci_bars.specs.declared.spec.BaseSpec.{BaseSpec}
@@ -12,7 +12,7 @@ use Rattle.pci_bars.specs.Bases.{base_of}
 use Rattle.map_ranges.specs.declared.range.Changed.{Changed}
 use Rattle.addr_decode.specs.declared.register.MapRegister.{MapRegister}
 use Rattle.addr_decode.specs.MapRegister.{IsNumberedName, names_of}
-use Rattle.map_builder.specs.Common.{name_windows, windows_covered, held_by, held_from, held_at}
+use Rattle.map_builder.specs.Common.{name_windows, windows_covered, held_by, held_at}
 use Rattle.std.proofs.lemmas.List.{flat_map_more}
 
 -- the last address of a block is an address
@@ -54,20 +54,6 @@ pub numbered_at : (names : List (Option MapRegister)) (k : ℕ) (d : Option MapR
 numbered_at [] k d below each = absurd (omega arith)
 numbered_at (name ∷ later) zero d below each = each.0
 numbered_at (name ∷ later) (suc k) d below each = numbered_at later k d (omega arith) each.1
-
--- one more base
-pub held_on : (bases : List BaseSpec) (values : List ℕ) (k : ℕ) (d : BaseSpec) (found next : List Changed) →
-    k < length bases →
-    next ≡ found ++ held_by (base_of (get_or bases k d)) (slice_index values k) →
-    next ++ held_from values (k + 1) (map base_of (drop (k + 1) bases))
-    ≡ found ++ held_from values k (map base_of (drop k bases))
-held_on bases values k d found next within is =
-    grind (arith, nat_tests, common_steps, drop_more, append_assoc, slice_index)
-
--- no base is left
-pub held_all : (bases : List BaseSpec) (values : List ℕ) (k : ℕ) (found : List Changed) → length bases ≤ k →
-    found ++ held_from values k (map base_of (drop k bases)) ≡ found
-held_all bases values k found past = rw (drop_all k bases past) (append-nil found)
 
 -- a base by its number
 held_one : (value : ℕ) (bases : List BaseSpec) (k : ℕ) (d : BaseSpec) → k < length bases →

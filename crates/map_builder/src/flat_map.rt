@@ -206,6 +206,7 @@ impl FlatMap {
     }
 
     /// Makes a change as `apply_counted` does, where the names of the registers that it stores to are known.
+    #[tactic(auto, using(addr_decode::proofs::NameLemmas::names_numbered))]
     fn apply_named<L: Ledger>(
         &mut self,
         change: &MapChange,

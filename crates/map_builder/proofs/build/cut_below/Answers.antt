@@ -1,6 +1,5 @@
 use Rattle.board_prelude.proofs.Common.{common_steps, nat_tests, length-take}
 use Rattle.std.proofs.Common.{arith}
-use Rattle.addr_decode.specs.MapRegs.{map_bytes}
 use Rattle.map_builder.proofs.RebuildLemmas.{built_to_interval}
 use Rattle.map_builder.proofs.build.cut_below.Goals as goal
 
@@ -12,7 +11,7 @@ returns g c =
     let on = rw c.requires.same at (rw c.truncate-2.ensures.items at c.range_at.ensures.goes_on) in
     record {
       built =
-          built_to_interval (map_bytes c.args.regs.now) c.args.lo (omega arith) c.args.before.now c.requires.below
-          c.args.from c.row.result.areas c.requires.holds (omega arith) c.row.ensures.areas on;
+          built_to_interval c.args.lo (omega arith) c.args.before.now c.requires.below c.args.from c.row.result.areas
+          c.requires.holds (omega arith) c.row.ensures.areas on;
       step = c.row.ensures.step;
     }

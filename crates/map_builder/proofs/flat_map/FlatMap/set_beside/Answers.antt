@@ -8,7 +8,7 @@ still : (c : goal.After-apply_named) →
     IsMapOf (map_bytes c.apply_named.new.self) (map range_of c.self.inside.ranges.items)
 still c =
     let board = c.self.invariant.board in
-    untouched_map c.args.change.now c.self.invariant c.apply_named.ensures.stands
+    untouched_map c.args.change.now c.apply_named.ensures.stands c.self.invariant
     (c.requires.beside board.setup board.bytes (rw (← c.self.view_is) board.stands)) c.apply_named.ensures.fitted
 
 pub invariant_of-self : goal.invariant_of-self

@@ -5,8 +5,9 @@ use Rattle.addr_decode.specs.Common.{names_of, map_bytes}
 use Rattle.addr_decode.proofs.NameLemmas.{names_numbered}
 use Rattle.map_builder.specs.Changed.{register_windows}
 use Rattle.map_builder.specs.Common.{range_of, is_row_name, stores_rows}
-use Rattle.map_builder.proofs.ChangeLemmas.{board_after, bridge_found, build_rise, build_beside, are_changed}
-use Rattle.map_builder.proofs.ChangeLemmas.{keeps_byte, KeepsByte, Chosen, chosen}
+use Rattle.map_builder.proofs.BuildLemmas.{are_map_of}
+use Rattle.map_builder.proofs.ChangeLemmas.{board_after, bridge_found, where_kept, are_changed, keeps_byte, KeepsByte}
+use Rattle.map_builder.proofs.ChangeLemmas.{Chosen, chosen}
 use Rattle.map_builder.proofs.MovedRows.{rows_by_names}
 use Rattle.map_builder.proofs.flat_map.FlatMap.store_in_bridge.Given.{Over}
 use Rattle.map_builder.proofs.flat_map.FlatMap.store_in_bridge.Goals.{After-choose_in_bridge}
@@ -32,12 +33,10 @@ keeps g c kept =
 
 -- the windows of the register are those that change, of each board that has the registers
 choice : (g : Over) (c : After-choose_in_bridge g) →
-    Chosen (map_bytes c.self.inside.regs) (map_bytes c.apply_named.new.self) (store g c)
-    c.choose_in_bridge.new.chosen.items
+    Chosen c.self.invariant.board (store g c) c.choose_in_bridge.new.chosen.items
 choice g c =
     let board = c.self.invariant.board in
-    chosen (map_bytes c.self.inside.regs) (map_bytes c.apply_named.new.self) (store g c)
-    (register_windows board.setup board.bytes c.args.register) c.choose_in_bridge.new.chosen.items
+    chosen (store g c) c.apply_named.ensures.stands board (register_windows board.setup board.bytes c.args.register)
     c.is_same_byte-kept.result (is_row_name (Some c.args.register))
     (λ is. rows_by_names (cards_of c.self.inside.regs.cards.items) (store g c)
     (subst (λ (names : List (Option MapRegister)). stores_rows names ≡ true) (named g c) (rw is refl)))
@@ -64,29 +63,25 @@ choose_in_bridge-requires-clause-number g c =
 
 pub rebuild-requires-clause-board : goal.rebuild-requires-clause-board
 rebuild-requires-clause-board g c =
-    board_after (Store c.args.reg One c.args.value) c.self.invariant.board c.apply_named.ensures.stands
+    board_after (Store c.args.reg One c.args.value) c.apply_named.ensures.stands c.self.invariant.board
 
 pub rebuild-requires-clause-rise : goal.rebuild-requires-clause-rise
 rebuild-requires-clause-rise g c =
-    rw c.as_slice.ensures.items (build_rise c.self.invariant.board
-    (choice g (goal.at.rebuild-requires-clause-rise g c).After-choose_in_bridge))
+    rw c.as_slice.ensures.items (choice g (goal.at.rebuild-requires-clause-rise g c).After-choose_in_bridge).rise
 
 pub rebuild-requires-clause-beside : goal.rebuild-requires-clause-beside
 rebuild-requires-clause-beside g c =
-    rw c.as_slice.ensures.items (build_beside c.self.invariant c.apply_named.ensures.stands
-    (choice g (goal.at.rebuild-requires-clause-beside g c).After-choose_in_bridge))
+    rw c.as_slice.ensures.items (where_kept (Store c.args.reg One c.args.value) c.apply_named.ensures.stands
+    c.self.invariant (choice g (goal.at.rebuild-requires-clause-beside g c).After-choose_in_bridge).keeps)
 
 pub rebuild-requires-clause-few : goal.rebuild-requires-clause-few
 rebuild-requires-clause-few g c = omega (arith, c.self.invariant.few, length-map c.self.inside.ranges.items range_of)
 
 pub invariant_of-self : goal.invariant_of-self
-invariant_of-self g c = record {
-  fitted = c.apply_named.ensures.fitted;
-  board = board_after (Store c.args.reg One c.args.value) c.self.invariant.board c.apply_named.ensures.stands;
-  tiles = c.rebuild.ensures.tiles;
-  map = c.rebuild.ensures.map;
-  few = omega (arith, c.rebuild.ensures.few, length-map c.rebuild.new.ranges.items range_of);
-}
+invariant_of-self g c =
+    are_map_of c.rebuild.new.ranges.items c.apply_named.ensures.fitted
+    (board_after (Store c.args.reg One c.args.value) c.apply_named.ensures.stands c.self.invariant.board)
+    c.rebuild.ensures.tiles c.rebuild.ensures.map c.rebuild.ensures.few
 
 pub returns : goal.returns
 returns g c = record {
@@ -97,7 +92,7 @@ returns g c = record {
     version = refl;
     map = c.rebuild.ensures.map;
     windows =
-        are_changed c.self.invariant.board c.apply_named.ensures.stands
+        are_changed (Store c.args.reg One c.args.value) c.apply_named.ensures.stands c.self.invariant.board
         (choice g (goal.at.returns g c).After-choose_in_bridge);
   });
 }
