@@ -5,8 +5,7 @@ use Rattle.std.proofs.Common.{slice_index_or, replicate, option_and_then, if◌t
 use Rattle.board_prelude.proofs.Common.{option_or, AllByRecursion, list_any, cases_Bool, eqb-true, false≢true, or-false}
 use Rattle.board_prelude.proofs.Common.{nat_tests, get_or-take, length-take, recursion_from_All, list_any_at, Width}
 use Rattle.board_prelude.proofs.Common.{One, Reg, MapChange, Store, Reset, FittedCard, Setup, IsCard, IsCardList}
-use Rattle.board_prelude.proofs.Common.{card_at, is_within, is_same, covers, has_rom, is_map_byte, reg_after}
-use Rattle.board_prelude.proofs.Common.{touches_map}
+use Rattle.board_prelude.proofs.Common.{card_at, is_within, covers, has_rom, is_map_byte, touches_map}
 use Rattle.std.specs.Bool.{then_some}
 use Rattle.std.proofs.lemmas.List.Folds.{list_any_more}
 use Rattle.addr_decode.proofs.NameLemmas.{offsets, offset_at}
@@ -17,23 +16,6 @@ use Rattle.map_blame.specs.Common.{last_cover, first_lock, locks, AreCoversOf, i
 abbrev pub covers_first : (at : Reg) (count : ℕ) (reg : Reg) → Bool
 covers_first at count reg =
     at.dev == reg.dev && at.fun == reg.fun && nat_le at.off reg.off && nat_lt reg.off (at.off + count)
-
-covers_none : (at reg : Reg) → covers_first at 0 reg ≡ false
-covers_none at reg = grind (arith, nat_tests)
-
-covers_next : (at : Reg) (count : ℕ) (reg : Reg) →
-    covers_first at (count + 1) reg ≡ (is_same reg (reg_after at count) || covers_first at count reg)
-covers_next at count reg = grind (arith, nat_tests)
-
-pub cover_none : (at reg : Reg) (number : ℕ) (old : Option ℕ) →
-    old ≡ (if covers_first at 0 reg then Some number else old)
-cover_none at reg number old = rw (covers_none at reg) refl
-
-pub cover_next : (at : Reg) (count : ℕ) (reg : Reg) (number : ℕ) (old now next : Option ℕ) →
-    now ≡ (if covers_first at count reg then Some number else old) →
-    next ≡ (if is_same reg (reg_after at count) then Some number else now) →
-    next ≡ (if covers_first at (count + 1) reg then Some number else old)
-cover_next at count reg number old now next so_far step = grind (arith, nat_tests)
 
 -- ---- of no changes
 

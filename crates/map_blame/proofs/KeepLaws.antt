@@ -1,7 +1,6 @@
 -- The kept changes alone leave each map byte as all changes do.
-use Rattle.std.proofs.Common.{◌≡◌, ℕ, zero, suc, ◌+◌, ◌-◌, ◌*◌, ◌/◌, ◌%◌, ◌<◌, ◌≤◌, ◌⊎◌, inl, inr, Bool, true, false}
-use Rattle.std.proofs.Common.{◌||◌, List, [], ◌∷◌, length, refl, sym, ap, ◌∙◌, arith, Option, Some, None, bit_and}
-use Rattle.std.proofs.Common.{bit_or, if◌then◌else◌, is_some}
+use Rattle.std.proofs.Common.{◌≡◌, ℕ, ◌+◌, ◌-◌, ◌<◌, ◌≤◌, ◌⊎◌, inl, inr, Bool, true, false, ◌||◌, List, [], ◌∷◌, length}
+use Rattle.std.proofs.Common.{refl, sym, ap, ◌∙◌, arith, Option, Some, None, bit_and, bit_or, if◌then◌else◌, is_some}
 use Rattle.board_prelude.proofs.Common.{option_or, and_zero_r, cases_Bool, cases_lt, false≢true, nat_tests, Width, Reg}
 use Rattle.board_prelude.proofs.Common.{MapChange, Store, Reset, Setup, bit, is_bit, byte, merged, smram, is_same}
 use Rattle.board_prelude.proofs.Common.{writable_bits, covers, smram_after, changed_byte, is_map_byte, registers_after}
@@ -37,17 +36,6 @@ left_merged mask old written =
     ) refl
 
 -- ---- the lock
-
-lock_bits : (a b l d : ℕ) → a < 2 → b < 2 → l < 2 → d < 2 →
-    (a * 0x40 + b * 0x20 + l * 0x10 + d * 0x08 + 0x02) / 16 % 2 ≡ l
-lock_bits a b l d ha hb hl hd = omega arith
-
-below_two : (l n : ℕ) → n < 2 → (1 - l) * n < 2
-below_two zero n below = let same : (1 - 0) * n ≡ n = omega arith in rw same below
-below_two (suc l) n below = let none : 1 - suc l ≡ 0 = omega arith in rw none (omega arith)
-
-lock_of_write : (old written : ℕ) → is_bit (smram_after old written) 4 ≡ (is_bit old 4 || is_bit written 4)
-lock_of_write old written = grind (arith, nat_tests)
 
 bit_of_test : (a b k : ℕ) → is_bit a k ≡ is_bit b k → bit a k ≡ bit b k
 bit_of_test a b k same = let x : bit a k < 2 = omega arith in let y : bit b k < 2 = omega arith in

@@ -1,9 +1,7 @@
 -- There is only one report of a list of changes.
-use Rattle.board_prelude.proofs.Common.{nat_tests}
-use Rattle.std.proofs.Common.{◌≡◌, ℕ, suc, ◌<◌, ◌≤◌, ◌⊎◌, inl, inr, true, List, [], ◌∷◌, length, get_or, map, refl, sym}
-use Rattle.std.proofs.Common.{arith, ◌==◌}
-use Rattle.board_prelude.proofs.Common.{AllPairs, AllByRecursion, cases_Bool, eq-eqb, eqb-true, false≢true}
+use Rattle.board_prelude.proofs.Common.{nat_tests, AllPairs, AllByRecursion, cases_Bool, eq-eqb, eqb-true, false≢true}
 use Rattle.board_prelude.proofs.Common.{recursion_from_All, MapChange, Setup, registers_after, MapRange, OneFlatMap}
+use Rattle.std.proofs.Common.{◌≡◌, ℕ, suc, ◌<◌, inl, inr, true, List, [], ◌∷◌, length, get_or, map, refl, arith, ◌==◌}
 use Rattle.map_blame.specs.declared.blamed.Blamed.{Blamed}
 use Rattle.map_blame.specs.Common.{IsSince, is_among, IsKeep, map_range_of, OneReport}
 
@@ -39,29 +37,9 @@ rise_is (number ∷ later) rises = (
 among_first : (number : ℕ) (later : List ℕ) → is_among number (number ∷ later) ≡ true
 among_first number later = let same : (number == number) ≡ true = eq-eqb number number refl in rw same refl
 
-among_later : (number first : ℕ) (later : List ℕ) → is_among number later ≡ true →
-    is_among number (first ∷ later) ≡ true
-among_later number first later is = grind (arith, nat_tests)
-
-first_or_later : (number first : ℕ) (later : List ℕ) → is_among number (first ∷ later) ≡ true →
-    (first ≡ number) ⊎ (is_among number later ≡ true)
-first_or_later number first later is = grind (arith, nat_tests)
-
 -- the numbers of one are among those of the other
 abbrev Within : (numbers other : List ℕ) → Type 0
 Within numbers other = (number : ℕ) → is_among number numbers ≡ true → is_among number other ≡ true
-
-least_first : (first first' : ℕ) (later later' : List ℕ) → Rise (first ∷ later) → Rise (first' ∷ later') →
-    Within (first ∷ later) (first' ∷ later') → first' ≤ first
-least_first first first' later later' rise rise' within =
-    elim (first_or_later first first' later' (within first (among_first first later))) [
-      | inl same ↦ omega (arith, same)
-      | inr among ↦ let above : first' < first = rise'.0 first among in omega (arith, above)
-    ]
-
-within_later : (first first' : ℕ) (later later' : List ℕ) → first ≡ first' → Rise (first ∷ later) →
-    Within (first ∷ later) (first' ∷ later') → Within later later'
-within_later first first' later later' same rise within number among = grind (arith, nat_tests)
 
 same_numbers : (numbers other : List ℕ) → Rise numbers → Rise other → Within numbers other → Within other numbers →
     numbers ≡ other
@@ -69,15 +47,12 @@ same_numbers [] [] rise rise' to from = refl
 same_numbers [] (first ∷ later) rise rise' to from = absurd (false≢true (from first (among_first first later)))
 same_numbers (first ∷ later) [] rise rise' to from = absurd (false≢true (to first (among_first first later)))
 same_numbers (first ∷ later) (first' ∷ later') rise rise' to from =
-    let same : first ≡ first' = omega (
-      arith,
-      least_first first first' later later' rise rise' to,
-      least_first first' first later' later rise' rise from,
-    ) in
+    let same : first ≡ first' = grind (arith, nat_tests, to first, from first', rise.0 first', rise'.0 first) in
     rw (
       same,
-      same_numbers later later' rise.1 rise'.1 (within_later first first' later later' same rise to)
-          (within_later first' first later' later (sym same) rise' from),
+      same_numbers later later' rise.1 rise'.1
+          (λ number among. grind (arith, nat_tests, to number, rise.0 number))
+          (λ number among. grind (arith, nat_tests, from number, rise'.0 number)),
     ) refl
 
 pub one_keep : (setup : Setup) (changes : List MapChange) (keep other : List ℕ) → IsKeep setup changes keep →
