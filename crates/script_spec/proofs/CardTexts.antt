@@ -1,4 +1,4 @@
--- The card that was read is the one that the fields spell.
+-- Fields are read as a card exactly where they spell it.
 use Rattle.std.proofs.Common.{◌≡◌, ℕ, ◌<◌, ◌≤◌, ◌⊎◌, inl, inr, Bool, true, false, Some, None, List, [], ◌∷◌, ◌++◌}
 use Rattle.std.proofs.Common.{length, map, All, refl, append_assoc, arith, codes, decimal, eqb, cond, ◌+◌, Option, sym}
 use Rattle.std.proofs.Common.{ap, append-nil}

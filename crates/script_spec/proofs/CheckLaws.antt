@@ -65,38 +65,35 @@ compared (line ∷ lines) rest (other ∷ others) after each all same =
     rw first (compared_more other lines rest others after
     (compared lines rest others after (All-tail IsOneLine line lines each) (All-tail IsOneLine other others all) later))
 
--- where longer lines begin a text, so do their first ones
-begun_front :
-    (IsText : List ℕ → Type 0) (lines : List (List ℕ)) (this : List ℕ) (more : List (List ℕ)) →
-    AreBegun IsText (lines ++ this ∷ more) → AreBegun IsText (lines ++ this ∷ [])
-begun_front IsText lines this more begun =
-    record {
-      later = text_of_lines more ++ begun.later;
-      text = rw (
-        ← append_assoc lines (this ∷ []) more,
-        flat_map-append,
-        append_assoc (text_of_lines (lines ++ this ∷ [])) (text_of_lines more) begun.later,
-      ) at begun.text;
-    }
+module _ (IsText : List ℕ → Type 0) where
+  -- where longer lines begin a text, so do their first ones
+  begun_front : (lines : List (List ℕ)) (this : List ℕ) (more : List (List ℕ))
+      → AreBegun IsText (lines ++ this ∷ more) → AreBegun IsText (lines ++ this ∷ [])
+  begun_front lines this more begun = record {
+    later = text_of_lines more ++ begun.later;
+    text = rw (
+      ← append_assoc lines (this ∷ []) more,
+      flat_map-append,
+      append_assoc (text_of_lines (lines ++ this ∷ [])) (text_of_lines more) begun.later,
+    ) at begun.text;
+  }
 
-not_longer :
-    (IsText : List ℕ → Type 0) (bytes : List ℕ) (line place : ℕ) (one : LeavesAt IsText bytes line)
-    (two : LeavesAt IsText bytes place) →
-    GoesOn one.before one.rest two.before two.rest → ⊥
-not_longer IsText bytes line place one two on = grind (arith, nat_tests, begun_front)
+  module _ (bytes : List ℕ) (line place : ℕ) (one : LeavesAt IsText bytes line) (two : LeavesAt IsText bytes place)
+      where
+    not_longer : GoesOn one.before one.rest two.before two.rest → ⊥
+    not_longer on = grind (arith, nat_tests, begun_front)
 
-one_leaving : (IsText : List ℕ → Type 0) (bytes : List ℕ) (line place : ℕ) →
-    LeavesAt IsText bytes line → LeavesAt IsText bytes place → line ≡ place
-one_leaving IsText bytes line place one two =
-    elim (compared one.before one.rest two.before two.rest one.each two.each (sym one.cut ∙ two.cut)) [
-      | inl same ↦ one.place ∙ ap (λ ls. length ls + 1) same ∙ sym two.place
-      | inr (inl on) ↦ absurd (not_longer IsText bytes line place one two on)
-      | inr (inr on) ↦ absurd (not_longer IsText bytes place line two one on)
-    ]
+  one_leaving : (bytes : List ℕ) (line place : ℕ) → LeavesAt IsText bytes line → LeavesAt IsText bytes place
+      → line ≡ place
+  one_leaving bytes line place one two =
+      elim (compared one.before one.rest two.before two.rest one.each two.each (sym one.cut ∙ two.cut)) [
+        | inl same ↦ one.place ∙ ap (λ ls. length ls + 1) same ∙ sym two.place
+        | inr (inl on) ↦ absurd (not_longer bytes line place one two on)
+        | inr (inr on) ↦ absurd (not_longer bytes place line two one on)
+      ]
 
 pub one_bad_log : OneBadLog
-one_bad_log bytes line place one two = one_leaving IsSomeLog bytes line place one two
+one_bad_log = one_leaving IsSomeLog
 
 pub one_difference : OneDifference
-one_difference setup version phases bytes line place one two = one_leaving
-    (IsLogOf setup version phases) bytes line place one two
+one_difference setup version phases = one_leaving (IsLogOf setup version phases)

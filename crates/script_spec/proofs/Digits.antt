@@ -1,4 +1,4 @@
--- Numbers are read back from their digits.
+-- Numbers are read back from their digits, and texts are cut at a byte.
 use Rattle.board_prelude.proofs.Common.{nat_tests, list_all, AllDigits, digits_value, common_steps}
 use Rattle.std.proofs.Common.{ℕ, ◌≡◌, ◌<◌, ◌⊎◌, Bool, true, not, eqb, List, [], ◌∷◌, refl, arith, decimal, false, cond}
 use Rattle.std.proofs.Common.{◌++◌, Some}

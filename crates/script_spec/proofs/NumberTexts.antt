@@ -1,4 +1,4 @@
--- The numbers that were read are those whose text a field is.
+-- Fields are read as numbers exactly where they spell them.
 use Rattle.script_spec.proofs.Chains.{then_read, some_is, guarded}
 use Rattle.std.proofs.Common.{Bool, true, ◌≡◌, ℕ, zero, suc, ◌+◌, ◌*◌, ◌/◌, ◌%◌, ◌^◌, ◌<◌, ◌≤◌, false, not, eqb, leb}
 use Rattle.std.proofs.Common.{◌&&◌, Some, List, [], ◌∷◌, length, get_or, refl, sym, ap, ◌∙◌, arith, pow-suc, lit<}
@@ -19,8 +19,6 @@ use Rattle.script_spec.proofs.Digits.{own, digits_of_decimal}
 use Rattle.std.proofs.lemmas.List.Elements.{length_all_zip}
 use Rattle.std.proofs.Math.Nat.{div-eq_of_lt}
 use Rattle.script_spec.proofs.Joins.{Spells}
-
--- ---- one digit
 
 -- ---- decimals
 

@@ -4,6 +4,7 @@ ghost use Rattle.script_spec.specs.Laws.{LineSaysEntry, LogSaysAll, NotBoth, One
 ghost use Rattle.script_spec.specs.Laws.{OneRefusal, OneScript, ScriptsAreInRange, SomeReading};
 
 /// A line of a script says at most one thing, whatever the case of its digits.
+#[tactic(auto, using(crate::proofs::LineReading::one_item))]
 pub fn law_one_item()
     ensures one { OneItem }
 {}
