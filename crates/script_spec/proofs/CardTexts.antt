@@ -7,9 +7,8 @@ use Rattle.board_prelude.proofs.Common.{map-append, Base, MemoryBase, IoBase, Fi
 use Rattle.board_prelude.proofs.Common.{All-tail}
 use Rattle.script_spec.specs.Common.{IsBaseForm, IsRomForm, IsCardForm, parse_decimal, parse_base, Tail, parse_rom_bits}
 use Rattle.script_spec.specs.Common.{with_base, with_rom, with_field, with_fields, no_tail, parse_vga, parse_card}
-use Rattle.script_spec.proofs.Chains.{some_is, guarded, mapped, then_said, then_read}
+use Rattle.script_spec.proofs.Chains.{some_is, guarded, mapped, then_said, then_read, word_is}
 use Rattle.script_spec.proofs.NumberTexts.{decimal_read, decimal_back}
-use Rattle.script_spec.proofs.Joins.{word_is}
 use Rattle.script_spec.proofs.ItemWords.{kind_word, base_word, tail_words, rom_words}
 
 base_read : (field : List ℕ) (base : Base) → parse_base field ≡ Some base → (field ≡ base_word base) × IsBaseForm base

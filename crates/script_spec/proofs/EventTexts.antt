@@ -13,9 +13,8 @@ use Rattle.script_spec.specs.Common.{parse_in, parse_out, parse_look, parse_ack,
 use Rattle.script_spec.specs.Common.{parse_given, parse_stimulus_item, ask, stimulus_item, parse_only_moment}
 use Rattle.script_spec.specs.Common.{parse_time_item, parse_by_verb, parse_statement_words, parse_hex, parse_decimal}
 use Rattle.script_spec.specs.Events.{read_event, write_event, in_event, out_event, look_event}
-use Rattle.script_spec.proofs.Chains.{some_is, then_read}
+use Rattle.script_spec.proofs.Chains.{some_is, then_read, Spells, Reads, same, same_as, word_is}
 use Rattle.script_spec.proofs.Digits.{digits_of_decimal}
-use Rattle.script_spec.proofs.Joins.{Spells, Reads, same, same_as, word_is}
 use Rattle.script_spec.proofs.NumberTexts.{decimal_read, hex_read, is_plain, plain_is, plain-digits, decimal_back}
 use Rattle.script_spec.proofs.NumberTexts.{hex_back}
 use Rattle.script_spec.proofs.Moments.{moment_back, plain_moment, moment_read}

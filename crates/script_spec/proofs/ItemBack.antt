@@ -7,7 +7,7 @@ use Rattle.script_spec.specs.Common.{IsDecimal, IsName, IsForm, IsLevelForm, Has
 use Rattle.script_spec.specs.Common.{parse_given, parse_statement_words, parse_statement, parse_by_key, parse_item}
 use Rattle.script_spec.specs.Common.{parse_number, parse_two_numbers, is_name, parse_name, parse_phase}
 use Rattle.script_spec.proofs.Digits.{digits_of_decimal}
-use Rattle.script_spec.proofs.Joins.{word_is}
+use Rattle.script_spec.proofs.Chains.{word_is}
 use Rattle.script_spec.proofs.NumberTexts.{decimal_back}
 use Rattle.script_spec.proofs.ItemWords.{item_words, AreFields, fields_said}
 use Rattle.script_spec.proofs.EventTexts.{event_back, number_is, by_stimulus}

@@ -5,7 +5,7 @@ use Rattle.board_prelude.proofs.Common.{join_with_byte, nat_tests, and_from, Bas
 use Rattle.board_prelude.proofs.Common.{Event, Ack, stimulus_form, space}
 use Rattle.script_spec.specs.Common.{Item, SetCpus, SetMemory, SetRom, SetDisk, FitCard, BeginPhase, Ask, AskLevel}
 use Rattle.script_spec.specs.Common.{IsForm, Says, base_text, rom_text, card_text, item_text, fields_of}
-use Rattle.script_spec.proofs.Joins.{Reads, joined}
+use Rattle.script_spec.proofs.Chains.{Reads, joined}
 use Rattle.script_spec.proofs.Splits.{split, split_exact}
 use Rattle.script_spec.proofs.PlainText.{is_word, are_words, decimal_word, name_word}
 use Rattle.script_spec.proofs.Words.{spaced, line_spaced, event_words, event_joined, event_are}

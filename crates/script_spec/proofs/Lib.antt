@@ -1,7 +1,6 @@
 pub mod Digits
 pub mod Chains
 pub mod NumberTexts
-pub mod Joins
 pub mod Words
 pub mod ItemWords
 pub mod EventTexts
@@ -20,7 +19,6 @@ pub mod GoodItems
 pub mod RangeLaws
 pub mod ReadingExists
 pub mod ReplyBack
-pub mod LogReading
 pub mod LogLaws
 mod ExampleRuns
 pub mod Common

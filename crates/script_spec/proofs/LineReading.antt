@@ -6,13 +6,12 @@ use Rattle.script_spec.specs.Common.{IsDecimal, IsName, IsForm, IsEventForm, fie
 use Rattle.script_spec.specs.Common.{parse_given, stimulus_item, parse_stimulus_item, parse_only_moment}
 use Rattle.script_spec.specs.Common.{parse_time_item, parse_by_verb, parse_statement_words, is_name, parse_name}
 use Rattle.script_spec.specs.Common.{parse_phase, parse_statement, parse_by_key, parse_item}
-use Rattle.script_spec.proofs.Chains.{some_is, guarded, then_said, mapped}
+use Rattle.script_spec.proofs.Chains.{some_is, guarded, then_said, mapped, Reads, same, same_as, by_word}
 use Rattle.script_spec.proofs.ItemBack.{line_back}
 use Rattle.board_prelude.proofs.Common.{nat_tests, option_map, Fetch, Read, Event, Time, Stimulus, stimulus_form}
 use Rattle.board_prelude.proofs.Common.{stimulus_of_word, applied, event_applied, word_found, space, level_text}
 use Rattle.std.proofs.lemmas.List.Splits.{join_with_byte-slice_split}
 use Rattle.script_spec.proofs.NumberTexts.{decimal_read}
-use Rattle.script_spec.proofs.Joins.{Reads, same, same_as, by_word}
 use Rattle.script_spec.proofs.Words.{given_words, applied_words, applied_is, zero_text, one_text}
 use Rattle.script_spec.proofs.ItemWords.{AreFields, fields_say}
 use Rattle.script_spec.proofs.EventTexts.{IsRead, read_read, write_read, in_read, out_read, look_read, ack_read}

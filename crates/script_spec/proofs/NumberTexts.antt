@@ -1,5 +1,5 @@
 -- Fields are read as numbers exactly where they spell them.
-use Rattle.script_spec.proofs.Chains.{then_read, some_is, guarded}
+use Rattle.script_spec.proofs.Chains.{then_read, some_is, guarded, Spells}
 use Rattle.std.proofs.Common.{Bool, true, ◌≡◌, ℕ, zero, suc, ◌+◌, ◌*◌, ◌/◌, ◌%◌, ◌^◌, ◌<◌, ◌≤◌, false, not, eqb, leb}
 use Rattle.std.proofs.Common.{◌&&◌, Some, List, [], ◌∷◌, length, get_or, refl, sym, ap, ◌∙◌, arith, pow-suc, lit<}
 use Rattle.std.proofs.Common.{decimal, ◌-◌, subst}
@@ -18,7 +18,6 @@ use Rattle.script_spec.specs.Common.{has_leading_zero, parse_decimal}
 use Rattle.script_spec.proofs.Digits.{own, digits_of_decimal}
 use Rattle.std.proofs.lemmas.List.Elements.{length_all_zip}
 use Rattle.std.proofs.Math.Nat.{div-eq_of_lt}
-use Rattle.script_spec.proofs.Joins.{Spells}
 
 -- ---- decimals
 

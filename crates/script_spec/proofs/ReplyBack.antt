@@ -24,7 +24,7 @@ use Rattle.std.proofs.lemmas.Fmt.{decimal_digit}
 use Rattle.board_base.specs.declared.target.Dev.TheVariants as devices
 use Rattle.board_base.specs.declared.target.Target.TheVariants as targets
 use Rattle.script_spec.proofs.Digits.{lacks, lacks-append, lacks-decimal, cut_field}
-use Rattle.script_spec.proofs.Joins.{same}
+use Rattle.script_spec.proofs.Chains.{same}
 use Rattle.script_spec.specs.Targets.{parse_card_base, parse_card_target}
 
 -- ---- numbers

@@ -5,7 +5,7 @@ use Rattle.std.proofs.Common.{◌≡◌, ℕ, Bool, true, false, eqb, List, [], 
 use Rattle.std.proofs.lemmas.List.Splits.{slice_split_none, slice_split_at}
 use Rattle.script_spec.specs.Common.{fields_of, StandsFor}
 use Rattle.script_spec.proofs.Digits.{lacks-first, lacks-later}
-use Rattle.script_spec.proofs.Joins.{Spells, Reads}
+use Rattle.script_spec.proofs.Chains.{Spells, Reads}
 use Rattle.script_spec.proofs.PlainText.{is_word, are_words, lacks-word}
 
 abbrev is_space : ℕ → Bool
