@@ -67,11 +67,6 @@ requested-has chip set l small is = ap (λ (s : Levels). has s l) is ∙ has-lev
 
 -- ---- the levels that block
 
--- in special mask mode those in service that are not masked
-pub blocking-masked : (chip : Chip) → chip.special_mask ≡ true →
-    levels_where (λ l. has chip.in_service l && not (has chip.masked l)) ≡ levels_where (is_blocking chip)
-blocking-masked chip is = levels_where-same _ (is_blocking chip) (λ l h. rw is refl)
-
 -- else all in service
 pub blocking-all : (chip : Chip) → chip.special_mask ≡ false →
     levels_where (λ l. has chip.in_service l && not (has no_levels l)) ≡ levels_where (is_blocking chip)

@@ -75,9 +75,9 @@ pub lines-either : (a b l : ℕ) → l < 16 → get_or (lines_of (bit_or a b)) l
     ≡ (get_or (lines_of a) l false || get_or (lines_of b) l false)
 lines-either a b l small = grind (arith, nat_tests, has-lines_where, bit_or, is_bit-or)
 
-pub lines-low : lines_of 0 ≡ replicate 16 false
+pub lines_low : lines_of 0 ≡ replicate 16 false
 unfolding lines_where
-lines-low = refl
+lines_low = refl
 
 -- ---- the bytes of a mask
 

@@ -1,6 +1,6 @@
 -- The state of the pair is spelled and read back.
 use Rattle.std.proofs.Common.{◌≡◌, ℕ, zero, suc, ◌+◌, ◌*◌, ◌^◌, ◌<◌, ◌≤◌, Bool, true, false, eqb, List, [], ◌∷◌, length}
-use Rattle.std.proofs.Common.{take, drop, refl, sym, ap, subst, ◌∙◌, arith, if◌then◌else◌}
+use Rattle.std.proofs.Common.{take, drop, refl, sym, ap, ◌∙◌, arith, if◌then◌else◌}
 use Rattle.std.proofs.Math.Nat.{pow-succ'}
 use Rattle.device_spec.proofs.Common.{take_at, drop_at, take-append-drop, length-take, length-drop, length-append}
 use Rattle.device_spec.proofs.Common.{get_or_past, is_bit, has, levels_where, levels_where-same, levels_where-has}
@@ -52,9 +52,7 @@ few (b ∷ later) =
     omega (arith, twice, worth_small b, few later)
 
 set_few : (set : Levels) → length set ≡ 8 → byte_of_levels set ≤ 255
-set_few set eight =
-    let most : byte_of_levels set + 1 ≤ 2 ^ 8 = subst (λ n. byte_of_levels set + 1 ≤ 2 ^ n) eight (few set) in
-    omega (arith, most)
+set_few set eight = grind (arith, nat_tests, few)
 
 eight : (n : ℕ) → length (levels_of_byte n) ≡ 8
 unfolding levels_where

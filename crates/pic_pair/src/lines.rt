@@ -30,6 +30,7 @@ impl Model for Lines {
 
 impl Lines {
     /// All lines at 0.
+    #[tactic(auto, using(crate::proofs::LineLemmas::lines_low))]
     pub fn low() -> Lines
         ensures low { result ≡ replicate 16 false }
     {
