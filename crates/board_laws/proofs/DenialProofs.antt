@@ -4,7 +4,7 @@ use Rattle.board_prelude.proofs.Common.{Dev, Target, Device, Denial, device_at, 
 use Rattle.board_prelude.proofs.Common.{Entry, Setup, is_config_port, config_address, config_register, byte_of, Bytes}
 use Rattle.board_prelude.proofs.Common.{denial_in, denial_of, Decoded, config_port, device_port, port_target_of}
 use Rattle.board_prelude.proofs.Common.{is_write, part_at, parts_from, target_at, memory_target, memory_denial}
-use Rattle.board_prelude.proofs.Common.{memory_answer, part_answer, port_answer}
+use Rattle.board_prelude.proofs.Common.{memory_answer, part_answer, port_answer, longest_at}
 use Rattle.std.proofs.Common.{arith, ◌≡◌, ℕ, zero, suc, Bool, false, List, Option, None, is_some, sym, subst, inl, inr}
 use Rattle.std.proofs.Common.{◌==◌, if◌then◌else◌, map, All}
 use Rattle.board_base.specs.declared.access.Access.{Access}
@@ -72,22 +72,17 @@ denied_on_bus setup before _ value target denial answer = outside_right false _ 
 abbrev IsRightPart : Bool → Part → Type 0
 IsRightPart writes part = IsDeniedExactly writes part.target part.denial
 
-denied_part :
-    (setup : Setup) (before : List Entry) (part : Access) →
-    IsRightPart (is_write part.kind) (part_answer setup before part)
-unfolding part_answer
-denied_part setup before part = denied_memory setup before part
-
 denied_from :
     (setup : Setup) (before : List Entry) (access : WideAccess) (most addr left : ℕ) →
     All (IsRightPart (is_write access.kind)) (map (part_answer setup before) (parts_from access most addr left))
-unfolding parts_from
+unfolding parts_from part_answer
 denied_from setup before access zero addr left = All-nil (IsRightPart (is_write access.kind))
 denied_from setup before access (suc most) addr left =
     elim (cases_Bool (left == 0)) [
       | inl none ↦ rw none (All-nil (IsRightPart (is_write access.kind)))
       | inr some ↦
-          rw some (All-cons (IsRightPart (is_write access.kind)) _ _ (denied_part setup before (part_at access addr _))
+          rw some (All-cons (IsRightPart (is_write access.kind)) _ _
+          (denied_memory setup before (part_at access addr (longest_at addr left)))
           (denied_from setup before access most _ _))
     ]
 

@@ -25,11 +25,6 @@ pub latch_count-held : (c : CounterState) (b : ℕ) (bs : List ℕ) → c.count_
 unfolding latch_count
 latch_count-held c b bs h = rw h refl
 
-pub latch_count-empty : (c : CounterState) → c.count_latch ≡ [] →
-    latch_count c ≡ record c { count_latch = element_bytes c }
-unfolding latch_count
-latch_count-empty c h = rw h refl
-
 -- a latch holds a byte at least
 element_bytes-cons : (a : Access) (c : CounterState) → c.access ≡ a → (b : ℕ) × (bs : List ℕ)
     × (element_bytes c ≡ b ∷ bs)
@@ -49,9 +44,10 @@ after-held [] c b bs h = h
 after-held (s ∷ steps) c b bs h = after-held steps (step_of s c) b bs (step_of-held s c b bs h ∙ h)
 
 pub latched_count_stays : LatchedCountStays
+unfolding latch_count
 latched_count_stays c steps h =
     let held = element_bytes-cons c.access c refl in
-    let latched : (latch_count c).count_latch ≡ element_bytes c = ap (λ x. x.count_latch) (latch_count-empty c h) in
+    let latched : (latch_count c).count_latch ≡ element_bytes c = rw h refl in
     after-held steps (latch_count c) held.0 held.1 (latched ∙ held.2) ∙ sym held.2
 
 -- READING WHAT IS LATCHED

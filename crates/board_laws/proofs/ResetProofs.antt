@@ -88,14 +88,12 @@ nothing_put setup before (Port access) reply cell answer hard =
     (no_put access cell)
 nothing_put setup before event reply cell answer hard = absurd (false≢true hard)
 
-wire-hard :
-    (before : List Entry) (event : Event) (dev : ℕ) → is_hard_reset before event ≡ true → wire_set dev event ≡ None
-wire-hard before event dev hard = grind (arith, nat_tests)
+module _ (before : List Entry) (event : Event) where
+  wire-hard : (dev : ℕ) → is_hard_reset before event ≡ true → wire_set dev event ≡ None
+  wire-hard dev hard = grind (arith, nat_tests)
 
-line-hard :
-    (before : List Entry) (event : Event) (line : ℕ) → is_hard_reset before event ≡ true →
-    line_set line event ≡ None
-line-hard before event line hard = grind (arith, nat_tests)
+  line-hard : (line : ℕ) → is_hard_reset before event ≡ true → line_set line event ≡ None
+  line-hard line hard = grind (arith, nat_tests)
 
 pub hard_reset_keeps : HardResetKeeps
 unfolding wire_of irq_of

@@ -75,16 +75,8 @@ some_wire setup history line driven =
     let wire = pirq-wire history pin.number by.high in
     let parts = and_parts (pirq_of_card wire.number == pin.number) (wire_of history wire.number) wire.passes in
     let pirq_is = eqb-true (pirq_of_card wire.number) pin.number parts.0 in
-    let last : wire.number < 10 = wire.below in
-    record {
-      dev = wire.number;
-      drives = record {
-        first = wire.above;
-        last = omega arith;
-        high = parts.1;
-        routed = rw pirq_is by.routed;
-      };
-    }
+    let last : wire.number ≤ 9 = omega (arith, wire.below) in
+    record { dev = wire.number; drives = assumption (wire.above, last, parts, rw (← pirq_is) at by.routed) }
 
 pub line_has_driver : LineHasDriver
 line_has_driver setup history line below high =
