@@ -271,6 +271,7 @@ fn push_rom(windows: &mut Covered, rom: Option<u8>, register: u32)
 }
 
 /// Adds the addresses of each memory base among these, whose registers have these values.
+#[tactic(auto, using(pci_bars::proofs::BaseLemmas::base_within))]
 fn push_bases(windows: &mut Covered, bases: &[BaseSpec], values: &[u32; 6])
     requires bases { All IsBase (map base_of bases.now) }
     requires count { length bases.now ≤ 6 }
@@ -324,6 +325,7 @@ fn push_base(windows: &mut Covered, base: BaseSpec, value: u32)
 }
 
 /// The 2^`bits` addresses that differ from `inside` in the low `bits` bits alone.
+#[tactic(auto, using(crate::proofs::WindowLemmas::block_fits))]
 fn block(inside: u32, bits: u8) -> Changed
     requires bits { bits ≤ 28 }
     ensures block { result ≡ block inside bits }

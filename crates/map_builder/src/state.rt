@@ -144,6 +144,7 @@ impl FlatMap {
 }
 
 /// Of each list of cards, one state has one spelling, and one spelling is of one state.
+#[tactic(auto, using(crate::proofs::StateFormat::one_map))]
 pub fn law_one_map()
     ensures one { (fitted : List FittedCard) → OneSpelling mapped_bytes (IsMapped fitted) }
 {
@@ -151,6 +152,7 @@ pub fn law_one_map()
 }
 
 /// Maps of the same registers, version and windows have the same ranges.
+#[tactic(auto, using(crate::proofs::StateFormat::same_map))]
 pub fn law_same_map()
     ensures same { SameMap }
 {
