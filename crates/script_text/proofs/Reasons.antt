@@ -11,13 +11,14 @@ use Rattle.script_spec.specs.Common.{Item, SetCpus, SetMemory, SetRom, SetDisk, 
 use Rattle.script_spec.specs.Common.{is_statement, is_setup, is_cpus, is_memory, is_rom, is_disk, cards_of, has_card}
 use Rattle.script_spec.specs.Common.{has_setup, lacks_setup, is_misplaced, is_repeated, is_event_in_range, is_in_range}
 use Rattle.script_spec.specs.Common.{is_placed, is_there, pulses_of_event, pulses_of, passes_limits, least_reason, ask}
+use Rattle.script_spec.specs.Common.{is_event_placed, is_card_there}
 use Rattle.script_spec.proofs.ReadingLaws.{same_some}
 use Rattle.script_spec.proofs.LeastReasons.{first_is, first_of}
 use Rattle.script_lines.specs.declared.item.Asked.{Asked}
 use Rattle.script_lines.specs.Items.{asked_said}
 use Rattle.script_text.specs.declared.fault.Reason.{Reason}
 use Rattle.script_text.specs.declared.reading.Reading.{Reading}
-use Rattle.script_text.specs.Common.{in_case, number_of, IsReadingOf, Judges, Stands}
+use Rattle.script_text.specs.Common.{in_case, number_of, IsReadingOf, Judges, Stands, is_below}
 
 -- ---- of several reasons the least
 
@@ -200,23 +201,21 @@ module _ (actor : ℕ) (asked : Asked) (event : Event)
   few_pulses = let read = some_in_case _ _ _ valid in few event (ap is_in_range read.1 ∙ read.0)
 
   -- the least reason, of those that are left after a `phase`
-  pub asked_reason : (items : List Item) → list_any is_phase items ≡ true → (placed there past : Bool) →
-      is_placed (ask actor event) ≡ placed → is_there items (ask actor event) ≡ there →
-      passes_limits (ask actor event ∷ items) ≡ past →
-      least_reason items (asked_said actor asked) ≡ first_of false false false false (not placed) (not there) past
-  asked_reason items begun placed there past ee ef eg =
+  pub asked_reason : (items : List Item) (reading : Reading) → IsReadingOf items reading →
+      list_any is_phase items ≡ true →
+      least_reason items (asked_said actor asked)
+      ≡ first_of false false false false (not (is_event_placed event))
+      (not (is_below actor reading.cpus && is_card_there items event))
+      (nat_lt 250_000 (reading.statements + 1) || nat_lt 100_000_000 (pulses_of_event event + reading.pulses))
+  asked_reason items reading is begun =
       let read = some_in_case _ _ _ valid in
       ap (least_reason items) (sym read.1)
-      ∙ first_is false false false true placed there past items (ask actor event)
-      (statement_place items (ask actor event) true refl refl begun) refl refl (ap is_in_range read.1 ∙ read.0) ee ef eg
-
-  pub asked_limits : (items : List Item) (reading : Reading) → IsReadingOf items reading →
-      passes_limits (ask actor event ∷ items)
-      ≡ (nat_lt 250_000 (reading.statements + 1) || nat_lt 100_000_000 (pulses_of_event event + reading.pulses))
-  asked_limits items reading is =
-      limits_with items reading (ask actor event) is
+      ∙ first_is false false false true _ _ _ items (ask actor event)
+      (statement_place items (ask actor event) true refl refl begun) refl refl (ap is_in_range read.1 ∙ read.0) refl
+      (ap (λ b. b && is_card_there items event) (is.actors actor))
+      (limits_with items reading (ask actor event) is
       ∙ past_two (reading.statements + 1) (length reading.phases.items) (pulses_of_event event + reading.pulses)
-      reading.memory is.limits.phases is.limits.memory
+      reading.memory is.limits.phases is.limits.memory)
 
 pub setup_within : (items : List Item) (reading : Reading) (item : Item) → IsReadingOf items reading →
     is_setup item ≡ true → pulses_of item ≡ 0 →

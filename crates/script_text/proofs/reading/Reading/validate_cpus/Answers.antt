@@ -1,7 +1,7 @@
-use Rattle.std.proofs.Common.{arith, ◌∙◌, refl, sym}
+use Rattle.std.proofs.Common.{Ok, arith, ◌∙◌, refl, sym}
 use Rattle.board_prelude.proofs.Common.{common_steps, nat_tests}
 use Rattle.script_spec.specs.Grammar.{SetCpus}
-use Rattle.script_text.proofs.Reasons.{refused, out_of_range, no_reason, cpus_kept, setup_within}
+use Rattle.script_text.proofs.Reasons.{refused, out_of_range, name_judged, cpus_kept}
 use Rattle.script_text.proofs.reading.Reading.validate_cpus.Goals as goal
 
 pub returns-in_err-validate_setup : goal.returns-in_err-validate_setup
@@ -9,14 +9,10 @@ returns-in_err-validate_setup c = grind (arith, nat_tests, common_steps, cpus_ke
 
 pub returns-then-is_within : goal.returns-then-is_within
 returns-then-is_within c = record {
-  judged = λ items is.
-      let stands = c.in_ok-validate_setup.ensures.judged items (SetCpus c.args.count) is refl
-      (cpus_kept items c.args.self.now is ∙ sym c.is_some.ensures) in (
-        no_reason items (SetCpus c.args.count) stands.0 stands.1 refl (sym c.is_within.ensures.within
-            ∙ c.if-is_within.true) refl refl
-            (setup_within items c.args.self.now (SetCpus c.args.count) is refl refl is.limits.memory),
-        refl,
-      );
+  judged = λ items is. name_judged items c.args.self.now (SetCpus c.args.count) (Ok tt) is refl
+      (sym c.is_within.ensures.within ∙ c.if-is_within.true) refl refl refl refl
+      (c.in_ok-validate_setup.ensures.judged items (SetCpus c.args.count) is refl
+      (cpus_kept items c.args.self.now is ∙ sym c.is_some.ensures));
 }
 
 pub returns-else-is_within : goal.returns-else-is_within
