@@ -1,8 +1,7 @@
 -- A history that got an entry.
-use Rattle.std.specs.Prelude.{Some, option_map, slice_get}
+use Rattle.std.proofs.Common.{Some, option_map, slice_get, ◌≡◌, ℕ, ◌+◌, ◌-◌, ◌<◌, ◌≤◌, List, [], ◌∷◌, ◌++◌, length}
+use Rattle.std.proofs.Common.{reverse, slice_index_or, refl, ◌∙◌, ap, arith}
 use Rattle.std.proofs.lemmas.Option.{slice_get-map, slice_get_read}
-use Rattle.std.proofs.Common.{◌≡◌, ℕ, ◌+◌, ◌-◌, ◌<◌, ◌≤◌, List, [], ◌∷◌, ◌++◌, length, reverse, slice_index_or, refl}
-use Rattle.std.proofs.Common.{◌∙◌, ap, arith}
 use Rattle.bus_turn.proofs.Rows.{All-more}
 use Rattle.board_prelude.proofs.Common.{reverse-append, length-append, map-append, get_or_append_left, All-push}
 use Rattle.board_prelude.proofs.Common.{All-head, All-tail, Entry, Part}
@@ -57,10 +56,9 @@ entries_front list more (entry ∷ entries) within =
     refl
 
 pub pushed_entries : (entries new_entries : List PackedEntry) (parts new_parts : List Part) (packed : PackedEntry)
-    (entry : Entry) →
-    AreWithin (length parts) entries → KeepsParts parts new_parts packed.reply → entry_in new_parts packed ≡ entry →
-    new_entries ≡ entries ++ packed ∷ []
-    → reverse (entries_in new_parts new_entries) ≡ entry ∷ reverse (entries_in parts entries)
+    (entry : Entry) → AreWithin (length parts) entries → KeepsParts parts new_parts packed.reply →
+    entry_in new_parts packed ≡ entry → new_entries ≡ entries ++ packed ∷ [] →
+    reverse (entries_in new_parts new_entries) ≡ entry ∷ reverse (entries_in parts entries)
 pushed_entries entries new_entries parts new_parts packed entry within kept same new_is =
     let split : entries_in new_parts new_entries ≡ entries_in new_parts entries ++ entry_in new_parts packed ∷ [] =
     ap (entries_in new_parts) new_is ∙ map-append (entry_in new_parts) entries (packed ∷ []) in
@@ -70,10 +68,9 @@ pushed_entries entries new_entries parts new_parts packed entry within kept same
     ∙ λ t. same t ∷ reverse (front t)
 
 pub pushed_history : (entries new_entries : List PackedEntry) (parts new_parts : List Part) (packed : PackedEntry)
-    (spare capacity new_capacity room new_room : ℕ) →
-    IsHistory entries parts spare capacity room → 1 ≤ spare → KeepsParts parts new_parts packed.reply →
-    new_entries ≡ entries ++ packed ∷ [] → capacity ≤ new_capacity → room ≤ new_room →
-    IsHistory new_entries new_parts (spare - 1) new_capacity new_room
+    (spare capacity new_capacity room new_room : ℕ) → IsHistory entries parts spare capacity room → 1 ≤ spare →
+    KeepsParts parts new_parts packed.reply → new_entries ≡ entries ++ packed ∷ [] → capacity ≤ new_capacity →
+    room ≤ new_room → IsHistory new_entries new_parts (spare - 1) new_capacity new_room
 pushed_history entries new_entries parts new_parts packed spare capacity new_capacity room new_room old some kept new_is
     more_capacity more_room =
     let parts_are : length new_parts ≡ length parts + length kept.more = ap length kept.adds
@@ -90,9 +87,8 @@ pushed_history entries new_entries parts new_parts packed spare capacity new_cap
       few_parts = omega (arith, old.few_parts, entries_are, parts_are, kept.few);
     }
 
-pub entry_at : (list : List Part) (entries : List PackedEntry) (i : ℕ) (packed : PackedEntry) → i < length entries
-    → packed ≡ slice_index_or entries i packed →
-    slice_get (entries_in list entries) i ≡ Some (entry_in list packed)
+pub entry_at : (list : List Part) (entries : List PackedEntry) (i : ℕ) (packed : PackedEntry) → i < length entries →
+    packed ≡ slice_index_or entries i packed → slice_get (entries_in list entries) i ≡ Some (entry_in list packed)
 entry_at list entries i packed less same =
     slice_get-map (entry_in list) entries i
     ∙ ap (option_map (entry_in list)) (slice_get_read entries (length entries) i packed refl less same)

@@ -53,8 +53,7 @@ of_registers setup = record {
 }
 
 -- of a board's registers those of its cards are decoded
-pub cards_decoded :
-    (setup : Setup) (bytes : Bytes) (cards : List CardBytes) → AreCardsOf setup bytes cards →
+pub cards_decoded : (setup : Setup) (bytes : Bytes) (cards : List CardBytes) → AreCardsOf setup bytes cards →
     AreDecoded setup bytes cards
 cards_decoded setup bytes cards are = (are.0, λ k d within. (are.1 k d within).decodes)
 
@@ -69,8 +68,7 @@ each_card :
 each_card P cards all k d within =
     subst P (get_or-map card_of cards k d d.card within) (all k d.card (rw (length-map cards card_of) within))
 
-rises_apart :
-    (cards : List CardBytes) → Rises (cards_of cards) → (i k : ℕ) (d : CardBytes) → i < k → k < length cards →
+rises_apart : (cards : List CardBytes) → Rises (cards_of cards) → (i k : ℕ) (d : CardBytes) → i < k → k < length cards →
     (get_or cards i d).card.dev < (get_or cards k d).card.dev
 rises_apart (card ∷ later) rises zero (suc k) d below within =
     each_card (λ other. card.card.dev < other.dev) later rises.0 k d (omega arith)
@@ -94,9 +92,8 @@ fitted_is setup cards dev same =
     rw (same, position_from-zero (λ card. card.card.dev == dev) cards) (sym (found_from cards dev 0))
 
 -- the cards are still these cards
-pub card_kept :
-    (cards : List CardBytes) (i : ℕ) (old new : CardBytes) → old ≡ get_or cards i old → new.card ≡ old.card →
-    cards_of (set cards i new) ≡ cards_of cards
+pub card_kept : (cards : List CardBytes) (i : ℕ) (old new : CardBytes) → old ≡ get_or cards i old →
+    new.card ≡ old.card → cards_of (set cards i new) ≡ cards_of cards
 card_kept cards i old new is_old same_card = map-set_same card_of cards i new old (same_card ∙ ap card_of is_old)
 
 module _ {setup : Setup} {Is : Bytes → CardBytes → Type 0} (own : IsOfCard setup Is) (bytes : Bytes)
@@ -184,9 +181,8 @@ find_at (card ∷ later) rises (suc k) d within =
     let above = rises.0 k d (omega arith) in
     rw (ne_eqb card.dev (get_or later k d).dev (omega arith)) (find_at later rises.1 k d (omega arith))
 
-pub reset_cards :
-    (setup : Setup) (cards : List CardBytes) → AreFitted cards → AreReset cards → setup.cards ≡ cards_of cards →
-    AreCardsOf setup (reset_byte setup) cards
+pub reset_cards : (setup : Setup) (cards : List CardBytes) → AreFitted cards → AreReset cards →
+    setup.cards ≡ cards_of cards → AreCardsOf setup (reset_byte setup) cards
 reset_cards setup cards fitted reset same = (
   same,
   (λ k d within.
@@ -195,20 +191,17 @@ reset_cards setup cards fitted reset same = (
 )
 
 -- one card more
-pub one_more_pushed :
-    (items : List CardBytes) (i : ℕ) (item : CardBytes) (pushed : List FittedCard) (spec : FittedCard) →
-    i < length items →
-    item ≡ get_or items i item → spec ≡ item.card → pushed ≡ take i (cards_of items) ++ spec ∷ [] →
-    pushed ≡ take (i + 1) (cards_of items)
+pub one_more_pushed : (items : List CardBytes) (i : ℕ) (item : CardBytes) (pushed : List FittedCard)
+    (spec : FittedCard) → i < length items → item ≡ get_or items i item → spec ≡ item.card →
+    pushed ≡ take i (cards_of items) ++ spec ∷ [] → pushed ≡ take (i + 1) (cards_of items)
 one_more_pushed items i item pushed spec within at_i same is =
     let here = get_or-map card_of items i item item.card within in
     let more = take_more (cards_of items) i item.card (omega (arith, length-map items card_of)) in
     cc
 
 -- all of them
-pub all_pushed :
-    (pushed items own : List CardBytes) (i : ℕ) → cards_of pushed ≡ take i (cards_of items) → length items ≤ i →
-    items ≡ own → cards_of pushed ≡ cards_of own
+pub all_pushed : (pushed items own : List CardBytes) (i : ℕ) → cards_of pushed ≡ take i (cards_of items) →
+    length items ≤ i → items ≡ own → cards_of pushed ≡ cards_of own
 all_pushed pushed items own i front all same =
     rw (← same) (front ∙ take_all i (cards_of items) (omega (arith, all, length-map items card_of)))
 
@@ -230,8 +223,7 @@ fitted_same cards cards' same fitted = record {
 }
 
 -- no card has the device number of a bridge
-no_low_spec :
-    (cards : List FittedCard) (dev : ℕ) → dev < 2 → All IsCard cards →
+no_low_spec : (cards : List FittedCard) (dev : ℕ) → dev < 2 → All IsCard cards →
     is_some (find (λ card. card.dev == dev) cards) ≡ false
 no_low_spec [] dev low each = refl
 no_low_spec (card ∷ later) dev low each =
@@ -239,9 +231,8 @@ no_low_spec (card ∷ later) dev low each =
     rw (ne_eqb card.dev dev (omega (arith, here.first)))
     (no_low_spec later dev low (All-tail IsCard card later each))
 
-pub no_low_card :
-    (setup : Setup) (cards : List CardBytes) (dev : ℕ) → dev < 2 → AreCards cards → setup.cards ≡ cards_of cards →
-    is_some (card_at setup dev) ≡ false
+pub no_low_card : (setup : Setup) (cards : List CardBytes) (dev : ℕ) → dev < 2 → AreCards cards →
+    setup.cards ≡ cards_of cards → is_some (card_at setup dev) ≡ false
 no_low_card setup cards dev low each same =
     rw same (no_low_spec (cards_of cards) dev low (All-map IsCard card_of cards each))
 

@@ -8,8 +8,7 @@ after_board (Some denial) shut rom addr = denial
 after_board None shut rom addr =
     card_denial (option_map (λ window. window.dev) shut) (option_map (λ window. window.dev) rom) addr
 
-pub denials_in_order :
-    (top : ℕ) (shut rom : Option Window) (addr : ℕ) →
+pub denials_in_order : (top : ℕ) (shut rom : Option Window) (addr : ℕ) →
     abort_denial top shut rom addr ≡ after_board (board_denial top addr) shut rom addr
 unfolding board_denial
 denials_in_order top shut rom addr = grind (arith, nat_tests)

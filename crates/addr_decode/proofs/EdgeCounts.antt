@@ -21,8 +21,7 @@ few_of_rom :
     (bytes : Bytes) (dev : ℕ) (rom : Option ℕ) → length (flat_map window_edges (rom_window_of bytes dev rom)) ≤ 2
 few_of_rom bytes dev rom = grind arith
 
-few_of_cards :
-    (bytes : Bytes) (cards : List FittedCard) → All IsCard cards →
+few_of_cards : (bytes : Bytes) (cards : List FittedCard) → All IsCard cards →
     length (flat_map (card_edges bytes) cards) ≤ 14 * length cards
 few_of_cards bytes [] each = omega arith
 few_of_cards bytes (card ∷ later) each =
@@ -53,14 +52,12 @@ pub few_edges_after :
 few_edges_after setup bytes addr cards =
     omega (arith, few_kept addr (edges_of setup bytes), few_edges setup bytes cards)
 
-pub no_more :
-    (low high : ℕ) (edges : List ℕ) → low ≤ high →
+pub no_more : (low high : ℕ) (edges : List ℕ) → low ≤ high →
     length (filter (nat_lt high) edges) ≤ length (filter (nat_lt low) edges)
 no_more low high [] order = omega arith
 no_more low high (edge ∷ later) order = let more = no_more low high later order in grind (arith, nat_tests)
 
-one_less :
-    (addr edge : ℕ) (edges : List ℕ) → addr < edge → Contains edges edge →
+one_less : (addr edge : ℕ) (edges : List ℕ) → addr < edge → Contains edges edge →
     length (filter (nat_lt edge) edges) < length (filter (nat_lt addr) edges)
 one_less addr edge [] above (k, within, is) = absurd (omega arith)
 one_less addr edge (first ∷ later) above has =
@@ -70,8 +67,7 @@ one_less addr edge (first ∷ later) above has =
     ]
 
 -- fewer edges lie above the next edge
-pub fewer_after_next :
-    (setup : Setup) (bytes : Bytes) (addr edge : ℕ) → IsNextEdge setup bytes addr edge →
+pub fewer_after_next : (setup : Setup) (bytes : Bytes) (addr edge : ℕ) → IsNextEdge setup bytes addr edge →
     edges_after setup bytes edge < edges_after setup bytes addr
 fewer_after_next setup bytes addr edge next = one_less addr edge (edges_of setup bytes) next.above next.is_edge.listed
 

@@ -14,14 +14,12 @@ use Rattle.addr_decode.specs.Edges.{SameAreas, AreasChangeAtEdges}
 
 -- ---- what holds of each of a list
 
-all_joined :
-    {X : Type 0} (P : X → Type 0) (xs ys : List X) → AllByRecursion P xs → AllByRecursion P ys →
+all_joined : {X : Type 0} (P : X → Type 0) (xs ys : List X) → AllByRecursion P xs → AllByRecursion P ys →
     AllByRecursion P (xs ++ ys)
 all_joined P [] ys all_xs all_ys = all_ys
 all_joined P (x ∷ xs) ys all_xs all_ys = (all_xs.0, all_joined P xs ys all_xs.1 all_ys)
 
-all_parts :
-    {X : Type 0} (P : X → Type 0) (xs ys : List X) → AllByRecursion P (xs ++ ys) →
+all_parts : {X : Type 0} (P : X → Type 0) (xs ys : List X) → AllByRecursion P (xs ++ ys) →
     AllByRecursion P xs × AllByRecursion P ys
 all_parts P [] ys all = (tt, all)
 all_parts P (x ∷ xs) ys all = let later = all_parts P xs ys all.1 in ((all.0, later.0), later.1)
@@ -51,18 +49,15 @@ abbrev IsCoveredAlike : ℕ → ℕ → Window → Type 0
 IsCoveredAlike addr x window = is_covered x window ≡ is_covered addr window
 
 module _ (addr x : ℕ) (order : addr ≤ x) where
-  within_same :
-      (first last : ℕ) → Clear addr x first → Clear addr x (last + 1) →
+  within_same : (first last : ℕ) → Clear addr x first → Clear addr x (last + 1) →
       is_within first last x ≡ is_within first last addr
   within_same first last at_first at_end = grind (arith, nat_tests)
 
-  covered_by :
-      (size quotient : ℕ) → 0 < size → Clear addr x (quotient * size) → Clear addr x (quotient * size + size) →
+  covered_by : (size quotient : ℕ) → 0 < size → Clear addr x (quotient * size) → Clear addr x (quotient * size + size) →
       (quotient == x / size) ≡ (quotient == addr / size)
   covered_by size quotient positive at_first at_end = grind (arith, nat_tests)
 
-  windows_alike :
-      (windows : List Window) → AllByRecursion (Clear addr x) (flat_map window_edges windows) →
+  windows_alike : (windows : List Window) → AllByRecursion (Clear addr x) (flat_map window_edges windows) →
       AllByRecursion (IsCoveredAlike addr x) windows
   windows_alike [] clear = tt
   windows_alike (window ∷ later) clear = (
@@ -70,17 +65,15 @@ module _ (addr x : ℕ) (order : addr ≤ x) where
     windows_alike later clear.1.1,
   )
 
-  each_alike :
-      {A : Type 0} (windows : A → List Window) (xs : List A) →
-      AllByRecursion (Clear addr x) (flat_map (λ a. flat_map window_edges (windows a)) xs) →
-      AllByRecursion (IsCoveredAlike addr x) (flat_map windows xs)
+  each_alike : {A : Type 0} (windows : A → List Window) (xs : List A) → AllByRecursion (Clear addr x)
+      (flat_map (λ a. flat_map window_edges (windows a)) xs) → AllByRecursion (IsCoveredAlike addr x)
+      (flat_map windows xs)
   each_alike windows [] clear = tt
   each_alike windows (a ∷ later) clear =
       let parts = all_parts (Clear addr x) (flat_map window_edges (windows a)) _ clear in
       all_joined _ (windows a) _ (windows_alike (windows a) parts.0) (each_alike windows later parts.1)
 
-  found_alike :
-      (counts : ℕ → Bool) (windows : List Window) → AllByRecursion (IsCoveredAlike addr x) windows →
+  found_alike : (counts : ℕ → Bool) (windows : List Window) → AllByRecursion (IsCoveredAlike addr x) windows →
       first_window counts x windows ≡ first_window counts addr windows
   found_alike counts [] alike = refl
   found_alike counts (window ∷ later) alike = rw (alike.0, found_alike counts later alike.1) refl
@@ -98,8 +91,7 @@ module _ (setup : Setup) (bytes : Bytes) (addr x : ℕ) (between : Between setup
   fixed_clear : (edge : ℕ) → list_any (λ other. edge == other) fixed_edges ≡ true → Clear addr x edge
   fixed_clear edge is = all_listed (Clear addr x) fixed_edges edge between.fixed is
 
-  range_same :
-      (first last : ℕ) → list_any (λ other. first == other) fixed_edges ≡ true →
+  range_same : (first last : ℕ) → list_any (λ other. first == other) fixed_edges ≡ true →
       list_any (λ other. last + 1 == other) fixed_edges ≡ true → is_within first last x ≡ is_within first last addr
   range_same first last at_first at_end =
       within_same addr x between.order first last (fixed_clear first at_first) (fixed_clear (last + 1) at_end)
@@ -123,8 +115,7 @@ module _ (setup : Setup) (bytes : Bytes) (addr x : ℕ) (between : Between setup
 
   -- ---- cards
 
-  cards_alike :
-      (cards : List FittedCard) → AllByRecursion (Clear addr x) (flat_map (card_edges bytes) cards) →
+  cards_alike : (cards : List FittedCard) → AllByRecursion (Clear addr x) (flat_map (card_edges bytes) cards) →
       AllByRecursion (IsCoveredAlike addr x) (flat_map (memory_windows bytes) cards)
   unfolding fixed_edges
   cards_alike [] clear = tt
@@ -184,9 +175,8 @@ areas_change_at_edges setup bytes addr x order last clear =
     (record { order = order; last = last; fixed = parts.0; rows = others.0; cards = others.1 })
 
 -- up to the next edge, or to the last address where there is none
-pub same_to_next :
-    (setup : Setup) (bytes : Bytes) (addr : ℕ) (found : Option ℕ) → IfSome found (IsNextEdge setup bytes addr) →
-    (IsNone found → NoEdgeAbove setup bytes addr) →
+pub same_to_next : (setup : Setup) (bytes : Bytes) (addr : ℕ) (found : Option ℕ) →
+    IfSome found (IsNextEdge setup bytes addr) → (IsNone found → NoEdgeAbove setup bytes addr) →
     SameAreas setup bytes addr (unwrap_or found address_count)
 same_to_next setup bytes addr None next none x order before =
     areas_change_at_edges setup bytes addr x order before

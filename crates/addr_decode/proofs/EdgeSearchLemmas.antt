@@ -32,9 +32,8 @@ rom_same : (bytes : Bytes) (dev register : ℕ) (rom : Option ℕ) → HoldsRom 
 rom_same bytes dev register None held = refl
 rom_same bytes dev register (Some bits) held = rw (sym held.number) refl
 
-cards_same :
-    (setup : Setup) (bytes : Bytes) (cards : List CardBytes) → AreCards cards → All (DecodesAs setup bytes) cards →
-    flat_map ends_of_card cards ≡ flat_map (card_edges bytes) (cards_of cards)
+cards_same : (setup : Setup) (bytes : Bytes) (cards : List CardBytes) → AreCards cards →
+    All (DecodesAs setup bytes) cards → flat_map ends_of_card cards ≡ flat_map (card_edges bytes) (cards_of cards)
 cards_same setup bytes [] fit are = refl
 cards_same setup bytes (card ∷ later) fit are =
     let is = All-head (DecodesAs setup bytes) card later are in
@@ -46,8 +45,7 @@ cards_same setup bytes (card ∷ later) fit are =
           (All-tail (DecodesAs setup bytes) card later are),
     ) refl
 
-rows_same :
-    (bytes : Bytes) (drb : List ℕ) → length drb ≡ 8 → IsRowsOf bytes drb →
+rows_same : (bytes : Bytes) (drb : List ℕ) → length drb ≡ 8 → IsRowsOf bytes drb →
     map (λ b. b * boundary_unit) drb ≡ row_edges bytes
 rows_same bytes (a ∷ b ∷ c ∷ d ∷ e ∷ f ∷ g ∷ h ∷ []) eight is =
     rw (
@@ -111,8 +109,7 @@ module _ (addr : ℕ) where
       ]
 
   nearer_is : (edge : ℕ) (found : Option ℕ) →
-      (nearer addr found edge ≡ found)
-      ⊎ ((nearer addr found edge ≡ Some edge) × (addr < edge) × (edge < address_count))
+      (nearer addr found edge ≡ found) ⊎ ((nearer addr found edge ≡ Some edge) × (addr < edge) × (edge < address_count))
   nearer_is edge found = grind (arith, nat_tests)
 
   nearest_is : (edges : List ℕ) (found : Option ℕ) →
@@ -190,10 +187,8 @@ module _ (setup : Setup) (bytes : Bytes) (addr : ℕ) where
 -- ---- the parts of the list
 
 -- one list after another, above the same address
-pub in_two :
-    (addr addr' : ℕ) (found first all : Option ℕ) (xs ys : List ℕ) → addr' ≡ addr → first ≡ nearest addr found xs →
-    all ≡ nearest addr' first ys →
-    all ≡ nearest addr found (xs ++ ys)
+pub in_two : (addr addr' : ℕ) (found first all : Option ℕ) (xs ys : List ℕ) → addr' ≡ addr →
+    first ≡ nearest addr found xs → all ≡ nearest addr' first ys → all ≡ nearest addr found (xs ++ ys)
 unfolding nearest
 in_two addr addr' found first all xs ys same is_first is_all =
     rw (is_all, same, is_first, fold-append (nearer addr) found xs ys) refl
@@ -214,8 +209,7 @@ above_swapped addr xs ys zs edge is =
     record { listed = swapped xs ys zs edge is.listed; above = is.above; below = is.below }
 
 -- those that the code sees are those of the board, with the rows last
-pub edges_seen :
-    (setup : Setup) (bytes : Bytes) (drb : List ℕ) (cards : List CardBytes) (addr : ℕ) (found : Option ℕ) →
+pub edges_seen : (setup : Setup) (bytes : Bytes) (drb : List ℕ) (cards : List CardBytes) (addr : ℕ) (found : Option ℕ) →
     length drb ≡ 8 → IsRowsOf bytes drb → AreCards cards → AreDecoded setup bytes cards →
     found ≡ nearest addr None (fixed_edges ++ (flat_map ends_of_card cards ++ map (λ b. b * boundary_unit) drb)) →
     IsLeast addr (edges_of setup bytes) found

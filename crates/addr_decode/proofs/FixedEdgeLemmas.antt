@@ -54,8 +54,7 @@ skip_to_system_bios addr from = skip_first addr 16 fixed_edges (search arith)
 
 -- at or above the largest top none lies above
 pub rows_below : (addr : ℕ) (found : Option ℕ) (drb : List ℕ) → 0x7F80_0000 ≤ addr →
-    ((k : ℕ) → slice_index drb k < 2 ^ 8) →
-    nearest addr found (map (λ boundary. boundary * boundary_unit) drb) ≡ found
+    ((k : ℕ) → slice_index drb k < 2 ^ 8) → nearest addr found (map (λ boundary. boundary * boundary_unit) drb) ≡ found
 unfolding nearest
 rows_below addr found [] high bytes = refl
 rows_below addr found (boundary ∷ later) high bytes =

@@ -39,12 +39,10 @@ undenied : (row : Option ℕ) (opened shadowed hole : Bool) (addr : ℕ) (kind :
 undenied row opened shadowed hole addr kind abort rom = grind (arith, nat_tests)
 
 module _ (setup : Setup) (bytes : Bytes) (addr : ℕ) where
-  answers :
-      (kind : Kind) (smram : Bool) (dram : Option Area) (beside : Area) →
+  answers : (kind : Kind) (smram : Bool) (dram : Option Area) (beside : Area) →
       dram ≡ dram_area (row_of bytes addr) smram (is_shadowed bytes addr kind) (is_in_hole bytes addr) addr →
       beside ≡ beside_dram setup bytes addr →
-      unwrap_or dram beside
-      ≡ area_under (row_of bytes addr) smram (is_shadowed bytes addr kind) (is_in_hole bytes addr)
+      unwrap_or dram beside ≡ area_under (row_of bytes addr) smram (is_shadowed bytes addr kind) (is_in_hole bytes addr)
       (is_bios_selected bytes addr) (memory_claim setup bytes addr) addr
   answers kind smram dram beside is_dram is_beside =
       rw is_beside (or_beside dram (is_bios_selected bytes addr) (memory_claim setup bytes addr)
@@ -53,8 +51,7 @@ module _ (setup : Setup) (bytes : Bytes) (addr : ℕ) where
       (is_bios_selected bytes addr) (memory_claim setup bytes addr) addr)))
 
   -- so it is of a bus master, to which SMRAM never answers
-  pub master_answers :
-      (kind : Kind) (dram : Option Area) (beside : Area) →
+  pub master_answers : (kind : Kind) (dram : Option Area) (beside : Area) →
       dram ≡ dram_area (row_of bytes addr) false (is_shadowed bytes addr kind) (is_in_hole bytes addr) addr →
       beside ≡ beside_dram setup bytes addr → unwrap_or dram beside ≡ master_area setup bytes addr kind
   unfolding master_area

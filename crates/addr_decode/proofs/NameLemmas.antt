@@ -13,7 +13,7 @@ use Rattle.pci_bars.proofs.CardListLemmas.{find-cards, at_position}
 use Rattle.addr_decode.specs.declared.register.MapRegister.{MapRegister}
 use Rattle.addr_decode.specs.declared.register.MapRegister.TheVariants.{Pam, RowBoundary, Single, Card}
 use Rattle.addr_decode.specs.MapRegister.{place_of, IsNumbered, IsNumberedName, AreNumbered, in_bridge, in_isa_bridge}
-use Rattle.addr_decode.specs.MapRegister.{in_card, in_device, map_register, names_from, names_of, named_single}
+use Rattle.addr_decode.specs.MapRegister.{in_card, in_device, map_register, names_from, names_of}
 use Rattle.addr_decode.specs.Singles.{single, single_count, single_number}
 use Rattle.pci_bars.specs.Cards.{CardBytes, AreFitted, cards_of}
 use Rattle.addr_decode.proofs.CardLemmas.{no_low_card}
@@ -33,8 +33,7 @@ bridge_byte : (setup : Setup) (off : ℕ) → is_some (card_at setup 0) ≡ fals
     is_map_byte setup (bridge off) ≡ is_host_byte off
 bridge_byte setup off none = simp (none, no_rom (card_at setup 0) none, or-false)
 
-isa_byte :
-    (setup : Setup) (off : ℕ) → is_some (card_at setup 1) ≡ false → is_map_byte setup (isa off) ≡ is_isa_byte off
+isa_byte : (setup : Setup) (off : ℕ) → is_some (card_at setup 1) ≡ false → is_map_byte setup (isa off) ≡ is_isa_byte off
 isa_byte setup off none = simp (none, no_rom (card_at setup 1) none, or-false)
 
 -- PAM, the boundaries of rows and the registers of one byte are map bytes, and so are those of a fitted card
@@ -43,8 +42,7 @@ block_is_byte setup off from to =
     let is : is_host_byte off ≡ true = grind (arith, nat_tests) in rw is refl
 
 pub single_is_byte : (setup : Setup) (k : ℕ) → k < single_count → is_map_byte setup (single k) ≡ true
-single_is_byte setup k below =
-    each_below (λ k. is_map_byte setup (single k) ≡ true) single_count k (search rules) below
+single_is_byte setup k below = each_below (λ k. is_map_byte setup (single k) ≡ true) single_count k (search rules) below
 
 pub card_is_byte : (setup : Setup) (dev off : ℕ) → is_some (card_at setup dev) ≡ true →
     (off == 0x04 || is_within 0x10 0x27 off) ≡ true → is_map_byte setup (card_register dev off) ≡ true
@@ -93,8 +91,7 @@ device_named : (fitted : Option FittedCard) (dev off : ℕ) →
     is_some (option_map (Card dev) (option_and_then (in_card off) fitted))
     ≡ (is_some fitted && (off == 0x04 || is_within 0x10 0x27 off) || has_rom fitted && is_within 0x30 0x33 off)
 device_named None dev off = refl
-device_named (Some card) dev off =
-    is_named (Card dev) (in_card off card) ∙ grind (arith, nat_tests)
+device_named (Some card) dev off = is_named (Card dev) (in_card off card) ∙ grind (arith, nat_tests)
 
 pub named : (setup : Setup) (reg : Reg) → is_some (card_at setup 0) ≡ false → is_some (card_at setup 1) ≡ false →
     is_some (map_register setup.cards reg) ≡ is_map_byte setup reg
@@ -142,12 +139,6 @@ names_at cards =
     by_function (λ reg name. AreNamed name reg) cards (λ _ _. tt) bridge_names (λ off. single_names (isa off) _ refl)
     (λ dev off above. device_names (find (λ card. card.dev == dev) cards) dev off above)
 
-pub single_place : (reg : Reg) (register : MapRegister) → named_single reg ≡ Some register → IsNameAt register reg
-single_place reg register = if_some (λ register. IsNameAt register reg) _ register (single_names reg _ refl)
-
-pub bridge_place : (off : ℕ) (register : MapRegister) → in_bridge off ≡ Some register → IsNameAt register (bridge off)
-bridge_place off register = if_some (λ register. IsNameAt register (bridge off)) _ register (bridge_names off)
-
 pub is_name : (cards : List FittedCard) (reg : Reg) (register : MapRegister) → map_register cards reg ≡ Some register →
     IsNameAt register reg
 is_name cards reg register = if_some (λ register. IsNameAt register reg) _ register (names_at cards reg)
@@ -170,8 +161,7 @@ count_names cards reg One = refl
 count_names cards reg _ = refl
 
 pub name_at : (cards : List FittedCard) (reg : Reg) (width : Width) (k : ℕ) (d : Option MapRegister) →
-    k < bytes_of width →
-    get_or (names_from cards reg width) k d ≡ map_register cards (reg_after reg k)
+    k < bytes_of width → get_or (names_from cards reg width) k d ≡ map_register cards (reg_after reg k)
 name_at cards reg width k d below = grind (arith, nat_tests)
 
 any_same : (name : ℕ → Option MapRegister) (is : ℕ → Bool) (xs : List ℕ) → ((k : ℕ) → is_some (name k) ≡ is k) →
@@ -202,9 +192,8 @@ named_byte setup cards reg register fitted same is =
 
 -- the name of a register among those of a store, where the cards are still the same
 pub named_so_far : (cards cards' : List CardBytes) (reg : Reg) (width : Width) (k : ℕ)
-    (names : List (Option MapRegister))
-    (d : Option MapRegister) → k < bytes_of width → cards_of cards' ≡ cards_of cards →
-    names ≡ names_from (cards_of cards) reg width →
+    (names : List (Option MapRegister)) (d : Option MapRegister) → k < bytes_of width →
+    cards_of cards' ≡ cards_of cards → names ≡ names_from (cards_of cards) reg width →
     get_or names k d ≡ map_register (cards_of cards') (reg_after reg k)
 named_so_far cards cards' reg width k names d below same are =
     rw (are, same) (name_at (cards_of cards) reg width k d below)

@@ -25,8 +25,7 @@ select_in_order setup bytes _ disk dev timing port is = grind (arith, nat_tests)
 
 -- ---- what each part of the code gives
 
-pub config_target :
-    (setup : Setup) (bytes : Bytes) (address : ℕ) (disk : Bool) (port : ℕ) (width : Width) →
+pub config_target : (setup : Setup) (bytes : Bytes) (address : ℕ) (disk : Bool) (port : ℕ) (width : Width) →
     true ≡ is_config_port port →
     config_port address (config_register setup address port) ≡ port_target_of setup bytes address disk port width
 unfolding port_target_of
@@ -42,11 +41,9 @@ found_in_order setup bytes None disk timing port is = refl
 found_in_order setup bytes (Some dev) disk timing port is =
     select_in_order setup bytes (select_of dev) disk dev timing port is
 
-pub onboard_target :
-    (setup : Setup) (bytes : Bytes) (address : ℕ) (disk : Bool) (port : ℕ) (width : Width) (xbcs : ℕ)
-    (ide_command idetim : ℕ) (response : Onboard) →
-    false ≡ is_config_port port →
-    xbcs ≡ bytes select_register → IsChannelOf bytes ide_command idetim →
+pub onboard_target : (setup : Setup) (bytes : Bytes) (address : ℕ) (disk : Bool) (port : ℕ) (width : Width) (xbcs : ℕ)
+    (ide_command idetim : ℕ) (response : Onboard) → false ≡ is_config_port port → xbcs ≡ bytes select_register →
+    IsChannelOf bytes ide_command idetim →
     response ≡ response_of (device_at port (bytes_of width)) xbcs disk ide_command idetim →
     after_onboard setup bytes port response ≡ port_target_of setup bytes address disk port width
 unfolding port_target_of

@@ -1,10 +1,9 @@
 -- The registers of the address map among those of a board: after a reset, and where a byte is stored.
 use Rattle.std.proofs.Common.{◌≡◌, ◌≢◌, ℕ, ◌+◌, ◌<◌, ◌≤◌, ◌⊎◌, inl, inr, Option, Some, None, List, length, set, refl}
-use Rattle.std.proofs.Common.{sym, ◌∙◌, subst, arith, add-one, slice_index, get_or-set_other, get_or-set_same}
-use Rattle.std.proofs.Common.{option_map}
-use Rattle.board_prelude.proofs.Common.{cases_eq, nat_tests, Width, bytes_of, One, Reg, Store, FittedCard, Setup, byte}
-use Rattle.board_prelude.proofs.Common.{reset_byte, changed_byte, Bytes, bridge, isa, drb, card_register, reg_after}
-use Rattle.board_prelude.proofs.Common.{after_stores, byte_by_byte}
+use Rattle.std.proofs.Common.{sym, ◌∙◌, subst, arith, add-one, slice_index, option_map}
+use Rattle.board_prelude.proofs.Common.{get_or-set_other, get_or-set_same, cases_eq, nat_tests, Width, bytes_of, One}
+use Rattle.board_prelude.proofs.Common.{Reg, Store, FittedCard, Setup, byte, reset_byte, changed_byte, Bytes, bridge}
+use Rattle.board_prelude.proofs.Common.{isa, drb, card_register, reg_after, after_stores, byte_by_byte}
 use Rattle.pmc_regs.proofs.Common.{row_bytes, rows_are, rows_after_store}
 use Rattle.pam_windows.specs.Pam.{IsPamOffset, IsPamOf}
 use Rattle.pam_windows.proofs.PamLemmas.{pam_bytes, pam_are}
@@ -23,10 +22,8 @@ pub record AreBridgesOf (bytes : Bytes) (regs : MapBytes) : Type 0 where
   pub windows : regs.pam ≡ pam_bytes bytes
   pub singles : AreSinglesOf bytes regs.singles
 
-pub stands_at_reset :
-    (setup : Setup) (regs : MapBytes) → AreBridgesOf (reset_byte setup) regs → AreFitted regs.cards →
-    AreReset regs.cards → setup.cards ≡ cards_of regs.cards →
-    StandsFor setup (reset_byte setup) regs
+pub stands_at_reset : (setup : Setup) (regs : MapBytes) → AreBridgesOf (reset_byte setup) regs → AreFitted regs.cards →
+    AreReset regs.cards → setup.cards ≡ cards_of regs.cards → StandsFor setup (reset_byte setup) regs
 stands_at_reset setup regs are fitted reset same = record {
   rows = rows_are (reset_byte setup) regs.drb are.rows;
   windows = pam_are (reset_byte setup) regs.pam are.windows;

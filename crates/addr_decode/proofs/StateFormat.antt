@@ -85,13 +85,7 @@ card_format card =
     ))
     (λ t.
     let rom = rom_from card.rom t.2.2.2.0 t.2.2.2.1 in (
-      (
-        refl,
-        record {
-          widths = record { command = t.1; line = t.2.1; bases = t.2.2.1; rom = rom.0 };
-          no_rom = rom.1;
-        },
-      ),
+      (refl, record { widths = record { command = t.1; line = t.2.1; bases = t.2.2.1; rom = rom.0 }; no_rom = rom.1; }),
       refl,
     ))
 
@@ -122,10 +116,7 @@ cards_format (card ∷ later) =
     rw size
     (fields_format (card_format card then λ first good. last_field _ (cards_format later)) (cards_to card later)
     (λ t. (
-      record {
-        same = rw (t.1.0, ← t.2.1.same) refl;
-        each = All-cons IsCardRegs t.0 t.2.0 t.1.1 t.2.1.each;
-      },
+      record { same = rw (t.1.0, ← t.2.1.same) refl; each = All-cons IsCardRegs t.0 t.2.0 t.1.1 t.2.1.each },
       flat_map-cons card_bytes t.0 t.2.0,
     )))
 

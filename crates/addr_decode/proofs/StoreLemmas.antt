@@ -11,8 +11,7 @@ Differs at reg = (at.dev ≢ reg.dev) ⊎ (at.fun ≢ reg.fun) ⊎ (at.off ≢ r
 not_covered : (at reg : Reg) → Differs at reg → covers at One reg ≡ false
 not_covered at reg apart = grind (arith, nat_tests)
 
-pub stored-elsewhere :
-    (setup : Setup) (bytes : Bytes) (at : Reg) (written : ℕ) (reg : Reg) → Differs at reg →
+pub stored-elsewhere : (setup : Setup) (bytes : Bytes) (at : Reg) (written : ℕ) (reg : Reg) → Differs at reg →
     stored setup bytes at written reg ≡ bytes reg
 stored-elsewhere setup bytes at written reg apart = cond-false (covers at One reg) _ _ (not_covered at reg apart)
 
@@ -33,7 +32,6 @@ differs_back at reg apart = grind (arith, nat_tests)
 
 -- ---- the bytes of a value
 
-pub byte_in_list :
-    (value k place : ℕ) (bytes : List ℕ) → place ≡ k → k < 4 → bytes ≡ to_le_bytes w32 value →
+pub byte_in_list : (value k place : ℕ) (bytes : List ℕ) → place ≡ k → k < 4 → bytes ≡ to_le_bytes w32 value →
     slice_index bytes place ≡ byte value k
 byte_in_list value k place bytes same below are = rw (are, same) (long_byte value k below)

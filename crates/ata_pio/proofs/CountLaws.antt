@@ -84,8 +84,7 @@ abbrev reading : ℕ → Drive → Drive
 reading sector d = record d { activity = Reading sector 0; request = true }
 
 begins : (disk : Disk) (sector : ℕ) (d : Drive) → named d.registers ≡ Some sector →
-    readable disk.medium (Some sector) ≡ Ok sector
-    → reading_disk disk d ≡ with_drive disk (reading sector d)
+    readable disk.medium (Some sector) ≡ Ok sector → reading_disk disk d ≡ with_drive disk (reading sector d)
 begins disk sector d e h = grind (arith, nat_tests, begin_read-is)
 
 sector_read-more : (m : Medium) (sector : ℕ) (d : Drive) → 0 < left_of d.registers →
@@ -250,11 +249,10 @@ still : (rest : List (List ℕ)) → request_of rest true ≡ true
 still rest = grind (arith, nat_tests)
 
 writes_on : (sectors : List (List ℕ)) (m : Medium) (sector : ℕ) (q : Bool) (d : Drive) → IsChosen d →
-    named d.registers ≡ Some sector
-    → length sectors ≤ left_of d.registers → sector + length sectors ≤ sectors_of m → sectors_of m ≤ 65536 →
-    AreSectors sectors
-    → after_words_written (all_words sectors) (writing_disk m q d)
-    ≡ writing_disk (all_stored m sector sectors) (request_of sectors q) (moved_on sector (length sectors) d)
+    named d.registers ≡ Some sector → length sectors ≤ left_of d.registers → sector + length sectors ≤ sectors_of m →
+    sectors_of m ≤ 65536 → AreSectors sectors → after_words_written (all_words sectors)
+    (writing_disk m q d) ≡ writing_disk (all_stored m sector sectors) (request_of sectors q)
+    (moved_on sector (length sectors) d)
 unfolding after_words_written moved_on
 writes_on [] m sector q d h e n l few a = refl
 writes_on (words ∷ rest) m sector q d h e more l few a =

@@ -1,9 +1,7 @@
 -- The state of the drive is spelled and read back.
-use Rattle.board_base.proofs.Common.{nat_tests}
-use Rattle.board_base.specs.Common.{w32, to_le_bytes}
-use Rattle.std.proofs.lemmas.List.{nil_from_length}
+use Rattle.board_base.proofs.Common.{nat_tests, nil_from_length}
+use Rattle.device_spec.specs.Common.{w32, to_le_bytes, Activity}
 use Rattle.std.proofs.Common.{◌≡◌, ℕ, ◌-◌, ◌^◌, ◌<◌, ◌≤◌, Bool, List, ◌∷◌, ◌++◌, length, refl, arith, nat_lt}
-use Rattle.device_spec.specs.Common.{Activity}
 use Rattle.byte_fields.specs.Fields.{plain, bound_where}
 use Rattle.byte_fields.proofs.Formats.{IsFormat, format_as, fields_format, ◌then◌, ◌&◌, last_field, plain_format}
 use Rattle.byte_fields.proofs.Numbers.{any_byte, byte_to, number_to, wide32, flag_format, bound_where-small}
@@ -81,8 +79,7 @@ came_small number word few small = grind (arith, nat_tests)
 
 -- so many bytes that came
 came_format : (number word : ℕ) → number ≤ 4 → word ≤ bound_where (nat_lt 1 number) 255 →
-    IsFormat 512 (plain (came_size number word)) (λ bytes. bytes)
-    (λ bytes. length bytes ≡ came_size number word)
+    IsFormat 512 (plain (came_size number word)) (λ bytes. bytes) (λ bytes. length bytes ≡ came_size number word)
 came_format number word few small =
     format_as 512 (λ bytes. bytes) (λ bytes. length bytes ≡ came_size number word)
     (plain_format (came_size number word)) (came_small number word few small) (λ bytes long. long) (λ bytes long. long)

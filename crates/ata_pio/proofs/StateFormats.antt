@@ -42,8 +42,7 @@ all_good : (state : Unit {0}) (flags : List Bool) →
 all_good state [] = tt
 all_good state (flag ∷ later) = (tt, all_good state later)
 
-flags_format : (count : ℕ) →
-    IsFormat count (flags_fields count) (map flag_byte) (λ flags. length flags ≡ count)
+flags_format : (count : ℕ) → IsFormat count (flags_fields count) (map flag_byte) (λ flags. length flags ≡ count)
 flags_format count =
     format_as count (map flag_byte) (λ flags. length flags ≡ count)
     (many_format flags_loop (λ state. flag_format) tt count) (omega arith)

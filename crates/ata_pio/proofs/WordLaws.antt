@@ -87,9 +87,8 @@ joined : (bytes rest : List ℕ) (a b : ℕ) → (bytes ++ a ∷ b ∷ []) ++ re
 joined bytes rest a b = append_assoc bytes (a ∷ b ∷ []) rest
 
 words_fill : (words : List ℕ) (word : ℕ) (disk : Disk) (s : ℕ) (bytes : List ℕ) → IsChosen disk.drive →
-    length bytes + 2 * length words ≡ 510
-    → after_words_written (word ∷ words) (disk_acting disk (Writing s bytes))
-    ≡ written_disk disk s (bytes ++ bytes_of_words (word ∷ words))
+    length bytes + 2 * length words ≡ 510 → after_words_written (word ∷ words)
+    (disk_acting disk (Writing s bytes)) ≡ written_disk disk s (bytes ++ bytes_of_words (word ∷ words))
 unfolding after_words_written
 words_fill [] word disk s bytes h e = search (rules, word_written-bytes, cond-true, eqb, eq-eqb, length-append)
 words_fill (next ∷ words) word disk s bytes h e =

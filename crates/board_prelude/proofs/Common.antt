@@ -81,16 +81,18 @@ pub use Rattle.board_prelude.specs.Common.{rom_window, rom_window_of, rom_writab
 pub use Rattle.board_prelude.specs.Common.{routes_of, sectors_of, select_of, selectable_bios, selected_by, settled}
 pub use Rattle.board_prelude.specs.Common.{shadow_range, six_areas, size_text, slave_ports, smm_text, smram}
 pub use Rattle.board_prelude.specs.Common.{smram_after, smram_answers, smram_range, space, statement_of, statements_of}
-pub use Rattle.board_prelude.specs.Common.{is_bios_selected, is_host_byte, is_in_hole, is_smram_open}
-pub use Rattle.board_prelude.specs.Common.{string_bytes, system_accessed, system_at_reset, system_bios}
-pub use Rattle.board_prelude.specs.Common.{system_of, system_port, system_value, target_at, target_text, tell}
-pub use Rattle.board_prelude.specs.Common.{time_bytes}
-pub use Rattle.board_prelude.specs.Common.{timer_accessed, timer_after, timer_ports, to_le_bytes, top_of, touches_map}
-pub use Rattle.board_prelude.specs.Common.{trigger_byte, triggers_accessed, triggers_after, triggers_at_reset}
-pub use Rattle.board_prelude.specs.Common.{two_digits, unselected, unselected_windows, update_interrupts, upper_memory}
-pub use Rattle.board_prelude.specs.Common.{value_at, value_bytes, value_text, vector_of, version_of, vga_window, w16}
-pub use Rattle.board_prelude.specs.Common.{w32, w64, w8, who_answered, wide, width_text, window_bits, wire_set}
-pub use Rattle.board_prelude.specs.Common.{with_items, with_level, without_level, word_at, written, written_text, xbcs}
+pub use Rattle.board_prelude.specs.Common.{is_bios_selected, is_host_byte, is_in_hole, is_smram_open, string_bytes}
+pub use Rattle.board_prelude.specs.Common.{system_accessed, system_at_reset, system_bios, system_of, system_port}
+pub use Rattle.board_prelude.specs.Common.{system_value, target_at, target_text, tell, time_bytes, timer_accessed}
+pub use Rattle.board_prelude.specs.Common.{timer_after, timer_ports, to_le_bytes, top_of, touches_map, trigger_byte}
+pub use Rattle.board_prelude.specs.Common.{triggers_accessed, triggers_after, triggers_at_reset, two_digits, unselected}
+pub use Rattle.board_prelude.specs.Common.{unselected_windows, update_interrupts, upper_memory, value_at, value_bytes}
+pub use Rattle.board_prelude.specs.Common.{value_text, vector_of, version_of, vga_window, w16, w32, w64, w8}
+pub use Rattle.board_prelude.specs.Common.{who_answered, wide, width_text, window_bits, wire_set, with_items}
+pub use Rattle.board_prelude.specs.Common.{with_level, without_level, word_at, written, written_text, xbcs}
+pub use Rattle.board_prelude.specs.Common.{answers_outside, applied, applied_by, applied_text, event_applied}
+pub use Rattle.board_prelude.specs.Common.{last_sector, most_pulses_at_once, stimuli, stimulus_form, stimulus_of_code}
+pub use Rattle.board_prelude.specs.Common.{stimulus_of_word, Applied, Stimulus}
 unfoldable pub use Rattle.board_prelude.specs.Common.{access_numbered, after_stores, after_word, answer_of, area_of}
 unfoldable pub use Rattle.board_prelude.specs.Common.{asks_for_load, begin_read, begin_write, byte_of, byte_of_levels}
 unfoldable pub use Rattle.board_prelude.specs.Common.{byte_read, card_function, chip_after_read, chip_after_write}
@@ -148,11 +150,6 @@ pub use Rattle.board_spec.proofs.Common.{statements-newest, sum_by-append, sum_b
 pub use Rattle.board_spec.proofs.Common.{take-append-le, take-append_seam, take_all, take_at, take_at_read, take_more}
 pub use Rattle.board_spec.proofs.Common.{take_rest, third, timer-alone, timer-pulsed, total, triggers-alone}
 pub use Rattle.board_spec.proofs.Common.{triggers-pulsed, true≢false, untouched, whole_front, whole_is_complete}
-pub use Rattle.board_spec.proofs.Common.{whole_is_front, wire-alone, with_items_is}
+pub use Rattle.board_spec.proofs.Common.{whole_is_front, wire-alone, with_items_is, applied_again, code_found}
+pub use Rattle.board_spec.proofs.Common.{find_passes, word_found}
 unfoldable pub use Rattle.board_spec.proofs.Common.{made, scan}
-pub use Rattle.board_spec.proofs.Common.{applied_again, code_finds, code_found, find_passes, word_finds, word_found}
-pub use Rattle.board_prelude.specs.Common.{answers_outside, applied, applied_by, applied_text, event_applied}
-pub use Rattle.board_prelude.specs.Common.{last_sector}
-pub use Rattle.board_prelude.specs.Common.{most_pulses_at_once, stimuli, stimulus_form, stimulus_of_code}
-pub use Rattle.board_prelude.specs.Common.{stimulus_of_word}
-pub use Rattle.board_prelude.specs.Common.{Applied, Stimulus}

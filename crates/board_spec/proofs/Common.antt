@@ -41,5 +41,4 @@ pub use Rattle.device_spec.proofs.Common.{settled-asks, settled-quiet, some_byte
 pub use Rattle.device_spec.proofs.Common.{take-append-drop, take-append-le, take-append_seam, take_all, take_at}
 pub use Rattle.device_spec.proofs.Common.{take_at_read, take_more, take_rest, true≢false, with_items_is}
 unfoldable pub use Rattle.device_spec.proofs.Common.{scan}
-pub use Rattle.board_spec.proofs.StimulusLaws.{applied_again, code_finds, code_found, find_passes, word_finds}
-pub use Rattle.board_spec.proofs.StimulusLaws.{word_found}
+pub use Rattle.board_spec.proofs.StimulusLaws.{applied_again, code_found, find_passes, word_found}

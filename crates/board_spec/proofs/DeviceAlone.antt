@@ -14,57 +14,44 @@ use Rattle.board_spec.specs.declared.event.Entry.{Entry}
 
 -- ---- an event whose reply names another device
 
-pub triggers-alone :
-    (event : Event) (reply : Reply) (triggers : Triggers) → ¬ NamesDevice reply Elcr →
+pub triggers-alone : (event : Event) (reply : Reply) (triggers : Triggers) → ¬ NamesDevice reply Elcr →
     triggers_after event reply triggers ≡ triggers
 triggers-alone event reply triggers apart = grind arith
 
-pub system-alone :
-    (event : Event) (reply : Reply) (plain : PlainPorts) → ¬ NamesDevice reply System →
+pub system-alone : (event : Event) (reply : Reply) (plain : PlainPorts) → ¬ NamesDevice reply System →
     (plain_after event reply plain).system ≡ plain.system
 system-alone event reply plain apart = grind arith
 
-pub timer-alone :
-    (setup : Setup) (before : List Entry) (event : Event) (reply : Reply) (timer : PitState) →
-    IsAnswer setup before event reply →
-    ¬ NamesDevice reply Pit → ¬ NamesDevice reply System → timer_after event reply timer ≡ timer
+pub timer-alone : (setup : Setup) (before : List Entry) (event : Event) (reply : Reply) (timer : PitState) →
+    IsAnswer setup before event reply → ¬ NamesDevice reply Pit → ¬ NamesDevice reply System →
+    timer_after event reply timer ≡ timer
 timer-alone setup before event reply timer answer apart no_gate = grind arith
 
-pub clock-alone :
-    (setup : Setup) (before : List Entry) (event : Event) (reply : Reply) (clock : Clock) →
-    IsAnswer setup before event reply →
-    ¬ NamesDevice reply ClockChip → clock_after event reply clock ≡ clock
+pub clock-alone : (setup : Setup) (before : List Entry) (event : Event) (reply : Reply) (clock : Clock) →
+    IsAnswer setup before event reply → ¬ NamesDevice reply ClockChip → clock_after event reply clock ≡ clock
 clock-alone setup before event reply clock answer apart = grind arith
 
-pub disk-alone :
-    (setup : Setup) (before : List Entry) (event : Event) (reply : Reply) (disk : Disk) →
-    IsAnswer setup before event reply →
-    ¬ NamesDevice reply Ata → disk_after event reply disk ≡ disk
+pub disk-alone : (setup : Setup) (before : List Entry) (event : Event) (reply : Reply) (disk : Disk) →
+    IsAnswer setup before event reply → ¬ NamesDevice reply Ata → disk_after event reply disk ≡ disk
 disk-alone setup before event reply disk answer apart = grind arith
 
-pub wire-alone :
-    (setup : Setup) (before : List Entry) (event : Event) (reply : Reply) (dev : ℕ) →
-    IsAnswer setup before event reply →
-    ¬ NamesDevice reply Wires → wire_set dev event ≡ None
+pub wire-alone : (setup : Setup) (before : List Entry) (event : Event) (reply : Reply) (dev : ℕ) →
+    IsAnswer setup before event reply → ¬ NamesDevice reply Wires → wire_set dev event ≡ None
 wire-alone setup before event reply dev answer apart = grind arith
 
-pub line-alone :
-    (setup : Setup) (before : List Entry) (event : Event) (reply : Reply) (line : ℕ) →
-    IsAnswer setup before event reply →
-    ¬ NamesDevice reply Wires → line_set line event ≡ None
+pub line-alone : (setup : Setup) (before : List Entry) (event : Event) (reply : Reply) (line : ℕ) →
+    IsAnswer setup before event reply → ¬ NamesDevice reply Wires → line_set line event ≡ None
 line-alone setup before event reply line answer apart = grind arith
 
 -- port 61h gates counter 2, and OUT of counter 0 does not see it
-gate-elsewhere :
-    (dev : Option Dev) (access : PortAccess) (timer : PitState) → dev ≢ Some Pit →
+gate-elsewhere : (dev : Option Dev) (access : PortAccess) (timer : PitState) → dev ≢ Some Pit →
     out_of 0 (timer_accessed dev access timer) ≡ out_of 0 timer
 unfolding set_gate2 out_of
 gate-elsewhere dev access timer apart = grind arith
 
-pub out-alone :
-    (setup : Setup) (before : List Entry) (event : Event) (reply : Reply) (timer : PitState) →
-    IsAnswer setup before event reply →
-    ¬ NamesDevice reply Pit → out_of 0 (timer_after event reply timer) ≡ out_of 0 timer
+pub out-alone : (setup : Setup) (before : List Entry) (event : Event) (reply : Reply) (timer : PitState) →
+    IsAnswer setup before event reply → ¬ NamesDevice reply Pit →
+    out_of 0 (timer_after event reply timer) ≡ out_of 0 timer
 out-alone setup before event reply timer answer apart = grind (arith, gate-elsewhere)
 
 -- ---- the pair
@@ -83,8 +70,7 @@ any-same : (p q : ℕ → Bool) (xs : List ℕ) → ((x : ℕ) → p x ≡ q x) 
 any-same p q [] same = refl
 any-same p q (x ∷ xs) same = rw (same x, any-same p q xs same) refl
 
-pub disk_of-same :
-    (bytes : Option (List ℕ)) (f g : List ℕ → Disk) → ((b : List ℕ) → f b ≡ g b) →
+pub disk_of-same : (bytes : Option (List ℕ)) (f g : List ℕ → Disk) → ((b : List ℕ) → f b ≡ g b) →
     option_map f bytes ≡ option_map g bytes
 disk_of-same bytes f g same = grind arith
 
@@ -97,24 +83,20 @@ pub record SameDrivers (setup : Setup) (history other : List Entry) (timer timer
   pub lines : (line : ℕ) → irq_of history line ≡ irq_of other line
   pub routes : routes_of setup history ≡ routes_of setup other
 
-pirqs-same :
-    (history other : List Entry) → ((dev : ℕ) → wire_of history dev ≡ wire_of other dev) →
+pirqs-same : (history other : List Entry) → ((dev : ℕ) → wire_of history dev ≡ wire_of other dev) →
     pirq_levels history ≡ pirq_levels other
 pirqs-same history other wires =
     map-same (pirq_level history) (pirq_level other) pirqs
     (λ k. any-same _ _ card_devices (λ dev. ap (λ (b : Bool). pirq_of_card dev == k && b) (wires dev)))
 
-level-same :
-    (setup : Setup) (history other : List Entry) (timer timer' : PitState) →
-    SameDrivers setup history other timer timer' →
-    (line : ℕ) → level_with setup history timer line ≡ level_with setup other timer' line
+level-same : (setup : Setup) (history other : List Entry) (timer timer' : PitState) →
+    SameDrivers setup history other timer timer' → (line : ℕ) →
+    level_with setup history timer line ≡ level_with setup other timer' line
 level-same setup history other timer timer' same line =
     grind (arith, disk_of-same setup.disk, pirqs-same history other same.wires, same.lines line)
 
-pub levels-same :
-    (setup : Setup) (history other : List Entry) (timer timer' : PitState) →
-    SameDrivers setup history other timer timer' →
-    levels_with setup history timer ≡ levels_with setup other timer'
+pub levels-same : (setup : Setup) (history other : List Entry) (timer timer' : PitState) →
+    SameDrivers setup history other timer timer' → levels_with setup history timer ≡ levels_with setup other timer'
 unfolding levels_with
 levels-same setup history other timer timer' same =
     map-same (level_with setup history timer) (level_with setup other timer') all_lines

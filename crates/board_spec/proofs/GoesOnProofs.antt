@@ -15,9 +15,8 @@ abbrev AllAddressed : List Statement → Type 0
 AllAddressed statements = AllByRecursion (λ (statement : Statement). IsAddressed statement.event) statements
 
 -- two lists with the same first statement agree for an actor where their rests do
-events-same :
-    (actor : ℕ) (first : Statement) (left right : List Statement) → events_by actor left ≡ events_by actor right →
-    events_by actor (first ∷ left) ≡ events_by actor (first ∷ right)
+events-same : (actor : ℕ) (first : Statement) (left right : List Statement) →
+    events_by actor left ≡ events_by actor right → events_by actor (first ∷ left) ≡ events_by actor (first ∷ right)
 events-same actor first left right same = grind (arith, nat_tests)
 
 -- a phase without the first statement of an actor
@@ -28,8 +27,7 @@ record Without (actor : ℕ) (event : Event) (phase : List Statement) : Type 0 w
   pub others : (other : ℕ) → actor ≢ other → events_by other phase ≡ events_by other rest
   pub addressed : AllAddressed phase → AllAddressed rest
 
-without_first :
-    (actor : ℕ) (event : Event) (events : List Event) (phase : List Statement) →
+without_first : (actor : ℕ) (event : Event) (events : List Event) (phase : List Statement) →
     events_by actor phase ≡ event ∷ events → Without actor event phase
 without_first actor event events [] is = cc
 without_first actor event events (first ∷ later) is =
@@ -56,8 +54,7 @@ abbrev Begins : (phase part : List Statement) → Type 0
 Begins phase part = (actor : ℕ) → BeginsWith (events_by actor phase) (events_by actor part)
 
 -- what is left of the phase after the first statement of a part
-first_taken :
-    (phase part : List Statement) (first : Statement) → Begins phase (first ∷ part) →
+first_taken : (phase part : List Statement) (first : Statement) → Begins phase (first ∷ part) →
     Without first.actor first.event phase
 first_taken phase part first begins =
     let here = begins first.actor in
@@ -89,8 +86,7 @@ alone_begins first later actor =
     ]
 
 -- a front that is shorter than its phase has a next statement
-next_of :
-    (part phase : List Statement) → AllAddressed phase → Begins phase part → length part < length phase →
+next_of : (part phase : List Statement) → AllAddressed phase → Begins phase part → length part < length phase →
     Next (Begins phase) part
 next_of [] [] addressed begins short = absurd (omega arith)
 next_of [] (first ∷ later) addressed begins short =
@@ -107,8 +103,7 @@ next_of (first ∷ part) phase addressed begins short =
     }
 
 -- a front as long as its phase is the whole of it
-full_front :
-    (part phase : List Statement) → Begins phase part → length part ≡ length phase → (actor : ℕ) →
+full_front : (part phase : List Statement) → Begins phase part → length part ≡ length phase → (actor : ℕ) →
     events_by actor part ≡ events_by actor phase
 full_front [] [] begins same actor = refl
 full_front [] (first ∷ later) begins same actor = absurd (omega arith)
@@ -136,8 +131,7 @@ none_so_far (phase ∷ later) =
 abbrev NextSoFar : List (List Statement) → List Statement → Type 0
 NextSoFar phases statements = Next (HasPhasesSoFar phases) statements
 
-past_phase :
-    (phase : List Statement) (later : List (List Statement)) (statements : List Statement) →
+past_phase : (phase : List Statement) (later : List (List Statement)) (statements : List Statement) →
     length phase ≤ length statements → IsWholePhase phase (take (length phase) statements) →
     NextSoFar later (drop (length phase) statements) → NextSoFar (phase ∷ later) statements
 past_phase phase later statements full whole more = record {
@@ -150,21 +144,18 @@ past_phase phase later statements full whole more = record {
 }
 
 -- a front of the first phase that is as long as it is the whole of it, and nothing follows
-pub whole_front :
-    (phase statements : List Statement) → IsFrontOfPhase phase statements → length phase ≤ length statements →
-    IsWholePhase phase (take (length phase) statements)
+pub whole_front : (phase statements : List Statement) → IsFrontOfPhase phase statements →
+    length phase ≤ length statements → IsWholePhase phase (take (length phase) statements)
 whole_front phase statements front full =
     let size : length statements ≡ length phase = omega (arith, front.size) in
     rw (take_all (length phase) statements front.size)
     (record { size = size; each = full_front statements phase front.each size })
 
-pub nothing_left :
-    (phase statements : List Statement) → IsFrontOfPhase phase statements → length phase ≤ length statements →
-    drop (length phase) statements ≡ []
+pub nothing_left : (phase statements : List Statement) → IsFrontOfPhase phase statements →
+    length phase ≤ length statements → drop (length phase) statements ≡ []
 nothing_left phase statements front full = drop_of_length-le statements front.size
 
-next_so_far :
-    (phases : List (List Statement)) (statements : List Statement) → AllAddressed (in_file_order phases) →
+next_so_far : (phases : List (List Statement)) (statements : List Statement) → AllAddressed (in_file_order phases) →
     HasPhasesSoFar phases statements → ¬ HasPhases phases statements → NextSoFar phases statements
 next_so_far [] statements addressed begun open_still = absurd (open_still begun)
 next_so_far (phase ∷ later) statements addressed (inl front) open_still =

@@ -6,9 +6,8 @@ use Rattle.board_spec.specs.Common.{clock_of, disk_with, disk_of, levels_with, F
 use Rattle.device_spec.specs.Clock.{power_on as clock_at_power_on}
 
 -- a disk at power-on asks for no interrupt
-no_interrupt :
-    (bytes : Option (List ℕ)) →
-    option_map_or (λ disk. is_interrupt disk.drive) (option_map (λ b. disk_with b []) bytes) false ≡ false
+no_interrupt : (bytes : Option (List ℕ)) → option_map_or (λ disk. is_interrupt disk.drive)
+    (option_map (λ b. disk_with b []) bytes) false ≡ false
 unfolding disk_with
 no_interrupt None = refl
 no_interrupt (Some bytes) = refl

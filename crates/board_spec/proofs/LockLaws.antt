@@ -1,13 +1,12 @@
 -- The lock law holds of every legal history.
 use Rattle.std.proofs.Common.{◌≡◌, ◌≢◌, ℕ, ◌+◌, ◌-◌, inl, inr, Bool, false, List, [], ◌∷◌, ◌++◌, Option, Some, ◌∙◌}
 use Rattle.std.proofs.Common.{arith, zero, suc, ◌==◌, map}
-use Rattle.device_spec.proofs.Common.{nat_tests}
+use Rattle.device_spec.proofs.Common.{nat_tests, cases_Bool}
 use Rattle.board_spec.specs.Common.{AllByRecursion, Kind, WideAccess, bytes_of, Denial, Area, Target, Smram, Setup, bit}
 use Rattle.board_spec.specs.Common.{reset_byte, host_bridge, is_hard_reset, register_change, smram_after, byte_with}
 use Rattle.board_spec.specs.Common.{byte_of, Bytes, Window, area_under, area_of, smram, target_at, memory_answer}
 use Rattle.board_spec.specs.Common.{part_answer, IsAnswer, IsNext, IsLegal, SetsLock, NoHardReset, IsOutsideSmm}
 use Rattle.board_spec.specs.Common.{HasSmram, NamesSmram, longest_at, parts_from, parts_of, parts_list, LegalKeepsLock}
-use Rattle.std.proofs.lemmas.Bool.{cases_Bool}
 use Rattle.board_base.specs.declared.access.Access.{Access}
 use Rattle.board_base.specs.declared.target.Area.TheVariants.{Smram as SmramArea}
 use Rattle.board_spec.specs.declared.event.Event.{Event}
@@ -79,8 +78,7 @@ locked_since setup (entry ∷ between) older soft locked =
 abbrev IsNotSmram : Area → Type 0
 IsNotSmram area = area ≢ SmramArea
 
-no_smram_under :
-    (row : Option ℕ) (shadowed hole rom : Bool) (claim : Option Window) (addr : ℕ) →
+no_smram_under : (row : Option ℕ) (shadowed hole rom : Bool) (claim : Option Window) (addr : ℕ) →
     IsNotSmram (area_under row false shadowed hole rom claim addr)
 no_smram_under row shadowed hole rom claim addr = grind (arith, nat_tests)
 
@@ -94,14 +92,12 @@ no_smram setup bytes addr kind shut = grind (arith, nat_tests, no_smram_under)
 target_names : (setup : Setup) (area : Area) (addr : ℕ) → target_at setup area addr ≡ Smram → area ≡ SmramArea
 target_names setup area addr e = grind arith
 
-reply_names :
-    (value : Option ℕ) (target : Target) (denial : Option Denial) (reply : Reply) →
+reply_names : (value : Option ℕ) (target : Target) (denial : Option Denial) (reply : Reply) →
     reply ≡ Bus value target denial → NamesSmram reply → target ≡ Smram
 reply_names value target denial reply e names = grind arith
 
 -- no part of a wide access outside SMM reaches SMRAM
-no_smram_parts :
-    (setup : Setup) (before : List Entry) → bit (byte_of setup before smram) 6 ≡ 0 →
+no_smram_parts : (setup : Setup) (before : List Entry) → bit (byte_of setup before smram) 6 ≡ 0 →
     (parts : List Access) → AllByRecursion (λ part. part.smm ≡ false) parts → (replies : List Part) →
     replies ≡ map (part_answer setup before) parts → ¬ HasSmram replies
 unfolding part_answer
@@ -125,8 +121,7 @@ parts_smm access smm is (suc most) addr left =
     elim (cases_Bool (left == 0)) [ inl none ↦ rw none tt | inr some ↦ rw some (is, later) ]
 
 -- the answer to an access or a look outside SMM, with DOPEN at 0, does not name SMRAM
-no_smram_answer :
-    (setup : Setup) (before : List Entry) (event : Event) (reply : Reply) →
+no_smram_answer : (setup : Setup) (before : List Entry) (event : Event) (reply : Reply) →
     bit (byte_of setup before smram) 6 ≡ 0 → IsAnswer setup before event reply → IsOutsideSmm event → ¬ NamesSmram reply
 unfolding memory_answer
 no_smram_answer setup before (Memory access) reply shut answer outside names =

@@ -4,11 +4,11 @@ use Rattle.std.proofs.Common.{length, get_or, Option, Some, None, refl, ◌∙�
 use Rattle.std.proofs.Common.{All, if◌then◌else◌}
 use Rattle.board_spec.specs.Common.{AllByRecursion, enumerate_from, Kind, Reg, Base, IoBase, FittedCard, Setup, IsCard}
 use Rattle.board_spec.specs.Common.{IsCardList, Rises, card_at, has_rom, is_host_byte, is_within, Bytes, boundary}
-use Rattle.board_spec.specs.Common.{row_of, is_shadow_range, is_shadowed, Window, is_covered, base_value, memory_window}
-use Rattle.board_spec.specs.Common.{vga_window, memory_windows, rom_window, rom_window_of, is_rom_on}
-use Rattle.board_spec.specs.Common.{unselected_windows, rom_unselected, pam_register, is_enabled_for, first_window}
-use Rattle.board_spec.specs.Common.{memory_claim, memory_shut, area_of, denial_of, bridge, card_register, card_command}
-use Rattle.board_spec.specs.Common.{base_register, expansion_rom, SameMapBytes, MapBytesDecide}
+use Rattle.board_spec.specs.Common.{row_of, is_shadowed, Window, is_covered, base_value, memory_window, vga_window}
+use Rattle.board_spec.specs.Common.{memory_windows, rom_window, rom_window_of, is_rom_on, unselected_windows}
+use Rattle.board_spec.specs.Common.{rom_unselected, is_enabled_for, first_window, memory_claim, memory_shut, area_of}
+use Rattle.board_spec.specs.Common.{denial_of, bridge, card_register, card_command, base_register, expansion_rom}
+use Rattle.board_spec.specs.Common.{SameMapBytes, MapBytesDecide}
 use Rattle.device_spec.proofs.Common.{nat_tests, All-nil, All-cons, All-append, recursion_from_All}
 
 -- ---- searches in lists
@@ -46,18 +46,12 @@ found_rom (card ∷ later) rises (suc k) d below = grind (arith, nat_tests, rise
 module _ (setup : Setup) (bytes other : Bytes) (same : SameMapBytes setup bytes other) where
   -- ---- rows and windows of the host bridge
 
-  bridge_same : (off : ℕ) → is_host_byte off ≡ true → bytes (bridge off) ≡ other (bridge off)
-  bridge_same off within = grind (arith, nat_tests)
-
   boundary_same : (row : ℕ) → row < 8 → boundary bytes row ≡ boundary other row
   boundary_same row below = grind (arith, nat_tests)
 
   row_same : (addr : ℕ) → row_of bytes addr ≡ row_of other addr
   unfolding row_of
   row_same addr = grind (arith, nat_tests, boundary_same)
-
-  pam_same : (addr : ℕ) → is_shadow_range addr ≡ true → bytes (pam_register addr) ≡ other (pam_register addr)
-  pam_same addr within = grind (arith, nat_tests)
 
   shadow_same : (addr : ℕ) (kind : Kind) → is_shadowed bytes addr kind ≡ is_shadowed other addr kind
   shadow_same addr kind = grind (arith, nat_tests)
@@ -133,8 +127,7 @@ module _ (setup : Setup) (bytes other : Bytes) (same : SameMapBytes setup bytes 
   windows_same (card ∷ later) fitted roms each =
       rw (card_windows_same card fitted.0 roms.0 each.0.count, windows_same later fitted.1 roms.1 each.1) refl
 
-  unselected_same :
-      (cards : List FittedCard) → AllByRecursion SameRom cards →
+  unselected_same : (cards : List FittedCard) → AllByRecursion SameRom cards →
       flat_map (unselected_windows bytes) cards ≡ flat_map (unselected_windows other) cards
   unselected_same [] roms = refl
   unselected_same (card ∷ later) roms = rw (roms.0.unselected, unselected_same later roms.1) refl
@@ -166,10 +159,9 @@ module _ (setup : Setup) (bytes other : Bytes) (same : SameMapBytes setup bytes 
   of_unselected : (card : FittedCard) → IsFitted card.dev → All IsOfCard (unselected_windows other card)
   of_unselected card fitted = search (of_choice, All-nil, of_rom)
 
-  of_all :
-      (windows : FittedCard → List Window) → ((card : FittedCard) → IsFitted card.dev → All IsOfCard (windows card)) →
-      (cards : List FittedCard) → AllByRecursion (λ card. IsFitted card.dev) cards →
-      All IsOfCard (flat_map windows cards)
+  of_all : (windows : FittedCard → List Window) →
+      ((card : FittedCard) → IsFitted card.dev → All IsOfCard (windows card)) → (cards : List FittedCard) →
+      AllByRecursion (λ card. IsFitted card.dev) cards → All IsOfCard (flat_map windows cards)
   of_all windows each [] fitted = All-nil IsOfCard
   of_all windows each (card ∷ later) fitted =
       All-append IsOfCard (windows card) (flat_map windows later) (each card fitted.0)
@@ -191,8 +183,7 @@ module _ (setup : Setup) (bytes other : Bytes) (same : SameMapBytes setup bytes 
       rom_windows_with card card.rom refl (λ some. found_rom setup.cards list.rises k d below ∙ some))
 
   -- two searches in the same windows of cards agree where they count the same cards
-  first_same :
-      (left right : ℕ → Bool) (addr : ℕ) (windows : List Window) → All IsOfCard windows →
+  first_same : (left right : ℕ → Bool) (addr : ℕ) (windows : List Window) → All IsOfCard windows →
       ((dev : ℕ) → IsFitted dev → left dev ≡ right dev) →
       first_window left addr windows ≡ first_window right addr windows
   first_same left right addr windows each counted =
@@ -233,8 +224,7 @@ module _ (setup : Setup) (bytes other : Bytes) (same : SameMapBytes setup bytes 
   area_same : (addr : ℕ) (kind : Kind) (smm : Bool) → IsCardList setup.cards →
       area_of setup bytes addr kind smm ≡ area_of setup other addr kind smm
   unfolding area_of
-  area_same addr kind smm list =
-      grind (arith, row_same addr, shadow_same addr kind, claim_same addr list, same)
+  area_same addr kind smm list = grind (arith, row_same addr, shadow_same addr kind, claim_same addr list, same)
 
   denial_same : (addr : ℕ) (kind : Kind) (smm : Bool) → IsCardList setup.cards →
       denial_of setup bytes addr kind smm ≡ denial_of setup other addr kind smm

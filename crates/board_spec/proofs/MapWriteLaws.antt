@@ -20,14 +20,12 @@ covers_tells at reg width h = grind (arith, nat_tests)
 same_reg : (at reg : Reg) (width : Width) → Covered at reg width → reg_after at (reg.off - at.off) ≡ reg
 same_reg at reg width h = grind arith
 
-any_covered :
-    (p : ℕ → Bool) (width : Width) (k : ℕ) → k < bytes_of width → p k ≡ true →
+any_covered : (p : ℕ → Bool) (width : Width) (k : ℕ) → k < bytes_of width → p k ≡ true →
     list_any p (take (bytes_of width) (0 ∷ 1 ∷ 2 ∷ 3 ∷ [])) ≡ true
 any_covered p width k below h = grind (arith, nat_tests)
 
 -- a change that covers no map byte leaves each map byte
-pub untouched :
-    (setup : Setup) (change : MapChange) (reg : Reg) (old : ℕ) → is_map_byte setup reg ≡ true →
+pub untouched : (setup : Setup) (change : MapChange) (reg : Reg) (old : ℕ) → is_map_byte setup reg ≡ true →
     touches_map setup change ≡ false → changed_byte setup change reg old ≡ old
 untouched setup Reset reg old is not = cc
 untouched setup (Store at width value) reg old is not =

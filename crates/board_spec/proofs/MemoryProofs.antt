@@ -17,14 +17,12 @@ timer-same :
 unfolding timer_of
 timer-same before entry is = grind arith
 
-byte-same :
-    (setup : Setup) (before : List Entry) (entry : Entry) (reg : Reg) → IsOfMemory entry.event →
+byte-same : (setup : Setup) (before : List Entry) (entry : Entry) (reg : Reg) → IsOfMemory entry.event →
     byte_of setup (entry ∷ before) reg ≡ byte_of setup before reg
 unfolding byte_of
 byte-same setup before entry reg is = grind arith
 
-lines-same :
-    (setup : Setup) (before : List Entry) (entry : Entry) → IsOfMemory entry.event →
+lines-same : (setup : Setup) (before : List Entry) (entry : Entry) → IsOfMemory entry.event →
     levels_of setup (entry ∷ before) ≡ levels_of setup before
 unfolding clock_of disk_with wire_of irq_of
 lines-same setup before entry is =

@@ -27,8 +27,7 @@ replay_is_complete setup phases history replay = subst (HasPhases phases) (sym r
 
 -- ---- begun
 
-so_far :
-    (phases : List (List Statement)) (statements : List Statement) → HasPhases phases statements →
+so_far : (phases : List (List Statement)) (statements : List Statement) → HasPhases phases statements →
     HasPhasesSoFar phases statements
 so_far [] statements whole = whole
 so_far (phase ∷ later) statements whole = inr (whole.0, so_far later (drop (length phase) statements) whole.1)
@@ -38,8 +37,7 @@ complete_is_begun phases history complete = so_far phases (statements_of history
 
 -- ---- one statement more
 
-pub events-append :
-    (actor : ℕ) (first later : List Statement) →
+pub events-append : (actor : ℕ) (first later : List Statement) →
     events_by actor (first ++ later) ≡ events_by actor first ++ events_by actor later
 events-append actor first later = simp (filter-append, map-append)
 
@@ -47,8 +45,7 @@ pub statements-append :
     (more before : List Entry) → statements_of (more ++ before) ≡ statements_of before ++ statements_of more
 statements-append more before = simp (reverse-append, map-append)
 
-pub statements-newest :
-    (entry : Entry) (before : List Entry) →
+pub statements-newest : (entry : Entry) (before : List Entry) →
     statements_of (entry ∷ before) ≡ statements_of before ++ statement_of entry ∷ []
 statements-newest entry before = statements-append (entry ∷ []) before
 
@@ -75,8 +72,7 @@ no_statement_more : (statements : List Statement) (statement : Statement) → st
 no_statement_more [] statement e = cc
 no_statement_more (first ∷ later) statement e = cc
 
-shorter_so_far :
-    (phases : List (List Statement)) (statements : List Statement) (last : Statement) →
+shorter_so_far : (phases : List (List Statement)) (statements : List Statement) (last : Statement) →
     HasPhasesSoFar phases (statements ++ last ∷ []) → HasPhasesSoFar phases statements
 shorter_so_far [] statements last whole = absurd (no_statement_more statements last whole)
 shorter_so_far (phase ∷ later) statements last (inl front) = inl (shorter_phase phase statements (last ∷ []) front)

@@ -8,14 +8,12 @@ use Rattle.board_spec.specs.Common.{BegunIsBounded, WholeIsComplete, CompleteIsW
 use Rattle.board_spec.proofs.GoesOnProofs.{none_so_far, whole_front, nothing_left}
 
 -- a whole phase and what follows it
-cut_length :
-    (phase statements : List Statement) → IsWholePhase phase (take (length phase) statements) →
+cut_length : (phase statements : List Statement) → IsWholePhase phase (take (length phase) statements) →
     length statements ≡ length phase + length (drop (length phase) statements)
 cut_length phase statements whole =
     omega (arith, whole.size, length-take (length phase) statements, length-drop (length phase) statements)
 
-bounded :
-    (phases : List (List Statement)) (statements : List Statement) → HasPhasesSoFar phases statements →
+bounded : (phases : List (List Statement)) (statements : List Statement) → HasPhasesSoFar phases statements →
     length statements ≤ length (in_file_order phases)
 bounded [] statements nothing = omega (arith, ap length nothing)
 bounded (phase ∷ later) statements (inl front) = simp length-append (omega (arith, front.size))
@@ -23,8 +21,7 @@ bounded (phase ∷ later) statements (inr whole) =
     simp length-append
     (omega (arith, cut_length phase statements whole.0, bounded later (drop (length phase) statements) whole.1))
 
-complete_when_full :
-    (phases : List (List Statement)) (statements : List Statement) → HasPhasesSoFar phases statements →
+complete_when_full : (phases : List (List Statement)) (statements : List Statement) → HasPhasesSoFar phases statements →
     length statements ≡ length (in_file_order phases) → HasPhases phases statements
 complete_when_full [] statements nothing full = nothing
 complete_when_full (phase ∷ later) statements (inl front) full =
@@ -39,8 +36,7 @@ complete_when_full (phase ∷ later) statements (inr whole) full =
     let rest = complete_when_full later (drop (length phase) statements) whole.1 in
     (whole.0, rest (omega (arith, cut_length phase statements whole.0)))
 
-full_when_complete :
-    (phases : List (List Statement)) (statements : List Statement) → HasPhases phases statements →
+full_when_complete : (phases : List (List Statement)) (statements : List Statement) → HasPhases phases statements →
     length statements ≡ length (in_file_order phases)
 full_when_complete [] statements nothing = ap length nothing
 full_when_complete (phase ∷ later) statements whole =

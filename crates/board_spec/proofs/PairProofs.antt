@@ -23,8 +23,7 @@ module _ (before : List Entry) (entry : Entry) (count : ℕ) (is : entry.event �
   unfolding triggers_of
   triggers-pulsed = rw is refl
 
-drivers-pulsed :
-    (setup : Setup) (before : List Entry) (entry : Entry) (count : ℕ) (timer : PitState) →
+drivers-pulsed : (setup : Setup) (before : List Entry) (entry : Entry) (count : ℕ) (timer : PitState) →
     entry.event ≡ Pulses count → SameDrivers setup (entry ∷ before) before timer timer
 unfolding clock_of disk_with wire_of irq_of byte_of
 drivers-pulsed setup before entry count timer is = record {
@@ -36,15 +35,13 @@ drivers-pulsed setup before entry count timer is = record {
   routes = rw is refl;
 }
 
-pub levels-pulsed :
-    (setup : Setup) (before : List Entry) (entry : Entry) (count : ℕ) (timer : PitState) → entry.event ≡ Pulses count →
-    levels_with setup (entry ∷ before) timer ≡ levels_with setup before timer
+pub levels-pulsed : (setup : Setup) (before : List Entry) (entry : Entry) (count : ℕ) (timer : PitState) →
+    entry.event ≡ Pulses count → levels_with setup (entry ∷ before) timer ≡ levels_with setup before timer
 levels-pulsed setup before entry count timer is =
     levels-same setup (entry ∷ before) before timer timer (drivers-pulsed setup before entry count timer is)
 
 -- the lines after pulses
-levels-after :
-    (setup : Setup) (before : List Entry) (entry : Entry) (count : ℕ) → entry.event ≡ Pulses count →
+levels-after : (setup : Setup) (before : List Entry) (entry : Entry) (count : ℕ) → entry.event ≡ Pulses count →
     levels_of setup (entry ∷ before) ≡ levels_with setup before (pulses count (timer_of before))
 levels-after setup before entry count is =
     rw (timer-pulsed before entry count is) (levels-pulsed setup before entry count _ is)
@@ -52,8 +49,7 @@ levels-after setup before entry count is =
 pub elcr-same : (history other : List Entry) → triggers_of history ≡ triggers_of other → elcr_of history ≡ elcr_of other
 elcr-same history other same = rw same refl
 
-pub pair-pulsed :
-    (setup : Setup) (before : List Entry) (entry : Entry) (count : ℕ) → entry.event ≡ Pulses count →
+pub pair-pulsed : (setup : Setup) (before : List Entry) (entry : Entry) (count : ℕ) → entry.event ≡ Pulses count →
     pair_of setup (entry ∷ before) ≡ pair_pulsed setup before count (pair_of setup before)
 unfolding pair_of
 pair-pulsed setup before entry count is = rw is refl
@@ -63,10 +59,9 @@ pair-pulsed setup before entry count is = rw is refl
 abbrev HasSeen : Setup → List Entry → Pair → Type 0
 HasSeen setup history pair = pair_after_lines pair (levels_of setup history) (elcr_of history) ≡ pair
 
-seen_pulsed :
-    (again : SameLevelsAgain) (setup : Setup) (before : List Entry) (entry : Entry) (count : ℕ) →
-    entry.event ≡ Pulses count → HasSeen setup before (pair_of setup before) →
-    HasSeen setup (entry ∷ before) (pair_pulsed setup before count (pair_of setup before))
+seen_pulsed : (again : SameLevelsAgain) (setup : Setup) (before : List Entry) (entry : Entry) (count : ℕ) →
+    entry.event ≡ Pulses count → HasSeen setup before (pair_of setup before) → HasSeen setup (entry ∷ before)
+    (pair_pulsed setup before count (pair_of setup before))
 unfolding pair_pulsed pulses
 seen_pulsed again setup before entry zero is seen =
     rw (levels-after setup before entry 0 is, triggers-pulsed before entry 0 is) seen
@@ -75,10 +70,9 @@ seen_pulsed again setup before entry (suc k) is seen =
     rw (levels-after setup before entry (suc k) is, triggers-pulsed before entry (suc k) is)
     (again pair (levels_with setup before (pulses (suc k) (timer_of before))) (elcr_of before))
 
-seen_stepped :
-    (again : SameLevelsAgain) (setup : Setup) (before : List Entry) (entry : Entry) (event : Event) → entry.event
-    ≡ event → HasSeen setup before (pair_of setup before) →
-    HasSeen setup (entry ∷ before) (pair_stepped setup entry before event (pair_of setup before))
+seen_stepped : (again : SameLevelsAgain) (setup : Setup) (before : List Entry) (entry : Entry) (event : Event) →
+    entry.event ≡ event → HasSeen setup before (pair_of setup before) → HasSeen setup (entry ∷ before)
+    (pair_stepped setup entry before event (pair_of setup before))
 seen_stepped again setup before entry (Pulses count) is seen = seen_pulsed again setup before entry count is seen
 seen_stepped again setup before entry event is seen =
     again (pair_reset_or_after setup entry before (pair_of setup before)) (levels_of setup (entry ∷ before))
@@ -100,16 +94,13 @@ pair_has_seen again setup (entry ∷ before) =
 
 -- ---- an entry that moves no line
 
-stepped-other :
-    (setup : Setup) (before : List Entry) (entry : Entry) (event : Event) (pair : Pair) →
+stepped-other : (setup : Setup) (before : List Entry) (entry : Entry) (event : Event) (pair : Pair) →
     ¬ ActsOnPair event entry.reply →
-    pair_stepped setup entry before event pair
-    ≡ pair_after_lines (pair_reset_or_after setup entry before pair) (levels_of setup (entry ∷ before))
-    (elcr_of (entry ∷ before))
+    pair_stepped setup entry before event pair ≡ pair_after_lines (pair_reset_or_after setup entry before pair)
+    (levels_of setup (entry ∷ before)) (elcr_of (entry ∷ before))
 stepped-other setup before entry event pair apart = grind arith
 
-triggers-stay :
-    (before : List Entry) (entry : Entry) → is_hard_reset before entry.event ≡ false →
+triggers-stay : (before : List Entry) (entry : Entry) → is_hard_reset before entry.event ≡ false →
     ¬ ActsOnPair entry.event entry.reply → triggers_of (entry ∷ before) ≡ triggers_of before
 unfolding triggers_of
 triggers-stay before entry soft apart = grind arith

@@ -10,8 +10,7 @@ use Rattle.board_spec.proofs.PartLemmas.{made, length-made, total, Aligned, is_c
 
 -- ---- places
 
-covers-made :
-    (access : WideAccess) (from end : ℕ) (widths : List Width) → from + total widths ≡ end →
+covers-made : (access : WideAccess) (from end : ℕ) (widths : List Width) → from + total widths ≡ end →
     Covers from end (made access from widths)
 unfolding made
 covers-made access from end [] sum = omega arith
@@ -20,8 +19,7 @@ covers-made access from end (width ∷ later) sum =
 
 -- ---- values
 
-part_fits :
-    (writes : Bool) (width : Width) (bytes value places : ℕ) → FitsBytes writes bytes value →
+part_fits : (writes : Bool) (width : Width) (bytes value places : ℕ) → FitsBytes writes bytes value →
     FitsAccess writes width (value / places % 256 ^ bytes_of width)
 part_fits writes width bytes value places fits = grind arith
 
@@ -39,10 +37,9 @@ is_part access from width fits aligned = record {
       };
 }
 
-each-made :
-    (access : WideAccess) (from : ℕ) (widths : List Width) →
-    FitsBytes (is_write access.kind) access.bytes access.value → Aligned from widths →
-    All (IsPart access) (made access from widths)
+each-made : (access : WideAccess) (from : ℕ) (widths : List Width) →
+    FitsBytes (is_write access.kind) access.bytes access.value → Aligned from widths → All (IsPart access)
+    (made access from widths)
 unfolding made
 each-made access from [] fits aligned = All-nil (IsPart access)
 each-made access from (width ∷ later) fits aligned =
@@ -58,12 +55,10 @@ pub further : (value d w : ℕ) → value / 256 ^ (d + w) ≡ value / 256 ^ d / 
 further value d w = ap (λ (n : ℕ). value / n) (pow-add 256 d w) ∙ sym (div-div-eq-div-mul value (256 ^ d) (256 ^ w))
 
 two_digits : (x w t : ℕ) → x % 256 ^ w + 256 ^ w * (x / 256 ^ w % 256 ^ t) ≡ x % 256 ^ (w + t)
-two_digits x w t =
-    grind (arith, mod-mul x (some_power t) (some_power w), pow-add 256 w t, mul_comm)
+two_digits x w t = grind (arith, mod-mul x (some_power t) (some_power w), pow-add 256 w t, mul_comm)
 
 -- the parts from a place d on give the digits of the value from there
-joined-made :
-    (access : WideAccess) (from d : ℕ) (widths : List Width) → from ≡ access.addr + d →
+joined-made : (access : WideAccess) (from d : ℕ) (widths : List Width) → from ≡ access.addr + d →
     joined (λ part. part.value) (made access from widths) ≡ access.value / 256 ^ d % 256 ^ total widths
 unfolding made
 joined-made access from d [] here = omega arith

@@ -1,8 +1,7 @@
 -- A wide access is cut by widths, and its parts are those of the widths, one after the other.
 use Rattle.std.proofs.Common.{◌≡◌, ℕ, zero, suc, ◌+◌, ◌-◌, ◌%◌, ◌≤◌, ◌<◌, inl, inr, List, [], ◌∷◌, length, refl, sym}
 use Rattle.std.proofs.Common.{ap, arith, ◌⊎◌}
-use Rattle.std.proofs.lemmas.Bool.{cases_eq}
-use Rattle.device_spec.proofs.Common.{nat_tests}
+use Rattle.device_spec.proofs.Common.{cases_eq, nat_tests}
 use Rattle.board_spec.specs.Common.{Width, One, Two, Four, WideAccess, bytes_of, IsWideAccess, longest_at, part_at}
 use Rattle.board_spec.specs.Common.{parts_from, parts_of}
 use Rattle.board_base.specs.declared.access.Access.{Access}
@@ -49,11 +48,7 @@ cut access zero from left (width ∷ later) longest few = absurd (omega arith)
 cut access (suc most) from left (width ∷ later) longest few =
     let rest = cut access most (from + bytes_of width) (left - bytes_of width) later longest.2 (omega arith) in
     let fits : (from % bytes_of width ≡ 0) × (bytes_of width ≤ left) = grind (arith, nat_tests) in
-    record {
-      parts = grind (arith, nat_tests);
-      total = omega (arith, rest.total);
-      aligned = (fits.0, rest.aligned);
-    }
+    record { parts = grind (arith, nat_tests); total = omega (arith, rest.total); aligned = (fits.0, rest.aligned) }
 
 -- ---- the eight ways to cut
 
@@ -69,14 +64,7 @@ cut_by : (access : WideAccess) (widths : List Width) → AreLongest access.addr 
     2 ≤ length widths → length widths ≤ 4 → IsCut access
 cut_by access widths longest least most =
     let is = cut access 4 access.addr access.bytes widths longest most in
-    record {
-      widths = widths;
-      least = least;
-      most = most;
-      parts = is.parts;
-      total_is = is.total;
-      aligned = is.aligned;
-    }
+    record { widths = widths; least = least; most = most; parts = is.parts; total_is = is.total; aligned = is.aligned }
 
 quarters : (n : ℕ) → (n % 4 ≡ 0) ⊎ (n % 4 ≡ 1) ⊎ (n % 4 ≡ 2) ⊎ (n % 4 ≡ 3)
 quarters n = grind arith

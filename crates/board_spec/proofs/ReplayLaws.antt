@@ -33,8 +33,7 @@ some_parts (a ∷ b ∷ c ∷ []) count = record { parts = ThreeParts a b c; sam
 some_parts (a ∷ b ∷ c ∷ d ∷ []) count = record { parts = FourParts a b c d; same = refl }
 some_parts _ count = absurd (omega (arith, count.0, count.1))
 
-one_parts :
-    (value value' : Option ℕ) (parts parts' : Parts) → value ≡ value' → parts_list parts ≡ parts_list parts' →
+one_parts : (value value' : Option ℕ) (parts parts' : Parts) → value ≡ value' → parts_list parts ≡ parts_list parts' →
     InParts parts value ≡ InParts parts' value'
 one_parts value value' parts parts' v l = grind arith
 
@@ -68,8 +67,7 @@ some_answer setup before (LookAt kind addr smm) addressed =
     }
 some_answer setup before _ addressed = record { reply = _; answer = refl }
 
-one_look :
-    (setup : Setup) (before : List Entry) (kind : Kind) (addr : ℕ) (smm : Bool) (left right : Look) →
+one_look : (setup : Setup) (before : List Entry) (kind : Kind) (addr : ℕ) (smm : Bool) (left right : Look) →
     IsLookAnswer setup before kind addr smm left → IsLookAnswer setup before kind addr smm right → Saw left ≡ Saw right
 one_look setup before kind addr smm left right l r =
     grind (arith, one_span setup (byte_of setup before) addr kind smm left.lo left.hi right.lo right.hi)
@@ -99,8 +97,7 @@ record Extended (setup : Setup) (before : List Entry) (statements : List Stateme
   pub legal : IsLegal setup history
   pub same : statements_of history ≡ statements_of before ++ statements
 
-extended :
-    (setup : Setup) (before : List Entry) (statements : List Statement) → IsLegal setup before →
+extended : (setup : Setup) (before : List Entry) (statements : List Statement) → IsLegal setup before →
     AllByRecursion (λ statement. IsAddressed statement.event) statements → Extended setup before statements
 unfolding entry_made
 extended setup before [] legal addressed = record {
@@ -129,13 +126,11 @@ some_replay setup statements addressed =
     statements addressed) in
     record { history = more.history; replay = record { legal = more.legal; same = more.same } }
 
-same_entry :
-    (setup : Setup) (before : List Entry) (left right : Entry) → IsNext setup before left → IsNext setup before right →
-    statement_of left ≡ statement_of right → left ≡ right
+same_entry : (setup : Setup) (before : List Entry) (left right : Entry) → IsNext setup before left →
+    IsNext setup before right → statement_of left ≡ statement_of right → left ≡ right
 same_entry setup before left right l r same = grind (arith, one_answer)
 
-same_history :
-    (setup : Setup) (left right : List Entry) → IsLegal setup left → IsLegal setup right →
+same_history : (setup : Setup) (left right : List Entry) → IsLegal setup left → IsLegal setup right →
     map statement_of left ≡ map statement_of right → left ≡ right
 same_history setup [] [] l r same = refl
 same_history setup [] (entry ∷ right) l r same = cc

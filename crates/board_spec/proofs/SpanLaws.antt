@@ -101,9 +101,8 @@ some_span setup bytes addr kind smm within =
 
 -- ---- there is no other
 
-no_wider :
-    (setup : Setup) (bytes : Bytes) (addr : ℕ) (kind : Kind) (smm : Bool) (lo hi lo' hi' : ℕ) (area area' : Area) →
-    IsSpan setup bytes addr kind smm lo hi area → IsSpan setup bytes addr kind smm lo' hi' area' →
+no_wider : (setup : Setup) (bytes : Bytes) (addr : ℕ) (kind : Kind) (smm : Bool) (lo hi lo' hi' : ℕ)
+    (area area' : Area) → IsSpan setup bytes addr kind smm lo hi area → IsSpan setup bytes addr kind smm lo' hi' area' →
     area ≡ area' → (lo' ≤ lo) × (hi ≤ hi')
 no_wider setup bytes addr kind smm lo hi lo' hi' area area' s t e =
     (grind (arith, s.same (lo' - 1)), grind (arith, s.same (hi' + 1)))

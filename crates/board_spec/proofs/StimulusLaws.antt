@@ -10,17 +10,11 @@ pub find_passes : {X : Type 0} (test : X → Bool) (xs : List X) (x : X) → fin
 find_passes test [] x is = absurd cc
 find_passes test (y ∷ ys) x is = grind (arith, find_passes test ys x)
 
--- the word and the number of a stimulus find it, and no other word and number do
-pub word_finds : (one : Stimulus) → stimulus_of_word (stimulus_form one).word ≡ Some one
-word_finds one = grind arith
-
+-- no word and no number but its own finds a stimulus
 pub word_found : (word : List ℕ) (one : Stimulus) → stimulus_of_word word ≡ Some one → word ≡ (stimulus_form one).word
 word_found word one is =
     (bytes_eq-Decides word (stimulus_form one).word).0
     (find_passes (λ one. bytes_eq word (stimulus_form one).word) stimuli one is)
-
-pub code_finds : (one : Stimulus) → stimulus_of_code (stimulus_form one).code ≡ Some one
-code_finds one = grind arith
 
 pub code_found : (code : ℕ) (one : Stimulus) → stimulus_of_code code ≡ Some one → code ≡ (stimulus_form one).code
 code_found code one is =

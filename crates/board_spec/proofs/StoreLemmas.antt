@@ -1,8 +1,7 @@
 -- A store of one byte changes the register at its offset, and no other. A store of several is one of each byte.
 use Rattle.std.proofs.Common.{◌≡◌, ◌≢◌, ℕ, zero, suc, ◌+◌, ◌-◌, ◌<◌, Bool, false, ◌&&◌, sym, arith, inl, inr, ◌==◌}
 use Rattle.std.proofs.Common.{nat_le, nat_lt, if◌then◌else◌}
-use Rattle.std.proofs.lemmas.Bool.{cases_eq}
-use Rattle.device_spec.proofs.Common.{nat_tests}
+use Rattle.device_spec.proofs.Common.{cases_eq, nat_tests}
 use Rattle.board_spec.specs.Common.{One, Reg, bytes_of, Setup, byte, merged, smram, is_same, writable_bits, byte_after}
 use Rattle.board_spec.specs.Common.{changed_byte, after_stores, ByteByByte}
 use Rattle.board_spec.specs.declared.map_change.MapChange.TheVariants.{Store}

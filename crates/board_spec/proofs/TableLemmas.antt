@@ -1,12 +1,10 @@
 -- One line of a table of registers, and what holds from an offset on.
 use Rattle.std.proofs.Common.{◌≡◌, ℕ, zero, suc, ◌+◌, ◌-◌, ◌<◌, ◌≤◌, List, ◌∷◌, length, get_or, inl, inr, arith}
-use Rattle.std.proofs.lemmas.Bool.{cases_eq}
-use Rattle.device_spec.proofs.Common.{nat_tests}
+use Rattle.device_spec.proofs.Common.{cases_eq, nat_tests}
 use Rattle.board_spec.specs.RegisterTable.{Line, listed}
 
 module _ (column : Line → List ℕ) (entry : Line) (later : List Line) (off : ℕ) where
-  pub listed-past : entry.first + length entry.reset ≤ off →
-      listed column (entry ∷ later) off ≡ listed column later off
+  pub listed-past : entry.first + length entry.reset ≤ off → listed column (entry ∷ later) off ≡ listed column later off
   listed-past past = grind (arith, nat_tests)
 
   pub listed-before : off < entry.first → listed column (entry ∷ later) off ≡ listed column later off

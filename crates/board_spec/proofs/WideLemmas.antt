@@ -17,18 +17,15 @@ put_part xs bs at count fits =
     drop_all (length xs - at) (drop at xs) (omega (arith, length-drop at xs)) in
     rw (none, append-nil (bs ++ drop count (drop at xs)), drop-drop count at xs) refl
 
-put_bytes :
-    (xs bs : List ℕ) (at count value k : ℕ) → at + count ≤ length xs → length bs ≡ count →
+put_bytes : (xs bs : List ℕ) (at count value k : ℕ) → at + count ≤ length xs → length bs ≡ count →
     ((j : ℕ) → j < count → get_or bs j 0 ≡ byte value j) →
     get_or (take at xs ++ (bs ++ drop (at + count) xs)) k 0 ≡ put_byte xs at count value k
 put_bytes xs bs at count value k fits long each =
     let front : length (take at xs) ≡ at = length-take-le at xs (omega arith) in
     grind (arith, nat_tests, get_or_append_left, get_or-append_right, get_or-take, get_or-drop, each)
 
-put_word :
-    (xs buf bs : List ℕ) (at count value k : ℕ) → at + count ≤ length xs → length bs ≡ count →
-    ((j : ℕ) → j < count → get_or bs j 0 ≡ byte value j) →
-    buf ≡ bs ++ drop count (take (length xs - at) (drop at xs)) →
+put_word : (xs buf bs : List ℕ) (at count value k : ℕ) → at + count ≤ length xs → length bs ≡ count →
+    ((j : ℕ) → j < count → get_or bs j 0 ≡ byte value j) → buf ≡ bs ++ drop count (take (length xs - at) (drop at xs)) →
     slice_index (put_mid at (length xs - at) xs buf) k ≡ put_byte xs at count value k
 put_word xs buf bs at count value k fits long each is =
     let whole : buf ≡ bs ++ drop count (drop at xs) = is ∙ ap (λ rest. bs ++ drop count rest) (take_rest xs at) in
@@ -36,8 +33,7 @@ put_word xs buf bs at count value k fits long each is =
     ∙ ap (λ bytes. slice_index bytes k) (put_part xs bs at count fits)
     ∙ put_bytes xs bs at count value k fits long each
 
-pub put_two :
-    (xs buf : List ℕ) (at value k : ℕ) → at + 2 ≤ length xs →
+pub put_two : (xs buf : List ℕ) (at value k : ℕ) → at + 2 ≤ length xs →
     buf ≡ value % 256 ∷ (value / 256 % 256) ∷ drop 2 (take (length xs - at) (drop at xs)) →
     slice_index (put_mid at (length xs - at) xs buf) k ≡ put_byte xs at 2 value k
 put_two xs buf at value k fits is =

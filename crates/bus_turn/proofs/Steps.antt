@@ -350,9 +350,8 @@ module _ {T E F : Type 0} (entries : T → List E) (actor : E → ℕ) (fixed : 
         refl,
       )
 
-  pub counts : (slots id : ℕ) (me : M) (added : List E) (e : E) → added ≡ e ∷ [] → me.0.stage ≡ Holds
-      → actor e ≡ me.0.number
-      → Allows R slots id me 2 (λ n. (n + 1) % 2 ^ 64) (counted added (step slots 2 1 0 none) me)
+  pub counts : (slots id : ℕ) (me : M) (added : List E) (e : E) → added ≡ e ∷ [] → me.0.stage ≡ Holds →
+      actor e ≡ me.0.number → Allows R slots id me 2 (λ n. (n + 1) % 2 ^ 64) (counted added (step slots 2 1 0 none) me)
   counts slots id me added e same is by =
       subst (λ (xs : List E). Allows R slots id me 2 (λ n. (n + 1) % 2 ^ 64) (counted xs (step slots 2 1 0 none) me))
       (sym same) (enters slots id me e is by)

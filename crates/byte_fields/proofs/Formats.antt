@@ -38,8 +38,7 @@ not_err x y is = absurd cc
 pub err_is : {X : Type 0} (x y : ℕ) → ◌≡◌ {A = Result X ℕ} (Err x) (Err y) → x ≡ y
 err_is x y is = cc
 
-pub then_ok :
-    {A B : Type 0} (first : Result (A × List ℕ) ℕ) (next : A → Reading B) (value : B) (rest : List ℕ) →
+pub then_ok : {A B : Type 0} (first : Result (A × List ℕ) ℕ) (next : A → Reading B) (value : B) (rest : List ℕ) →
     then_read first next ≡ Ok (value, rest) →
     (got : A × List ℕ) × (first ≡ Ok got) × (next got.0 got.1 ≡ Ok (value, rest))
 then_ok (Ok got) next value rest is = (got, refl, is)
@@ -82,10 +81,9 @@ fields_format {most = most} {reads = reads} {other = other} {IsGood = IsGood} fi
 }
 
 -- the last field
-pub last_field :
-    {A C : Type 0} {n : ℕ} {first : Reading A} {spelled : A → List ℕ} {IsGood : A → Type 0} (make : A → C) →
-    IsFormat n first spelled IsGood →
-    AreFields n (first >>= λ a. gives (make a)) (λ (t : (a : A) × IsGood a). make t.0) (λ t. spelled t.0)
+pub last_field : {A C : Type 0} {n : ℕ} {first : Reading A} {spelled : A → List ℕ} {IsGood : A → Type 0}
+    (make : A → C) → IsFormat n first spelled IsGood → AreFields n (first >>= λ a. gives (make a))
+    (λ (t : (a : A) × IsGood a). make t.0) (λ t. spelled t.0)
 last_field {C = C} {first = first} {spelled = spelled} make one = record {
   back = λ t rest. rw (one.back t.0 rest t.1) refl;
   taken = λ bytes value rest are is.
@@ -105,8 +103,7 @@ last_field {C = C} {first = first} {spelled = spelled} make one = record {
 }
 
 -- all of a value at once
-pub whole_field :
-    {C : Type 0} {n : ℕ} {reads : Reading C} {spelled : C → List ℕ} {IsGood : C → Type 0} →
+pub whole_field : {C : Type 0} {n : ℕ} {reads : Reading C} {spelled : C → List ℕ} {IsGood : C → Type 0} →
     IsFormat n reads spelled IsGood → AreFields n reads (λ (t : (c : C) × IsGood c). t.0) (λ t. spelled t.0)
 whole_field one = record {
   back = λ t rest. one.back t.0 rest t.1;
@@ -124,9 +121,8 @@ a & later = (a.0, a.1, later)
 
 -- a field, and then those that its value calls for
 infixr 20 ◌then◌
-pub ◌then◌ :
-    {A C : Type 0} {n m : ℕ} {first : Reading A} {next : A → Reading C} {a_spelled : A → List ℕ} {IsGood : A → Type 0}
-    {T : A → Type 0} {make : (a : A) → T a → C} {spelled : (a : A) → T a → List ℕ} →
+pub ◌then◌ : {A C : Type 0} {n m : ℕ} {first : Reading A} {next : A → Reading C} {a_spelled : A → List ℕ}
+    {IsGood : A → Type 0} {T : A → Type 0} {make : (a : A) → T a → C} {spelled : (a : A) → T a → List ℕ} →
     IsFormat n first a_spelled IsGood → ((a : A) → IsGood a → AreFields m (next a) (make a) (spelled a)) →
     AreFields (n + m) (first >>= next) (λ (t : (a : A) × IsGood a × T a). make t.0 t.2)
     (λ t. a_spelled t.0 ++ spelled t.0 t.2)
@@ -166,14 +162,11 @@ pub ◌then◌ :
     }
 
 -- a field, and then those that its value calls for: the value of the whole tells that of the field
-pub then_format :
-    {A C : Type 0} {n m : ℕ} {first : Reading A} {next : A → Reading C} {a_spelled : A → List ℕ} {IsGoodA : A → Type 0}
-    {c_spelled : A → C → List ℕ} {IsGoodC : A → C → Type 0} (part : C → A) →
-    IsFormat n first a_spelled IsGoodA →
-    ((a : A) → IsGoodA a → IsFormat m (next a) (c_spelled a) (IsGoodC a)) →
-    ((a : A) (c : C) → IsGoodA a → IsGoodC a c → part c ≡ a) →
-    IsFormat (n + m) (first >>= next) (λ c. a_spelled (part c) ++ c_spelled (part c) c)
-    (λ c. IsGoodA (part c) × IsGoodC (part c) c)
+pub then_format : {A C : Type 0} {n m : ℕ} {first : Reading A} {next : A → Reading C} {a_spelled : A → List ℕ}
+    {IsGoodA : A → Type 0} {c_spelled : A → C → List ℕ} {IsGoodC : A → C → Type 0} (part : C → A) →
+    IsFormat n first a_spelled IsGoodA → ((a : A) → IsGoodA a → IsFormat m (next a) (c_spelled a) (IsGoodC a)) →
+    ((a : A) (c : C) → IsGoodA a → IsGoodC a c → part c ≡ a) → IsFormat (n + m) (first >>= next)
+    (λ c. a_spelled (part c) ++ c_spelled (part c) c) (λ c. IsGoodA (part c) × IsGoodC (part c) c)
 then_format part one other same =
     fields_format (one then λ a good. whole_field (other a good))
     (λ c good. ((part c, good.0, (c, good.1)), refl))
@@ -191,11 +184,10 @@ done_format {C} c = record {
 }
 
 -- the same in other words
-pub format_as :
-    {A : Type 0} {n : ℕ} (m : ℕ) {reads : Reading A} {spelled : A → List ℕ} (other : A → List ℕ) {IsGood : A → Type 0}
-    (IsOther : A → Type 0) → IsFormat n reads spelled IsGood → n ≤ m → ((value : A) → IsOther value → IsGood value) →
-    ((value : A) → IsGood value → IsOther value) → ((value : A) → IsGood value → spelled value ≡ other value) →
-    IsFormat m reads other IsOther
+pub format_as : {A : Type 0} {n : ℕ} (m : ℕ) {reads : Reading A} {spelled : A → List ℕ} (other : A → List ℕ)
+    {IsGood : A → Type 0} (IsOther : A → Type 0) → IsFormat n reads spelled IsGood → n ≤ m →
+    ((value : A) → IsOther value → IsGood value) → ((value : A) → IsGood value → IsOther value) →
+    ((value : A) → IsGood value → spelled value ≡ other value) → IsFormat m reads other IsOther
 format_as m {reads = reads} other IsOther is few to from same = record {
   back = λ value rest good.
       subst (λ (bytes : List ℕ). reads (bytes ++ rest) ≡ Ok (value, rest)) (same value (to value good))
@@ -212,10 +204,8 @@ format_as m {reads = reads} other IsOther is few to from same = record {
 }
 
 -- the same reading in other words
-pub read_as :
-    {C : Type 0} {n : ℕ} {reads other : Reading C} {spelled : C → List ℕ} {IsGood : C → Type 0} →
-    ((bytes : List ℕ) → other bytes ≡ reads bytes) → IsFormat n reads spelled IsGood →
-    IsFormat n other spelled IsGood
+pub read_as : {C : Type 0} {n : ℕ} {reads other : Reading C} {spelled : C → List ℕ} {IsGood : C → Type 0} →
+    ((bytes : List ℕ) → other bytes ≡ reads bytes) → IsFormat n reads spelled IsGood → IsFormat n other spelled IsGood
 read_as {spelled = spelled} same is = record {
   back = λ value rest good. same (spelled value ++ rest) ∙ is.back value rest good;
   taken = λ bytes value rest are read. is.taken bytes value rest are (sym (same bytes) ∙ read);
@@ -224,18 +214,16 @@ read_as {spelled = spelled} same is = record {
 }
 
 -- the last field of a value
-pub last_format :
-    {A C : Type 0} {n : ℕ} {first : Reading A} {a_spelled : A → List ℕ} {IsGood : A → Type 0} (part : C → A)
-    (make : A → C) → IsFormat n first a_spelled IsGood → ((a : A) → IsGood a → part (make a) ≡ a) →
+pub last_format : {A C : Type 0} {n : ℕ} {first : Reading A} {a_spelled : A → List ℕ} {IsGood : A → Type 0}
+    (part : C → A) (make : A → C) → IsFormat n first a_spelled IsGood → ((a : A) → IsGood a → part (make a) ≡ a) →
     IsFormat n (first >>= λ a. gives (make a)) (λ c. a_spelled (part c)) (λ c. IsGood (part c) × (c ≡ make (part c)))
 last_format part make one same =
     fields_format (last_field make one) (λ c good. ((part c, good.0), good.1))
     (λ t. rw (same t.0 t.1) ((t.1, refl), refl))
 
 -- a value made of the one that is read
-pub made_format :
-    {A C : Type 0} {n : ℕ} {first : Reading A} {a_spelled : A → List ℕ} {IsGood : A → Type 0} (make : A → C)
-    (other : C → List ℕ) → IsFormat n first a_spelled IsGood → ((a : A) → other (make a) ≡ a_spelled a) →
+pub made_format : {A C : Type 0} {n : ℕ} {first : Reading A} {a_spelled : A → List ℕ} {IsGood : A → Type 0}
+    (make : A → C) (other : C → List ℕ) → IsFormat n first a_spelled IsGood → ((a : A) → other (make a) ≡ a_spelled a) →
     IsFormat n (first >>= λ a. gives (make a)) other (λ c. (a : A) × IsGood a × (c ≡ make a))
 made_format make other one same =
     fields_format (last_field make one) (λ c good. ((good.0, good.1), good.2))
@@ -257,14 +245,12 @@ many_to :
     (t : (value : A) × IsGood s value × ((later : List A) × AreMany next IsGood (next s value) count later))
     × (values ≡ t.0 ∷ t.2.0)
 many_to next IsGood s count [] are = absurd (omega (arith, are.0))
-many_to next IsGood s count (value ∷ later) are =
-    ((value, are.1.0, (later, (omega (arith, are.0), are.1.1))), refl)
+many_to next IsGood s count (value ∷ later) are = ((value, are.1.0, (later, (omega (arith, are.0), are.1.1))), refl)
 
-pub many_format :
-    {S A : Type 0} {n : ℕ} {one : S → Reading A} {next : S → A → S} {many : S → ℕ →
-    Reading (List A)} {spelled : A → List ℕ}
-    {IsGood : S → A → Type 0} → IsLoop one next many → ((s : S) → IsFormat n (one s) spelled (IsGood s)) →
-    (s : S) (count : ℕ) → IsFormat (n * count) (many s count) (flat_map spelled) (AreMany next IsGood s count)
+pub many_format : {S A : Type 0} {n : ℕ} {one : S → Reading A} {next : S → A → S} {many : S → ℕ → Reading (List A)}
+    {spelled : A → List ℕ} {IsGood : S → A → Type 0} → IsLoop one next many →
+    ((s : S) → IsFormat n (one s) spelled (IsGood s)) → (s : S) (count : ℕ) → IsFormat (n * count) (many s count)
+    (flat_map spelled) (AreMany next IsGood s count)
 many_format {n = n} {next = next} {spelled = spelled} {IsGood = IsGood} loop each s zero =
     format_as (n * 0) (flat_map spelled) (AreMany next IsGood s 0) (read_as (loop.none s) (done_format []))
     (omega arith) (λ values are. nil_from_length values are.0) (λ values none. rw none (refl, tt))

@@ -1,7 +1,6 @@
 -- Reading one value after another, as a loop does.
 use Rattle.std.proofs.Common.{◌≡◌, ℕ, suc, ◌+◌, ◌-◌, ◌<◌, ◌≤◌, List, [], ◌∷◌, ◌++◌, Result, Ok, Err, sym, ◌∙◌}
-use Rattle.std.proofs.Common.{append_assoc, arith}
-use Rattle.std.proofs.lemmas.List.{append-nil}
+use Rattle.std.proofs.Common.{append_assoc, arith, append-nil}
 use Rattle.byte_fields.specs.Fields.{Reading, then_read, gives}
 
 -- a value, and then those that are read after it

@@ -4,8 +4,7 @@ use Rattle.std.proofs.Common.{Option, Some, None, refl, sym, ap, ◌∙◌, arit
 use Rattle.std.proofs.Common.{if◌then◌else◌}
 use Rattle.std.specs.Int.{Width as Size, byte_len}
 use Rattle.board_base.specs.Common.{w8, w16, w32, w64, to_le_bytes, from_le_bytes}
-use Rattle.std.proofs.lemmas.Bool.Decides.{nat_tests}
-use Rattle.board_base.proofs.Common.{cases_eq, eq-eqb, ne_eqb}
+use Rattle.board_base.proofs.Common.{nat_tests, cases_eq, eq-eqb, ne_eqb}
 use Rattle.std.proofs.lemmas.Nat.{le_bytes_2, le_bytes_4, le_bytes_8, from_le_bytes-to_le_bytes_2}
 use Rattle.std.proofs.lemmas.Nat.{from_le_bytes-to_le_bytes_4, from_le_bytes-to_le_bytes_8}
 use Rattle.byte_fields.specs.Fields.{AreBytes, Reading, number, number_where, within, where_true, flag_byte, flag_of}
@@ -27,12 +26,7 @@ one_byte (byte ∷ []) long are = ap (λ (b : ℕ). b ∷ []) (omega (arith, are
 one_byte (byte ∷ next ∷ later) long are = absurd (omega (arith, long))
 
 pub wide8 : IsWide w8 (2 ^ 8)
-wide8 = record {
-  len = λ n. refl;
-  back = one_byte;
-  again = λ n below. omega (arith, below);
-  below = λ bytes are. are 0;
-}
+wide8 = record { len = λ n. refl; back = one_byte; again = λ n below. omega (arith, below); below = λ bytes are. are 0 }
 
 pub wide16 : IsWide w16 (2 ^ 16)
 wide16 = record {
@@ -60,11 +54,10 @@ wide64 = record {
 
 -- ---- a number that says a value
 
-pub number_format :
-    {size : Size} {limit : ℕ} → IsWide size limit → {A : Type 0} {says : ℕ → Option A} (code : A → ℕ)
+pub number_format : {size : Size} {limit : ℕ} → IsWide size limit → {A : Type 0} {says : ℕ → Option A} (code : A → ℕ)
     (IsGood : A → Type 0) → ((a : A) → IsGood a → (code a < limit) × (says (code a) ≡ Some a)) →
-    ((n : ℕ) (a : A) → n < limit → says n ≡ Some a → (n ≡ code a) × IsGood a) →
-    IsFormat (byte_len size) (number size says) (λ a. to_le_bytes size (code a)) IsGood
+    ((n : ℕ) (a : A) → n < limit → says n ≡ Some a → (n ≡ code a) × IsGood a) → IsFormat (byte_len size)
+    (number size says) (λ a. to_le_bytes size (code a)) IsGood
 number_format {size} wide {says = says} code IsGood to from =
     cut_format (λ a. to_le_bytes size (code a)) IsGood
     (λ a good. (wide.len (code a), rw (wide.again (code a) (to a good).0) (to a good).1))
@@ -74,21 +67,18 @@ number_format {size} wide {says = says} code IsGood to from =
 
 -- ---- of one byte
 
-as_byte :
-    {A : Type 0} {reads : Reading A} {code : A → ℕ} {IsGood : A → Type 0} →
+as_byte : {A : Type 0} {reads : Reading A} {code : A → ℕ} {IsGood : A → Type 0} →
     IsFormat 1 reads (λ a. to_le_bytes w8 (code a)) IsGood → ((a : A) → IsGood a → code a < 2 ^ 8) →
     IsFormat 1 reads (λ a. code a ∷ []) IsGood
 as_byte is small =
     format_as _ _ _ is (omega arith) (λ a good. good) (λ a good. good)
     (λ a good. ap (λ (b : ℕ). b ∷ []) (omega (arith, small a good)))
 
-pub byte_format :
-    {A : Type 0} {says : ℕ → Option A} (code : A → ℕ) (IsGood : A → Type 0) →
+pub byte_format : {A : Type 0} {says : ℕ → Option A} (code : A → ℕ) (IsGood : A → Type 0) →
     ((a : A) → IsGood a → (code a < 2 ^ 8) × (says (code a) ≡ Some a)) →
-    ((n : ℕ) (a : A) → n < 2 ^ 8 → says n ≡ Some a → (n ≡ code a) × IsGood a) →
-    IsFormat 1 (number w8 says) (λ a. code a ∷ []) IsGood
-byte_format code IsGood to from =
-    as_byte (number_format wide8 code IsGood to from) (λ a good. (to a good).0)
+    ((n : ℕ) (a : A) → n < 2 ^ 8 → says n ≡ Some a → (n ≡ code a) × IsGood a) → IsFormat 1 (number w8 says)
+    (λ a. code a ∷ []) IsGood
+byte_format code IsGood to from = as_byte (number_format wide8 code IsGood to from) (λ a good. (to a good).0)
 
 -- a table of numbers and values
 abbrev pub Tells : {A : Type 0} → (ℕ → Option A) → (A → ℕ) → Type 0
@@ -135,9 +125,8 @@ where_ok good x y is = grind arith
 abbrev IsGoodNumber : ℕ → (ℕ → Bool) → ℕ → Type 0
 IsGoodNumber limit is_good n = (n < limit) × (is_good n ≡ true)
 
-pub where_format :
-    {size : Size} {limit : ℕ} → IsWide size limit → (is_good : ℕ → Bool) →
-    IsFormat (byte_len size) (number_where size is_good) (to_le_bytes size) (IsGoodNumber limit is_good)
+pub where_format : {size : Size} {limit : ℕ} → IsWide size limit → (is_good : ℕ → Bool) → IsFormat (byte_len size)
+    (number_where size is_good) (to_le_bytes size) (IsGoodNumber limit is_good)
 where_format {limit = limit} wide is_good =
     number_format wide (λ n. n) (IsGoodNumber limit is_good) (λ n good. (good.0, rw good.1 refl))
     (λ n a below is.
@@ -151,8 +140,7 @@ byte_where is_good = as_byte (where_format wide8 is_good) (λ n good. good.0)
 abbrev pub Ranges : (low high n : ℕ) → Type 0
 Ranges low high n = (low ≤ n) × (n ≤ high)
 
-pub within_format :
-    {size : Size} {limit : ℕ} → IsWide size limit → (low high : ℕ) → high < limit →
+pub within_format : {size : Size} {limit : ℕ} → IsWide size limit → (low high : ℕ) → high < limit →
     IsFormat (byte_len size) (within size low high) (to_le_bytes size) (Ranges low high)
 within_format {size} {limit} wide low high fits =
     format_as (byte_len size) (to_le_bytes size) (Ranges low high)
@@ -163,9 +151,8 @@ pub byte_within : (low high : ℕ) → high < 2 ^ 8 → IsFormat 1 (within w8 lo
 byte_within low high fits = as_byte (within_format wide8 low high fits) (λ n good. omega arith)
 
 -- numbers from 0
-pub number_to :
-    {size : Size} {limit : ℕ} → IsWide size limit → (high : ℕ) → high < limit →
-    IsFormat (byte_len size) (within size 0 high) (to_le_bytes size) (λ n. n ≤ high)
+pub number_to : {size : Size} {limit : ℕ} → IsWide size limit → (high : ℕ) → high < limit → IsFormat (byte_len size)
+    (within size 0 high) (to_le_bytes size) (λ n. n ≤ high)
 number_to wide high fits =
     format_as _ _ _ (within_format wide 0 high fits) (omega arith) (λ n few. (omega arith, few)) (λ n good. good.1)
     (λ n few. refl)
@@ -174,9 +161,8 @@ pub byte_to : (high : ℕ) → high < 2 ^ 8 → IsFormat 1 (within w8 0 high) (�
 byte_to high fits = as_byte (number_to wide8 high fits) (λ n good. omega arith)
 
 -- all numbers of a size
-pub any_number :
-    {size : Size} {limit : ℕ} → IsWide size limit → 0 < limit →
-    IsFormat (byte_len size) (within size 0 (limit - 1)) (to_le_bytes size) (λ n. n < limit)
+pub any_number : {size : Size} {limit : ℕ} → IsWide size limit → 0 < limit → IsFormat (byte_len size)
+    (within size 0 (limit - 1)) (to_le_bytes size) (λ n. n < limit)
 any_number {limit = limit} wide some =
     format_as _ _ _ (number_to wide (limit - 1) (omega arith)) (omega arith) (λ n few. omega arith)
     (λ n good. omega arith) (λ n few. refl)
@@ -208,9 +194,8 @@ flag_where_format allowed =
 
 -- ---- numbers that may be absent
 
-optional_to : (low high : ℕ) (o : Option ℕ) → IsWithin low high o →
-    Ranges (bound_where (is_some o) low) (bound_where (is_some o) high) (unwrap_or o 0)
-    × (o ≡ some_where (is_some o) (unwrap_or o 0))
+optional_to : (low high : ℕ) (o : Option ℕ) → IsWithin low high o → Ranges (bound_where (is_some o) low)
+    (bound_where (is_some o) high) (unwrap_or o 0) × (o ≡ some_where (is_some o) (unwrap_or o 0))
 optional_to low high o is = grind arith
 
 some_from :
@@ -225,12 +210,10 @@ some_from spelled low high true n is = (is, refl)
 bound_small : (there : Bool) (high limit : ℕ) → high < limit → bound_where there high < limit
 bound_small there high limit few = grind arith
 
-pub optional_format :
-    {n limit : ℕ} {number_from : (low high : ℕ) → Reading ℕ} {spelled : ℕ → List ℕ} →
-    ((low high : ℕ) → high < limit → IsFormat n (number_from low high) spelled (Ranges low high)) →
-    (low high : ℕ) → high < limit →
-    IsFormat (1 + n) (optional number_from low high) (λ o. flag_byte (is_some o) ∷ spelled (unwrap_or o 0))
-    (IsWithin low high)
+pub optional_format : {n limit : ℕ} {number_from : (low high : ℕ) → Reading ℕ} {spelled : ℕ → List ℕ} →
+    ((low high : ℕ) → high < limit → IsFormat n (number_from low high) spelled (Ranges low high)) → (low high : ℕ) →
+    high < limit → IsFormat (1 + n) (optional number_from low high)
+    (λ o. flag_byte (is_some o) ∷ spelled (unwrap_or o 0)) (IsWithin low high)
 unfolding optional
 optional_format {limit = limit} {spelled = spelled} format low high few =
     fields_format

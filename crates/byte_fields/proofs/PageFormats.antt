@@ -5,9 +5,8 @@ use Rattle.std.proofs.Common.{sym, ap, ◌∙◌, append_assoc, arith, bytes_eq}
 use Rattle.std.specs.List.{concat}
 use Rattle.board_base.proofs.Common.{take_at, drop_at, length-append, length-take, length-drop, take-append-drop}
 use Rattle.board_base.proofs.Common.{nil_from_length, bytes_eq-Decides, cases_lt, drop-drop, drop_all, take_all}
-use Rattle.board_base.proofs.Common.{append-nil, take-append-le, drop-append-le}
-use Rattle.std.proofs.lemmas.List.{take_min, take-replicate, drop-replicate, length-replicate}
-use Rattle.std.proofs.lemmas.List.{replicate-append-replicate}
+use Rattle.board_base.proofs.Common.{append-nil, take-append-le, drop-append-le, length-replicate}
+use Rattle.std.proofs.lemmas.List.{take_min, take-replicate, drop-replicate, replicate-append-replicate}
 use Rattle.std.proofs.Math.Nat.{suc-mul, zero-mul}
 use Rattle.byte_fields.specs.Fields.{Reading, then_read, gives, ◌>>=◌, flag_byte, other_than}
 use Rattle.byte_fields.specs.Pages.{page_bytes, page_where, page_field, each_page_bytes, each_page_field, cut, pages_of}
@@ -76,8 +75,7 @@ most_of : List (List ℕ) → ℕ
 most_of [] = 0
 most_of (plain ∷ later) = (1 + length plain) + most_of later
 
-each_format : (plain : List (List ℕ)) →
-    IsFormat (most_of plain) (each_page_field plain) (each_page_bytes plain)
+each_format : (plain : List (List ℕ)) → IsFormat (most_of plain) (each_page_field plain) (each_page_bytes plain)
     (λ bytes. length bytes ≡ length (concat plain))
 unfolding each_page_field each_page_bytes most_of
 each_format [] =
@@ -142,9 +140,8 @@ first_page size (byte ∷ later) some there =
     rw (same_cut size (length later) (length rest) rest some (omega (arith, length-drop size (byte ∷ later)))
     (omega arith)) refl
 
-pub pages_format : (size : ℕ) (plain : List ℕ) → 0 < size →
-    IsFormat (2 * length plain) (pages_fields size plain) (pages_bytes size plain)
-    (λ bytes. length bytes ≡ length plain)
+pub pages_format : (size : ℕ) (plain : List ℕ) → 0 < size → IsFormat (2 * length plain) (pages_fields size plain)
+    (pages_bytes size plain) (λ bytes. length bytes ≡ length plain)
 unfolding pages_fields pages_bytes
 pages_format size plain some =
     let whole : length (concat (pages_of size plain)) ≡ length plain =
@@ -177,16 +174,13 @@ pub bytes_first : (size : ℕ) (plain bytes : List ℕ) → 0 < size → 0 < len
     ≡ page_bytes (take size plain) (take (length (take size plain)) bytes)
     ++ pages_bytes size (drop size plain) (drop (length (take size plain)) bytes)
 unfolding pages_bytes each_page_bytes
-bytes_first size plain bytes some there =
-    rw (first_page size plain some there) refl
+bytes_first size plain bytes some there = rw (first_page size plain some there) refl
 
 pub fields_first : (size : ℕ) (plain bytes : List ℕ) → 0 < size → 0 < length plain →
-    pages_fields size plain bytes
-    ≡ then_read (page_field (take size plain) bytes)
+    pages_fields size plain bytes ≡ then_read (page_field (take size plain) bytes)
     (λ page. pages_fields size (drop size plain) >>= λ rest. gives (page ++ rest))
 unfolding pages_fields each_page_field
-fields_first size plain bytes some there =
-    rw (first_page size plain some there) refl
+fields_first size plain bytes some there = rw (first_page size plain some there) refl
 
 -- ---- loops over pages: the page from a place on has so many bytes
 
@@ -220,9 +214,8 @@ pub zeros_page : (done count n : ℕ) (zeros : List ℕ) → count ≤ n - done 
 zeros_page done count n zeros fits is =
     is ∙ sym (ap (take count) (drop-replicate {X = ℕ} done n 0) ∙ take-replicate {X = ℕ} count (n - done) 0 fits)
 
-pub push_goes_on :
-    (size done count : ℕ) (into now plain bytes total before page : List ℕ) → 0 < size → length plain ≡ length bytes →
-    done < length bytes → count ≡ min size (length bytes - done) →
+pub push_goes_on : (size done count : ℕ) (into now plain bytes total before page : List ℕ) → 0 < size →
+    length plain ≡ length bytes → done < length bytes → count ≡ min size (length bytes - done) →
     into ++ pages_bytes size (drop done plain) (drop done bytes) ≡ total → before ≡ take count (drop done plain) →
     page ≡ take count (drop done bytes) → now ≡ into ++ page_bytes before page →
     now ++ pages_bytes size (drop (done + count) plain) (drop (done + count) bytes) ≡ total
@@ -245,8 +238,7 @@ push_goes_on size done count into now plain bytes total before page some same be
           (pages_bytes size (drop (done + count) plain) (drop (done + count) bytes)),
     ) first
 
-pub push_ends :
-    (size done : ℕ) (into plain bytes total : List ℕ) → length plain ≡ length bytes → length bytes ≤ done →
+pub push_ends : (size done : ℕ) (into plain bytes total : List ℕ) → length plain ≡ length bytes → length bytes ≤ done →
     into ++ pages_bytes size (drop done plain) (drop done bytes) ≡ total → into ≡ total
 push_ends size done into plain bytes total same over so_far =
     let none : drop done plain ≡ [] = drop_all done plain (omega (arith, over, same)) in
@@ -298,9 +290,8 @@ module _ (done count : ℕ) (now page : List ℕ) (within : done ≤ length now)
       rw (← append_assoc (take done now) page rest)
       (take_at (take done now ++ page) rest (done + count) front_long)
 
-  pub rest_put : (old : List ℕ) → drop done now ≡ drop done old →
-      drop (done + count) (take done now ++ (page ++ drop (done + count - done) (drop done now)))
-      ≡ drop (done + count) old
+  pub rest_put : (old : List ℕ) → drop done now ≡ drop done old → drop (done + count)
+      (take done now ++ (page ++ drop (done + count - done) (drop done now))) ≡ drop (done + count) old
   rest_put old is =
       let rest : List ℕ = drop (done + count - done) (drop done now) in
       let long : done + count - done ≡ count = omega arith in
@@ -313,11 +304,10 @@ module _ (done count : ℕ) (now page : List ℕ) (within : done ≤ length now)
 
 -- the same over zeros
 
-pub zeros_go_on :
-    (size n : ℕ) (front page bytes after : List ℕ) (total : Result (List ℕ × List ℕ) ℕ) → 0 < size → size ≤ n →
-    with_front front (pages_fields size (replicate n 0) bytes) ≡ total →
-    page_field (replicate size 0) bytes ≡ Ok (page, after) →
-    with_front (front ++ page) (pages_fields size (replicate (n - size) 0) after) ≡ total
+pub zeros_go_on : (size n : ℕ) (front page bytes after : List ℕ) (total : Result (List ℕ × List ℕ) ℕ) → 0 < size →
+    size ≤ n → with_front front (pages_fields size (replicate n 0) bytes) ≡ total →
+    page_field (replicate size 0) bytes ≡ Ok (page, after) → with_front (front ++ page)
+    (pages_fields size (replicate (n - size) 0) after) ≡ total
 zeros_go_on size n front page bytes after total some fits so_far read =
     let zeros = length-replicate {A = ℕ} n 0 in
     let rest : 0 + size ≡ size = omega arith in
@@ -325,27 +315,24 @@ zeros_go_on size n front page bytes after total some fits so_far read =
     (pages_go_on size 0 size (replicate n 0) front bytes total some (omega arith) (omega arith) so_far page after
     (rw (take-replicate {X = ℕ} size n 0 fits) read))
 
-pub zeros_stop :
-    (size n : ℕ) (front bytes : List ℕ) (left : ℕ) (total : Result (List ℕ × List ℕ) ℕ) → 0 < size → size ≤ n →
-    with_front front (pages_fields size (replicate n 0) bytes) ≡ total →
+pub zeros_stop : (size n : ℕ) (front bytes : List ℕ) (left : ℕ) (total : Result (List ℕ × List ℕ) ℕ) → 0 < size →
+    size ≤ n → with_front front (pages_fields size (replicate n 0) bytes) ≡ total →
     page_field (replicate size 0) bytes ≡ Err left → total ≡ Err left
 zeros_stop size n front bytes left total some fits so_far read =
     let zeros = length-replicate {A = ℕ} n 0 in
     pages_stop size 0 size (replicate n 0) front bytes total some (omega arith) (omega arith) so_far left
     (rw (take-replicate {X = ℕ} size n 0 fits) read)
 
-pub zeros_end :
-    (size n : ℕ) (front bytes : List ℕ) (total : Result (List ℕ × List ℕ) ℕ) → n ≡ 0 →
+pub zeros_end : (size n : ℕ) (front bytes : List ℕ) (total : Result (List ℕ × List ℕ) ℕ) → n ≡ 0 →
     with_front front (pages_fields size (replicate n 0) bytes) ≡ total → total ≡ Ok (front, bytes)
 zeros_end size n front bytes total none so_far =
     pages_end size 0 (replicate n 0) front bytes total (omega (arith, none, length-replicate {A = ℕ} n 0)) so_far
 
 -- ---- whole pages, and what follows them
 
-pub bytes_append :
-    (size count : ℕ) (plain more bytes later : List ℕ) → 0 < size → length plain ≡ count * size →
-    length bytes ≡ length plain →
-    pages_bytes size (plain ++ more) (bytes ++ later) ≡ pages_bytes size plain bytes ++ pages_bytes size more later
+pub bytes_append : (size count : ℕ) (plain more bytes later : List ℕ) → 0 < size → length plain ≡ count * size →
+    length bytes ≡ length plain → pages_bytes size (plain ++ more)
+    (bytes ++ later) ≡ pages_bytes size plain bytes ++ pages_bytes size more later
 bytes_append size zero plain more bytes later some whole same =
     rw (nil_from_length plain (omega arith), nil_from_length bytes (omega arith), no_pages size []) refl
 bytes_append size (suc count) plain more bytes later some whole same =
@@ -386,8 +373,7 @@ regroup_first (Ok got) whole part more is =
     ∙ regroup got.0 (part got.1) more
 regroup_first (Err left) whole part more is = refl
 
-pub fields_append :
-    (size count : ℕ) (plain more bytes : List ℕ) → 0 < size → length plain ≡ count * size →
+pub fields_append : (size count : ℕ) (plain more bytes : List ℕ) → 0 < size → length plain ≡ count * size →
     pages_fields size (plain ++ more) bytes ≡ then_more (pages_fields size plain bytes) (pages_fields size more)
 fields_append size zero plain more bytes some whole =
     let none : plain ≡ [] = nil_from_length plain (omega (arith, whole)) in
@@ -448,8 +434,7 @@ memory_append count bytes later whole =
     (omega arith) (zeros ∙ whole) (sym zeros))
 
 pub memory_zeros : (count : ℕ) → memory_bytes (replicate (count * memory_page) 0) ≡ replicate count 0
-memory_zeros count =
-    rw (length-replicate {A = ℕ} (count * memory_page) 0) (zero_pages memory_page count (omega arith))
+memory_zeros count = rw (length-replicate {A = ℕ} (count * memory_page) 0) (zero_pages memory_page count (omega arith))
 
 pub memory_then : (count more : ℕ) (bytes : List ℕ) →
     memory_fields (count * memory_page + more) bytes

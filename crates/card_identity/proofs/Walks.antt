@@ -1,7 +1,6 @@
 -- One step along a list, and bytes past a number.
-use Rattle.std.proofs.Common.{◌≡◌, ℕ, ◌+◌, ◌-◌, ◌/◌, ◌^◌, ◌<◌, ◌≤◌, Bool, true, false, arith}
-use Rattle.std.proofs.Common.{lit<, if◌then◌else◌, List, length}
-use Rattle.std.proofs.Common.{drop, get_or, find, Some, refl, ap, sym, ◌∙◌}
+use Rattle.std.proofs.Common.{◌≡◌, ℕ, ◌+◌, ◌-◌, ◌/◌, ◌^◌, ◌<◌, ◌≤◌, Bool, true, false, arith, lit<, if◌then◌else◌, List}
+use Rattle.std.proofs.Common.{length, drop, get_or, find, Some, refl, ap, sym, ◌∙◌}
 use Rattle.std.proofs.lemmas.List.{drop_more, at_drop_all}
 use Rattle.std.proofs.Math.Nat.{div-eq_of_lt, pow-le-pow_right}
 use Rattle.board_prelude.proofs.Common.{byte}

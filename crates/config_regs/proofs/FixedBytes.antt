@@ -14,16 +14,14 @@ use Rattle.config_regs.specs.Config.{HasFixed}
 abbrev IsFixed : Setup → Reg → Type 0
 IsFixed setup reg = IsFixedAt setup reg (reset_byte setup reg)
 
-stays :
-    (setup : Setup) (change : Option MapChange) (reg : Reg) (old : ℕ) → is_same reg smram ≡ false → IsFixed setup reg →
-    old ≡ reset_byte setup reg → byte_with setup change reg old ≡ reset_byte setup reg
+stays : (setup : Setup) (change : Option MapChange) (reg : Reg) (old : ℕ) → is_same reg smram ≡ false →
+    IsFixed setup reg → old ≡ reset_byte setup reg → byte_with setup change reg old ≡ reset_byte setup reg
 stays setup None reg old plain fixed is = is
 stays setup (Some Reset) reg old plain fixed is = refl
 stays setup (Some (Store at width value)) reg old plain fixed is =
     kept_byte setup at width value reg old (reset_byte setup reg) plain fixed is
 
-always :
-    (setup : Setup) (history : List Entry) (reg : Reg) → is_same reg smram ≡ false → IsFixed setup reg →
+always : (setup : Setup) (history : List Entry) (reg : Reg) → is_same reg smram ≡ false → IsFixed setup reg →
     byte_of setup history reg ≡ reset_byte setup reg
 unfolding byte_of
 always setup [] reg plain fixed = refl
@@ -31,8 +29,7 @@ always setup (entry ∷ before) reg plain fixed =
     stays setup (register_change setup before entry.event) reg (byte_of setup before reg) plain fixed
     (always setup before reg plain fixed)
 
-bridge_always :
-    (setup : Setup) (history : List Entry) (off : ℕ) → IsFixedOffset off →
+bridge_always : (setup : Setup) (history : List Entry) (off : ℕ) → IsFixedOffset off →
     byte_of setup history (bridge off) ≡ reset_byte setup (bridge off)
 bridge_always setup history off fixed =
     always setup history (bridge off) (ne_eqb off 0x72 (omega arith)) (record {
@@ -41,8 +38,7 @@ bridge_always setup history off fixed =
       fits = reset_byte-small setup off fixed;
     })
 
-isa_always :
-    (setup : Setup) (history : List Entry) (off : ℕ) → IsIsaFixed off →
+isa_always : (setup : Setup) (history : List Entry) (off : ℕ) → IsIsaFixed off →
     byte_of setup history (isa off) ≡ reset_byte setup (isa off)
 isa_always setup history off fixed =
     let it = fixed_at setup off fixed in

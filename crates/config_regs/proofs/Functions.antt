@@ -17,8 +17,7 @@ at_place P cards dev place d each at =
 
 -- ---- several bytes
 
-pub wide_shifted :
-    (f g : ℕ → ℕ) (at : ℕ) (width : Width) → ((k : ℕ) → k < bytes_of width → f k ≡ g (at + k)) →
+pub wide_shifted : (f g : ℕ → ℕ) (at : ℕ) (width : Width) → ((k : ℕ) → k < bytes_of width → f k ≡ g (at + k)) →
     wide f 0 width ≡ wide g at width
 wide_shifted f g at One same = same 0 (omega arith) ∙ ap g (omega arith)
 wide_shifted f g at Two same =

@@ -24,10 +24,8 @@ south_agrees bytes bytes' south same is = record {
 }
 
 -- a store to another device leaves them
-pub other_device :
-    (setup : Setup) (bytes : Bytes) (at : Reg) (width : Width) (value : ℕ) (south : South) → at.dev ≢ 1 →
-    IsSouthOf bytes south →
-    IsSouthOf (λ r. changed_byte setup (Store at width value) r (bytes r)) south
+pub other_device : (setup : Setup) (bytes : Bytes) (at : Reg) (width : Width) (value : ℕ) (south : South) → at.dev ≢ 1 →
+    IsSouthOf bytes south → IsSouthOf (λ r. changed_byte setup (Store at width value) r (bytes r)) south
 other_device setup bytes at width value south apart =
     south_agrees bytes (λ r. changed_byte setup (Store at width value) r (bytes r)) south
     (λ fun off.
@@ -35,8 +33,7 @@ other_device setup bytes at width value south apart =
     (and_left _ _ (and_left _ _ (and_left _ _ (ne_eqb at.dev 1 apart)))))
 
 -- after all bytes of a value they are as after the store of it
-pub all_so_far :
-    (setup : Setup) (bytes : Bytes) (at : Reg) (width : Width) (value count : ℕ) (south : South) →
+pub all_so_far : (setup : Setup) (bytes : Bytes) (at : Reg) (width : Width) (value count : ℕ) (south : South) →
     count ≡ bytes_of width → IsSouthOf (stored_so_far setup bytes at value count) south →
     IsSouthOf (λ r. changed_byte setup (Store at width value) r (bytes r)) south
 all_so_far setup bytes at width value count south all =

@@ -48,8 +48,7 @@ module _ (port size : ℕ) where
   apart_takes (some ∷ later) others apart is =
       let both = neither _ _ apart in
       elim (cases_Bool (is_size some.sizes size && is_within some.first some.last port)) [
-        | inl here ↦
-            untaken some.first some.last (and_parts (is_size some.sizes size) _ here).1 others both.0
+        | inl here ↦ untaken some.first some.last (and_parts (is_size some.sizes size) _ here).1 others both.0
         | inr not ↦ apart_takes later others both.1 (sym (ap (λ (b : Bool). b || takes later port size) not) ∙ is)
       ]
 
@@ -70,8 +69,7 @@ module _ (port size : ℕ) where
       ]
 
   none_takes : (first last : ℕ) → is_within first last port ≡ true → (devices : List Dev) →
-      list_any (λ dev. crosses first last (device_line dev).ports) devices ≡ false →
-      first_with devices port size ≡ None
+      list_any (λ dev. crosses first last (device_line dev).ports) devices ≡ false → first_with devices port size ≡ None
   none_takes first last is [] apart = refl
   none_takes first last is (dev ∷ later) apart =
       let both = neither _ _ apart in
@@ -86,5 +84,4 @@ ports_apart Confadd port size is = first_takes port size port_devices Confadd is
 ports_apart dev port size is = first_takes port size port_devices dev is refl
 
 pub config_apart : ConfigApart
-config_apart port size is =
-    none_takes port size config_data_ports.0 config_data_ports.1 is port_devices refl
+config_apart port size is = none_takes port size config_data_ports.0 config_data_ports.1 is port_devices refl

@@ -1,9 +1,8 @@
 -- The search for the first level that can be selected.
 use Rattle.std.proofs.Common.{◌≡◌, ℕ, ◌+◌, ◌<◌, ◌≤◌, Bool, true, false, not, cond, ltb, ◌||◌, ◌&&◌, Option, Some, None}
 use Rattle.std.proofs.Common.{List, [], ◌∷◌, ◌++◌, length, get_or, drop, refl, sym, ap, ◌∙◌, inl, inr, add-one}
-use Rattle.std.proofs.Common.{drop-cons}
-use Rattle.board_base.proofs.Common.{or-false, and-false, drop_of_length-le, cases_Bool, agree_below_at, ltb-true}
-use Rattle.board_base.proofs.Common.{or_from}
+use Rattle.std.proofs.Common.{drop-cons, ltb-true}
+use Rattle.board_base.proofs.Common.{or-false, and-false, drop_of_length-le, cases_Bool, agree_below_at, or_from}
 use Rattle.std.proofs.Math.Bool.{or-true, or_assoc}
 use Rattle.device_spec.specs.Common.{find, list_any, Chip, priority_order, is_blocking, blocks_itself, is_requested}
 use Rattle.device_spec.specs.Common.{first_selectable, request, first_blocking}

@@ -16,8 +16,7 @@ same_byte kept count at =
     ]
 
 -- so many more bytes are kept, and then bytes are put into the kept ones
-pub put_in_kept :
-    (kept grown new : List ℕ) (count from size : ℕ) (put : ℕ → ℕ) → grown ≡ kept ++ replicate count 0 →
+pub put_in_kept : (kept grown new : List ℕ) (count from size : ℕ) (put : ℕ → ℕ) → grown ≡ kept ++ replicate count 0 →
     IsPut grown from size put new → IsPut (bank_of kept) from size put (bank_of new)
 put_in_kept kept grown new count from size put more is at =
     rw (same_byte new (bank_size - length new) at, same_byte kept (bank_size - length kept) at)

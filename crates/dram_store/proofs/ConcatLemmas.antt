@@ -60,11 +60,9 @@ pub aligned_fits : (addr : ℕ) (width : Width) → addr % bytes_of width ≡ 0 
 aligned_fits addr One aligned = omega arith
 aligned_fits addr _ aligned = omega arith
 
-put_byte :
-    (banks : List (List ℕ)) (new : List ℕ) (addr count : ℕ) (put : ℕ → ℕ) → All IsBank banks → IsBank new →
-    addr / bank_size < length banks → addr % bank_size + count ≤ bank_size →
-    IsPut (bank_at banks addr) (addr % bank_size) count put new →
-    IsPut (concat banks) addr count put (concat (with_bank banks addr new))
+put_byte : (banks : List (List ℕ)) (new : List ℕ) (addr count : ℕ) (put : ℕ → ℕ) → All IsBank banks → IsBank new →
+    addr / bank_size < length banks → addr % bank_size + count ≤ bank_size → IsPut (bank_at banks addr)
+    (addr % bank_size) count put new → IsPut (concat banks) addr count put (concat (with_bank banks addr new))
 put_byte banks new addr count put each is inside fits is_put at =
     let old_byte = bank_byte banks at each in
     let new_byte =
@@ -78,11 +76,9 @@ put_byte banks new addr count put each is inside fits is_put at =
       get_or-set_other banks (addr / bank_size) (at / bank_size) new [],
     )
 
-changed :
-    (banks : List (List ℕ)) (new : List ℕ) (addr count : ℕ) (put : ℕ → ℕ) → All IsBank banks → IsBank new →
-    addr / bank_size < length banks → addr % bank_size + count ≤ bank_size →
-    IsPut (bank_at banks addr) (addr % bank_size) count put new →
-    IsWritten (concat banks) addr count put (concat (with_bank banks addr new))
+changed : (banks : List (List ℕ)) (new : List ℕ) (addr count : ℕ) (put : ℕ → ℕ) → All IsBank banks → IsBank new →
+    addr / bank_size < length banks → addr % bank_size + count ≤ bank_size → IsPut (bank_at banks addr)
+    (addr % bank_size) count put new → IsWritten (concat banks) addr count put (concat (with_bank banks addr new))
 changed banks new addr count put each is inside fits is_put at =
     let same = same_length banks addr new each is in
     let byte = put_byte banks new addr count put each is inside fits is_put at in
@@ -93,8 +89,7 @@ abbrev pub AreWritten : (old : List ℕ) → (addr count : ℕ) → (put : ℕ �
 AreWritten old addr count put new = IsWritten old addr count put new × (length new ≡ length old)
 
 -- so it is where they were put into the bank of the address
-pub bank_written :
-    (banks : List (List ℕ)) (bank new : List ℕ) (addr count : ℕ) (put : ℕ → ℕ) → All IsBank banks →
+pub bank_written : (banks : List (List ℕ)) (bank new : List ℕ) (addr count : ℕ) (put : ℕ → ℕ) → All IsBank banks →
     addr / bank_size < length banks → bank ≡ get_or banks (addr / bank_size) bank → length new ≡ length bank →
     addr % bank_size + count ≤ bank_size → IsPut bank (addr % bank_size) count put new →
     AreWritten (concat banks) addr count put (concat (with_bank banks addr new))
@@ -108,8 +103,7 @@ pub past_banks : (banks : List (List ℕ)) (addr : ℕ) → All IsBank banks →
     length (concat banks) ≤ addr
 past_banks banks addr each none = omega (arith, none, banks_length banks each)
 
-pub lost :
-    (banks : List (List ℕ)) (addr count : ℕ) (put : ℕ → ℕ) → All IsBank banks → length banks ≤ addr / bank_size →
+pub lost : (banks : List (List ℕ)) (addr count : ℕ) (put : ℕ → ℕ) → All IsBank banks → length banks ≤ addr / bank_size →
     AreWritten (concat banks) addr count put (concat banks)
 lost banks addr count put each none =
     let past = past_banks banks addr each none in
@@ -124,11 +118,9 @@ byte_at banks addr at place each inside here is =
     let size = banks_length banks each in
     rw (lt-ltb at (length (concat banks)) (omega arith), bank_byte banks at each, here, is) refl
 
-pub read_here :
-    (banks : List (List ℕ)) (addr : ℕ) (width : Width) → All IsBank banks → addr / bank_size < length banks →
-    addr % bytes_of width ≡ 0 →
-    wide (slice_index (bank_at banks addr)) (addr % bank_size) width
-    ≡ wide (λ at. dram_at (concat banks) at) addr width
+pub read_here : (banks : List (List ℕ)) (addr : ℕ) (width : Width) → All IsBank banks →
+    addr / bank_size < length banks → addr % bytes_of width ≡ 0 → wide (slice_index (bank_at banks addr))
+    (addr % bank_size) width ≡ wide (λ at. dram_at (concat banks) at) addr width
 read_here banks addr One each inside aligned = byte_at banks addr addr (addr % bank_size) each inside refl refl
 read_here banks addr Two each inside aligned =
     rw (
@@ -156,8 +148,7 @@ zero_at banks at each zeros =
       | inr past ↦ rw (get_or_past banks (at / bank_size) [] past) refl
     ])
 
-pub zero_banks :
-    (banks : List (List ℕ)) → All IsBank banks → All IsZero banks →
+pub zero_banks : (banks : List (List ℕ)) → All IsBank banks → All IsZero banks →
     concat banks ≡ replicate (length banks * bank_size) 0
 zero_banks banks each zeros =
     rw (← banks_length banks each) (all_zeros (concat banks) (λ at. zero_at banks at each zeros))

@@ -50,10 +50,9 @@ put_cell old new addr width value at before within is = grind (arith, nat_tests)
 
 -- ---- one entry more
 
-pub stored :
-    (setup : Setup) (history : List Entry) (entry : Entry) (old : List ℕ) (addr : ℕ) (width : Width) (value : ℕ)
-    (new : List ℕ) →
-    IsWritten old addr (bytes_of width) (byte value) new → length new ≡ length old → IsDramOf setup history old →
+pub stored : (setup : Setup) (history : List Entry) (entry : Entry) (old : List ℕ) (addr : ℕ) (width : Width)
+    (value : ℕ) (new : List ℕ) → IsWritten old addr (bytes_of width) (byte value) new → length new ≡ length old →
+    IsDramOf setup history old →
     ((at : ℕ) → entry_put entry.event entry.reply (DramCell at) ≡ byte_put (Dram 0) addr width value (DramCell at)) →
     IsDramOf setup (entry ∷ history) new
 unfolding stored_of
@@ -66,8 +65,7 @@ stored setup history entry old addr width value new is_written same kept put = r
 
 -- ---- values that are read
 
-at_stored :
-    (setup : Setup) (history : List Entry) (dram : List ℕ) (at : ℕ) → IsDramOf setup history dram →
+at_stored : (setup : Setup) (history : List Entry) (dram : List ℕ) (at : ℕ) → IsDramOf setup history dram →
     dram_at dram at ≡ dram_byte setup history at
 at_stored setup history dram at is =
     let size = is.size in
@@ -82,7 +80,6 @@ read_stored setup history dram addr width is =
     let each = λ (at : ℕ). at_stored setup history dram at is in
     grind (arith, each addr, each (addr + 1), each (addr + 2), each (addr + 3))
 
-pub read_past :
-    (dram : List ℕ) (addr : ℕ) (width : Width) → length dram ≤ addr →
+pub read_past : (dram : List ℕ) (addr : ℕ) (width : Width) → length dram ≤ addr →
     largest_of width ≡ wide (λ at. dram_at dram at) addr width
 read_past dram addr _ past = grind (arith, nat_tests)

@@ -31,8 +31,7 @@ bank_bytes kept pages within =
     ∙ ap (λ (n : ℕ). memory_bytes kept ++ memory_bytes (replicate n 0)) whole
     ∙ rw (memory_zeros rest) refl
 
-pub bank_saved :
-    (kept into mid new zeros : List ℕ) → length kept % memory_page ≡ 0 → length kept ≤ bank_size →
+pub bank_saved : (kept into mid new zeros : List ℕ) → length kept % memory_page ≡ 0 → length kept ≤ bank_size →
     mid ≡ into ++ memory_bytes kept → zeros ≡ replicate ((bank_size - length kept) / memory_page) 0 →
     new ≡ mid ++ zeros → new ≡ into ++ memory_bytes (bank_of kept)
 bank_saved kept into mid new zeros pages within first zeros_is second =
@@ -47,9 +46,8 @@ front_at kept at = kept ++ replicate (at - length kept) 0
 abbrev pub IsRead : (kept : List ℕ) → (at : ℕ) → (bytes : List ℕ) → Result (List ℕ × List ℕ) ℕ → Type 0
 IsRead kept at bytes total = with_front (front_at kept at) (memory_fields (bank_size - at) bytes) ≡ total
 
-pub kept_length :
-    (kept new page : List ℕ) (at : ℕ) → length kept ≤ at → length page ≡ memory_page → new ≡ front_at kept at ++ page →
-    length new ≡ at + memory_page
+pub kept_length : (kept new page : List ℕ) (at : ℕ) → length kept ≤ at → length page ≡ memory_page →
+    new ≡ front_at kept at ++ page → length new ≡ at + memory_page
 kept_length kept new page at before whole added =
     rw added (simp (length-append, length-replicate {A = ℕ}) (omega arith))
 
@@ -112,15 +110,13 @@ AreRead mib counter banks bytes total =
 module _ (mib counter : ℕ) (banks : List (List ℕ)) (bytes : List ℕ) (total : Result (List ℕ × List ℕ) ℕ)
     (so_far : AreRead mib counter banks bytes total) where
   -- a bank, and then what follows it
-  bank_first : counter < mib →
-      with_front (concat banks)
+  bank_first : counter < mib → with_front (concat banks)
       (then_more (memory_fields bank_size bytes) (memory_fields ((mib - (counter + 1)) * bank_size))) ≡ total
   bank_first below =
       let split : (mib - counter) * bank_size ≡ bank_size + (mib - (counter + 1)) * bank_size = omega arith in
       rw (← memory_then 256 ((mib - (counter + 1)) * bank_size) bytes, ← split) so_far
 
-  pub bank_read :
-      (bank after : List ℕ) → counter < mib → memory_fields bank_size bytes ≡ Ok (bank, after) →
+  pub bank_read : (bank after : List ℕ) → counter < mib → memory_fields bank_size bytes ≡ Ok (bank, after) →
       AreRead mib (counter + 1) (banks ++ bank ∷ []) after total
   bank_read bank after below read =
       rw (concat_push banks bank)
@@ -133,12 +129,10 @@ module _ (mib counter : ℕ) (banks : List (List ℕ)) (bytes : List ℕ) (total
   bank_failed faults.NoMemory after below read = tt
 
   pub banks_done : mib ≤ counter → total ≡ Ok (concat banks, bytes)
-  banks_done over =
-      zeros_end memory_page ((mib - counter) * bank_size) (concat banks) bytes total (omega arith) so_far
+  banks_done over = zeros_end memory_page ((mib - counter) * bank_size) (concat banks) bytes total (omega arith) so_far
 
 -- what is still to be added of banks
-pub bank_added :
-    (banks : List (List ℕ)) (i : ℕ) (bank into new total : List ℕ) → All IsBank banks → i < length banks →
+pub bank_added : (banks : List (List ℕ)) (i : ℕ) (bank into new total : List ℕ) → All IsBank banks → i < length banks →
     get_or banks i [] ≡ bank → into ++ memory_bytes (concat (drop i banks)) ≡ total → new ≡ into ++ memory_bytes bank →
     new ++ memory_bytes (concat (drop (i + 1) banks)) ≡ total
 bank_added banks i bank into new total each below is so_far added =
@@ -147,8 +141,7 @@ bank_added banks i bank into new total each below is so_far added =
     rw (added, append_assoc into (memory_bytes bank) (memory_bytes rest), ← memory_append 256 bank rest whole)
     (rw (drop_more banks i [] below, is) at so_far)
 
-pub banks_added :
-    (banks : List (List ℕ)) (i : ℕ) (into total : List ℕ) → length banks ≤ i →
+pub banks_added : (banks : List (List ℕ)) (i : ℕ) (into total : List ℕ) → length banks ≤ i →
     into ++ memory_bytes (concat (drop i banks)) ≡ total → into ≡ total
 banks_added banks i into total over so_far =
     sym (append-nil into) ∙ rw (drop_all i banks over, memory_zeros 0) at so_far

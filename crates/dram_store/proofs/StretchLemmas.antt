@@ -43,10 +43,9 @@ part kept now from count is =
     rw (size, is) refl
 
 -- the front of a list replaced by kept bytes, and its rest by zeros
-pub bytes_read :
-    (kept into front rest post : List ℕ) (at from count zeros k : ℕ) → from ≡ min at (length kept) →
-    count ≡ min (length kept - from) (length into) → front ≡ take count (drop from kept) →
-    rest ≡ replicate zeros 0 → length rest ≡ length into - count → k < length into →
+pub bytes_read : (kept into front rest post : List ℕ) (at from count zeros k : ℕ) → from ≡ min at (length kept) →
+    count ≡ min (length kept - from) (length into) → front ≡ take count (drop from kept) → rest ≡ replicate zeros 0 →
+    length rest ≡ length into - count → k < length into →
     slice_index (take count (front ++ drop count into) ++ (rest ++ post)) k ≡ slice_index (bank_of kept) (at + k)
 bytes_read kept into front rest post at from count zeros k from_is count_is front_is rest_is fills within =
     rw (same_byte kept (bank_size - length kept) (at + k), front_is, rest_is)
@@ -73,8 +72,7 @@ front_put old new bytes from count fits put at =
 -- ---- over the banks
 
 -- the bytes of a MiB, of which the front is kept
-pub kept_bytes :
-    (banks : List (List ℕ)) (bank kept : List ℕ) (mib at : ℕ) → All IsBank banks →
+pub kept_bytes : (banks : List (List ℕ)) (bank kept : List ℕ) (mib at : ℕ) → All IsBank banks →
     ((addr : ℕ) → addr / bank_size ≡ mib → bank ≡ bank_at banks addr) → bank_of kept ≡ bank → at < bank_size →
     slice_index (concat banks) (mib * bank_size + at) ≡ slice_index kept at
 kept_bytes banks bank kept mib at each found is within =
@@ -84,8 +82,7 @@ kept_bytes banks bank kept mib at each found is within =
     ∙ rw (← found (mib * bank_size + at) here, place, ← is) (same_byte kept (bank_size - length kept) at)
 
 -- bytes that were copied from the bank of an address
-pub front_read :
-    (banks : List (List ℕ)) (bank front rest : List ℕ) (at count k : ℕ) → All IsBank banks →
+pub front_read : (banks : List (List ℕ)) (bank front rest : List ℕ) (at count k : ℕ) → All IsBank banks →
     at / bank_size < length banks → bank ≡ bank_at banks at → at % bank_size + count ≤ bank_size → k < count →
     length front ≡ count → slice_index front k ≡ slice_index bank (at % bank_size + k) →
     slice_index (front ++ rest) k ≡ dram_at (concat banks) (at + k)
@@ -94,22 +91,19 @@ front_read banks bank front rest at count k each inside found fits within long i
     ∙ is ∙ rw found (byte_at banks at (at + k) (at % bank_size + k) each inside (omega arith) (omega arith))
 
 -- past the banks
-pub past_read :
-    (dram front rest : List ℕ) (at count k : ℕ) → length dram ≤ at → front ≡ replicate count 0xFF → k < count →
-    slice_index (front ++ rest) k ≡ dram_at dram (at + k)
+pub past_read : (dram front rest : List ℕ) (at count k : ℕ) → length dram ≤ at → front ≡ replicate count 0xFF →
+    k < count → slice_index (front ++ rest) k ≡ dram_at dram (at + k)
 past_read dram front rest at count k past front_is within =
     rw front_is (grind (arith, nat_tests, of_parts, get_or-replicate, length-replicate {A = ℕ}))
 
 -- an address that does not fit is past the end, as its saturated sum is
-pub same_place :
-    (dram : List ℕ) (addr done at k : ℕ) → length dram < 2 ^ 64 - 1 → at ≡ min (addr + done) (2 ^ 64 - 1) →
+pub same_place : (dram : List ℕ) (addr done at k : ℕ) → length dram < 2 ^ 64 - 1 → at ≡ min (addr + done) (2 ^ 64 - 1) →
     dram_at dram (at + k) ≡ dram_at dram (addr + (done + k))
 same_place dram addr done at k few is = grind (arith, nat_tests)
 
 -- bytes that were written after others
-pub written_more :
-    (old mid new bytes : List ℕ) (addr done more at : ℕ) → length old < 2 ^ 64 - 1 → length mid ≡ length old →
-    at ≡ min (addr + done) (2 ^ 64 - 1) → IsWritten old addr done (slice_index bytes) mid →
+pub written_more : (old mid new bytes : List ℕ) (addr done more at : ℕ) → length old < 2 ^ 64 - 1 →
+    length mid ≡ length old → at ≡ min (addr + done) (2 ^ 64 - 1) → IsWritten old addr done (slice_index bytes) mid →
     IsWritten mid at more (slice_index (drop done bytes)) new → IsWritten old addr (done + more) (slice_index bytes) new
 written_more old mid new bytes addr done more at few same is before after x =
     let first = before x in

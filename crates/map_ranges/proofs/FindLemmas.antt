@@ -18,8 +18,7 @@ whole_at from (range ∷ later) tiles (suc k) within = whole_at (range.hi + 1) l
 next_at : (from : ℕ) (ranges : List Range) → Tiles from (map range_of ranges) → (k : ℕ) → suc k < length ranges →
     (range_at ranges (suc k)).lo ≡ (range_at ranges k).hi + 1
 next_at from (range ∷ next ∷ later) tiles zero within = tiles.2.0
-next_at from (range ∷ next ∷ later) tiles (suc k) within =
-    next_at (range.hi + 1) (next ∷ later) tiles.2 k (omega arith)
+next_at from (range ∷ next ∷ later) tiles (suc k) within = next_at (range.hi + 1) (next ∷ later) tiles.2 k (omega arith)
 next_at from _ tiles k within = absurd (omega arith)
 
 last_at : (from : ℕ) (ranges : List Range) → Tiles from (map range_of ranges) → (k : ℕ) → suc k ≡ length ranges →

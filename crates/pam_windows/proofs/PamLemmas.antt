@@ -1,9 +1,8 @@
 -- The PAM registers in the table of registers.
 use Rattle.std.proofs.Common.{◌≡◌, ◌≢◌, ℕ, ◌-◌, ◌<◌, List, [], ◌∷◌, length, get_or, set, false, ◌∙◌, sym, refl, ap}
 use Rattle.std.proofs.Common.{subst, arith, inl, inr, get_or-set_other, get_or-set_same, map}
-use Rattle.board_prelude.proofs.Common.{cases_eq, One, Store, Setup, merged, writable_bits, changed_byte, Bytes, bridge}
-use Rattle.board_prelude.proofs.Common.{pam, smram, is_same, Each, each_from, changed_byte-one_same}
-use Rattle.board_prelude.proofs.Common.{changed_byte-one_other}
+use Rattle.board_prelude.proofs.Common.{cases_eq, Store, Each, each_from, changed_byte-one_same, changed_byte-one_other}
+use Rattle.board_spec.specs.Common.{One, Setup, merged, writable_bits, changed_byte, Bytes, bridge, pam, smram, is_same}
 use Rattle.pam_windows.specs.Pam.{IsPamOffset, IsPamOf, pam_byte}
 
 -- what holds at each of the seven offsets
@@ -25,11 +24,10 @@ plain_register =
     each_offset (λ off. is_same (bridge off) smram ≡ false) (refl, (refl, (refl, (refl, (refl, (refl, (refl, tt)))))))
 
 -- a store of one byte to a PAM register, as the registers keep it
-stored_at :
-    (setup : Setup) (bytes : Bytes) (masks pam : List ℕ) (off written : ℕ) → length pam ≡ 7 → written < 256 →
+stored_at : (setup : Setup) (bytes : Bytes) (masks pam : List ℕ) (off written : ℕ) → length pam ≡ 7 → written < 256 →
     masks ≡ pam_bytes (writable_bits setup) → IsPamOffset off → IsPamOf bytes pam →
-    get_or (set pam (off - 0x59) (merged (pam_byte masks off) (pam_byte pam off) written)) (off - 0x59) 0
-    ≡ changed_byte setup (Store (bridge off) One written) (bridge off) (bytes (bridge off))
+    get_or (set pam (off - 0x59) (merged (pam_byte masks off) (pam_byte pam off) written))
+    (off - 0x59) 0 ≡ changed_byte setup (Store (bridge off) One written) (bridge off) (bytes (bridge off))
 stored_at setup bytes masks pam off written seven below are h is_pam =
     let within : off - 0x59 < length pam = omega arith in
     get_or-set_same pam (off - 0x59) (merged (pam_byte masks off) (pam_byte pam off) written) 0 within
@@ -37,20 +35,17 @@ stored_at setup bytes masks pam off written seven below are h is_pam =
     ∙ ap (λ old. merged (writable_bits setup (bridge off)) old written) (is_pam off h)
     ∙ sym (changed_byte-one_same setup (bridge off) (bytes (bridge off)) written below (plain_register off h))
 
-stored_apart :
-    (setup : Setup) (bytes : Bytes) (pam : List ℕ) (off written byte at : ℕ) → IsPamOffset off → IsPamOffset at →
-    at ≢ off → IsPamOf bytes pam →
-    get_or (set pam (off - 0x59) byte) (at - 0x59) 0
-    ≡ changed_byte setup (Store (bridge off) One written) (bridge at) (bytes (bridge at))
+stored_apart : (setup : Setup) (bytes : Bytes) (pam : List ℕ) (off written byte at : ℕ) → IsPamOffset off →
+    IsPamOffset at → at ≢ off → IsPamOf bytes pam → get_or (set pam (off - 0x59) byte)
+    (at - 0x59) 0 ≡ changed_byte setup (Store (bridge off) One written) (bridge at) (bytes (bridge at))
 stored_apart setup bytes pam off written byte at h at_h apart is_pam =
     let elsewhere : at - 0x59 ≢ off - 0x59 = λ e. apart (omega arith) in
     get_or-set_other pam (off - 0x59) (at - 0x59) byte 0 elsewhere
     ∙ is_pam at at_h
     ∙ sym (changed_byte-one_other setup (bridge at) off (bytes (bridge at)) written apart)
 
-pub stored_byte :
-    (setup : Setup) (bytes : Bytes) (masks pam : List ℕ) (off written : ℕ) → length pam ≡ 7 → written < 256 →
-    masks ≡ pam_bytes (writable_bits setup) → IsPamOffset off → IsPamOf bytes pam →
+pub stored_byte : (setup : Setup) (bytes : Bytes) (masks pam : List ℕ) (off written : ℕ) → length pam ≡ 7 →
+    written < 256 → masks ≡ pam_bytes (writable_bits setup) → IsPamOffset off → IsPamOf bytes pam →
     IsPamOf (λ reg. changed_byte setup (Store (bridge off) One written) reg (bytes reg))
     (set pam (off - 0x59) (merged (pam_byte masks off) (pam_byte pam off) written))
 stored_byte setup bytes masks pam off written seven below are h is_pam at at_h =

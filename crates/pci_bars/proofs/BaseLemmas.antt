@@ -32,10 +32,8 @@ small_set n lane v i within below =
     ]
 
 -- the other bytes of a number of which one was set
-pub other_bytes :
-    (n lane v new j : ℕ) → lane < 4 → v < 256 → new ≡ from_le_bytes w32 (set (to_le_bytes w32 n) lane v) → j < 4 →
-    j ≢ lane →
-    byte new j ≡ byte n j
+pub other_bytes : (n lane v new j : ℕ) → lane < 4 → v < 256 → new ≡ from_le_bytes w32 (set (to_le_bytes w32 n) lane v) →
+    j < 4 → j ≢ lane → byte new j ≡ byte n j
 other_bytes n lane v new j within below is j_below apart =
     let bytes = le_bytes_4 (set (to_le_bytes w32 n) lane v) new (length-set (to_le_bytes w32 n) lane v)
     (λ i. small_set n lane v i within below) is in
@@ -46,21 +44,18 @@ other_bytes n lane v new j within below is j_below apart =
 
 -- ---- bases by their numbers
 
-pub is_base :
-    (bases : List Base) (k : ℕ) (base : Base) → All IsBase bases → slice_get bases k ≡ Some base → IsBase base
+pub is_base : (bases : List Base) (k : ℕ) (base : Base) → All IsBase bases → slice_get bases k ≡ Some base → IsBase base
 is_base bases k base each there =
     rw (get_or_from_slice_get bases k base base there) at
     (All-get_or IsBase bases k base (slice_get_within bases k base there) each)
 
 -- the base that is found at a place
-pub found_base :
-    (bases : List Base) (k : ℕ) {found : Option BaseSpec} {base : BaseSpec} → All IsBase bases →
+pub found_base : (bases : List Base) (k : ℕ) {found : Option BaseSpec} {base : BaseSpec} → All IsBase bases →
     option_map base_of found ≡ slice_get bases k → found ≡ Some base → IsBase (base_of base)
 found_base bases k {found} {base} each is some =
     is_base bases k (base_of base) each (sym is ∙ ap (option_map base_of) some)
 
-pub base_within :
-    (bases : List BaseSpec) (k : ℕ) (d : BaseSpec) → All IsBase (map base_of bases) → k < length bases →
+pub base_within : (bases : List BaseSpec) (k : ℕ) (d : BaseSpec) → All IsBase (map base_of bases) → k < length bases →
     IsBase (base_of (get_or bases k d))
 base_within bases k d each below =
     rw (get_or-map base_of bases k d (base_of d) below) at

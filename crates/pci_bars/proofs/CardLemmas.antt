@@ -24,10 +24,9 @@ wide_of_bytes f from n below each =
     omega (arith, each 1 (lit< tt), each 2 (lit< tt), each 3 (lit< tt))
 
 -- where the bytes are the same, so is the doubleword
-pub holds-same :
-    (bytes bytes' : Bytes) (first : Reg) (value : ℕ) →
-    ((j : ℕ) → j < 4 → bytes' (reg_after first j) ≡ bytes (reg_after first j)) →
-    HoldsLong bytes first value → HoldsLong bytes' first value
+pub holds-same : (bytes bytes' : Bytes) (first : Reg) (value : ℕ) →
+    ((j : ℕ) → j < 4 → bytes' (reg_after first j) ≡ bytes (reg_after first j)) → HoldsLong bytes first value →
+    HoldsLong bytes' first value
 holds-same bytes bytes' first value same is =
     let here = rw add-zero at (same 0 (lit< tt)) in
     record {
@@ -36,8 +35,7 @@ holds-same bytes bytes' first value same is =
     }
 
 -- a doubleword by its bytes
-long_of :
-    (bytes : Bytes) (dev from value : ℕ) → value < 2 ^ 32 →
+long_of : (bytes : Bytes) (dev from value : ℕ) → value < 2 ^ 32 →
     ((j : ℕ) → j < 4 → bytes (card_register dev (from + j)) ≡ byte value j) →
     HoldsLong bytes (card_register dev from) value
 long_of bytes dev from value below each =
@@ -218,9 +216,8 @@ module _ (card : CardBytes) (off written : ℕ) (setup : Setup) (bytes : Bytes) 
       stored setup bytes card.card.dev off written (card_register card.card.dev 0x04) ≡ card.command
   command-stays apart = stored-other setup bytes card.card off written 0x04 (λ e. apart (sym e)) ∙ is.command
 
-  base-stays : (k : ℕ) → k < 6 → IsOffLong (0x10 + 4 * k) off →
-      HoldsLong (stored setup bytes card.card.dev off written) (base_register card.card.dev k)
-      (slice_index card.bases k)
+  base-stays : (k : ℕ) → k < 6 → IsOffLong (0x10 + 4 * k) off → HoldsLong (stored setup bytes card.card.dev off written)
+      (base_register card.card.dev k) (slice_index card.bases k)
   base-stays k below apart =
       long-apart setup bytes card.card off written (0x10 + 4 * k) (slice_index card.bases k) apart (is.bases k below)
 
@@ -277,8 +274,7 @@ module _ (card : CardBytes) (off written : ℕ) (fit : IsCard card.card) (below 
       ]
 
   -- a store elsewhere than at the interrupt line, where the registers are decoded so
-  card-stored :
-      (new : CardBytes) → off ≢ 0x3C → new.card ≡ card.card → new.line ≡ card.line →
+  card-stored : (new : CardBytes) → off ≢ 0x3C → new.card ≡ card.card → new.line ≡ card.line →
       (card.card.rom ≡ None → card.rom ≡ 0 → new.rom ≡ 0) → IsDecodedWritten card new off written →
       AreWritten card new off written
   card-stored new apart same_card same_line no_rom decodes = (
@@ -342,9 +338,8 @@ module _ (card : CardBytes) (off written : ℕ) (fit : IsCard card.card) (below 
           long-stored setup bytes card.card off written fit below fitted 0x30 lane _ _ new place
           (writable-rom card.card lane fit.count write.in_long) write held
 
-pub card-apart :
-    (setup : Setup) (bytes : Bytes) (card : CardBytes) (off written : ℕ) → IsCard card.card → written < 256 →
-    IsApart off → off ≢ 0x3C → IsCardOf setup bytes card →
+pub card-apart : (setup : Setup) (bytes : Bytes) (card : CardBytes) (off written : ℕ) → IsCard card.card →
+    written < 256 → IsApart off → off ≢ 0x3C → IsCardOf setup bytes card →
     IsCardOf setup (stored setup bytes card.card.dev off written) card
 card-apart setup bytes card off written fit below apart not_line =
     (unwritten card off written fit below apart not_line).1 setup bytes

@@ -11,9 +11,8 @@ use Rattle.pci_bars.specs.declared.regs.CardRegs.{CardRegs}
 use Rattle.pci_bars.specs.Cards.{CardBytes, IsCardAdded, AreReset, IsReset, cards_of}
 
 -- the card at a device number, among the cards' registers and among the cards
-pub find-cards : (cards : List CardBytes) (dev : ℕ) →
-    option_map (λ card. card.card) (find (λ card. card.card.dev == dev) cards)
-    ≡ find (λ card. card.dev == dev) (cards_of cards)
+pub find-cards : (cards : List CardBytes) (dev : ℕ) → option_map (λ card. card.card)
+    (find (λ card. card.card.dev == dev) cards) ≡ find (λ card. card.dev == dev) (cards_of cards)
 find-cards [] dev = refl
 find-cards (card ∷ later) dev =
     elim (cases_Bool (card.card.dev == dev)) [ inl here ↦ rw here refl | inr apart ↦ rw apart (find-cards later dev) ]

@@ -21,8 +21,7 @@ named found = option_map {U = ℕ × ℕ} (λ window. (window.dev, window.base))
 abbrev pick : (ℕ → Bool) → ℕ → List Window → Option (ℕ × ℕ)
 pick counts place windows = named (first_window counts place windows)
 
-pick-append :
-    (counts : ℕ → Bool) (place : ℕ) (xs ys : List Window) →
+pick-append : (counts : ℕ → Bool) (place : ℕ) (xs ys : List Window) →
     pick counts place (xs ++ ys) ≡ option_or (pick counts place xs) (pick counts place ys)
 pick-append counts place xs ys =
     ap named (find-append (λ window. counts window.dev && is_covered place window) xs ys)
@@ -87,8 +86,7 @@ module _ (counts : ℕ → Bool) (bytes : Bytes) (place : ℕ) where
 
   both : (dev : ℕ) (xs ys : List Window) (a b : Option ℕ) → Claims xs dev a → Claims ys dev b →
       Claims (xs ++ ys) dev (option_or a b)
-  both dev xs ys a b first later =
-      pick-append counts place xs ys ∙ rw (first, later) (claimed_or (counts dev) dev a b)
+  both dev xs ys a b first later = pick-append counts place xs ys ∙ rw (first, later) (claimed_or (counts dev) dev a b)
 
   pick_base :
       (windows : Windows) (dev k held : ℕ) (base : Base) (rest : List Window) (later : Option ℕ) →
@@ -100,11 +98,9 @@ module _ (counts : ℕ → Bool) (bytes : Bytes) (place : ℕ) where
   pick_base Ports dev k held (IoBase bits) rest later same is = first_of dev k bits _ held rest later same is
   pick_base _ dev k held _ rest later same is = is
 
-  pick_bases :
-      (windows : Windows) (dev : ℕ) (values : List ℕ) →
-      ((k : ℕ) → k < 6 → base_value bytes dev k ≡ slice_index values k) →
-      (k : ℕ) (bases : List Base) → k + length bases ≤ 6 →
-      Claims (base_windows windows bytes dev k bases) dev (covering windows values place k bases)
+  pick_bases : (windows : Windows) (dev : ℕ) (values : List ℕ) →
+      ((k : ℕ) → k < 6 → base_value bytes dev k ≡ slice_index values k) → (k : ℕ) (bases : List Base) →
+      k + length bases ≤ 6 → Claims (base_windows windows bytes dev k bases) dev (covering windows values place k bases)
   pick_bases windows dev values same k [] few = none dev
   pick_bases windows dev values same k (base ∷ later) few =
       pick_base windows dev k (slice_index values k) base _ _ (same k (omega arith))
@@ -119,8 +115,7 @@ module _ (counts : ℕ → Bool) (bytes : Bytes) (place : ℕ) where
       let window = first_of dev 6 bits _ register [] None held.number (none dev) in
       grind arith
 
-  pick_rom :
-      (windows : Windows) (dev register : ℕ) (rom : Option ℕ) → HoldsRom bytes dev register rom →
+  pick_rom : (windows : Windows) (dev register : ℕ) (rom : Option ℕ) → HoldsRom bytes dev register rom →
       Claims (rom_windows windows bytes dev rom) dev (rom_claim windows rom register place)
   pick_rom Ports dev register rom held = none dev
   pick_rom Memory dev register None held = grind arith
@@ -132,8 +127,7 @@ module _ (counts : ℕ → Bool) (bytes : Bytes) (place : ℕ) where
   pick_vga Memory card = grind arith
   pick_vga _ card = none card.dev
 
-  pick_card :
-      (windows : Windows) (setup : Setup) (card : CardBytes) → IsCard card.card → DecodesAs setup bytes card →
+  pick_card : (windows : Windows) (setup : Setup) (card : CardBytes) → IsCard card.card → DecodesAs setup bytes card →
       Claims (windows_in windows bytes card.card) card.card.dev (covering_base windows place card)
   pick_card windows setup card fit is =
       let few = fit.count in
@@ -185,8 +179,7 @@ rom_windows_are bytes card = rw (no_bases 0 card.bases) (append-nil (unselected_
     no_bases k [] = refl
     no_bases k (base ∷ later) = no_bases (k + 1) later
 
-flat_map-same :
-    (f g : FittedCard → List Window) → ((card : FittedCard) → f card ≡ g card) → (cards : List FittedCard) →
+flat_map-same : (f g : FittedCard → List Window) → ((card : FittedCard) → f card ≡ g card) → (cards : List FittedCard) →
     flat_map f cards ≡ flat_map g cards
 flat_map-same f g same [] = refl
 flat_map-same f g same (card ∷ later) = rw (same card, flat_map-same f g same later) refl
@@ -215,7 +208,6 @@ module _ (setup : Setup) (bytes : Bytes) (cards : List CardBytes) (place : ℕ) 
       (sym (pick_cards (λ dev. is_gate gate (is_enabled_for (enable_bit windows) bytes dev)) bytes place windows gate
       setup (λ card is. ap (is_gate gate) (enabled_is windows setup bytes card is)) cards fit are.1))
 
-  pub device_is :
-      option_map {T = ℕ × ℕ} (λ named. named.0) (first_claim windows gate place cards)
-      ≡ option_map (λ window. window.dev) claim
+  pub device_is : option_map {T = ℕ × ℕ} (λ named. named.0)
+      (first_claim windows gate place cards) ≡ option_map (λ window. window.dev) claim
   device_is = ap (option_map {T = ℕ × ℕ} (λ named. named.0)) claim_is ∙ device_alone claim

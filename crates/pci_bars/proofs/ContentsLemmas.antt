@@ -6,17 +6,15 @@ use Rattle.std.proofs.Common.{nat_le, nat_lt, find, if◌then◌else◌, slice_i
 use Rattle.board_prelude.proofs.Common.{with_items, cases_lt, cases_eq, nat_tests, get_or_past, length-replicate}
 use Rattle.board_prelude.proofs.Common.{length-map, map-set, get_or-map, with_items_is, Width, Card, bytes_of, Entry}
 use Rattle.board_prelude.proofs.Common.{FittedCard, Setup, card_at, kept_size, byte, CardCell, byte_put, card_byte}
-use Rattle.board_prelude.proofs.Common.{entry_put, stored_of, expansion_byte}
+use Rattle.board_prelude.proofs.Common.{entry_put, stored_of, expansion_byte, get_or-set_at}
 use Rattle.std.proofs.lemmas.List.{set_past}
-use Rattle.std.proofs.lemmas.Grind.{get_or-set_at}
 use Rattle.board_base.proofs.ZeroLemmas.{zero_at}
 use Rattle.board_spec.proofs.WideLemmas.{put_byte}
 use Rattle.pci_bars.specs.Contents.{IsBaseNumber, slot_number, held, held_byte, HaveSizes, IsContentsOf, slot_size}
 
 -- ---- bytes that are kept, and those that are not
 
-pub held_within :
-    (contents : List (List ℕ)) (dev base off : ℕ) → base ≢ 6 → off < length (held contents dev base) →
+pub held_within : (contents : List (List ℕ)) (dev base off : ℕ) → base ≢ 6 → off < length (held contents dev base) →
     held_byte contents dev base off ≡ slice_index (held contents dev base) off
 held_within contents dev base off kept within = grind (arith, nat_tests)
 
@@ -78,8 +76,7 @@ abbrev pub written_byte : (dev base off : ℕ) → Width → (value : ℕ) → (
 written_byte dev base off width value d b at old =
     unwrap_or (byte_put (Card dev base off) 0 width value (CardCell d b at)) old
 
-written_elsewhere :
-    (dev base off : ℕ) (width : Width) (value d b at old : ℕ) → base ≢ 6 → (dev ≡ d → base ≡ b → ⊥) →
+written_elsewhere : (dev base off : ℕ) (width : Width) (value d b at old : ℕ) → base ≢ 6 → (dev ≡ d → base ≡ b → ⊥) →
     written_byte dev base off width value d b at old ≡ old
 written_elsewhere dev base off width value d b at old kept apart = grind (arith, nat_tests)
 
@@ -89,8 +86,7 @@ written_here :
     ≡ (if nat_le off at && nat_lt at (off + bytes_of width) then byte value (at - off) else old)
 written_here dev base off width value at old kept = grind (arith, nat_tests)
 
-pub same_slot :
-    {dev base d b : ℕ} → IsBaseNumber dev base → IsBaseNumber d b → slot_number d b ≡ slot_number dev base →
+pub same_slot : {dev base d b : ℕ} → IsBaseNumber dev base → IsBaseNumber d b → slot_number d b ≡ slot_number dev base →
     (d ≡ dev) × (b ≡ base)
 same_slot {dev} {base} {d} {b} place other same =
     let f1 = place.first in let f2 = other.first in let b1 = place.below in let b2 = other.below in
@@ -101,8 +97,7 @@ same_slot {dev} {base} {d} {b} place other same =
 pub record IsWritten (old : List (List ℕ)) (dev base off : ℕ) (width : Width) (value : ℕ) (new : List (List ℕ))
     : Type 0 where
   pub sizes : (d b : ℕ) → length (held new d b) ≡ length (held old d b)
-  pub bytes :
-      (d b at : ℕ) → IsBaseNumber d b → at < length (held old d b) →
+  pub bytes : (d b at : ℕ) → IsBaseNumber d b → at < length (held old d b) →
       held_byte new d b at ≡ written_byte dev base off width value d b at (held_byte old d b at)
 
 module _ (old : List (List ℕ)) (dev base off : ℕ) (width : Width) (value : ℕ) (new : List ℕ) (kept : base ≢ 6)
@@ -144,8 +139,7 @@ module _ (old : List (List ℕ)) (dev base off : ℕ) (width : Width) (value : �
       }
 
 -- a write to an expansion ROM leaves all
-pub lost :
-    (contents : List (List ℕ)) (dev off : ℕ) (width : Width) (value : ℕ) →
+pub lost : (contents : List (List ℕ)) (dev off : ℕ) (width : Width) (value : ℕ) →
     IsWritten contents dev 6 off width value contents
 lost contents dev off width value = record { sizes = λ d b. refl; bytes = λ d b at number below. refl }
 

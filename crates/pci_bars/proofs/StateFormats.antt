@@ -65,8 +65,7 @@ slot_format cards each slot =
     (omega (arith, kept_few cards (2 + slot / 8) (slot % 8) each)) (λ bytes long. long) (λ bytes long. long)
     (λ bytes long. refl)
 
-good_from :
-    (cards : List FittedCard) (contents : List (List ℕ)) (slot : ℕ) →
+good_from : (cards : List FittedCard) (contents : List (List ℕ)) (slot : ℕ) →
     ((i at : ℕ) → at ≡ slot + i → i < length contents → length (get_or contents i []) ≡ slot_size cards at) →
     AreGood next_slot (IsSlot cards) slot contents
 good_from cards [] slot each = tt
@@ -111,21 +110,18 @@ contents_format cards each =
     (λ contents good. refl)
 
 -- where a base was not read
-pub slot_failed :
-    (cards : List FittedCard) (fault : Fault) (front : List (List ℕ)) (slot : ℕ) (bytes after : List ℕ)
+pub slot_failed : (cards : List FittedCard) (fault : Fault) (front : List (List ℕ)) (slot : ℕ) (bytes after : List ℕ)
     (total : Result (List (List ℕ) × List ℕ) ℕ) → slot < 64 →
     with_front front (slots_fields cards slot (64 - slot) bytes) ≡ total →
-    Failed fault after (slot_field cards slot bytes) →
-    Failed fault after total
+    Failed fault after (slot_field cards slot bytes) → Failed fault after total
 slot_failed cards faults.Bad front slot bytes after total below so_far read =
     stops _ _ _ (slots_loop cards) front slot 64 slot bytes (length after) total below read so_far
 slot_failed cards faults.NoMemory front slot bytes after total below so_far read = tt
 
 -- ---- the buffers that are still to be added
 
-pub buffer_added :
-    (buffers : List (Vec ℕ Global)) (i : ℕ) (buffer : Vec ℕ Global) (into new total : List ℕ) → i < length buffers →
-    get_or buffers i buffer ≡ buffer → into ++ contents_bytes (lists (drop i buffers)) ≡ total →
+pub buffer_added : (buffers : List (Vec ℕ Global)) (i : ℕ) (buffer : Vec ℕ Global) (into new total : List ℕ) →
+    i < length buffers → get_or buffers i buffer ≡ buffer → into ++ contents_bytes (lists (drop i buffers)) ≡ total →
     new ≡ into ++ memory_bytes buffer.items → new ++ contents_bytes (lists (drop (i + 1) buffers)) ≡ total
 buffer_added buffers i buffer into new total below is so_far added =
     let rest : List (List ℕ) = lists (drop (i + 1) buffers) in
@@ -136,7 +132,6 @@ buffer_added buffers i buffer into new total below is so_far added =
       ← flat_map-cons memory_bytes buffer.items rest,
     ) first
 
-pub buffers_added :
-    (buffers : List (Vec ℕ Global)) (i : ℕ) (into total : List ℕ) → length buffers ≤ i →
+pub buffers_added : (buffers : List (Vec ℕ Global)) (i : ℕ) (into total : List ℕ) → length buffers ≤ i →
     into ++ contents_bytes (lists (drop i buffers)) ≡ total → into ≡ total
 buffers_added buffers i into total over so_far = sym (append-nil into) ∙ rw (drop_all i buffers over) at so_far

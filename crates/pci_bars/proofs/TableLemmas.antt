@@ -16,8 +16,7 @@ use Rattle.pci_bars.specs.Common.{of_base, CardBytes, is_kept_offset, header_of}
 module _ (setup : Setup) (card : FittedCard) (off : ℕ) (above : 2 ≤ card.dev)
     (fitted : card_at setup card.dev ≡ Some card) where
   card_lines : function_lines setup card.dev 0 ≡ card_function card
-  card_lines =
-      rw (ne_eqb card.dev 0 (λ e. omega arith), ne_eqb card.dev 1 (λ e. omega arith), fitted) refl
+  card_lines = rw (ne_eqb card.dev 0 (λ e. omega arith), ne_eqb card.dev 1 (λ e. omega arith), fitted) refl
 
   pub reset_byte-card :
       reset_byte setup (card_register card.dev off) ≡ listed (λ entry. entry.reset) (card_function card) off
@@ -44,8 +43,7 @@ byte_of_zero j = grind arith
 long_byte : (n j : ℕ) → j < 4 → get_or (long_bytes n) j 0 ≡ byte n j
 long_byte n j below = each_below (λ j. get_or (long_bytes n) j 0 ≡ byte n j) 4 j (assumption) below
 
-get_or-base_bytes :
-    (number_of : Base → ℕ) (bases : List Base) (k j i : ℕ) → i ≡ 4 * k + j → j < 4 →
+get_or-base_bytes : (number_of : Base → ℕ) (bases : List Base) (k j i : ℕ) → i ≡ 4 * k + j → j < 4 →
     get_or (base_bytes number_of bases) i 0 ≡ byte (of_base number_of bases k) j
 get_or-base_bytes number_of [] k j i at below = sym (byte_of_zero j)
 get_or-base_bytes number_of (base ∷ later) zero j i at below =
@@ -78,9 +76,8 @@ module _ (column : Line → List ℕ) (card : FittedCard) where
   before_rom : (off : ℕ) → off < 0x30 → listed column (rom_entry card ∷ last_entry ∷ []) off ≡ 0
   before_rom off below = grind (arith, nat_tests)
 
-  pub in_bases :
-      (number_of : Base → ℕ) (k j : ℕ) → column (base_entry card) ≡ base_bytes number_of card.bases → k < 6 → j < 4 →
-      listed column (card_function card) (0x10 + 4 * k + j) ≡ byte (of_base number_of card.bases k) j
+  pub in_bases : (number_of : Base → ℕ) (k j : ℕ) → column (base_entry card) ≡ base_bytes number_of card.bases → k < 6 →
+      j < 4 → listed column (card_function card) (0x10 + 4 * k + j) ≡ byte (of_base number_of card.bases k) j
   in_bases number_of k j same k_below j_below =
       let later : List Line = rom_entry card ∷ last_entry ∷ [] in
       let off = 0x10 + 4 * k + j in
@@ -118,14 +115,12 @@ module _ (column : Line → List ℕ) (card : FittedCard) where
         listed column (card_function card) off ≡ 0
     past_pin off above off_rom not_line not_pin = past_bases off above ∙ grind (arith, nat_tests)
 
-pub reset-rom :
-    (card : FittedCard) (j : ℕ) → length card.bases ≤ 6 → j < 4 →
-    listed (λ entry. entry.reset) (card_function card) (0x30 + j) ≡ 0
+pub reset-rom : (card : FittedCard) (j : ℕ) → length card.bases ≤ 6 → j < 4 → listed (λ entry. entry.reset)
+    (card_function card) (0x30 + j) ≡ 0
 reset-rom card j count below = in_rom (λ entry. entry.reset) card count j below ∙ get_or-replicate 4 j 0 0 below
 
-pub writable-rom :
-    (card : FittedCard) (j : ℕ) → length card.bases ≤ 6 → j < 4 →
-    listed (λ entry. entry.writable) (card_function card) (0x30 + j) ≡ byte (rom_writable card.rom) j
+pub writable-rom : (card : FittedCard) (j : ℕ) → length card.bases ≤ 6 → j < 4 → listed (λ entry. entry.writable)
+    (card_function card) (0x30 + j) ≡ byte (rom_writable card.rom) j
 writable-rom card j count below =
     in_rom (λ entry. entry.writable) card count j below ∙ long_byte (rom_writable card.rom) j below
 
@@ -151,9 +146,8 @@ as_reset card off =
     (λ off. listed (λ entry. entry.reset) (card_function card.card) off ≡ get_or (reset_header card) off 0) 16 off
     assumption
 
-pub reset-header :
-    (card : CardBytes) (off : ℕ) → off < 16 → off ≢ 4 →
-    listed (λ entry. entry.reset) (card_function card.card) off ≡ get_or (header_of card) off 0
+pub reset-header : (card : CardBytes) (off : ℕ) → off < 16 → off ≢ 4 → listed (λ entry. entry.reset)
+    (card_function card.card) off ≡ get_or (header_of card) off 0
 reset-header card off below apart =
     as_reset card off below ∙ sym (get_or-set_other (reset_header card) 4 off card.command 0 apart)
 
@@ -183,17 +177,14 @@ fixed-header card last off below apart =
 -- ---- kept offsets
 
 -- an offset is none of those that a card keeps
-pub kept_nowhere :
-    (rom : Option ℕ) (off : ℕ) → (off == 0x04 || is_within 0x10 0x27 off || off == 0x3C) ≡ false →
+pub kept_nowhere : (rom : Option ℕ) (off : ℕ) → (off == 0x04 || is_within 0x10 0x27 off || off == 0x3C) ≡ false →
     (off < 0x30) ⊎ (0x34 ≤ off) →
     (off == 0x04 || is_within 0x10 0x27 off || is_some rom && is_within 0x30 0x33 off || off == 0x3C) ≡ false
 kept_nowhere rom off plain apart = grind (arith, nat_tests)
 
 -- without a ROM its register is fixed
-fixed-past :
-    (card : FittedCard) (off : ℕ) → length card.bases ≤ 6 → 0x28 ≤ off →
-    (off < 0x30) ⊎ (0x34 ≤ off) → off ≢ 0x3C →
-    IsFixed card off
+fixed-past : (card : FittedCard) (off : ℕ) → length card.bases ≤ 6 → 0x28 ≤ off → (off < 0x30) ⊎ (0x34 ≤ off) →
+    off ≢ 0x3C → IsFixed card off
 fixed-past card off count above apart not_line =
     elim (cases_eq off 0x3D) [
       | inl pin ↦ rw pin (record {

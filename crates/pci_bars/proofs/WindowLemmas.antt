@@ -1,12 +1,11 @@
 -- The window that claims a place has the size of its base, and an access that it claims lies in its contents.
 use Rattle.std.proofs.Common.{◌≡◌, ◌≢◌, ◌⊎◌, ℕ, suc, ◌+◌, ◌-◌, ◌*◌, ◌%◌, ◌^◌, ◌<◌, ◌≤◌, Bool, true, false, List, []}
 use Rattle.std.proofs.Common.{◌∷◌, ◌++◌, if◌then◌else◌, length, Option, None, Some, inl, inr, ◌∙◌, refl, ap, subst}
-use Rattle.std.proofs.Common.{arith, lit<, lit≤, ◌==◌, All, find, flat_map, slice_get}
-use Rattle.board_prelude.proofs.Common.{cases_Bool, ne_eqb, nil_from_length, pow-add, pow_pos, All-nil, All-cons}
-use Rattle.board_prelude.proofs.Common.{All-head, All-tail, All-append, Base, IoBase, FittedCard, Setup, IsBase}
-use Rattle.board_prelude.proofs.Common.{IsExpansionRom, IsCard, card_at, kept_of_base, kept_size, Width, bytes_of}
-use Rattle.board_prelude.proofs.Common.{window_bits, bits_of_base, Bytes, Window, rom_window_of, is_rom_on, io_windows}
-use Rattle.board_prelude.proofs.Common.{memory_claim, io_claim}
+use Rattle.std.proofs.Common.{arith, lit<, lit≤, ◌==◌, All, find, flat_map, slice_get, ne_eqb, pow-add, pow_pos}
+use Rattle.board_prelude.proofs.Common.{cases_Bool, nil_from_length, All-nil, All-cons, All-head, All-tail, All-append}
+use Rattle.board_prelude.proofs.Common.{Base, IoBase, FittedCard, Setup, IsBase, IsExpansionRom, IsCard, card_at}
+use Rattle.board_prelude.proofs.Common.{kept_of_base, kept_size, Width, bytes_of, window_bits, bits_of_base, Bytes}
+use Rattle.board_prelude.proofs.Common.{Window, rom_window_of, is_rom_on, io_windows, memory_claim, io_claim}
 use Rattle.std.proofs.lemmas.Nat.{mod-pow-add}
 use Rattle.std.proofs.Math.Nat.{mod-lt}
 use Rattle.pci_bars.specs.declared.claims.Gate.TheVariants.{Open}
@@ -29,8 +28,7 @@ pub record IsSized (setup : Setup) (window : Window) : Type 0 where
   pub bits : window.bits ≡ window_bits setup window.dev window.base
   pub size : window.base ≢ 6 → IsKeptAs (kept_size (card_at setup window.dev) window.base) window.bits
 
-pub All-find :
-    (P : Window → Type 0) (test : Window → Bool) (windows : List Window) (window : Window) → All P windows →
+pub All-find : (P : Window → Type 0) (test : Window → Bool) (windows : List Window) (window : Window) → All P windows →
     find test windows ≡ Some window → P window
 All-find P test [] window each found = absurd (cc)
 All-find P test (first ∷ later) window each found =
@@ -74,18 +72,16 @@ module _ (setup : Setup) (bytes : Bytes) (card : FittedCard) (fit : IsCard card)
         size = λ _. rw (fitted, not_vga, at) (size_of_bits base);
       })
 
-  sized_base :
-      (windows : Windows) (k : ℕ) (base : Base) → k < 6 → slice_get card.bases k ≡ Some base →
+  sized_base : (windows : Windows) (k : ℕ) (base : Base) → k < 6 → slice_get card.bases k ≡ Some base →
       All (IsSized setup) (window_in windows bytes card.dev k base)
   sized_base Memory k (IoBase bits) below at = no_windows setup
   sized_base Memory k base below at = sized k _ base below at
   sized_base Ports k (IoBase bits) below at = sized k _ (IoBase bits) below at
   sized_base _ k _ below at = no_windows setup
 
-  sized_bases :
-      (windows : Windows) (k : ℕ) (bases : List Base) → k + length bases ≤ 6 →
-      ((i : ℕ) → slice_get card.bases (k + i) ≡ slice_get bases i) →
-      All (IsSized setup) (base_windows windows bytes card.dev k bases)
+  sized_bases : (windows : Windows) (k : ℕ) (bases : List Base) → k + length bases ≤ 6 →
+      ((i : ℕ) → slice_get card.bases (k + i) ≡ slice_get bases i) → All (IsSized setup)
+      (base_windows windows bytes card.dev k bases)
   sized_bases windows k [] few same = no_windows setup
   sized_bases windows k (base ∷ later) few same =
       All-append (IsSized setup) (window_in windows bytes card.dev k base)
@@ -137,8 +133,7 @@ module _ (setup : Setup) (bytes : Bytes) (card : FittedCard) (fit : IsCard card)
       (sized_vga windows)
 
 module _ (setup : Setup) (bytes : Bytes) where
-  sized_cards :
-      (windows : Windows) (cards : List CardBytes) → AreCards cards → All (DecodesAs setup bytes) cards →
+  sized_cards : (windows : Windows) (cards : List CardBytes) → AreCards cards → All (DecodesAs setup bytes) cards →
       All (IsSized setup) (flat_map (windows_in windows bytes) (cards_of cards))
   sized_cards windows [] fit are = no_windows setup
   sized_cards windows (card ∷ later) fit are =
@@ -149,17 +144,15 @@ module _ (setup : Setup) (bytes : Bytes) where
       (All-tail (DecodesAs setup bytes) card later are))
 
   -- the window that claims an address is that of a base
-  pub memory_claim_sized :
-      (cards : List CardBytes) (addr : ℕ) (window : Window) → AreCards cards → AreDecoded setup bytes cards →
-      memory_claim setup bytes addr ≡ Some window → IsSized setup window
+  pub memory_claim_sized : (cards : List CardBytes) (addr : ℕ) (window : Window) → AreCards cards →
+      AreDecoded setup bytes cards → memory_claim setup bytes addr ≡ Some window → IsSized setup window
   unfolding memory_claim
   memory_claim_sized cards addr window fit are found =
       All-find (IsSized setup) _ _ window (sized_cards Memory cards fit are.1) (rw are.0 at found)
 
   -- and so is the window that claims a port
-  pub io_claim_sized :
-      (cards : List CardBytes) (port : ℕ) (window : Window) → AreCards cards → AreDecoded setup bytes cards →
-      io_claim setup bytes port ≡ Some window → IsSized setup window
+  pub io_claim_sized : (cards : List CardBytes) (port : ℕ) (window : Window) → AreCards cards →
+      AreDecoded setup bytes cards → io_claim setup bytes port ≡ Some window → IsSized setup window
   unfolding io_claim
   io_claim_sized cards port window fit are found =
       All-find (IsSized setup) _ _ window
@@ -177,16 +170,13 @@ low_two place bits above =
     let same : bits ≡ bits - 2 + 2 = omega arith in
     rw (same, mod-pow-add place (bits - 2) 2) (omega arith)
 
-fits_below :
-    (place off size : ℕ) (width : Width) → off < size * 4 → off % 4 ≡ place % 4 → place % bytes_of width ≡ 0 →
+fits_below : (place off size : ℕ) (width : Width) → off < size * 4 → off % 4 ≡ place % 4 → place % bytes_of width ≡ 0 →
     off + bytes_of width ≤ size * 4
 fits_below place off size width below same aligned = grind arith
 
 -- an access that a window claims lies in the contents of its base
-pub lies_in_window :
-    (setup : Setup) (contents : List (List ℕ)) (window : Window) (place : ℕ) (width : Width) →
-    IsSized setup window →
-    HaveSizes setup contents → place % bytes_of width ≡ 0 →
+pub lies_in_window : (setup : Setup) (contents : List (List ℕ)) (window : Window) (place : ℕ) (width : Width) →
+    IsSized setup window → HaveSizes setup contents → place % bytes_of width ≡ 0 →
     LiesIn contents window.dev window.base (place % 2 ^ window.bits) width
 lies_in_window setup contents window place width sized sizes aligned =
     let kept = sizes window.dev window.base sized.number in

@@ -1,9 +1,8 @@
 -- Sets of levels and the bits of their bytes.
 use Rattle.std.proofs.Common.{rules, ◌≡◌, ℕ, ◌-◌, ◌*◌, ◌%◌, ◌^◌, ◌<◌, min, max, Bool, true, not, eqb, ◌||◌, ◌&&◌, refl}
-use Rattle.std.proofs.Common.{ap, ◌∙◌, ◌↔◌, arith, bit_or, bit_and}
+use Rattle.std.proofs.Common.{ap, ◌∙◌, ◌↔◌, arith, bit_or, bit_and, w8}
 use Rattle.std.specs.Int.{Width, bit_at, bit_not}
 use mir.Val.{bits}
-use mir.Syntax.{w8}
 use Rattle.device_spec.proofs.Common.{cases_eq, eq-eqb, ne_eqb, agree_below_at, eqb-true, is_bit, levels_where-same}
 use Rattle.device_spec.proofs.Common.{has-levels_where, has, levels_where, no_levels, with_level, without_level}
 use Rattle.device_spec.proofs.Common.{levels_of_byte, byte_of_levels, nat_tests}

@@ -1,13 +1,12 @@
 -- One chip: its inputs, and that it has no request where no level is requested.
 use Rattle.std.proofs.Common.{◌≡◌, ℕ, suc, ◌+◌, ◌≤◌, ◌<◌, Bool, true, false, not, cond, ◌||◌, ◌&&◌, List, [], ◌∷◌, ◌++◌}
 use Rattle.std.proofs.Common.{length, get_or, drop, Some, None, refl, arith, sym, ap, ◌∙◌, inl, inr}
-use Rattle.std.proofs.lemmas.Bool.{cases_lt}
+use Rattle.device_spec.proofs.Common.{cases_lt, levels_where-same, has-levels_where, priority_order-small, nat_tests}
 use Rattle.std.proofs.lemmas.List.{get_or_past}
 use Rattle.device_spec.specs.Common.{find, Levels, has, levels_where, no_levels, Chip, pending, latches_after}
 use Rattle.device_spec.specs.Common.{is_requested, first_selectable, first_blocking, blocks_itself, is_blocking}
 use Rattle.device_spec.specs.Common.{request, priority_order}
 use Rattle.device_spec.proofs.Priorities.{scan, scan-found, scan-blocked, scan-past, scan-end}
-use Rattle.device_spec.proofs.Common.{levels_where-same, has-levels_where, priority_order-small, nat_tests}
 use Rattle.pic_levels.proofs.Orders.{order-length}
 
 -- ---- the pending levels

@@ -1,8 +1,7 @@
 -- The levels of the sixteen lines, and the bits of their mask.
 use Rattle.std.proofs.Common.{rules, ◌≡◌, ℕ, ◌+◌, ◌-◌, ◌*◌, ◌/◌, ◌%◌, ◌^◌, ◌<◌, Bool, true, false, cond, not, eqb, ◌||◌}
 use Rattle.std.proofs.Common.{◌&&◌, List, ◌++◌, length, take, drop, replicate, get_or, set, refl, sym, ap, subst, ◌∙◌}
-use Rattle.std.proofs.Common.{inl, inr, arith, length-set, get_or-set_same, get_or-set_other, bit_or, bit_and}
-use mir.Syntax.{w16}
+use Rattle.std.proofs.Common.{inl, inr, arith, length-set, get_or-set_same, get_or-set_other, bit_or, bit_and, w16}
 use Rattle.device_spec.proofs.Common.{take-append-drop, cases_eq, eq-eqb, ne_eqb, get_or-map, ext_get_or, is_bit}
 use Rattle.device_spec.proofs.Common.{levels_where, levels_of_byte, nat_tests}
 use Rattle.pic_pair.specs.Lines.{sixteen, lines_where, lines_of}

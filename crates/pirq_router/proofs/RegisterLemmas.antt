@@ -27,8 +27,7 @@ elsewhere : (setup : Setup) (bytes : Bytes) (byte off : ℕ) → 0x60 ≢ off �
 elsewhere setup bytes byte off a b c d none = grind (arith, nat_tests)
 
 pub stored_byte : (setup : Setup) (bytes : Bytes) (routes : Routes) (off byte : ℕ) → byte < 256 →
-    AreRoutesIn bytes routes →
-    AreRoutesIn (λ reg. changed_byte setup (Store (isa off) One byte) reg (bytes reg))
+    AreRoutesIn bytes routes → AreRoutesIn (λ reg. changed_byte setup (Store (isa off) One byte) reg (bytes reg))
     (routes_after_write routes off byte)
 stored_byte setup bytes routes off byte small are =
     ap (λ now. routes_after_write now off byte) are

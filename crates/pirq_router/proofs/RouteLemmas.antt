@@ -1,7 +1,6 @@
 -- One pin more, and one line set.
-use Rattle.board_base.proofs.Common.{nat_tests}
+use Rattle.board_prelude.proofs.Common.{nat_tests, Routes, drives, line_of_route, is_line_driven}
 use Rattle.std.proofs.Common.{arith, zero, suc, ◌≡◌, ℕ, ◌+◌, Bool, false, ◌||◌, List, get_or, set, refl, add-one}
-use Rattle.board_prelude.proofs.Common.{Routes, drives, line_of_route, is_line_driven}
 
 -- whether one of the first pins holds the line at 1
 unfoldable pub drives_among : ℕ → Routes → List Bool → ℕ → Bool

@@ -7,8 +7,7 @@ use Rattle.pit_8254.specs.Quiet.{IsQuiet, most_count, rises_of, every_pulse, qui
 
 -- the pulse after n quiet ones is quiet: more are to come, or all that come are quiet
 abbrev IsQuietAt : Bool → CounterState → ℕ → Type 0
-IsQuietAt gate c n =
-    (n < quiet_pulses gate c) ⊎ ((c.element ≤ most_count) × (quiet_pulses gate c ≡ every_pulse))
+IsQuietAt gate c n = (n < quiet_pulses gate c) ⊎ ((c.element ≤ most_count) × (quiet_pulses gate c ≡ every_pulse))
 
 step_in : (mode : Mode) (gate : Bool) (c : CounterState) (n : ℕ) → c.mode ≡ mode → IsQuietAt gate c n →
     pulse gate (after_quiet gate n c) ≡ after_quiet gate (suc n) c

@@ -40,8 +40,7 @@ never_later gate n c d p never = λ m. still_none gate n m c d p never
 
 pub rises_after : (gate : Bool) (n k : ℕ) (c d : CounterState) → NoRiseIn gate n c d → IsFirstRise gate d (Some k) →
     IsFirstRise gate c (Some (n + k))
-rises_after gate n k c d p is =
-    grind (arith, nat_tests, rises_later gate n k c d p, rises_later gate n (k - 1) c d p)
+rises_after gate n k c d p is = grind (arith, nat_tests, rises_later gate n k c d p, rises_later gate n (k - 1) c d p)
 
 -- ---- the first pulse
 
@@ -62,8 +61,7 @@ unfolding rises_of
 edge_rise gate c = grind (arith, nat_tests, quietly gate c (quiet_pulses gate c), out_stays)
 
 pub edge_state : (gate : Bool) (c passed d : CounterState) (n : ℕ) → n ≡ quiet_pulses gate c →
-    passed ≡ after_quiet gate n c → d ≡ pulse gate passed →
-    d ≡ pulses_of gate (quiet_pulses gate c + 1) c
+    passed ≡ after_quiet gate n c → d ≡ pulse gate passed → d ≡ pulses_of gate (quiet_pulses gate c + 1) c
 edge_state gate c passed d n is quiet then_is = grind (arith, nat_tests, edge_is gate c)
 
 is_edge : (gate : Bool) (c d : CounterState) (e : Edge) → IsPulseEdge gate c d e → d ≡ edge gate c

@@ -77,11 +77,9 @@ abbrev latch_with : (size first second : ℕ) → List ℕ
 latch_with size first second = take size (first ∷ second ∷ [])
 
 -- the bytes of a latch are as many as it says, and the others are 0
-latch_from :
-    (size first second : ℕ) → size ≤ 2 → first ≤ bound_where (nat_lt 0 size) 255 →
+latch_from : (size first second : ℕ) → size ≤ 2 → first ≤ bound_where (nat_lt 0 size) 255 →
     second ≤ bound_where (nat_lt 1 size) 255 →
-    IsLatch (latch_with size first second)
-    × (latch_bytes (latch_with size first second) ≡ size ∷ first ∷ second ∷ [])
+    IsLatch (latch_with size first second) × (latch_bytes (latch_with size first second) ≡ size ∷ first ∷ second ∷ [])
 latch_from size first second few one two = grind (arith, nat_tests)
 
 latch_to : (bytes : List ℕ) → IsLatch bytes →
@@ -154,8 +152,7 @@ counted_to :
     × (flag_byte started ≤ flag_byte (is_some count))
 counted_to mode count asked started has few = grind (arith, nat_tests)
 
-counted_from :
-    (mode : Mode) (count : Option ℕ) (asked started : Bool) → IsWithin (least_count mode) most_count count →
+counted_from : (mode : Mode) (count : Option ℕ) (asked started : Bool) → IsWithin (least_count mode) most_count count →
     flag_byte asked ≤ flag_byte (is_some count) → flag_byte started ≤ flag_byte (is_some count) →
     HasCount mode count asked started × IsFew count
 counted_from mode count asked started is one two = grind (arith, nat_tests)
@@ -193,8 +190,5 @@ pit_format =
     counter_format then λ counter1 good.
     counter_format then λ counter2 good.
     last_field _ flag_format)
-    (λ p is. (
-      (p.counter0, is.counter0) & (p.counter1, is.counter1) & (p.counter2, is.counter2) & (p.gate2, tt),
-      refl,
-    ))
+    (λ p is. ((p.counter0, is.counter0) & (p.counter1, is.counter1) & (p.counter2, is.counter2) & (p.gate2, tt), refl))
     (λ t. (record { counter0 = t.1; counter1 = t.2.1; counter2 = t.2.2.1 }, refl))

@@ -52,8 +52,7 @@ reset_byte-small setup off fixed =
 abbrev IsFixedIn : Bytes → Type 0
 IsFixedIn bytes = (setup : Setup) (off : ℕ) → IsFixedOffset off → bytes (bridge off) ≡ reset_byte setup (bridge off)
 
-pub fixed_stay :
-    (setup : Setup) (bytes : Bytes) (off written : ℕ) → written < 256 → IsFixedIn bytes →
+pub fixed_stay : (setup : Setup) (bytes : Bytes) (off written : ℕ) → written < 256 → IsFixedIn bytes →
     IsFixedIn (after_store setup bytes off written)
 fixed_stay setup bytes off written below fixed other at is_fixed =
     elim (cases_eq at off) [
@@ -68,9 +67,8 @@ fixed_stay setup bytes off written below fixed other at is_fixed =
 -- ---- the three kinds of registers
 
 -- the boundaries after a byte is stored in one of their registers
-pub rows_after_store :
-    (setup : Setup) (bytes : Bytes) (drb : List ℕ) (row written : ℕ) → length drb ≡ 8 → row < 8 → written < 256 →
-    IsRowsOf bytes drb → IsRowsOf (after_store setup bytes (0x60 + row) written) (set drb row written)
+pub rows_after_store : (setup : Setup) (bytes : Bytes) (drb : List ℕ) (row written : ℕ) → length drb ≡ 8 → row < 8 →
+    written < 256 → IsRowsOf bytes drb → IsRowsOf (after_store setup bytes (0x60 + row) written) (set drb row written)
 rows_after_store setup bytes drb row written eight within below is_rows at at_within =
     elim (cases_eq at row) [
       | inl same ↦
@@ -110,8 +108,7 @@ stored_hole setup bytes drb old written below is_pmc =
       fixed = fixed_stay setup bytes fdhc.off written below is_pmc.fixed;
     }
 
-pub stored_nowhere :
-    (setup : Setup) (bytes : Bytes) (pmc : PmcBytes) (off written : ℕ) → written < 256 →
+pub stored_nowhere : (setup : Setup) (bytes : Bytes) (pmc : PmcBytes) (off written : ℕ) → written < 256 →
     ((off < 0x60) ⊎ (0x68 < off)) → IsPmcOf bytes pmc → IsPmcOf (after_store setup bytes off written) pmc
 stored_nowhere setup bytes pmc off written below outside is_pmc =
     record {
@@ -125,7 +122,6 @@ stored_nowhere setup bytes pmc off written below outside is_pmc =
 abbrev bare : Setup
 bare = record { mib = 0; cards = []; rom = []; disk = None }
 
-pub fixed_read :
-    (bytes : Bytes) (pmc : PmcBytes) (off byte : ℕ) → IsPmcOf bytes pmc → IsFixedOffset off →
+pub fixed_read : (bytes : Bytes) (pmc : PmcBytes) (off byte : ℕ) → IsPmcOf bytes pmc → IsFixedOffset off →
     ((setup : Setup) → byte ≡ reset_byte setup (bridge off)) → byte ≡ bytes (bridge off)
 fixed_read bytes pmc off byte is_pmc is_fixed is_reset = is_reset bare ∙ sym (is_pmc.fixed bare off is_fixed)

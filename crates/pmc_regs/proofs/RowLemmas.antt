@@ -17,11 +17,10 @@ abbrev ends_above : ℕ → ℕ → Bool
 ends_above addr boundary = nat_lt addr (boundary * 0x80_0000)
 
 -- the first register of a list that ends its row above an address has the number of that row
-first_from :
-    (bytes : Bytes) (addr : ℕ) (drb : List ℕ) (first : ℕ) →
+first_from : (bytes : Bytes) (addr : ℕ) (drb : List ℕ) (first : ℕ) →
     ((k : ℕ) → k < length drb → slice_index drb k ≡ bytes (bridge (0x60 + first + k))) →
-    position_from (ends_above addr) first drb
-    ≡ find (λ row. nat_lt addr (boundary bytes row)) (rows_from first (length drb))
+    position_from (ends_above addr) first drb ≡ find (λ row. nat_lt addr (boundary bytes row))
+    (rows_from first (length drb))
 first_from bytes addr [] first is_rows = refl
 first_from bytes addr (b ∷ later) first is_rows =
     let here : b ≡ bytes (bridge (0x60 + first)) =
@@ -31,9 +30,8 @@ first_from bytes addr (b ∷ later) first is_rows =
     (first_from bytes addr later (first + 1)
     (λ k below. is_rows (suc k) (omega arith) ∙ ap (λ off. bytes (bridge off)) (omega arith)))
 
-pub row_below_top :
-    (bytes : Bytes) (drb : List ℕ) (addr : ℕ) → length drb ≡ 8 → IsRowsOf bytes drb → addr < top_of bytes →
-    position (λ b. nat_lt addr (b * 0x80_0000)) drb ≡ row_of bytes addr
+pub row_below_top : (bytes : Bytes) (drb : List ℕ) (addr : ℕ) → length drb ≡ 8 → IsRowsOf bytes drb →
+    addr < top_of bytes → position (λ b. nat_lt addr (b * 0x80_0000)) drb ≡ row_of bytes addr
 unfolding row_of
 row_below_top bytes drb addr eight is_rows below =
     position_from-zero (λ b. nat_lt addr (b * 0x80_0000)) drb
@@ -45,9 +43,8 @@ pub row_above_top : (bytes : Bytes) (addr : ℕ) → top_of bytes ≤ addr → r
 unfolding row_of
 row_above_top bytes addr above = cond-false (nat_lt addr (top_of bytes)) _ _ (le-ltb addr (top_of bytes) above)
 
-last_row_ends_above :
-    (bytes : Bytes) (addr : ℕ) → addr < top_of bytes → (o : Option ℕ) →
-    is_some {T = ℕ} (option_or o (find (λ row. nat_lt addr (boundary bytes row)) (7 ∷ []))) ≡ true
+last_row_ends_above : (bytes : Bytes) (addr : ℕ) → addr < top_of bytes → (o : Option ℕ) → is_some {T = ℕ}
+    (option_or o (find (λ row. nat_lt addr (boundary bytes row)) (7 ∷ []))) ≡ true
 last_row_ends_above bytes addr below (Some row) = refl
 last_row_ends_above bytes addr below None =
     ap (λ b. is_some {T = ℕ} (cond b (Some 7) None)) (lt-ltb addr (top_of bytes) below)

@@ -1,10 +1,9 @@
 -- Fields are read as a card exactly where they spell it.
 use Rattle.std.proofs.Common.{◌≡◌, ℕ, ◌<◌, ◌≤◌, ◌⊎◌, inl, inr, Bool, true, false, Some, None, List, [], ◌∷◌, ◌++◌}
 use Rattle.std.proofs.Common.{length, map, All, refl, append_assoc, arith, codes, decimal, eqb, cond, ◌+◌, Option, sym}
-use Rattle.std.proofs.Common.{ap, append-nil}
-use Rattle.board_prelude.proofs.Common.{nat_tests, cases_Bool, eqb-true, option_map, length-append, All-nil, All-push}
-use Rattle.board_prelude.proofs.Common.{map-append, Base, MemoryBase, IoBase, FittedCard, eq-eqb, lt-ltb, All-head}
-use Rattle.board_prelude.proofs.Common.{All-tail}
+use Rattle.std.proofs.Common.{ap, append-nil, eqb-true, length-append, eq-eqb, lt-ltb}
+use Rattle.board_prelude.proofs.Common.{nat_tests, cases_Bool, option_map, All-nil, All-push, map-append, Base}
+use Rattle.board_prelude.proofs.Common.{MemoryBase, IoBase, FittedCard, All-head, All-tail}
 use Rattle.script_spec.specs.Common.{IsBaseForm, IsRomForm, IsCardForm, parse_decimal, parse_base, Tail, parse_rom_bits}
 use Rattle.script_spec.specs.Common.{with_base, with_rom, with_field, with_fields, no_tail, parse_vga, parse_card}
 use Rattle.script_spec.proofs.Chains.{some_is, guarded, mapped, then_said, then_read, word_is}

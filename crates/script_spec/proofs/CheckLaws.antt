@@ -24,20 +24,17 @@ pub record GoesOn (lines : List (List ℕ)) (rest : List ℕ) (others : List (Li
   pub whole : rest ≡ this ++ line_feed ∷ (text_of_lines more ++ after)
 
 abbrev pub Compared : List (List ℕ) → List ℕ → List (List ℕ) → List ℕ → Type 0
-Compared lines rest others after =
-    (lines ≡ others) ⊎ GoesOn lines rest others after ⊎ GoesOn others after lines rest
+Compared lines rest others after = (lines ≡ others) ⊎ GoesOn lines rest others after ⊎ GoesOn others after lines rest
 
-compared_more :
-    (line : List ℕ) (lines : List (List ℕ)) (rest : List ℕ) (others : List (List ℕ)) (after : List ℕ) →
+compared_more : (line : List ℕ) (lines : List (List ℕ)) (rest : List ℕ) (others : List (List ℕ)) (after : List ℕ) →
     Compared lines rest others after → Compared (line ∷ lines) rest (line ∷ others) after
 compared_more line lines rest others after given = grind (arith, nat_tests)
 
 line_parts : (line text rest : List ℕ) → (line ++ line_feed ∷ []) ++ text ++ rest ≡ line ++ line_feed ∷ (text ++ rest)
 line_parts line text rest = simp append_assoc
 
-pub compared :
-    (lines : List (List ℕ)) (rest : List ℕ) (others : List (List ℕ)) (after : List ℕ) →
-    All IsOneLine lines → All IsOneLine others → text_of_lines lines ++ rest ≡ text_of_lines others ++ after →
+pub compared : (lines : List (List ℕ)) (rest : List ℕ) (others : List (List ℕ)) (after : List ℕ) → All IsOneLine lines →
+    All IsOneLine others → text_of_lines lines ++ rest ≡ text_of_lines others ++ after →
     Compared lines rest others after
 compared [] rest [] after each all same = inl refl
 compared [] rest (line ∷ others) after each all same = inr (inl (record {

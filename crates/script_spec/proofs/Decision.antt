@@ -85,9 +85,8 @@ later_are version number line later before items one (Err end) stops = record {
 }
 
 next_are : (version number : ℕ) (line : List ℕ) (later : List (List ℕ)) (before : List Item)
-    (next : List Item → Result (List Item) (ℕ × ℕ)) (result : Result (List Item) ℕ) → IsLine version before line result
-    →
-    ((items : List Item) → AreLines version items later (number + 1) (next items)) →
+    (next : List Item → Result (List Item) (ℕ × ℕ)) (result : Result (List Item) ℕ) →
+    IsLine version before line result → ((items : List Item) → AreLines version items later (number + 1) (next items)) →
     AreLines version before (line ∷ later) number (goes_on result number next)
 next_are version number line later before next result one rest = grind (arith, nat_tests, later_are)
 
@@ -185,9 +184,8 @@ front_decided version number (line ∷ good) rest before items read =
     rw (line_decided version before one.0 line one.1)
     (front_decided version (number + 1) good rest one.0 items one.2 ∙ ap (λ n. judged_lines version items n rest) e)
 
-end_decided : (version number : ℕ) (items : List Item) (rest : List (List ℕ)) (why : ℕ)
-    → EndsBadly version items rest why →
-    judged_lines version items number rest ≡ Err (number, why)
+end_decided : (version number : ℕ) (items : List Item) (rest : List (List ℕ)) (why : ℕ) →
+    EndsBadly version items rest why → judged_lines version items number rest ≡ Err (number, why)
 unfolding judged_lines
 end_decided version number items rest why bad = grind (arith, nat_tests, bad_line)
 

@@ -239,9 +239,8 @@ access_is : (version : ℕ) (kind : Kind) (bytes addr value : ℕ) (smm : Bool) 
 unfolding memory_event
 access_is version kind bytes addr value smm size = grind (arith, nat_tests)
 
-access_form : (version : ℕ) (kind : Kind) (bytes addr value : ℕ) (smm : Bool) → IsSize version bytes
-    → addr < 2 ^ 32 → FitsBytes (is_write kind) bytes value
-    → IsEventForm version (memory_event version kind bytes addr value smm)
+access_form : (version : ℕ) (kind : Kind) (bytes addr value : ℕ) (smm : Bool) → IsSize version bytes → addr < 2 ^ 32 →
+    FitsBytes (is_write kind) bytes value → IsEventForm version (memory_event version kind bytes addr value smm)
 unfolding memory_event
 access_form version kind bytes addr value smm size small fits = grind (arith, nat_tests)
 

@@ -45,19 +45,16 @@ abbrev pub AreGood : (version : ℕ) → List Item → Type 0
 AreGood version [] = Unit {0}
 AreGood version (item ∷ before) = IsForm version item × NoReason before item × AreGood version before
 
-pub read_good :
-    (version : ℕ) (lines : List (List ℕ)) (before items : List Item) →
-    AreRead version before lines items → AreGood version before → AreGood version items
+pub read_good : (version : ℕ) (lines : List (List ℕ)) (before items : List Item) → AreRead version before lines items →
+    AreGood version before → AreGood version items
 read_good version [] before items read good = rw read good
 read_good version (line ∷ later) before items (inl skipped) good = read_good version later before items skipped.1 good
 read_good version (line ∷ later) before items (inr one) good =
     read_good version later (one.0 ∷ before) items one.2 (one.1.has.form, no_reason before one.0 one.1.none, good)
 
 -- what a search finds is good
-pub found_good :
-    (version : ℕ) (items : List Item) (test : Item → Bool) (item : Item) → AreGood version items →
-    find test items ≡ Some item →
-    IsForm version item × (is_in_range item ≡ true)
+pub found_good : (version : ℕ) (items : List Item) (test : Item → Bool) (item : Item) → AreGood version items →
+    find test items ≡ Some item → IsForm version item × (is_in_range item ≡ true)
 found_good version [] test item good found = absurd (none-some item found)
 found_good version (first ∷ before) test item good found =
     grind (arith, nat_tests, found_good version before test item good.2)

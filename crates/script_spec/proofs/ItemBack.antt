@@ -23,9 +23,8 @@ no_word n word small letters = elim (cases_Bool (bytes_eq (decimal n) word)) [
 ]
 
 -- a line that begins with a number is a statement's
-pub number_first : (version n : ℕ) (words : List (List ℕ)) (item : Item) → IsDecimal n
-    → parse_statement_words version n words ≡ Some item
-    → parse_item version (decimal n ∷ words) ≡ Some item
+pub number_first : (version n : ℕ) (words : List (List ℕ)) (item : Item) → IsDecimal n →
+    parse_statement_words version n words ≡ Some item → parse_item version (decimal n ∷ words) ≡ Some item
 unfolding parse_item parse_by_key parse_statement
 number_first version n words item small read = grind (arith, nat_tests, no_word, decimal_back)
 

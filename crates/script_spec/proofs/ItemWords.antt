@@ -47,8 +47,7 @@ item_words (SetCpus count) = codes "cpus" ∷ decimal count ∷ []
 item_words (SetMemory mib) = codes "memory" ∷ decimal mib ∷ []
 item_words (SetRom name) = codes "rom" ∷ name ∷ []
 item_words (SetDisk name) = codes "disk" ∷ name ∷ []
-item_words (FitCard card) =
-    codes "card" ∷ decimal card.dev ∷ kind_word card.vga ∷ tail_words card.bases card.rom
+item_words (FitCard card) = codes "card" ∷ decimal card.dev ∷ kind_word card.vga ∷ tail_words card.bases card.rom
 item_words BeginPhase = codes "phase" ∷ []
 item_words (Ask statement) = decimal statement.actor ∷ event_words statement.event
 item_words (AskLevel actor one number level) =

@@ -63,9 +63,8 @@ module _ (version n : ℕ) (actor : List ℕ) (said : parse_decimal actor ≡ So
         applied_form version one number on small,
       ))
 
-  level_read : (one : Stimulus) (number level : ℕ) → (stimulus_form one).has_level ≡ true → IsDecimal number
-      → IsDecimal level
-      → IsSaid version (actor ∷ (stimulus_form one).word ∷ decimal number ∷ decimal level ∷ [])
+  level_read : (one : Stimulus) (number level : ℕ) → (stimulus_form one).has_level ≡ true → IsDecimal number →
+      IsDecimal level → IsSaid version (actor ∷ (stimulus_form one).word ∷ decimal number ∷ decimal level ∷ [])
       (stimulus_item n one number level)
   level_read one number level known small few =
       grind (arith, nat_tests, applied_read, zero_text, one_text, decimal_read)

@@ -175,8 +175,7 @@ history_read version (entry ∷ before) each = simp (
 )
 
 same_history : (version : ℕ) (left right : List Entry) → All (IsWellFormed version) left →
-    All (IsWellFormed version) right →
-    lines_text left ≡ lines_text right → left ≡ right
+    All (IsWellFormed version) right → lines_text left ≡ lines_text right → left ≡ right
 same_history version left right one two same =
     let lines = same_lines (log_lines left) (log_lines right) (lines_whole left) (lines_whole right)
     (sym (lines_joined left) ∙ same ∙ lines_joined right) in

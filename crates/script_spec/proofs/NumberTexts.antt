@@ -2,10 +2,9 @@
 use Rattle.script_spec.proofs.Chains.{then_read, some_is, guarded, Spells}
 use Rattle.std.proofs.Common.{Bool, true, ◌≡◌, ℕ, zero, suc, ◌+◌, ◌*◌, ◌/◌, ◌%◌, ◌^◌, ◌<◌, ◌≤◌, false, not, eqb, leb}
 use Rattle.std.proofs.Common.{◌&&◌, Some, List, [], ◌∷◌, length, get_or, refl, sym, ap, ◌∙◌, arith, pow-suc, lit<}
-use Rattle.std.proofs.Common.{decimal, ◌-◌, subst}
-use Rattle.board_prelude.proofs.Common.{nat_tests, AllZip, AllDigits, digits_value, leb-true, eqb-true}
-use Rattle.board_prelude.proofs.Common.{pow-le-pow_right, byte, hex_digit, hex_number, list_all, lt-ltb, le-leb, eq-eqb}
-use Rattle.board_prelude.proofs.Common.{and_parts, is_within}
+use Rattle.std.proofs.Common.{decimal, ◌-◌, subst, leb-true, eqb-true, lt-ltb, le-leb, eq-eqb}
+use Rattle.board_prelude.proofs.Common.{nat_tests, AllZip, AllDigits, digits_value, pow-le-pow_right, byte, hex_digit}
+use Rattle.board_prelude.proofs.Common.{hex_number, list_all, and_parts, is_within}
 use Rattle.std.specs.Char.{digit_value as value_of_digit}
 use Rattle.std.specs.Str.Parse.{digits_value_after}
 use native.Mathlib.Nat.{div-div-eq-div-mul}

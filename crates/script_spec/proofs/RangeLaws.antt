@@ -26,11 +26,9 @@ use Rattle.script_spec.proofs.ScriptLaws.{count_of}
 abbrev pub HasCards : List Item → Setup → Type 0
 HasCards before setup = (dev : ℕ) → has_card before dev ≡ true → is_some (card_at setup dev) ≡ true
 
-pub event_in_range :
-    (version : ℕ) (setup : Setup) (before : List Item) (event : Event) → IsEventForm version event →
+pub event_in_range : (version : ℕ) (setup : Setup) (before : List Item) (event : Event) → IsEventForm version event →
     is_event_in_range event ≡ true → is_event_placed event ≡ true → is_card_there before event ≡ true →
-    HasCards before setup →
-    IsInRange setup event
+    HasCards before setup → IsInRange setup event
 event_in_range version setup before event form range place there cards = grind (arith, nat_tests)
 
 pub sector_in_range : (event : Event) → is_event_in_range event ≡ true → IsScriptSector event
@@ -47,9 +45,8 @@ any_cpus actor (SetCpus count ∷ before) any = refl
 any_cpus actor (item ∷ before) any = any_cpus actor before any
 
 -- one line says how many processors there are
-cpus_above :
-    (version actor cpus : ℕ) (items : List Item) → AreGood version items → find is_cpus items ≡ Some (SetCpus cpus) →
-    list_any (is_cpus_above actor) items ≡ true → actor < cpus
+cpus_above : (version actor cpus : ℕ) (items : List Item) → AreGood version items →
+    find is_cpus items ≡ Some (SetCpus cpus) → list_any (is_cpus_above actor) items ≡ true → actor < cpus
 cpus_above version actor cpus [] good found any = absurd (false≢true any)
 cpus_above version actor cpus (SetCpus count ∷ before) good found any =
     grind (arith, nat_tests, any_cpus actor before, good.1.first, ap count_of found)
@@ -65,8 +62,7 @@ has_card_more : (item : Item) (before : List Item) (dev : ℕ) → has_card befo
     has_card (item ∷ before) dev ≡ true
 has_card_more item before dev has = grind (arith, nat_tests)
 
-scripted :
-    (version cpus : ℕ) (setup : Setup) (before : List Item) (item : Item) →
+scripted : (version cpus : ℕ) (setup : Setup) (before : List Item) (item : Item) →
     ((actor : ℕ) → list_any (is_cpus_above actor) before ≡ true → actor < cpus) → HasCards before setup →
     IsForm version item → NoReason before item → OnAsk (IsScripted setup version cpus) item
 scripted version cpus setup before (Ask statement) above cards form none =
@@ -80,8 +76,7 @@ scripted version cpus setup before (Ask statement) above cards form none =
     }
 scripted version cpus setup before _ above cards form none = tt
 
-all_scripted :
-    (version cpus : ℕ) (setup : Setup) (items : List Item) →
+all_scripted : (version cpus : ℕ) (setup : Setup) (items : List Item) →
     ((actor : ℕ) → list_any (is_cpus_above actor) items ≡ true → actor < cpus) → HasCards items setup →
     AreGood version items → All (OnAsk (IsScripted setup version cpus)) items
 all_scripted version cpus setup [] above cards good = All-nil (OnAsk (IsScripted setup version cpus))
@@ -94,16 +89,14 @@ all_scripted version cpus setup (item ∷ before) above cards good =
     (all_scripted version cpus setup before above_before cards_before good.2)
 
 -- what holds of each statement of the items holds of each statement of the phases
-phase_asks :
-    (P : Statement → Type 0) (phase : List Statement) (later : List Item) → All (OnAsk P) (map Ask phase ++ later) →
-    All P phase × All (OnAsk P) later
+phase_asks : (P : Statement → Type 0) (phase : List Statement) (later : List Item) → All (OnAsk P)
+    (map Ask phase ++ later) → All P phase × All (OnAsk P) later
 phase_asks P [] later all = (All-nil P, all)
 phase_asks P (statement ∷ phase) later all =
     let rest = phase_asks P phase later (All-tail (OnAsk P) (Ask statement) (map Ask phase ++ later) all) in
     (All-cons P statement phase (All-head (OnAsk P) (Ask statement) (map Ask phase ++ later) all) rest.0, rest.1)
 
-all_asks :
-    (P : Statement → Type 0) (phases : List (List Statement)) → All (OnAsk P) (phase_items phases) →
+all_asks : (P : Statement → Type 0) (phases : List (List Statement)) → All (OnAsk P) (phase_items phases) →
     All P (flat_map (λ phase. phase) phases)
 all_asks P [] all = All-nil P
 all_asks P (phase ∷ later) all =
@@ -120,10 +113,8 @@ pub any_found : {X : Type 0} (p : X → Bool) (xs : List X) → list_any p xs �
 any_found p [] = refl
 any_found p (x ∷ xs) = grind (arith, nat_tests, any_found p xs)
 
-has_cards :
-    (items : List Item) (cards : List FittedCard) (setup : Setup) → IsPermutation (cards_of items) cards →
-    setup.cards ≡ cards →
-    HasCards items setup
+has_cards : (items : List Item) (cards : List FittedCard) (setup : Setup) → IsPermutation (cards_of items) cards →
+    setup.cards ≡ cards → HasCards items setup
 has_cards items cards setup same is dev has =
     rw is (sym (any_found (λ card. card.dev == dev) cards)
     ∙ sym (list_any-IsPermutation (λ card. card.dev == dev) (cards_of items) cards same) ∙ has)
@@ -153,8 +144,7 @@ all_cards version (_ ∷ before) good = all_cards version before good.2
 
 -- devices that rise up to 9 are few
 few_cards : (low : ℕ) (cards : List FittedCard) → low ≤ 10 → Rises cards → All (λ card. low ≤ card.dev) cards →
-    All IsCard cards →
-    length cards ≤ 10 - low
+    All IsCard cards → length cards ≤ 10 - low
 few_cards low [] below rises from each = omega arith
 few_cards low (card ∷ later) below rises from each =
     let first : low ≤ card.dev = All-head (λ card. low ≤ card.dev) card later from in
@@ -180,29 +170,24 @@ good_limits version (item ∷ before) good = within_limits (item ∷ before) goo
 
 -- ---- sums over items and over phases
 
-sum_kept :
-    (f : Item → ℕ) (items : List Item) → ((item : Item) → is_setup item ≡ true → f item ≡ 0) →
+sum_kept : (f : Item → ℕ) (items : List Item) → ((item : Item) → is_setup item ≡ true → f item ≡ 0) →
     sum_by f (filter (λ item. not (is_setup item)) items) ≡ sum_by f items
 sum_kept f [] none = refl
 sum_kept f (item ∷ before) none = grind (arith, nat_tests, sum_by-cons, sum_kept f before none)
 
-sum_asks :
-    (f : Item → ℕ) (g : Statement → ℕ) (phase : List Statement) → ((statement : Statement) →
-    f (Ask statement) ≡ g statement) →
-    sum_by f (map Ask phase) ≡ sum_by g phase
+sum_asks : (f : Item → ℕ) (g : Statement → ℕ) (phase : List Statement) →
+    ((statement : Statement) → f (Ask statement) ≡ g statement) → sum_by f (map Ask phase) ≡ sum_by g phase
 sum_asks f g phase same = grind (arith, nat_tests, common_steps, sum_by-cons)
 
-sum_phases :
-    (f : Item → ℕ) (g : Statement → ℕ) (phases : List (List Statement)) → ((statement : Statement) →
-    f (Ask statement) ≡ g statement) →
+sum_phases : (f : Item → ℕ) (g : Statement → ℕ) (phases : List (List Statement)) →
+    ((statement : Statement) → f (Ask statement) ≡ g statement) →
     sum_by f (phase_items phases) ≡ length phases * f BeginPhase + sum_by g (flat_map (λ phase. phase) phases)
 sum_phases f g [] same = omega arith
 sum_phases f g (phase ∷ later) same =
     grind (arith, nat_tests, sum_by-cons, sum_by-append, sum_asks, sum_phases f g later same)
 
 -- a sum over all items is one over the phases, where setup lines count nothing
-sum_items :
-    (f : Item → ℕ) (g : Statement → ℕ) (items : List Item) (phases : List (List Statement)) →
+sum_items : (f : Item → ℕ) (g : Statement → ℕ) (items : List Item) (phases : List (List Statement)) →
     ((item : Item) → is_setup item ≡ true → f item ≡ 0) → ((statement : Statement) → f (Ask statement) ≡ g statement) →
     reverse (filter (λ item. not (is_setup item)) items) ≡ phase_items phases →
     sum_by f items ≡ length phases * f BeginPhase + sum_by g (flat_map (λ phase. phase) phases)
@@ -219,15 +204,13 @@ sum_of_same n (x ∷ xs) = omega (arith, sum_by-cons (λ y. n) x xs, sum_of_same
 
 -- ---- the whole
 
-disk_name :
-    (version : ℕ) (items : List Item) (disk : Option (List ℕ)) → AreGood version items →
+disk_name : (version : ℕ) (items : List Item) (disk : Option (List ℕ)) → AreGood version items →
     find is_disk items ≡ option_map SetDisk disk → IsDiskName disk
 disk_name version items None good found = tt
 disk_name version items (Some name) good found = (found_good version items is_disk (SetDisk name) good found).0
 
 in_range : (items : List Item) (script : Script) → AreGood script.version items → IsVersion script.version →
-    IsSaidBy script items →
-    IsInRangeScript script
+    IsSaidBy script items → IsInRangeScript script
 in_range items script good version said =
     let found = found_good script.version items in
     let cpus = found is_cpus (SetCpus script.cpus) good said.cpus in

@@ -210,11 +210,9 @@ pub narrow_value : (writes : Bool) (bytes : ℕ) (value : Option ℕ) → bytes 
     → IfSome value (λ v. v < 2 ^ 32)
 narrow_value writes bytes value few fits = grind (arith, nat_tests, pow-le-pow_right)
 
-pub wide_shape : (access : WideAccess) (value : Option ℕ) (parts : Parts)
-    → IsReplyValue (is_write access.kind) access.bytes value
-    → All FitsPart (parts_list parts)
-    → IfSome (parts_with access value parts) (IsWideReply (is_write access.kind) access.bytes
-    (length (parts_of access)))
+pub wide_shape : (access : WideAccess) (value : Option ℕ) (parts : Parts) →
+    IsReplyValue (is_write access.kind) access.bytes value → All FitsPart (parts_list parts) →
+    IfSome (parts_with access value parts) (IsWideReply (is_write access.kind) access.bytes (length (parts_of access)))
 wide_shape access value parts fits each = grind (arith, nat_tests, eqb-true, counted)
 
 pub writes_is : (kind : Kind) (writes : Bool) → (IsTrue writes ↔ kind ≡ Write) → writes ≡ is_write kind

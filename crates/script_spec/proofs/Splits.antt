@@ -40,7 +40,6 @@ split_exact word [] are = slice_split_none is_space word (own_bytes word (and_pa
 split_exact word (next ∷ words) are =
     grind (arith, nat_tests, slice_split_at, own_bytes, split_exact next words (and_parts (is_word word) _ are).1)
 
-pub split : (line word : List ℕ) (words : List (List ℕ)) → are_words (word ∷ words) ≡ true
-    → Spells line (join_with_byte space (word ∷ words))
-    → Reads (fields_of line) (word ∷ words)
+pub split : (line word : List ℕ) (words : List (List ℕ)) → are_words (word ∷ words) ≡ true →
+    Spells line (join_with_byte space (word ∷ words)) → Reads (fields_of line) (word ∷ words)
 split line word words are spells = rw (split_exact word words are) at (spelled_fields line _ spells)

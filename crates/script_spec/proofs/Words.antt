@@ -164,8 +164,7 @@ plain-spaced (word ∷ words) are =
 
 plain-joined : (words : List (List ℕ)) → are_words words ≡ true → is_plain (join_with_byte space words) ≡ true
 plain-joined [] are = refl
-plain-joined (first ∷ words) are =
-    ap is_plain (line_spaced first words) ∙ plain-spaced (first ∷ words) are
+plain-joined (first ∷ words) are = ap is_plain (line_spaced first words) ∙ plain-spaced (first ∷ words) are
 
 pub event_plain : (event : Event) → is_plain (event_text event) ≡ true
 event_plain event = ap is_plain (sym (event_joined event)) ∙ plain-joined (event_words event) (event_are event)

@@ -1,14 +1,11 @@
 -- No byte that was received is lost, and all are read in their order.
-use Rattle.std.proofs.Common.{◌≡◌, ℕ, Bool, true, List, [], ◌∷◌, ◌++◌, length, refl, sym, ap, ◌∙◌, append_assoc}
-use Rattle.std.proofs.Common.{Option, Some, arith}
-use Rattle.board_prelude.proofs.Common.{nat_tests, ne_eqb, append-nil, Event, Memory, Port, Line, control_written}
-use Rattle.board_prelude.proofs.Common.{resets_hard, not-true}
+use Rattle.std.proofs.Common.{◌≡◌, ℕ, Bool, true, List, [], ◌∷◌, ◌++◌, length, refl, sym, ap, ◌∙◌, append_assoc, Option}
+use Rattle.std.proofs.Common.{Some, arith, ne_eqb, append-nil}
+use Rattle.board_prelude.proofs.Common.{nat_tests, Event, Memory, Port, Line, control_written, resets_hard, not-true}
 use Rattle.uart_16550.specs.declared.interrupt.Interrupt.{Interrupt}
 use Rattle.uart_16550.specs.declared.interrupt.Interrupt.TheVariants.{LineStatus}
 use Rattle.uart_16550.specs.declared.register.ReadRegister.{ReadRegister}
-use Rattle.uart_16550.specs.declared.register.ReadRegister.TheVariants as read
 use Rattle.uart_16550.specs.declared.register.WriteRegister.{WriteRegister}
-use Rattle.uart_16550.specs.declared.register.WriteRegister.TheVariants as write
 use Rattle.uart_16550.specs.declared.com1.Com1.{Com1}
 use Rattle.uart_16550.specs.declared.com1.Happening.{Happening}
 use Rattle.uart_16550.specs.declared.com1.Happening.TheVariants.{Comes, Happens}
@@ -18,6 +15,8 @@ use Rattle.uart_16550.specs.Common.{Call, Renews, Receives, Reads, Writes, after
 use Rattle.uart_16550.specs.Common.{is_kept, is_keeping, after_calls, all_brought, all_taken, ReadInOrder, calls_of}
 use Rattle.uart_16550.specs.Common.{Sending, sending_after, calls_for, all_calls, after_all, bytes_come}
 use Rattle.uart_16550.specs.Common.{SerialReadsInOrder}
+use Rattle.uart_16550.specs.declared.register.ReadRegister.TheVariants as read
+use Rattle.uart_16550.specs.declared.register.WriteRegister.TheVariants as write
 
 front_and_rest : (queue : List ℕ) → front_taken queue read.Rbr (front_of queue) ++ rest_of queue ≡ queue
 front_and_rest [] = refl

@@ -1,8 +1,8 @@
 -- How the histories go on that leave a board with a serial port.
 use Rattle.std.proofs.Common.{◌≡◌, ℕ, ◌<◌, Bool, true, false, List, [], ◌∷◌, ◌++◌, refl, sym, ap, subst, ◌∙◌}
 use Rattle.std.proofs.Common.{append_assoc, lt_irrefl, None, unwrap_or}
-use Rattle.board_prelude.proofs.Common.{PortAccess, Event, Port, Line, Reply, Entry, Statement, Setup, line_set}
-use Rattle.board_prelude.proofs.Common.{irq_of, next_entry}
+use Rattle.board_prelude.proofs.Common.{PortAccess, Event, Port, Line, Reply, Entry, Statement, Setup, line_set, irq_of}
+use Rattle.board_prelude.proofs.Common.{next_entry}
 use Rattle.board_spec.proofs.OrderLawProofs.{statements-append}
 use Rattle.uart_16550.specs.declared.com1.Com1.{Com1}
 use Rattle.uart_16550.specs.Common.{com1_irq, com1_actor, level_of, board_event, line_steps, change_steps, com1_after}

@@ -1,10 +1,9 @@
 -- The registers of the 82371SB that cannot be written, in the table of registers.
 use Rattle.std.proofs.Common.{◌≡◌, ◌≢◌, ℕ, ◌-◌, ◌<◌, ◌≤◌, List, [], ◌∷◌, false, None, sym, refl, subst, arith, inl, inr}
 use Rattle.std.proofs.Common.{slice_index}
-use Rattle.board_prelude.proofs.Common.{cases_lt, cases_eq, cases_Bool, nat_tests, get_or_past, Width, Reg, Store}
-use Rattle.board_prelude.proofs.Common.{Setup, is_within, byte, isa_bridge, ide_function, reset_byte, writable_bits}
-use Rattle.board_prelude.proofs.Common.{isa, ide, smram, is_same, changed_byte, merged-none, Each, each_below}
-use Rattle.board_prelude.proofs.Common.{common_steps}
+use Rattle.board_base.proofs.Common.{cases_lt, cases_eq, cases_Bool, nat_tests, get_or_past, merged-none, common_steps}
+use Rattle.board_prelude.proofs.Common.{Width, Reg, Store, Setup, is_within, byte, isa_bridge, ide_function, reset_byte}
+use Rattle.board_prelude.proofs.Common.{writable_bits, isa, ide, smram, is_same, changed_byte, Each, each_below}
 
 -- a register has this byte at all times
 pub record IsFixedAt (setup : Setup) (reg : Reg) (byte : ℕ) : Type 0 where
@@ -21,20 +20,17 @@ abbrev pub ide_header : List ℕ
 ide_header =
     0x86 ∷ 0x80 ∷ 0x10 ∷ 0x70 ∷ 0x00 ∷ 0x00 ∷ 0x80 ∷ 0x02 ∷ 0x00 ∷ 0x80 ∷ 0x01 ∷ 0x01 ∷ 0x00 ∷ 0x00 ∷ 0x00 ∷ 0x00 ∷ []
 
-isa_past :
-    (setup : Setup) (off : ℕ) → 16 ≤ off → off ≢ 0x4E → off ≢ 0x4F → is_within 0x60 0x63 off ≡ false →
+isa_past : (setup : Setup) (off : ℕ) → 16 ≤ off → off ≢ 0x4E → off ≢ 0x4F → is_within 0x60 0x63 off ≡ false →
     (reset_byte setup (isa off) ≡ 0) × (writable_bits setup (isa off) ≡ 0)
 unfolding reset_byte writable_bits isa_bridge
 isa_past setup off above xbcs high pirq = (grind (arith, nat_tests), grind (arith, nat_tests))
 
-ide_past :
-    (setup : Setup) (off : ℕ) → 16 ≤ off → is_within 0x40 0x41 off ≡ false →
+ide_past : (setup : Setup) (off : ℕ) → 16 ≤ off → is_within 0x40 0x41 off ≡ false →
     (reset_byte setup (ide off) ≡ 0) × (writable_bits setup (ide off) ≡ 0)
 unfolding reset_byte writable_bits ide_function
 ide_past setup off above timing = (grind (arith, nat_tests), grind (arith, nat_tests))
 
-isa_fixed-past :
-    (setup : Setup) (off : ℕ) → off ≢ 0x4E → is_within 0x60 0x63 off ≡ false → 16 ≤ off →
+isa_fixed-past : (setup : Setup) (off : ℕ) → off ≢ 0x4E → is_within 0x60 0x63 off ≡ false → 16 ≤ off →
     IsFixedAt setup (isa off) (slice_index isa_header off)
 unfolding reset_byte writable_bits isa_bridge
 isa_fixed-past setup off xbcs pirq above =
@@ -54,9 +50,8 @@ ide_header_byte : (off : ℕ) → off < 16 → slice_index ide_header off < 256
 ide_header_byte off below = grind (arith, nat_tests)
 
 -- all registers of the ISA bridge but XBCS and those that route interrupts
-pub isa_fixed :
-    (setup : Setup) (off : ℕ) → off ≢ 0x4E → is_within 0x60 0x63 off ≡ false →
-    IsFixedAt setup (isa off) (slice_index isa_header off)
+pub isa_fixed : (setup : Setup) (off : ℕ) → off ≢ 0x4E → is_within 0x60 0x63 off ≡ false → IsFixedAt setup (isa off)
+    (slice_index isa_header off)
 unfolding reset_byte writable_bits isa_bridge
 isa_fixed setup off xbcs pirq =
     elim (cases_lt off 16) [
@@ -87,9 +82,8 @@ ide_read_only setup off below =
     each_below ReadOnly 16 off (λ _. refl, (λ _. refl, (λ _. refl, (λ _. refl, middle)))) below
 
 -- all registers of the IDE function but the low byte of the command and the two of IDETIM
-pub ide_fixed :
-    (setup : Setup) (off : ℕ) → off ≢ 0x04 → is_within 0x40 0x41 off ≡ false →
-    IsFixedAt setup (ide off) (slice_index ide_header off)
+pub ide_fixed : (setup : Setup) (off : ℕ) → off ≢ 0x04 → is_within 0x40 0x41 off ≡ false → IsFixedAt setup (ide off)
+    (slice_index ide_header off)
 unfolding reset_byte writable_bits ide_function
 ide_fixed setup off command timing =
     elim (cases_lt off 16) [

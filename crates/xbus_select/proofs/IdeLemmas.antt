@@ -12,8 +12,7 @@ fixed_at setup off is_fixed =
     let high : off ≢ 0x41 = is_fixed.timing_high in
     ide_fixed setup off is_fixed.command (grind (arith, nat_tests))
 
-pub ide_byte :
-    (bytes : Bytes) (regs : IdeBytes) (off : ℕ) → IsIdeOf bytes regs → IsIdeFixed off →
+pub ide_byte : (bytes : Bytes) (regs : IdeBytes) (off : ℕ) → IsIdeOf bytes regs → IsIdeFixed off →
     slice_index ide_header off ≡ bytes (ide off)
 ide_byte bytes regs off is_ide is_fixed = (fixed_at bare off is_fixed).reset ∙ sym (is_ide.fixed bare off is_fixed)
 

@@ -12,8 +12,7 @@ fixed_at setup off is_fixed =
     isa_fixed setup off is_fixed.select
     (elim is_fixed.routing [ inl below ↦ grind (arith, nat_tests) | inr above ↦ grind (arith, nat_tests) ])
 
-pub isa_byte :
-    (bytes : Bytes) (piix : PiixBytes) (off byte : ℕ) → IsPiixOf bytes piix → IsIsaFixed off →
+pub isa_byte : (bytes : Bytes) (piix : PiixBytes) (off byte : ℕ) → IsPiixOf bytes piix → IsIsaFixed off →
     ((setup : Setup) → byte ≡ reset_byte setup (isa off)) → byte ≡ bytes (isa off)
 isa_byte bytes piix off byte is_piix is_fixed is_reset = is_reset bare ∙ sym (is_piix.fixed bare off is_fixed)
 
@@ -51,8 +50,7 @@ isa_stored_at : (setup : Setup) (bytes : Bytes) (old : PiixBytes) (off new writt
     IsPiixOf (λ reg. changed_byte setup (Store (isa off) One written) reg (bytes reg)) (record old { xbcs = new })
 isa_stored_at setup bytes old off new written is_piix xbcs =
     record {
-      xbcs =
-          xbcs ∙ ap (λ (now : ℕ). changed_byte setup (Store (isa off) One written) select_register now) is_piix.xbcs;
+      xbcs = xbcs ∙ ap (λ (now : ℕ). changed_byte setup (Store (isa off) One written) select_register now) is_piix.xbcs;
       ide = ide_stored_at setup bytes old.ide old.ide (isa off) written is_piix.ide refl refl refl;
       fixed = fixed_stays setup bytes old (isa off) written is_piix;
     }
@@ -65,8 +63,7 @@ xbcs_stored setup bytes old written below is_piix =
     isa_stored_at setup bytes old 0x4E (merged (writable_bits setup select_register) old.xbcs written) written is_piix
     (sym (changed_byte-one_same setup select_register old.xbcs written below refl))
 
-pub isa_stored :
-    (setup : Setup) (bytes : Bytes) (old : PiixBytes) (off written : ℕ) → 0x4E ≢ off → IsPiixOf bytes old →
+pub isa_stored : (setup : Setup) (bytes : Bytes) (old : PiixBytes) (off written : ℕ) → 0x4E ≢ off → IsPiixOf bytes old →
     IsPiixOf (λ reg. changed_byte setup (Store (isa off) One written) reg (bytes reg)) old
 isa_stored setup bytes old off written apart is_piix =
     isa_stored_at setup bytes old off old.xbcs written is_piix

@@ -19,21 +19,18 @@ abbrev is_device : Target → Bool
 is_device (Device dev) = true
 is_device _ = false
 
-card_or_nobody :
-    (claim : Option Window) (port : ℕ) (denial : Denial) →
+card_or_nobody : (claim : Option Window) (port : ℕ) (denial : Denial) →
     is_device (unwrap_or (option_map (card_port port) claim) (nobody denial)).target ≡ false
 card_or_nobody claim port denial = grind (arith, nat_tests)
 
-not_device :
-    (setup : Setup) (bytes : Bytes) (port : ℕ) (denial : Denial) (dev : Dev) →
+not_device : (setup : Setup) (bytes : Bytes) (port : ℕ) (denial : Denial) (dev : Dev) →
     (unselected setup bytes port denial).target ≢ Device dev
 not_device setup bytes port denial dev is =
     false≢true (rw (← card_or_nobody (io_claim setup bytes port) port denial) (ap is_device is))
 
 -- ---- a device that answers where a bit is set, or two
 
-by_bit :
-    (setup : Setup) (bytes : Bytes) (port : ℕ) (denial : Denial) (dev : Dev) (selected : Bool) →
+by_bit : (setup : Setup) (bytes : Bytes) (port : ℕ) (denial : Denial) (dev : Dev) (selected : Bool) →
     ((if selected then device dev else unselected setup bytes port denial).target ≡ Device dev) ↔ (selected ≡ true)
 by_bit setup bytes port denial dev selected = grind (arith, nat_tests, common_steps, not_device)
 
@@ -52,8 +49,7 @@ by_bits setup bytes port dev false second =
 
 module _ (apart : PortsApart) (config : ConfigApart) where
   -- an access that the table gives to a device reaches what selects it
-  at_its_port :
-      (setup : Setup) (bytes : Bytes) (address : ℕ) (disk : Bool) (dev : Dev) (port : ℕ) (width : Width) →
+  at_its_port : (setup : Setup) (bytes : Bytes) (address : ℕ) (disk : Bool) (dev : Dev) (port : ℕ) (width : Width) →
       is_port_of dev port (bytes_of width) ≡ true →
       port_target_of setup bytes address disk port width ≡ device_port (Some dev) disk setup bytes port
   unfolding port_target_of

@@ -11,8 +11,5 @@ ide_format =
     (any_byte then λ command good.
     any_byte then λ timing_low good.
     last_field _ any_byte)
-    (λ i is. (
-      (i.command, is.command) & (i.timing_low, is.timing_low) & (i.timing_high, is.timing_high),
-      refl,
-    ))
+    (λ i is. ((i.command, is.command) & (i.timing_low, is.timing_low) & (i.timing_high, is.timing_high), refl))
     (λ t. (record { command = t.1; timing_low = t.2.1; timing_high = t.2.2.1 }, refl))

@@ -15,6 +15,4 @@ returns-in-Some c = record {
 
 pub returns-in-None : goal.returns-in-None
 unfolding board
-returns-in-None c = record {
-  named = rw (← c.in-None.ensures.fitted (board (cards_of c.args.cards.now)) refl) refl;
-}
+returns-in-None c = record { named = rw (← c.in-None.ensures.fitted (board (cards_of c.args.cards.now)) refl) refl }

@@ -4,9 +4,8 @@ use Rattle.byte_fields.proofs.pages.push_pages.Given as goal
 
 abbrev pub invariant-loop-done : goal.invariant-loop-done
 invariant-loop-done l = record {
-  added :
-      l.into.items ++ pages_bytes l.size (drop l.done l.plain) (drop l.done l.bytes)
-      ≡ l.fn.into.items ++ pages_bytes l.size l.plain l.bytes;
+  added : l.into.items ++ pages_bytes l.size (drop l.done l.plain)
+      (drop l.done l.bytes) ≡ l.fn.into.items ++ pages_bytes l.size l.plain l.bytes;
   within : l.done ≤ length l.bytes;
 }
 

@@ -12,6 +12,4 @@ returns-in_default c =
       | in_default-via-else-off-lt96+else-off-lt100 w ↦ inr (omega arith)
     ] in
     let fixed : IsIsaFixed c.args.off = record { select = c.requires.other; routing = routing } in
-    record {
-      byte = λ setup bytes is has. c.isa_fixed_byte.ensures.byte setup ∙ sym (has.isa_bytes c.args.off fixed);
-    }
+    record { byte = λ setup bytes is has. c.isa_fixed_byte.ensures.byte setup ∙ sym (has.isa_bytes c.args.off fixed) }

@@ -8,6 +8,4 @@ loop-buffer-preserved c =
     c.loop-buffer.invariant (rw c.deref.ensures.value at c.in_ok-push_memory.ensures.added)
 
 pub returns : goal.returns
-returns c = record {
-  saved = buffers_added c.args.buffers.now _ _ _ c.loop-buffer-test.false c.loop-buffer.invariant;
-}
+returns c = record { saved = buffers_added c.args.buffers.now _ _ _ c.loop-buffer-test.false c.loop-buffer.invariant }

@@ -1,6 +1,5 @@
 use Rattle.std.proofs.Common.{◌<◌, Some, slice_get, length, reverse, ◌∙◌, ap, sym, arith}
-use Rattle.board_prelude.proofs.Common.{length-map, reverse-reverse}
-use Rattle.std.proofs.lemmas.List.{length-reverse}
+use Rattle.board_prelude.proofs.Common.{length-map, reverse-reverse, length-reverse}
 use Rattle.access_history.specs.Past.{Past}
 use Rattle.access_history.specs.Packed.{entry_in, entries_in}
 use Rattle.access_history.proofs.Pushed.{entry_at}

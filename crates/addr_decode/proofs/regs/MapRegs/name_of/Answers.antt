@@ -4,14 +4,12 @@ use Rattle.addr_decode.proofs.regs.MapRegs.name_of.Goals as goal
 
 pub returns-in-HostBridge : goal.returns-in-HostBridge
 returns-in-HostBridge c = record {
-  named =
-      one_name _ _ _ (c.in_bridge.ensures.named ∙ bridge_name _ _ (rw c.in-HostBridge.is at c.requires.function));
+  named = one_name _ _ _ (c.in_bridge.ensures.named ∙ bridge_name _ _ (rw c.in-HostBridge.is at c.requires.function));
 }
 
 pub returns-in-IsaBridge : goal.returns-in-IsaBridge
 returns-in-IsaBridge c = record {
-  named =
-      one_name _ _ _ (c.in_isa_bridge.ensures.named ∙ isa_name _ _ (rw c.in-IsaBridge.is at c.requires.function));
+  named = one_name _ _ _ (c.in_isa_bridge.ensures.named ∙ isa_name _ _ (rw c.in-IsaBridge.is at c.requires.function));
 }
 
 pub returns-in-Ide : goal.returns-in-Ide

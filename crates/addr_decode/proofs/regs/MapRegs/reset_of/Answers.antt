@@ -1,5 +1,4 @@
-use Rattle.std.proofs.Common.{◌≡◌, ◌∙◌, sym, arith}
-use Rattle.std.proofs.lemmas.List.{take_all}
+use Rattle.std.proofs.Common.{◌≡◌, ◌∙◌, sym, arith, take_all}
 use Rattle.pci_bars.specs.Cards.{cards_of}
 use Rattle.addr_decode.proofs.CardLemmas.{fitted_list}
 use Rattle.addr_decode.proofs.regs.MapRegs.reset_of.Goals as goal

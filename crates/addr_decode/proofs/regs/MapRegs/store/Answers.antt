@@ -24,9 +24,8 @@ store_after-requires c = record {
       (named_so_far _ _ c.args.reg c.args.width _ _ _ (omega arith) c.loop-k.invariant.same c.requires.names);
 }
 
-this_byte :
-    (c : goal.After-store_after) → slice_index c.to_le_bytes-bytes.result c.from-place.result
-    ≡ byte c.args.value c.loop-k.k
+this_byte : (c : goal.After-store_after) →
+    slice_index c.to_le_bytes-bytes.result c.from-place.result ≡ byte c.args.value c.loop-k.k
 this_byte c = grind (arith, nat_tests)
 
 pub loop-k-preserved : goal.loop-k-preserved

@@ -1,9 +1,8 @@
 -- No moment is found only where the registers say none: the numbers of one that they say are those that were found.
 use Rattle.std.proofs.Common.{◌≡◌, ℕ, Option, Some, None, SomeIff, IfSome, ap, sym, subst, arith}
-use Rattle.board_base.specs.declared.moment.Moment.{Moment}
+use Rattle.device_spec.specs.Common.{Moment, Clock, byte_at, control_of, second_at, minute_at, hour_at, day_at}
+use Rattle.device_spec.specs.Common.{month_at, year_at, IsMoment, moment_of}
 use Rattle.board_base.proofs.CalendarLemmas.{days_in_month_bound}
-use Rattle.device_spec.specs.Common.{Clock, byte_at, control_of, second_at, minute_at, hour_at, day_at, month_at}
-use Rattle.device_spec.specs.Common.{year_at, IsMoment, moment_of}
 use Rattle.board_base.specs.Calendar.{IsDate, IsTime}
 use Rattle.cmos_clock.specs.Seconds.{AreDateBytes, AreTimeBytes, IsShown}
 use Rattle.cmos_clock.proofs.cmos.Cmos.shown.Goals as goal
@@ -15,9 +14,8 @@ not_there (Some one) P value is none holds = absurd cc
 same_three : (p q : ℕ × ℕ × ℕ) → Some p ≡ Some q → (p.0 ≡ q.0) × (p.1 ≡ q.1) × (p.2 ≡ q.2)
 same_three p q same = let three : p ≡ q = cc in (ap (λ r. r.0) three, ap (λ r. r.1) three, ap (λ r. r.2) three)
 
-date_said : (clock : Clock) (shown : Moment) → IsShown clock shown →
-    AreDateBytes (control_of clock) (byte_at clock year_at) (byte_at clock month_at) (byte_at clock day_at) shown.year
-    shown.month shown.day
+date_said : (clock : Clock) (shown : Moment) → IsShown clock shown → AreDateBytes (control_of clock)
+    (byte_at clock year_at) (byte_at clock month_at) (byte_at clock day_at) shown.year shown.month shown.day
 date_said clock shown is = record {
   first = is.moment.date.year_low;
   last = is.last_year;
@@ -28,9 +26,8 @@ date_said clock shown is = record {
   day_is = is.day;
 }
 
-time_said : (clock : Clock) (shown : Moment) → IsShown clock shown →
-    AreTimeBytes (control_of clock) (byte_at clock hour_at) (byte_at clock minute_at) (byte_at clock second_at)
-    shown.hour shown.minute shown.second
+time_said : (clock : Clock) (shown : Moment) → IsShown clock shown → AreTimeBytes (control_of clock)
+    (byte_at clock hour_at) (byte_at clock minute_at) (byte_at clock second_at) shown.hour shown.minute shown.second
 time_said clock shown is = record {
   hour_small = omega (arith, is.moment.time.hour_high);
   minute_small = omega (arith, is.moment.time.minute_high);
@@ -40,12 +37,10 @@ time_said clock shown is = record {
   second_is = is.second;
 }
 
-is_shown : (clock : Clock) (year month day hour minute second : ℕ) →
-    AreDateBytes (control_of clock) (byte_at clock year_at) (byte_at clock month_at) (byte_at clock day_at) year month
-    day →
-    AreTimeBytes (control_of clock) (byte_at clock hour_at) (byte_at clock minute_at) (byte_at clock second_at) hour
-    minute second →
-    (found : Option Moment) →
+is_shown : (clock : Clock) (year month day hour minute second : ℕ) → AreDateBytes (control_of clock)
+    (byte_at clock year_at) (byte_at clock month_at) (byte_at clock day_at) year month day →
+    AreTimeBytes (control_of clock) (byte_at clock hour_at) (byte_at clock minute_at)
+    (byte_at clock second_at) hour minute second → (found : Option Moment) →
     SomeIff found (IsDate year month day × IsTime hour minute second) (moment_of year month day hour minute second) →
     IfSome found IsMoment → IfSome found (IsShown clock)
 is_shown clock year month day hour minute second date time None exact moment = tt

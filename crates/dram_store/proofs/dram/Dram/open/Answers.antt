@@ -4,8 +4,7 @@ use Rattle.dram_store.proofs.ConcatLemmas.{zero_banks}
 use Rattle.dram_store.proofs.DramLemmas.{fresh}
 use Rattle.dram_store.proofs.dram.Dram.open.Goals as goal
 
-all_zeros :
-    (c : goal.After-loop) (setup : Setup) → setup.mib ≡ c.args.mib →
+all_zeros : (c : goal.After-loop) (setup : Setup) → setup.mib ≡ c.args.mib →
     concat c.loop.banks.items ≡ replicate (installed setup) 0
 all_zeros c setup same =
     zero_banks c.loop.banks.items c.loop.invariant.each c.loop.invariant.zeros

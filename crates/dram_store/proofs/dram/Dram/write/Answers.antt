@@ -6,9 +6,7 @@ use Rattle.dram_store.proofs.dram.Dram.write.Goals as goal
 use Rattle.dram_store.proofs.dram.Dram.write.Goals.{in-Some, in_default}
 
 -- the bytes after the write, and how many they are
-written :
-    (c : goal.Joined-get_mut) →
-    AreWritten c.args.self.now c.args.addr (bytes_of c.args.width) (byte c.args.value)
+written : (c : goal.Joined-get_mut) → AreWritten c.args.self.now c.args.addr (bytes_of c.args.width) (byte c.args.value)
     (concat c.match-get_mut.self-inside.banks.items)
 written c =
     elim c.match-get_mut.branch [

@@ -6,8 +6,7 @@ use Rattle.dram_store.proofs.dram.Dram.write_front.Goals as goal
 use Rattle.dram_store.proofs.dram.Dram.write_front.Goals.{in-Some, in_default}
 
 -- the bytes after the write, and how many they are
-written :
-    (c : goal.Joined-get_mut) →
+written : (c : goal.Joined-get_mut) →
     AreWritten c.args.self.now c.args.at c.min-count.result (slice_index c.args.bytes.now)
     (concat c.match-get_mut.self-inside.banks.items)
 written c =

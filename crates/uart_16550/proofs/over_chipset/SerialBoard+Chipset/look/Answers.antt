@@ -1,7 +1,6 @@
 use Rattle.std.proofs.Common.{refl}
-use Rattle.board_prelude.proofs.Common.{next_entry}
+use Rattle.board_prelude.proofs.Common.{next_entry, Saw}
 use Rattle.board_spec.specs.declared.event.Event.TheVariants.{Look as LookAt}
-use Rattle.board_spec.specs.declared.event.Reply.TheVariants.{Saw}
 use Rattle.board_chipset.specs.Common.{Running, IsAnswerModulo, IsLeftBy}
 use Rattle.uart_16550.specs.Common.{level_of}
 use Rattle.uart_16550.proofs.SerialSteps.{quiet_step}

@@ -1,5 +1,4 @@
-use Rattle.std.proofs.Common.{◌∙◌, sym}
-use Rattle.board_prelude.proofs.Common.{true≢false}
+use Rattle.std.proofs.Common.{◌∙◌, sym, true≢false}
 use Rattle.uart_16550.proofs.SerialAlone.{own_version}
 use Rattle.uart_16550.proofs.serial_state.SerialBoard+Chipset.load_state.Goals as goal
 

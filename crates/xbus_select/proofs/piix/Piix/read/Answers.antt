@@ -3,8 +3,7 @@ use Rattle.xbus_select.proofs.PiixLemmas.{ide_function_alone}
 use Rattle.xbus_select.proofs.piix.Piix.read.Goals as goal
 
 pub returns-in-0 : goal.returns-in-0
-returns-in-0 c =
-    record { byte = λ bytes is_piix. rw c.in-0.is (c.isa_bridge_byte.ensures.byte bytes is_piix) }
+returns-in-0 c = record { byte = λ bytes is_piix. rw c.in-0.is (c.isa_bridge_byte.ensures.byte bytes is_piix) }
 
 pub returns-in_default : goal.returns-in_default
 returns-in_default c =
