@@ -126,6 +126,7 @@ impl<F: Folder> Shelf for FileShelf<F> {
     ghost fetches = { λ _. None };
 
     // More than a shelf has to promise: a fetch that fails is one fault.
+    #[tactic(auto, using(crate::proofs::Known::of_file))]
     fn fetch(&mut self, name: &str, at: u64, into: &mut [u8]) -> Result<usize, Failed>
         requires room { 0 < length into.old }
         ensures fits { IfOk result (λ k. k ≤ length into.new) }

@@ -42,6 +42,7 @@ pub(crate) fn field_at(first: u8, count: u8, value: u32) -> Field
 }
 
 /// Byte `place` of a number, byte 0 the lowest. Past its four bytes it is 0.
+#[tactic(auto, using(crate::proofs::Walks::no_byte_past))]
 pub(crate) fn byte_of(value: u32, place: u32) -> u8
     ensures byte { result ≡ byte value place }
 {

@@ -43,6 +43,7 @@ impl Space {
     }
 
     /// Writes the byte at an offset: its writable bits become those written, and nothing else changes.
+    #[tactic(auto, using(crate::proofs::SpaceLemmas::stored_byte))]
     pub fn write(&mut self, off: u8, byte: u8)
         ensures bytes { (at : ℕ) → byte_at self.new at
             ≡ (if at == off then merged (mask_at self.old at) (byte_at self.old at) byte else byte_at self.old at) }

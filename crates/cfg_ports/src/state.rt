@@ -41,6 +41,7 @@ impl ConfAdd {
 }
 
 /// One state has one spelling, and one spelling is of one state.
+#[tactic(auto, using(byte_fields::proofs::Loaded::one_spelling, crate::proofs::StateFormat::address_format))]
 pub fn law_one_address()
     ensures one { OneSpelling address_bytes IsAddress }
 {}
