@@ -1,13 +1,12 @@
 -- The state after bytes were written to a card from outside.
 use Rattle.std.proofs.Common.{◌≡◌, ◌≢◌, ℕ, zero, suc, ◌+◌, ◌-◌, ◌<◌, ◌≤◌, true, false, ◌&&◌, List, [], ◌∷◌, ◌++◌}
 use Rattle.std.proofs.Common.{length, take, drop, Option, Some, None, refl, sym, ◌∙◌, arith, ◌==◌, nat_le, nat_lt}
-use Rattle.std.proofs.Common.{if◌then◌else◌, slice_index, unwrap_or, IfSome, ap, inl, inr}
+use Rattle.std.proofs.Common.{if◌then◌else◌, slice_index, unwrap_or, IfSome}
 use Rattle.std.proofs.lemmas.Grind.{elements}
 use Rattle.std.proofs.lemmas.Option.{slice_get_past}
 use Rattle.board_prelude.proofs.Common.{eq-eqb, and_from, eqb-false, get_or-take, get_or-drop, nat_tests, Write, One}
 use Rattle.board_prelude.proofs.Common.{Card, Event, Memory, Bus, Entry, Setup, IsSetup, IsCard, FittedCard, card_at}
 use Rattle.board_prelude.proofs.Common.{Cell, DramCell, CardCell, byte, byte_put, card_byte, kept_size, Denial}
-use Rattle.board_prelude.proofs.Common.{cases_Bool}
 use Rattle.pci_bars.specs.Contents.{HaveSizes, IsBaseNumber, held, IsContentsOf}
 use Rattle.pci_bars.proofs.ContentsLemmas.{card_within, stored_byte}
 use Rattle.board_chipset.specs.declared.state.State.{State}
@@ -134,12 +133,11 @@ module _ {old new : List (List ℕ)} {dev base off : ℕ} {bytes : List ℕ} (is
       slice_index (held new d b) at
       ≡ unwrap_or (all_put (in_card dev base (CardCell d b at)) off bytes (length bytes))
       (slice_index (held old d b) at)
-  copied_byte d b at number = elim (cases_Bool (dev == d && base == b)) [
-    | inl both ↦
-        let here = copied_here d b both in
-        rw both (ap (λ (list : List ℕ). slice_index list at) here.0 ∙ over_byte (held old d b) bytes off at here.1)
-    | inr apart ↦ rw apart (ap (λ (list : List ℕ). slice_index list at) (copied_apart d b number apart))
-  ]
+  copied_byte d b at number =
+      let here = copied_here d b in
+      let apart = copied_apart d b number in
+      let byte = over_byte (held old d b) bytes off at in
+      grind (arith, nat_tests)
 
 -- ---- the state after all of them
 

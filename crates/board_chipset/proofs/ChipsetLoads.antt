@@ -1,6 +1,6 @@
 -- What was read is a chipset, and the one that was saved.
-use Rattle.std.proofs.Common.{◌≡◌, ℕ, ◌↔◌, inl, inr, false, List, [], ◌++◌, length, Option, Some, None, Result, Ok, Err}
-use Rattle.std.proofs.Common.{IfOk, refl, sym, ap, ◌∙◌, append_assoc, arith, ◌+◌, ◌≤◌}
+use Rattle.std.proofs.Common.{◌≡◌, ℕ, ◌↔◌, inl, inr, false, List, [], ◌++◌, length, Option, Result, Ok, Err, IfOk, refl}
+use Rattle.std.proofs.Common.{sym, ap, ◌∙◌, append_assoc, arith, ◌+◌, ◌≤◌}
 use Rattle.board_prelude.proofs.Common.{nat_tests, w16, to_le_bytes, Entry, Setup, IsSetup, append-nil}
 use Rattle.byte_fields.specs.declared.fault.Fault.{Fault}
 use Rattle.byte_fields.specs.declared.fault.Fault.TheVariants as faults
@@ -41,9 +41,7 @@ registers_sound setup registers are =
     record { bytes = has.0; kept = has.1; address = are.address.kept; flat = are.map.whole.map }
 
 disk_fitted : (fitted : Option (List ℕ)) (disk : Option Disk) → IsFittedDisk fitted disk → HasDisk fitted disk
-disk_fitted None None is = refl
-disk_fitted (Some bytes) (Some disk) is = grind (arith, nat_tests)
-disk_fitted _ _ is = absurd is
+disk_fitted fitted disk is = grind (arith, nat_tests)
 
 pub running : (chipset : Running) → IsChipset chipset → IsRunning chipset
 running chipset is = assumption (

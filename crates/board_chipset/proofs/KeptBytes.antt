@@ -2,7 +2,7 @@
 use Rattle.std.proofs.Common.{◌≡◌, ℕ, ◌-◌, false, ◌&&◌, List, [], ◌∷◌, length, get_or, Option, Some, None, refl, ◌∙◌}
 use Rattle.std.proofs.Common.{ap, arith, ◌==◌, if◌then◌else◌, All, is_some, slice_index, map}
 use Rattle.board_prelude.proofs.Common.{and-false, or_parts, option_map_or, cond-false, ne_eqb, Setup, IsCard, Bytes}
-use Rattle.board_prelude.proofs.Common.{is_within, reset_byte, ide}
+use Rattle.board_prelude.proofs.Common.{is_within, reset_byte, ide, nat_tests}
 use Rattle.pci_bars.specs.Cards.{CardBytes, IsCardOf, AreFitted, cards_of}
 use Rattle.addr_decode.specs.MapRegs.{MapBytes}
 use Rattle.map_builder.specs.Map.{HoldsDoublewords}
@@ -60,10 +60,7 @@ south_stands setup regs south long = record {
     command = refl;
     timing_low = refl;
     timing_high = refl;
-    fixed = λ other off fixed.
-        cond-false (off == 0x04) _ _ (ne_eqb _ _ fixed.command)
-        ∙ cond-false (off == 0x40) _ _ (ne_eqb _ _ fixed.timing_low)
-        ∙ cond-false (off == 0x41) _ _ (ne_eqb _ _ fixed.timing_high);
+    fixed = λ other off fixed. grind (arith, nat_tests);
   };
 }
 

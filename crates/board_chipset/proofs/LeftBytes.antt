@@ -70,9 +70,7 @@ left_length false bytes = refl
 pub left_on : (left : Bool) (disk : Option (List ℕ)) →
     unwrap_or (option_map {T = List ℕ} (λ _. unless_left left (unwrap_or disk [])) disk) []
     ≡ unless_left left (unwrap_or disk [])
-left_on left (Some bytes) = refl
-left_on true None = refl
-left_on false None = refl
+left_on left disk = grind (arith, nat_tests)
 
 -- ---- the devices without the bytes of the disk are spelled as over their own sectors
 
@@ -164,8 +162,7 @@ module _ (bytes : List ℕ) (setup : Setup) where
 
   size_as : (fitted : Option (List ℕ)) → length bytes ≡ length (unwrap_or fitted []) → IsDisk fitted →
       IsDisk (option_map {T = List ℕ} (λ _. bytes) fitted)
-  size_as None same is = tt
-  size_as (Some own) same is = rw same is
+  size_as fitted same is = grind (arith, nat_tests)
 
   pub setup_as : length bytes ≡ disk_size setup → IsSetup setup → IsSetup (fitted_with bytes setup)
   setup_as same is = assumption (size_as setup.disk same is.disk)

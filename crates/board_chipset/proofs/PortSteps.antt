@@ -6,7 +6,7 @@ use Rattle.board_prelude.proofs.Common.{Keyboard, Ata, Target, Card, Device, Con
 use Rattle.board_prelude.proofs.Common.{is_port_of, device_at, Setup, is_bit, config_address_port, reset_control_port}
 use Rattle.board_prelude.proofs.Common.{xbcs, is_config_port, config_register, Bytes, Window, io_claim, Decoded, nobody}
 use Rattle.board_prelude.proofs.Common.{card_port, config_port, unselected, by_channel, device_port, port_target_of}
-use Rattle.board_prelude.proofs.Common.{One, PortAccess, largest_of, Port, Entry, MapChange, Store, kept_address}
+use Rattle.board_prelude.proofs.Common.{PortAccess, largest_of, Port, Entry, MapChange, Store, kept_address}
 use Rattle.board_prelude.proofs.Common.{config_address, register_of, byte_of, is_hard_reset, Cell, entry_put, byte_put}
 use Rattle.board_prelude.proofs.Common.{port_put, device_in, device_reached, device_value, port_value, value_at}
 use Rattle.board_prelude.proofs.Common.{bus_reply, port_answer, Bus}
@@ -165,8 +165,7 @@ module _ (setup : Setup) (history : List Entry) (access : PortAccess) where
   writes_at _ writes at = absurd at
 
 pub fits_byte : (width : Width) (value : ℕ) → bytes_of width ≡ 1 → value ≤ largest_of width → value ≤ 0xFF
-fits_byte One value byte fits = fits
-fits_byte _ value byte fits = absurd (omega arith)
+fits_byte width value byte fits = grind (arith, nat_tests)
 
 -- ---- the configuration address, and the register that it names
 

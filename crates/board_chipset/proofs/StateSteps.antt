@@ -200,5 +200,4 @@ fresh_sound {setup} {state} is =
 
 pub hard_exactly : (control : ℕ) (written : Option ℕ) →
     (reset_by_written control written ≡ Hard) ↔ (resets_hard control written ≡ true)
-hard_exactly control None = (λ is. absurd (cc), λ is. absurd (cc))
-hard_exactly control (Some value) = grind (arith, nat_tests)
+hard_exactly control written = grind (arith, nat_tests)

@@ -63,6 +63,7 @@ impl Chipset {
 }
 
 /// Does nothing: the state is what stands before the bytes of the DRAM, these, and what stands after them.
+#[tactic(auto, using(crate::proofs::AroundDram::between))]
 pub fn law_dram_between()
     ensures between { (chipset : Running) → chipset_bytes chipset
         ≡ before_dram chipset ++ (dram_bytes chipset.state.stores.dram ++ after_dram chipset) }

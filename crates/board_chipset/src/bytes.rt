@@ -26,6 +26,7 @@ impl Chipset {
     }
 
     /// The bytes behind the bases and VGA windows of the cards.
+    #[tactic(auto, unfolding(crate::specs::Chipset::IsLeftBy))]
     pub fn contents(&self) -> &Contents
         ensures contents { (history : List Entry) → IsLeftBy self.now history
             → IsContentsOf self.now.setup history result.now }
@@ -34,6 +35,7 @@ impl Chipset {
     }
 
     /// The disk, where one is fitted. Its sectors can be seen in place.
+    #[tactic(auto, unfolding(crate::specs::Chipset::IsLeftBy))]
     pub fn disk(&self) -> Option<&Ata>
         ensures disk { (history : List Entry) → IsLeftBy self.now history
             → option_map (λ disk. disk.now) result ≡ disk_of self.now.setup history }
@@ -43,6 +45,7 @@ impl Chipset {
 
     /// The 128 bytes of the clock by address, as they are kept. A read of the flags of register C and of register D
     /// gives other bytes.
+    #[tactic(auto, unfolding(crate::specs::Chipset::IsLeftBy))]
     pub fn clock_bytes(&self) -> &[u8; CLOCK_BYTES]
         ensures bytes { (history : List Entry) → IsLeftBy self.now history → result.now ≡ (clock_of history).bytes }
     {

@@ -25,6 +25,7 @@ pub struct PastTheBase;
 impl Chipset {
     /// How many bytes are kept of a base of a card, 0 to 5, or 7 for the VGA window A0000h to BFFFFh. 0 where there is
     /// no such card or base, of an outside base, and of an expansion ROM, base 6, whose bytes are fixed.
+    #[tactic(auto, using(crate::proofs::CardLoadSteps::none_without_number))]
     pub fn card_size(&self, dev: u8, base: u8) -> usize
         ensures size { result ≡ card_size self.now.setup dev base }
     {

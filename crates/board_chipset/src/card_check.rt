@@ -18,6 +18,7 @@ const LAST_DEVICE: u8 = 9;
 const MOST_CARD_MEMORY: u32 = 0x400_0000;
 
 /// Whether a board can be fitted with these cards: at most eight, each in range, in rising order of device.
+#[tactic(auto, using(crate::proofs::CardChecks::listed))]
 pub(crate) fn are_cards(cards: &[CardSpec]) -> bool
     ensures cards { IsTrue result ↔ IsCardList cards.now }
 {
@@ -98,6 +99,7 @@ pub(crate) fn fit_windows(cards: &[CardSpec]) -> bool
 }
 
 /// What is left of `room` bytes after the memory of these bases. None where they have more than that.
+#[tactic(auto, using(crate::proofs::CardChecks::base_at))]
 fn room_after(bases: &[BaseSpec], room: u32) -> Option<u32>
     requires bases { All IsBase (map base_of bases.now) }
     ensures left { IfSome result (λ left. left + sum_by memory_size (map base_of bases.now) ≡ room) }

@@ -50,6 +50,7 @@ impl Chipset {
 
     /// Replaces the bytes that the disk was fitted with. Refused exactly where they are not as many, which are none
     /// without a disk; then nothing has changed. It takes no memory.
+    #[tactic(auto, using(crate::proofs::LeftBytes::sound_as))]
     pub fn put_fitted(&mut self, bytes: &[u8]) -> Result<(), OtherLength>
         ensures refused { IsErr result ↔ length bytes.now ≢ disk_size self.old.setup }
         ensures put { OnOk result (self.new ≡ with_fitted bytes.now self.old) }

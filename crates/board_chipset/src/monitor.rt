@@ -55,6 +55,7 @@ impl Chipset {
     }
 
     /// Whether the master 8259A asserts INT, so that a processor may acknowledge an interrupt.
+    #[tactic(auto, unfolding(crate::specs::Chipset::IsLeftBy))]
     pub fn interrupt(&self) -> bool
         ensures interrupt { (history : List Entry) → IsLeftBy self.now history
             → result ≡ is_interrupting self.now.setup history }
@@ -95,6 +96,7 @@ impl Chipset {
 
     /// After how many pulses of the timer's clock, at most 131,073, interrupt request line 0 next rises. None where it
     /// never rises unless something is written first.
+    #[tactic(auto, unfolding(crate::specs::Chipset::IsLeftBy))]
     pub fn pulses_to_rise(&self) -> Option<u32>
         ensures rise { (history : List Entry) → IsLeftBy self.now history → IsNextRise (timer_of history) result }
         ensures bound { IfSome result (λ n. n ≤ 131_073) }

@@ -10,6 +10,7 @@ use pic_pair::Lines;
 
 impl Chipset {
     /// The clock: what a read of port 71h would give, and the second after the one that it shows.
+    #[tactic(auto, unfolding(crate::specs::Chipset::IsLeftBy))]
     pub fn clock(&self) -> &Cmos
         ensures clock { (history : List Entry) → IsLeftBy self.now history → result.now ≡ clock_of history }
     {
@@ -17,6 +18,7 @@ impl Chipset {
     }
 
     /// The levels of the sixteen interrupt lines, as the pair of 8259A hears them.
+    #[tactic(auto, unfolding(crate::specs::Chipset::IsLeftBy))]
     pub fn lines(&self) -> Lines
         ensures levels { (history : List Entry) → IsLeftBy self.now history
             → result ≡ levels_of self.now.setup history }
