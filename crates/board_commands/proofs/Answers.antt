@@ -1,5 +1,5 @@
 -- What a command answers, from the files that it read and the text that came of them.
-use Rattle.std.proofs.Common.{◌≡◌, ◌≢◌, ℕ, [], ◌∷◌, List, Some, refl, sym, subst, Result, Ok, Err, IfOk, IfErr}
+use Rattle.std.proofs.Common.{◌≡◌, ◌≢◌, ℕ, [], ◌∷◌, List, Some, refl, Result, Ok, Err, IfOk, IfErr}
 use Rattle.board_spec.specs.Setup.{Setup}
 use Rattle.script_spec.specs.Common.{Script as Said, DiffersAt}
 use Rattle.log_check.specs.declared.fault.CheckFault.{CheckFault}
@@ -23,14 +23,7 @@ pub refused_answer :
     → (((which : Which) → status ≢ ReadFault which) → shelf.faults_now ≡ shelf.faults_before) →
     IsAnswered command shelf result
 refused_answer command shelf result status is refused quiet =
-    subst (IsAnswered command shelf) (sym is)
-    (record { text = tt; refused = refused; quiet = tt; no_fault_hidden = quiet })
-
-pub text_answer :
-    (command : Command) (shelf : ShelfCall) (text : List ℕ) →
-    OfFiles shelf.files (λ files. IsCommandText command files text) → shelf.faults_now ≡ shelf.faults_before →
-    IsAnswered command shelf (Ok text)
-text_answer command shelf text says quiet = record { text = says; refused = tt; quiet = quiet; no_fault_hidden = tt }
+    rw is (record { text = tt; refused = refused; quiet = tt; no_fault_hidden = quiet })
 
 -- ---- after the files were read
 
@@ -46,9 +39,8 @@ boards_compared _ P is = absurd is
 module _ (command : Command) (shelf : ShelfCall) (known : Known)
     (read : OfFiles shelf.files (λ files. AllRead command files known)) where
   asked_at_end :
-      (status : Status) (P : Files → Type 0) → ((files : Files) → AllRead command files known → P files) →
-      OfFiles shelf.files P
-  asked_at_end status P each =
+      (P : Files → Type 0) → ((files : Files) → AllRead command files known → P files) → OfFiles shelf.files P
+  asked_at_end P each =
       of_files shelf.files P
       (λ files is. each files (at_files shelf.files files (λ files'. AllRead command files' known) is read))
 
@@ -63,33 +55,30 @@ module _ (command : Command) (shelf : ShelfCall) (known : Known)
   stopped (BadImage which) is = absurd is
   stopped (Differs line) is = (
     log_is_read command (LogDiffers known line) is,
-    asked_at_end (Differs line) (λ files. AsksFor command files (Differs line)) (λ files all. (known, all, is)),
+    asked_at_end (λ files. AsksFor command files (Differs line)) (λ files all. (known, all, is)),
   )
   stopped OtherBoard is = (
     boards_compared command (BoardsDiffer known) is,
-    asked_at_end OtherBoard (λ files. AsksFor command files OtherBoard) (λ files all. (known, all, is)),
+    asked_at_end (λ files. AsksFor command files OtherBoard) (λ files all. (known, all, is)),
   )
   stopped NoMemory is = tt
 
-  -- there is a text
-  pub text_there :
-      (text : List ℕ) → IsTextFor command known text → CanBeDone command known →
-      OfFiles shelf.files (λ files. IsCommandText command files text)
-  text_there text says done =
-      asked_at_end Done (λ files. IsCommandText command files text)
-      (λ files all. record { known = known; read = all; done = done; says = says })
-
--- what a command answers whose files were read
-pub read_answer :
-    (command : Command) (shelf : ShelfCall) (known : Known) (result : Result (List ℕ) Status) →
-    OfFiles shelf.files (λ files. AllRead command files known) → shelf.faults_now ≡ shelf.faults_before →
-    IfOk result (IsTextFor command known) → IfOk result (λ _. CanBeDone command known)
-    → IfErr result (HasNoText command known) →
-    IsAnswered command shelf result
-read_answer command shelf known (Ok text) read quiet says done stops =
-    text_answer command shelf text (text_there command shelf known read text says done) quiet
-read_answer command shelf known (Err status) read quiet says done stops =
-    refused_answer command shelf (Err status) status refl (stopped command shelf known read status stops) (λ _. quiet)
+  -- what a command answers whose files were read
+  pub read_answer :
+      (result : Result (List ℕ) Status) → shelf.faults_now ≡ shelf.faults_before →
+      IfOk result (IsTextFor command known) → IfOk result (λ _. CanBeDone command known)
+      → IfErr result (HasNoText command known) →
+      IsAnswered command shelf result
+  read_answer (Ok text) quiet says done stops = record {
+    text =
+        asked_at_end (λ files. IsCommandText command files text)
+        (λ files all. record { known = known; read = all; done = done; says = says });
+    refused = tt;
+    quiet = quiet;
+    no_fault_hidden = tt;
+  }
+  read_answer (Err status) quiet says done stops =
+      refused_answer command shelf (Err status) status refl (stopped status stops) (λ _. quiet)
 
 -- a log was not that of the script, or memory ran out
 pub check_stopped :
@@ -97,10 +86,6 @@ pub check_stopped :
     setup ≡ board_of known said → bytes ≡ known.log → (fault : CheckFault) →
     ((line : ℕ) → fault ≡ DiffersAtLine line → DiffersAt setup said.version said.phases bytes line) →
     HasNoText (Check script log) known (status_of_check_fault fault)
-check_stopped known said setup bytes script log is fits same (DiffersAtLine line) differs = (
-  said,
-  is,
-  subst (λ (setup' : Setup). DiffersAt setup' said.version said.phases known.log line) fits
-      (subst (λ (bytes' : List ℕ). DiffersAt setup said.version said.phases bytes' line) same (differs line refl)),
-)
+check_stopped known said setup bytes script log is fits same (DiffersAtLine line) differs =
+    (said, is, rw (← fits, ← same) (differs line refl))
 check_stopped known said setup bytes script log is fits same NoMemoryForCheck differs = tt

@@ -1,16 +1,15 @@
 -- What each way out of a command says of its cause.
-use Rattle.std.proofs.Common.{◌≡◌, ◌≢◌, ℕ, inl, inr, List, Option, Some, None, refl, sym, subst}
+use Rattle.std.proofs.Common.{◌≡◌, ◌≢◌, ℕ, inl, inr, List, Some, refl}
 use Rattle.board_prelude.proofs.Common.{Appends, Keeps}
 use Rattle.board_outside.specs.Outside.{Rose}
 use Rattle.board_outside.specs.declared.fault.PutFault.{PutFault}
 use Rattle.board_outside.specs.declared.fault.PutFault.TheVariants.{Failed, NoMemory as NoMemoryForPut}
 use Rattle.command_files.specs.declared.status.Which.{Which}
 use Rattle.command_files.specs.declared.status.Status.{Status}
-use Rattle.command_files.specs.declared.status.Status.TheVariants.{Done, Usage, ReadFault, WriteFault}
-use Rattle.command_files.specs.declared.status.Status.TheVariants.{NoMemory}
+use Rattle.command_files.specs.declared.status.Status.TheVariants.{Done, Usage, ReadFault, WriteFault, NoMemory}
 use Rattle.command_words.specs.Words.{Command}
 use Rattle.board_commands.specs.Common.{IsCommandText, AppendsFront, SinkCall, OfCommand, PutsText, PutsTextFront}
-use Rattle.board_commands.specs.Common.{Stopped, WordsCanEnd, HasCause, IsCaused}
+use Rattle.board_commands.specs.Common.{Stopped, HasCause, IsCaused}
 use Rattle.command_files.specs.Common.{ShelfCall, OfFiles, CanEnd, status_of_put_fault, IsRefusal, IsRefused}
 use Rattle.command_files.proofs.Refusals.{of_files, at_files}
 
@@ -21,43 +20,32 @@ module _ (command : Command) (shelf : ShelfCall) (sink : SinkCall) where
   abbrev Front : Type 0
   Front = OfCommand (Some command) shelf.files (PutsTextFront sink.taken_before sink.taken_now)
 
-  refusal_cause : (status : Status) → IsRefused command shelf status → HasCause status (Some command) shelf sink
-  refusal_cause Done refused = absurd refused
-  refusal_cause Usage refused = absurd refused
-  refusal_cause (ReadFault which) refused = refused
-  refusal_cause WriteFault refused = absurd refused
-  refusal_cause NoMemory refused = tt
-  refusal_cause _ refused = refused.1
-
-  refusal_ends : (status : Status) → IsRefused command shelf status → CanEnd command status
-  refusal_ends Done refused = tt
-  refusal_ends Usage refused = absurd refused
-  refusal_ends (ReadFault which) refused = refused.can_read
-  refusal_ends WriteFault refused = tt
-  refusal_ends NoMemory refused = tt
-  refusal_ends _ refused = refused.0
-
-  refusal_stopped :
+  -- what a refusal says of the cause, of the command, and of what was put
+  refusal_says :
       (status : Status) → IsRefused command shelf status → Keeps sink.taken_before sink.taken_now →
-      Stopped status sink.taken_before sink.taken_now Front
-  refusal_stopped Done refused keeps = absurd refused
-  refusal_stopped Usage refused keeps = absurd refused
-  refusal_stopped WriteFault refused keeps = absurd refused
-  refusal_stopped NoMemory refused keeps = inl keeps
-  refusal_stopped _ refused keeps = keeps
+      HasCause status (Some command) shelf sink × CanEnd command status
+      × Stopped status sink.taken_before sink.taken_now Front
+  refusal_says Done refused keeps = absurd refused
+  refusal_says Usage refused keeps = absurd refused
+  refusal_says WriteFault refused keeps = absurd refused
+  refusal_says (ReadFault which) refused keeps = (refused, refused.can_read, keeps)
+  refusal_says NoMemory refused keeps = (tt, tt, inl keeps)
+  refusal_says _ refused keeps = (refused.1, refused.0, keeps)
 
   -- a command was refused before it had its text, and nothing was put
   pub caused_refusal :
       (status : Status) → IsRefused command shelf status → HidesNoFault shelf status
       → sink.faults_now ≡ sink.faults_before →
       Keeps sink.taken_before sink.taken_now → IsCaused status (Some command) shelf sink
-  caused_refusal status refused quiet calm keeps = record {
-    cause = refusal_cause status refused;
-    possible = refusal_ends status refused;
-    no_fault_hidden = quiet;
-    no_put_fault_hidden = λ _. calm;
-    stopped = refusal_stopped status refused keeps;
-  }
+  caused_refusal status refused quiet calm keeps =
+      let says = refusal_says status refused keeps in
+      record {
+        cause = says.0;
+        possible = says.1;
+        no_fault_hidden = quiet;
+        no_put_fault_hidden = λ _. calm;
+        stopped = says.2;
+      }
 
   module _ (text : List ℕ) (says : OfFiles shelf.files (λ files. IsCommandText command files text))
       (quiet : shelf.faults_now ≡ shelf.faults_before) where
@@ -108,19 +96,6 @@ module _ (command : Command) (shelf : ShelfCall) (sink : SinkCall) where
       no_put_fault_hidden = λ _. calm;
       stopped = tt;
     }
-
--- words that are no command
-pub caused_usage :
-    (command : Option Command) (shelf : ShelfCall) (sink : SinkCall) → command ≡ None
-    → shelf.faults_now ≡ shelf.faults_before →
-    sink.faults_now ≡ sink.faults_before → Keeps sink.taken_before sink.taken_now → IsCaused Usage command shelf sink
-caused_usage command shelf sink none quiet calm keeps = record {
-  cause = none;
-  possible = subst (λ (command' : Option Command). WordsCanEnd command' Usage) (sym none) refl;
-  no_fault_hidden = λ _. quiet;
-  no_put_fault_hidden = λ _. calm;
-  stopped = keeps;
-}
 
 pub refusal_of : (command : Command) (shelf : ShelfCall) (status : Status) → IsRefused command shelf status
     → IsRefusal status

@@ -1,5 +1,5 @@
 -- The status that the words and the files ask for comes, while the outside is quiet.
-use Rattle.std.proofs.Common.{◌≡◌, ℕ, List, inl, inr, Option, Some, None, refl, sym, subst, arith}
+use Rattle.std.proofs.Common.{◌≡◌, ℕ, List, inl, inr, Option, Some, None, refl, arith}
 use Rattle.board_outside.specs.Outside.{Rose}
 use Rattle.command_files.specs.declared.status.Status.{Status}
 use Rattle.command_files.specs.declared.status.Status.TheVariants.{Done, Usage, ReadFault, WriteFault, TooLong}
@@ -47,7 +47,7 @@ module _ (one_status : OneStatus) (command : Command) (files : Files) (shelf : S
   left WriteFault is =
       let puts = told_of (PutsTextFront sink.taken_before sink.taken_now command) is.stopped in
       let done = one_status command files Done wanted (done_of_text command files puts.text puts.says) asks in
-      absurd ((subst (λ (status : Status). IsQuietFor status Quiet Calm) (sym done) quiet).1 is.cause)
+      absurd ((rw (← done) at quiet).1 is.cause)
   left (TooLong which) is = same (TooLong which) (told_of (λ files'. AsksFor command files' (TooLong which)) is.cause)
   left (BadScript line why) is =
       same (BadScript line why) (told_of (λ files'. AsksFor command files' (BadScript line why)) is.cause)
@@ -57,23 +57,16 @@ module _ (one_status : OneStatus) (command : Command) (files : Files) (shelf : S
   left OtherBoard is = same OtherBoard (told_of (λ files'. AsksFor command files' OtherBoard) is.cause)
   left NoMemory is = inr refl
 
-exact_for :
+pub exact :
     OneStatus → (command : Option Command) (told : Option Files) (shelf : ShelfCall) (sink : SinkCall) (status : Status)
     → shelf.files ≡ told →
     IsCaused status command shelf sink →
     IsExact status command told (¬ Rose shelf.faults_before shelf.faults_now)
     (¬ Rose sink.faults_before sink.faults_now)
-exact_for one None told shelf sink status told_is is = λ wanted has quiet. absurd has
-exact_for one (Some command) None shelf sink status told_is is = λ wanted has quiet. absurd has
-exact_for one (Some command) (Some files) shelf sink status told_is is = λ wanted has quiet.
+exact one None told shelf sink status told_is is = λ wanted has quiet. absurd has
+exact one (Some command) None shelf sink status told_is is = λ wanted has quiet. absurd has
+exact one (Some command) (Some files) shelf sink status told_is is = λ wanted has quiet.
     left one command files shelf sink told_is wanted has quiet status is
-
-pub exact :
-    OneStatus → (command : Option Command) (shelf : ShelfCall) (sink : SinkCall) (status : Status)
-    → IsCaused status command shelf sink →
-    IsExact status command shelf.files (¬ Rose shelf.faults_before shelf.faults_now)
-    (¬ Rose sink.faults_before sink.faults_now)
-exact one command shelf sink status is = exact_for one command shelf.files shelf sink status refl is
 
 none_rose : ¬ Rose 0 0
 none_rose rose = elim rose [ inl more ↦ omega arith | inr last ↦ omega arith ]

@@ -7,8 +7,7 @@ use Rattle.board_outside.specs.declared.fault.PutFault.{PutFault}
 use Rattle.board_outside.specs.declared.fault.PutFault.TheVariants.{Failed, NoMemory as NoMemoryForPut}
 use Rattle.command_words.specs.Words.{Command}
 use Rattle.command_files.specs.declared.status.Status.{Status}
-use Rattle.command_files.specs.declared.status.Status.TheVariants.{Done, Usage, WriteFault}
-use Rattle.command_files.specs.declared.status.Status.TheVariants.{NoMemory}
+use Rattle.command_files.specs.declared.status.Status.TheVariants.{Done, Usage, WriteFault, NoMemory}
 use Rattle.command_files.specs.Common.{status_of_put_fault, ShelfCall, IsRefused, OfCalls}
 use Rattle.command_files.proofs.CallLemmas.{none_told, calls_hold, call_more, Both, calls_both}
 use Rattle.board_commands.specs.Puts.{AllTook, LatestRefused, ArePutsOf, PutsBy}

@@ -1,6 +1,5 @@
 -- The statements of a script in the order of its file.
-use Rattle.std.proofs.Common.{◌≡◌, ℕ, ◌+◌, ◌++◌, List, [], ◌∷◌, take, drop, get_or, refl, ap, subst, All}
-use Rattle.std.proofs.Common.{slice_index_or, flat_map}
+use Rattle.std.proofs.Common.{◌≡◌, ℕ, ◌+◌, List, [], ◌∷◌, take, drop, get_or, refl, All, slice_index_or, flat_map}
 use Rattle.board_prelude.proofs.Common.{Vec, Global, get_or_default, Statement, IsScripted, in_file_order, Setup}
 use Rattle.phase_threads.specs.Jobs.{IsStatement}
 use Rattle.script_spec.specs.Phases.{lists_of}
@@ -15,12 +14,11 @@ phases_in_range setup version cpus phases all i d within =
     let phase : Vec Statement Global = get_or phases i d in
     let own : All (IsScripted setup version cpus) phase.items =
     all_of_phase (IsScripted setup version cpus) (lists_of (take i phases)) phase.items (lists_of (drop (i + 1) phases))
-    (subst (λ (ps : List (List Statement)). All (IsScripted setup version cpus) (in_file_order ps))
-    (phases_cut phases i phase within (get_or_default phases i d phase within)) all) in
+    (rw (phases_cut phases i phase within (get_or_default phases i d phase within)) at all) in
     λ k e inside. let is : IsScripted setup version cpus (slice_index_or phase.items k e) = own k e inside in
     record { actor = is.actor; event = is.event }
 
 pub listed_one_by_one :
     (phases : List (Vec Statement Global)) → in_file_order (lists_of phases) ≡ flat_map (λ phase. phase.items) phases
 listed_one_by_one [] = refl
-listed_one_by_one (phase ∷ later) = ap (λ (rest : List Statement). phase.items ++ rest) (listed_one_by_one later)
+listed_one_by_one (phase ∷ later) = rw (listed_one_by_one later) refl

@@ -10,6 +10,5 @@ returns-in_err-read-clause-answer g c =
 
 pub returns-clause-answer : goal.returns-clause-answer
 returns-clause-answer g c =
-    read_answer (said_by c.args.command.now) _ c.in_ok-read.read c.text_of.result c.in_ok-read.ensures.read
-    c.in_ok-read.ensures.quiet
-    c.text_of.ensures.text c.text_of.ensures.done c.text_of.ensures.stops
+    read_answer (said_by c.args.command.now) _ c.in_ok-read.read c.in_ok-read.ensures.read c.text_of.result
+    c.in_ok-read.ensures.quiet c.text_of.ensures.text c.text_of.ensures.done c.text_of.ensures.stops
