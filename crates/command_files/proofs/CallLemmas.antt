@@ -62,9 +62,6 @@ pub record ReadTo (name : List ℕ) (limit place : ℕ) (made : List Fetch) : Ty
   pub reached : place_after made ≡ place
   pub goes_on : BroughtBytes made
 
-pub at_start : (name : List ℕ) (limit : ℕ) → ReadTo name limit 0 []
-at_start name limit = record { reading = tt; reached = refl; goes_on = tt }
-
 module _ (before between now : Option (List Fetch)) (name : List ℕ) (limit place : ℕ) (within : place ≤ limit)
     (so_far : OfCalls before between (ReadTo name limit place)) where
   next_fetch :

@@ -3,7 +3,7 @@ use Rattle.std.proofs.Common.{◌≡◌, ℕ, List, [], ◌∷◌, length, rever
 use Rattle.board_spec.specs.Setup.{IsRomSize}
 use Rattle.script_spec.specs.Common.{Script as Said, IsInRangeScript}
 use Rattle.command_words.specs.Words.{Command, Check, Make, Resume, Serial, script_name}
-use Rattle.command_files.specs.declared.status.Which.TheVariants.{Script, Rom, Disk, Log, Image, Input}
+use Rattle.command_files.specs.declared.status.Which.TheVariants.{Script, Rom, Disk, Image}
 use Rattle.command_files.specs.Common.{files_of, Files, Known, rom_name, disk_name, OfScript, HasBoard, HasImage}
 use Rattle.command_files.specs.Common.{HasRead, IsTaken, IsPassed}
 use Rattle.command_files.proofs.Places.{AreTaken}
@@ -53,14 +53,11 @@ module _ (told : Option Files) where
       let second = rom_read with_script with_rom with_script.script refl first rom in
       disk_read with_rom known (disk_name with_rom.script) second disk
 
-  log_read : (before now : Known) (name : List ℕ) → HasBoard before → IsTaken told before Log name now → HasBoard now
-  log_read before now name has is =
-      rw is.learns (record { script = has.script; rom = has.rom; disk = has.disk })
-
-  input_read : (before now : Known) (name : List ℕ) → HasBoard before → IsTaken told before Input name now
-      → HasBoard now
-  input_read before now name has is =
-      rw is.learns (record { script = has.script; rom = has.rom; disk = has.disk })
+  -- a log and an input leave the board
+  board_kept :
+      (before now : Known) (log input : List ℕ) → HasBoard before → now ≡ record before { log = log; input = input } →
+      HasBoard now
+  board_kept before now log input has is = rw is (record { script = has.script; rom = has.rom; disk = has.disk })
 
   -- an image was read, and a script
   image_read :
@@ -77,9 +74,9 @@ module _ (told : Option Files) where
   pub has_read : (command : Command) (known : Known) → AreTaken command told (reverse (files_of command)) known
       → HasRead command known
   has_read (Check script log) known is =
-      log_read is.0 known log (board_read (Check script log) script refl is.0 is.1) is.2
+      board_kept is.0 known _ is.0.input (board_read (Check script log) script refl is.0 is.1) is.2.learns
   has_read (Make rounds) known is = tt
   has_read (Resume image script) known is = image_read is.1.0 is.0 known image script is.1.2 is.2
   has_read (Serial script input) known is =
-      input_read is.0 known input (board_read (Serial script input) script refl is.0 is.1) is.2
+      board_kept is.0 known is.0.log _ (board_read (Serial script input) script refl is.0 is.1) is.2.learns
   has_read command known is = board_read command _ refl known is

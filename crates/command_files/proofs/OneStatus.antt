@@ -1,23 +1,22 @@
 -- The words and the files ask for at most one status: what was read before a file is determined, and so is what is said
 -- of it.
 use Rattle.std.proofs.Common.{◌≡◌, ℕ, ◌<◌, ◌≤◌, ◌++◌, ◌⊎◌, inl, inr, List, [], ◌∷◌, length, reverse, Option, Some, None}
-use Rattle.std.proofs.Common.{refl, sym, ◌∙◌, subst, append_assoc, append-nil}
+use Rattle.std.proofs.Common.{refl, ap, sym, ◌∙◌, subst, append_assoc, append-nil}
 use Rattle.std.proofs.Math.Nat.{not-le_of_lt}
-use Rattle.board_prelude.proofs.Common.{reverse-append, reverse-reverse, Statement, Setup}
-use Rattle.script_spec.specs.Common.{Script as Said, IsScriptBad}
+use Rattle.board_prelude.proofs.Common.{reverse-append, reverse-reverse}
+use Rattle.script_spec.specs.Common.{IsScriptBad}
 use Rattle.script_spec.proofs.Common.{same_some, not_both, one_refusal, one_script, one_difference}
-use Rattle.board_image.specs.Common.{Saved, OneSpelling}
 use Rattle.script_spec.specs.Boards.{IsForBoard}
+use Rattle.board_image.specs.Common.{Saved, OneSpelling}
 use Rattle.command_words.specs.Words.{Command, Check, Resume}
 use Rattle.command_files.specs.declared.status.Which.{Which}
 use Rattle.command_files.specs.declared.status.Which.TheVariants.{Script, Rom, Disk, Image}
 use Rattle.command_files.specs.declared.status.Status.{Status}
 use Rattle.command_files.specs.declared.status.Status.TheVariants.{Done, TooLong, BadScript, BadImage, Differs}
 use Rattle.command_files.specs.declared.status.Status.TheVariants.{OtherBoard}
-use Rattle.command_files.specs.Common.{files_of, limit_of, Files, Known, nothing_known, file_name, Learns, Passes}
-use Rattle.command_files.specs.Common.{AreReadAs, AllRead, ComesTo, board_of, IsNoImage, LogIsLegal, LogDiffers}
-use Rattle.command_files.specs.Common.{BoardsAgree, BoardsDiffer, CanBeDone, OfCheck, OfResume, EndsWith, AsksFor}
-use Rattle.command_files.specs.Common.{OfScript, OfImage, OneStatus}
+use Rattle.command_files.specs.Common.{OfImage, files_of, limit_of, Files, Known, nothing_known, file_name, Learns}
+use Rattle.command_files.specs.Common.{Passes, AreReadAs, AllRead, ComesTo, board_of, IsNoImage, LogIsLegal, LogDiffers}
+use Rattle.command_files.specs.Common.{BoardsAgree, BoardsDiffer, EndsWith, AsksFor, OneStatus}
 
 -- at most one status holds
 abbrev IsOne : (Status → Type 0) → Type 0
@@ -51,13 +50,8 @@ apart known Image bytes status now refused good =
     refused.0 (record { setup = good.0.setup; steps = good.0.steps; image = good.1; spelled = good.2 })
 apart known _ bytes status now refused good = absurd refused.0
 
-saved : Setup → List Statement → Saved
-saved setup steps = record { setup = setup; steps = steps }
-
 same_image : (image other : Saved) → image.setup ≡ other.setup → image.steps ≡ other.steps → image ≡ other
-unfolding saved
-same_image image other setup steps =
-    let whole : saved image.setup image.steps ≡ saved other.setup other.steps = cc in whole
+same_image image other setup steps = λ k. record { setup = setup k; steps = steps k }
 
 -- what a file says is determined
 one_learned :
@@ -75,86 +69,36 @@ one_learned spelling known _ bytes now other one two = one ∙ sym two
 
 -- ---- once all files were read
 
--- what is known asks for this status, by cases
-abbrev EndsAs : Command → Known → Status → Type 0
-EndsAs command known status =
-    (CanBeDone command known × (status ≡ Done))
-    ⊎ ((line : ℕ) × OfCheck command (LogDiffers known line) × (status ≡ Differs line))
-    ⊎ (OfResume command (BoardsDiffer known) × (status ≡ OtherBoard))
-
-ends_as : (command : Command) (known : Known) (status : Status) → EndsWith command known status
-    → EndsAs command known status
-ends_as command known Done ends = inl (ends, refl)
-ends_as command known (Differs line) ends = inr (inl (line, ends, refl))
-ends_as command known OtherBoard ends = inr (inr (ends, refl))
-ends_as command known _ ends = absurd ends
-
 -- only `check` compares logs, and only `resume` boards
 log_apart : (known : Known) (line : ℕ) → LogDiffers known line → LogIsLegal known → ⊥
 log_apart known line differs legal =
     differs.2.other (rw (same_some legal.0 differs.0 (sym legal.1 ∙ differs.1)) at legal.2)
 
-both_of_script :
-    (known : Known) (P Q : Said → Type 0) → OfScript known P → OfScript known Q → (script : Said) × P script × Q script
-both_of_script known P Q one two =
-    (one.0, one.2, subst Q (same_some two.0 one.0 (sym two.1 ∙ one.1)) two.2)
-
-both_of_image :
-    (known : Known) (P Q : Saved → Type 0) → OfImage known P → OfImage known Q → (image : Saved) × P image × Q image
-both_of_image known P Q one two =
-    (one.0, one.2, subst Q (same_some two.0 one.0 (sym two.1 ∙ one.1)) two.2)
-
 boards_apart : (known : Known) → BoardsDiffer known → BoardsAgree known → ⊥
 boards_apart known differ agree =
-    let both =
-    both_of_script known (λ script. OfImage known (λ image. ¬ IsForBoard image.setup script))
-    (λ script. OfImage known (λ image. IsForBoard image.setup script)) differ agree in
-    let images =
-    both_of_image known (λ image. ¬ IsForBoard image.setup both.0) (λ image. IsForBoard image.setup both.0) both.1
-    both.2
-    in
-    images.1 images.2
-
-done_or_differs :
-    (command : Command) (known : Known) (line : ℕ) → CanBeDone command known → OfCheck command (LogDiffers known line)
-    → ⊥
-done_or_differs (Check script log) known line done differs = log_apart known line differs done
-done_or_differs _ known line done differs = absurd differs
-
-done_or_other :
-    (command : Command) (known : Known) → CanBeDone command known → OfResume command (BoardsDiffer known) → ⊥
-done_or_other (Resume image script) known done differ = boards_apart known differ done
-done_or_other _ known done differ = absurd differ
-
-differs_or_other : (command : Command) (P Q : Type 0) → OfCheck command P → OfResume command Q → ⊥
-differs_or_other (Check script log) P Q check resume = absurd resume
-differs_or_other _ P Q check resume = absurd check
-
-one_line_of_check :
-    (command : Command) (known : Known) (line place : ℕ) → OfCheck command (LogDiffers known line) →
-    OfCheck command (LogDiffers known place) → line ≡ place
-one_line_of_check (Check script log) known line place one two =
-    one_difference (board_of known one.0) one.0.version one.0.phases known.log line place one.2
-    (rw (same_some two.0 one.0 (sym two.1 ∙ one.1)) at two.2)
-one_line_of_check _ known line place one two = absurd one
-
-one_way : (command : Command) (known : Known) → IsOne (EndsAs command known)
-one_way command known status other (inl one) (inl two) = one.1 ∙ sym two.1
-one_way command known status other (inl one) (inr (inl two)) = absurd (done_or_differs command known two.0 one.0 two.1)
-one_way command known status other (inl one) (inr (inr two)) = absurd (done_or_other command known one.0 two.0)
-one_way command known status other (inr (inl one)) (inl two) = absurd (done_or_differs command known one.0 two.0 one.1)
-one_way command known status other (inr (inl one)) (inr (inl two)) =
-    cc (one.2, two.2, one_line_of_check command known one.0 two.0 one.1 two.1)
-one_way command known status other (inr (inl one)) (inr (inr two)) =
-    absurd (differs_or_other command (LogDiffers known one.0) (BoardsDiffer known) one.1 two.0)
-one_way command known status other (inr (inr one)) (inl two) = absurd (done_or_other command known two.0 one.0)
-one_way command known status other (inr (inr one)) (inr (inl two)) =
-    absurd (differs_or_other command (LogDiffers known two.0) (BoardsDiffer known) two.1 one.0)
-one_way command known status other (inr (inr one)) (inr (inr two)) = one.1 ∙ sym two.1
+    let images : OfImage known (λ image. IsForBoard image.setup differ.0) =
+    rw (same_some agree.0 differ.0 (sym agree.1 ∙ differ.1)) at agree.2 in
+    let same = same_some images.0 differ.2.0 (sym images.1 ∙ differ.2.1) in
+    differ.2.2 (subst (λ (image : Saved). IsForBoard image.setup differ.0) same images.2)
 
 one_with : (command : Command) (known : Known) → IsOne (EndsWith command known)
-one_with command known status other one two =
-    one_way command known status other (ends_as command known status one) (ends_as command known other two)
+one_with (Check script log) known Done Done one two = refl
+one_with (Check script log) known Done (Differs line) one two = absurd (log_apart known line two one)
+one_with (Check script log) known Done _ one two = absurd two
+one_with (Check script log) known (Differs line) Done one two = absurd (log_apart known line one two)
+one_with (Check script log) known (Differs line) (Differs place) one two =
+    ap Differs (one_difference (board_of known one.0) one.0.version one.0.phases known.log line place one.2
+    (rw (same_some two.0 one.0 (sym two.1 ∙ one.1)) at two.2))
+one_with (Check script log) known (Differs line) _ one two = absurd two
+one_with (Resume image script) known Done Done one two = refl
+one_with (Resume image script) known Done OtherBoard one two = absurd (boards_apart known two one)
+one_with (Resume image script) known Done _ one two = absurd two
+one_with (Resume image script) known OtherBoard Done one two = absurd (boards_apart known one two)
+one_with (Resume image script) known OtherBoard OtherBoard one two = refl
+one_with (Resume image script) known OtherBoard _ one two = absurd two
+one_with command known Done Done one two = refl
+one_with command known Done _ one two = absurd two
+one_with command known _ other one two = absurd one
 
 -- ---- one file after another
 

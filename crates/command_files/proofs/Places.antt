@@ -1,8 +1,8 @@
 -- A command at a place of its table: what its status is there, and which fetches it made.
-use Rattle.std.proofs.Common.{◌≡◌, ◌≢◌, ℕ, suc, ◌+◌, ◌<◌, ◌≤◌, ◌⊎◌, inl, inr, List, [], ◌∷◌, ◌++◌, length, take, drop}
+use Rattle.std.proofs.Common.{◌≡◌, ◌≢◌, ℕ, suc, ◌+◌, ◌<◌, ◌⊎◌, inl, inr, List, [], ◌∷◌, ◌++◌, length, take, drop}
 use Rattle.std.proofs.Common.{reverse, get_or, Option, Some, None, refl, sym, ap, ◌∙◌, subst, append_assoc, Result, Ok}
 use Rattle.std.proofs.Common.{OnOk}
-use Rattle.board_prelude.proofs.Common.{reverse-append, reverse-reverse, append-nil, take_all}
+use Rattle.board_prelude.proofs.Common.{reverse-append, reverse-reverse, append-nil}
 use Rattle.board_outside.specs.Outside.{Rose, OfFile, Fetch}
 use Rattle.std.proofs.Math.Seq.{split_at}
 use Rattle.script_spec.specs.ScriptText.{IsScriptBad}
@@ -18,14 +18,6 @@ use Rattle.command_files.specs.Common.{ReadEach, FetchesOf, IsPassed, IsNotPasse
 use Rattle.command_files.proofs.CallLemmas.{Both, calls_both, calls_hold}
 use Rattle.command_files.proofs.Refusals.{of_files, at_files, at_file, any_file}
 use Rattle.logs_and_maps.proofs.Lines.{reverse-take_more}
-
--- ---- places of a list
-
--- a list is what stands before a place, that place, and what stands after it
-placed :
-    {A : Type 0} (files : List A) (index : ℕ) (d : A) → index < length files →
-    files ≡ reverse (reverse (take index files)) ++ get_or files index d ∷ drop (suc index) files
-placed files index d within = rw (reverse-reverse (take index files)) (split_at files index d within)
 
 -- ---- the files before a place
 
@@ -88,8 +80,28 @@ not_read command told (other ∷ others) whiches more made is = (
   rw (append-nil more) (not_read command told others whiches more made is),
 )
 
-module _ (command : Command) (told : Option Files) (which : Which) (before later : List Which) (known : Known)
-    (place : files_of command ≡ reverse before ++ which ∷ later) (are : AreTaken command told before known) where
+-- a loop along the table
+module _ (command : Command) (told : Option Files) (files : List Which) (index : ℕ) (d : Which) (known : Known)
+    (table : files ≡ files_of command) (inside : index < length files)
+    (are : AreTaken command told (reverse (take index files)) known) where
+  abbrev which : Which
+  which = get_or files index d
+
+  abbrev before : List Which
+  before = reverse (take index files)
+
+  abbrev later : List Which
+  later = drop (suc index) files
+
+  place : files_of command ≡ reverse before ++ which ∷ later
+  place = rw (← table, reverse-reverse (take index files)) (split_at files index d inside)
+
+  -- the file at the index was read or passed over
+  pub taken_next :
+      (now : Known) → IsPassed told known which (file_name command known which) now →
+      AreTaken command told (reverse (take (index + 1) files)) now
+  taken_next now passed = rw (reverse-take_more files index d inside) (known, are, passed)
+
   reaches : (name : List ℕ) → file_name command known which ≡ Some name → ReachesFile command told which name
   reaches name named = record {
     can_read = (reverse before, later, place);
@@ -154,24 +166,16 @@ module _ (command : Command) (told : Option Files) (which : Which) (before later
     not_taken NoMemory is = tt
     not_taken _ is = absurd is
 
-  stopped_at :
-      (start now : ℕ) (kept : List ℕ) (name : Option (List ℕ)) → file_name command known which ≡ name
-      → (status : Status) →
-      IsNotPassed which name (record { files = told; faults_before = start; faults_now = now; failed_name = kept })
-      status →
-      IsRefused command (record { files = told; faults_before = start; faults_now = now; failed_name = kept }) status
-  stopped_at start now kept None named status is = absurd is
-  stopped_at start now kept (Some name) named status is = not_taken start now kept name named status is
-
   -- the command stops at this place, after none of the fetches before had failed
-  stops :
+  pub stops :
+      (name : Option (List ℕ)) → file_name command known which ≡ name →
       (start between now : ℕ) (kept : List ℕ) (status : Status) → between ≡ start →
-      IsNotPassed which (file_name command known which)
+      IsNotPassed which name
       (record { files = told; faults_before = between; faults_now = now; failed_name = kept }) status →
       IsRefused command (record { files = told; faults_before = start; faults_now = now; failed_name = kept }) status
-  stops start between now kept status same is =
-      rw (← same)
-      (stopped_at between now kept (file_name command known which) refl status is)
+  stops None named start between now kept status same is = absurd is
+  stops (Some name) named start between now kept status same is =
+      rw (← same) (not_taken between now kept name named status is)
 
   -- ---- the fetches
 
@@ -197,18 +201,14 @@ module _ (command : Command) (told : Option Files) (which : Which) (before later
     is.one (more ++ is.second),
   )
 
-  fetches_next :
+  pub fetches_next :
       {T : Type 0} (E : Type 0) (value : T) (start between now : Option (List Fetch)) →
       OfCalls start between (WholeBefore command told before) →
       OfCalls between now (ReadsNamed {E = E} (Ok value) (file_name command known which) (limit_of which)) →
-      OfCalls start now (WholeBefore command told (which ∷ before))
+      OfCalls start now (WholeBefore command told (reverse (take (index + 1) files)))
   fetches_next E value start between now one two =
-      calls_hold start now
-      (Both (WholeBefore command told before) (ReadsNamed {E = E} (Ok value) (file_name command known which)
-      (limit_of which)))
-      (WholeBefore command told (which ∷ before)) (own_whole E value)
-      (calls_both start between now (WholeBefore command told before)
-      (ReadsNamed {E = E} (Ok value) (file_name command known which) (limit_of which)) one two)
+      rw (reverse-take_more files index d inside)
+      (calls_hold start now _ _ (own_whole E value) (calls_both start between now _ _ one two))
 
   -- the table from its end
   mirrored : reverse (files_of command) ≡ reverse later ++ which ∷ before
@@ -235,17 +235,13 @@ module _ (command : Command) (told : Option Files) (which : Which) (before later
       ))
 
   -- the command read the file at this place, and none later
-  fetches_last :
+  pub fetches_last :
       {T E : Type 0} (result : Result T E) (start between now : Option (List Fetch)) →
       OfCalls start between (WholeBefore command told before) →
       OfCalls between now (ReadsNamed result (file_name command known which) (limit_of which)) →
       OfCalls start now (FetchesOf command told)
   fetches_last result start between now one two =
-      calls_hold start now (Both (WholeBefore command told before)
-      (ReadsNamed result (file_name command known which) (limit_of which)))
-      (FetchesOf command told) (last_read result)
-      (calls_both start between now (WholeBefore command told before)
-      (ReadsNamed result (file_name command known which) (limit_of which)) one two)
+      calls_hold start now _ _ (last_read result) (calls_both start between now _ _ one two)
 
 -- the command read all files
 pub fetches_all :
@@ -255,57 +251,3 @@ pub fetches_all :
 fetches_all command told start now is =
     calls_hold start now (WholeBefore command told (reverse (files_of command))) (FetchesOf command told)
     (λ made whole. whole []) is
-
--- ---- a loop along the table
-
-module _ (command : Command) (told : Option Files) (files : List Which) (index : ℕ) (d : Which) (known : Known)
-    (table : files ≡ files_of command) (within : index < length files)
-    (are : AreTaken command told (reverse (take index files)) known) where
-  abbrev here : Which
-  here = get_or files index d
-
-  abbrev passed_by : List Which
-  passed_by = reverse (take index files)
-
-  at_here : files_of command ≡ reverse passed_by ++ here ∷ drop (suc index) files
-  at_here = sym table ∙ placed files index d within
-
-  -- the file at the index was read or passed over
-  pub taken_next :
-      (now : Known) → IsPassed told known here (file_name command known here) now →
-      AreTaken command told (reverse (take (index + 1) files)) now
-  taken_next now passed =
-      rw (reverse-take_more files index d within) (known, are, passed)
-
-  pub whole_next :
-      (E : Type 0) (value : Unit {0}) (start between now : Option (List Fetch)) →
-      OfCalls start between (WholeBefore command told passed_by) →
-      OfCalls between now (ReadsNamed {E = E} (Ok value) (file_name command known here) (limit_of here)) →
-      OfCalls start now (WholeBefore command told (reverse (take (index + 1) files)))
-  whole_next E value start between now one two =
-      rw (reverse-take_more files index d within)
-      (fetches_next command told here passed_by (drop (suc index) files) known at_here are E value start between now one
-      two)
-
-  -- the command stops at it
-  pub stops_here :
-      (start between now : ℕ) (kept : List ℕ) (status : Status) → between ≡ start →
-      IsNotPassed here (file_name command known here)
-      (record { files = told; faults_before = between; faults_now = now; failed_name = kept }) status →
-      IsRefused command (record { files = told; faults_before = start; faults_now = now; failed_name = kept }) status
-  stops_here = stops command told here passed_by (drop (suc index) files) known at_here are
-
-  pub fetches_here :
-      {T E : Type 0} (result : Result T E) (start between now : Option (List Fetch)) →
-      OfCalls start between (WholeBefore command told passed_by) →
-      OfCalls between now (ReadsNamed result (file_name command known here) (limit_of here)) →
-      OfCalls start now (FetchesOf command told)
-  fetches_here result =
-      fetches_last command told here passed_by (drop (suc index) files) known at_here are result
-
--- the loop is through the table
-pub past_table :
-    (command : Command) (files : List Which) (index : ℕ) → files ≡ files_of command → length files ≤ index →
-    (P : List Which → Type 0) → P (reverse (take index files)) → P (reverse (files_of command))
-past_table command files index table past P holds =
-    subst (λ (whiches : List Which). P (reverse whiches)) (take_all index files past ∙ table) holds
