@@ -36,16 +36,6 @@ module _ (rom new : List ℕ) (at fixed : ℕ) where
         refl
   ]
 
-  -- more bytes, which are those that were read
-  pub grown_in : (size : ℕ) → length rom ≤ size → length new ≡ size →
-      (at < size → slice_index new at ≡ byte_in rom at fixed) → byte_in new at fixed ≡ byte_in rom at fixed
-  grown_in size longer long same = elim (cases_lt at size) [
-    | inl below ↦ rw (lt-ltb at (length new) (omega (arith, below, long))) (same below)
-    | inr past ↦
-        rw (le-ltb at (length new) (omega (arith, past, long)), le-ltb at (length rom) (omega (arith, past, longer)))
-        refl
-  ]
-
 -- ---- all of them
 
 module _ (roms : List (List ℕ)) (dev : ℕ) (new : List ℕ) (there : dev < length roms) where
@@ -64,15 +54,6 @@ module _ (roms : List (List ℕ)) (dev : ℕ) (new : List ℕ) (there : dev < le
         rw (same, eq-eqb dev dev refl, given_here)
         (written_in (given roms dev) new at (expansion_byte dev at) bytes off within size put)
     | inr apart ↦ rw (ne_eqb d dev apart, given_beside d apart) refl
-  ]
-
-  pub grown_here : (size : ℕ) → length (given roms dev) ≤ size → length new ≡ size →
-      ((off : ℕ) → off < size → slice_index new off ≡ byte_in (given roms dev) off (expansion_byte dev off)) →
-      (d at : ℕ) → rom_byte (set roms dev new) d at ≡ rom_byte roms d at
-  grown_here size longer long same d at = elim (cases_eq d dev) [
-    | inl is ↦
-        rw (is, given_here) (grown_in (given roms dev) new at (expansion_byte dev at) size longer long (same at))
-    | inr apart ↦ rw (given_beside d apart) refl
   ]
 
 -- ---- a place in the list
