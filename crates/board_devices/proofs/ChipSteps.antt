@@ -58,8 +58,7 @@ by_cond P false x y p q = q
 -- ---- writes
 
 ended_keeps : (rotates : Bool) (chip : Chip) (level : Option ℕ) → Keeps chip (ended rotates chip level)
-ended_keeps rotates chip None = unmoved chip
-ended_keeps rotates chip (Some level) = all_kept chip (ended rotates chip (Some level)) refl refl refl
+ended_keeps rotates chip level = grind (arith, nat_tests, unmoved, all_kept)
 
 word_keeps : (old chip : Chip) (word : Word) (byte : ℕ) → Keeps old chip → Keeps old (chip_after_word chip word byte)
 word_keeps old chip word byte is = grind (arith, nat_tests)

@@ -1,20 +1,19 @@
 -- What an entry makes of the devices. All are stepped at once: the machines that an event leaves are the same by
 -- computing, so that no lemma about an entry has a column for each device.
 use Rattle.board_prelude.proofs.Common.{common_steps, or-false, nat_tests, cases_eq, cases_Bool, ext_get_or, length-map}
-use Rattle.board_prelude.proofs.Common.{get_or-map, same-levels, pair_has_seen, PortAccess, Dev, Pic0, Pic1, Pit, Elcr}
-use Rattle.board_prelude.proofs.Common.{Ata, Wires, Vector, Spurious, PitState, out_of, reset as timer_at_reset}
-use Rattle.board_prelude.proofs.Common.{after_reset as clock_after_reset, triggers_at_reset, reserved-rest, Pair}
-use Rattle.board_prelude.proofs.Common.{levels_at_power_on, port_byte, pair_after_lines, pair_at_reset, port_read}
-use Rattle.board_prelude.proofs.Common.{read_value, trigger_byte, Disk, option_map_or, is_disk_length}
-use Rattle.board_prelude.proofs.Common.{power_on as disk_at_power_on, Event, Memory, Wide, Port, Pulses, Wire, Line}
-use Rattle.board_prelude.proofs.Common.{BadSector, Reply, Entry, Setup, IsDisk, IsDiskSize, is_free_line, reset_control}
-use Rattle.board_prelude.proofs.Common.{control_written, resets_hard, is_hard_reset, plain_at_reset, device_reached}
-use Rattle.board_prelude.proofs.Common.{wire_set, wire_of, line_set, irq_of, triggers_after, triggers_of, plain_after}
-use Rattle.board_prelude.proofs.Common.{plain_of, timer_after, timer_of, clock_after, clock_of, disk_accessed}
-use Rattle.board_prelude.proofs.Common.{disk_after, disk_with, disk_of, routes_of, pirq_levels, own_level, level_with}
-use Rattle.board_prelude.proofs.Common.{all_lines, levels_with, levels_of, elcr_of, device_value, pair_after}
-use Rattle.board_prelude.proofs.Common.{pair_reset_or_after, pair_stepped, pair_of, after_bad, byte_of, config_store}
-use Rattle.board_prelude.proofs.Common.{elcr-same, is_line_driven, list_any, map-same, true≢false}
+use Rattle.board_prelude.proofs.Common.{get_or-map, same-levels, pair_has_seen, PortAccess, Dev, Pit, Ata, PitState}
+use Rattle.board_prelude.proofs.Common.{out_of, reset as timer_at_reset, after_reset as clock_after_reset}
+use Rattle.board_prelude.proofs.Common.{triggers_at_reset, reserved-rest, Pair, levels_at_power_on, pair_after_lines}
+use Rattle.board_prelude.proofs.Common.{pair_at_reset, Disk, option_map_or, is_disk_length}
+use Rattle.board_prelude.proofs.Common.{power_on as disk_at_power_on, Event, Port, Pulses, Wire, Line, BadSector, Reply}
+use Rattle.board_prelude.proofs.Common.{Entry, Setup, IsDisk, IsDiskSize, is_free_line, reset_control, control_written}
+use Rattle.board_prelude.proofs.Common.{resets_hard, is_hard_reset, plain_at_reset, device_reached, wire_set, wire_of}
+use Rattle.board_prelude.proofs.Common.{line_set, irq_of, triggers_after, triggers_of, plain_after, plain_of}
+use Rattle.board_prelude.proofs.Common.{timer_after, timer_of, clock_after, clock_of, disk_after, disk_with, disk_of}
+use Rattle.board_prelude.proofs.Common.{routes_of, pirq_levels, own_level, level_with, all_lines, levels_with}
+use Rattle.board_prelude.proofs.Common.{levels_of, elcr_of, device_value, pair_after, pair_reset_or_after, pair_stepped}
+use Rattle.board_prelude.proofs.Common.{pair_of, after_bad, byte_of, config_store, elcr-same, is_line_driven, list_any}
+use Rattle.board_prelude.proofs.Common.{map-same}
 use Rattle.std.proofs.Common.{◌≡◌, ℕ, ◌<◌, ◌≤◌, Bool, true, false, ◌||◌, ◌&&◌, List, [], ◌∷◌, Option, Some, None}
 use Rattle.std.proofs.Common.{length, get_or, refl, sym, ◌∙◌, ap, subst, arith, inl, inr, ◌*◌, ◌/◌, ◌%◌, replicate}
 use Rattle.std.proofs.Common.{eq-eqb, ne_eqb, get_or-set_same, get_or-set_other, length-set, ◌↔◌, Result, Err, ◌==◌}
@@ -24,12 +23,10 @@ use Rattle.board_devices.specs.Common.{LeavesDevices, DevicesValue, AreIrqsOf, A
 use Rattle.board_devices.specs.Common.{Asks, is_chip, PassesBy, Leaves, value_read, after_read, after_write}
 use Rattle.board_devices.specs.Common.{devices_accessed, driven, fitted_accessed, level_driven}
 use Rattle.ata_pio.specs.declared.ata.AtaOpen.{AtaOpen}
-use Rattle.board_base.specs.declared.target.Dev.TheVariants.{Confadd, Reset, Clock}
+use Rattle.board_base.specs.declared.target.Dev.TheVariants.{Clock}
 use Rattle.device_spec.specs.Clock.{interrupt_line, power_on as clock_at_power_on}
 use Rattle.device_spec.specs.Ata.Steps.{after_reset as disk_after_reset}
-use Rattle.device_spec.specs.PortNames.{elcr_ports}
 use Rattle.board_spec.specs.Registers.{config_address}
-use Rattle.board_spec.specs.declared.event.Event.TheVariants.{Look as LookAt}
 
 -- ---- the pair after an entry
 
@@ -78,12 +75,7 @@ free_set : (irqs : List Bool) (at line : ℕ) (on was : Bool) → is_free_line a
     slice_index_or (slice_set irqs at on) line false
     ≡ (is_free_line line && unwrap_or (if at == line then Some on else None) was)
 free_set irqs at line on was free size low is =
-    elim (cases_eq at line) [
-      | inl same ↦
-          let free_here : is_free_line line ≡ true = rw (← same) free in
-          rw (eq-eqb at line same, free_here, sym same) (get_or-set_same irqs at on false (omega (arith, size)))
-      | inr other ↦ rw (ne_eqb at line other) (get_or-set_other irqs at line on false (λ e. other (sym e)) ∙ is)
-    ]
+    grind (arith, nat_tests, common_steps, cases_eq, eq-eqb, get_or-set_same, ne_eqb, get_or-set_other)
 
 abbrev wires_after : Event → List Bool → List Bool
 wires_after (Wire dev on) wires = slice_set wires dev on
@@ -122,20 +114,9 @@ fitted_after (Port access) reply disk = fitted_accessed (device_reached reply) a
 fitted_after (BadSector sector) reply disk = option_map (λ disk. after_bad sector disk) disk
 fitted_after _ reply disk = disk
 
-same_disk : (disk : Option Disk) → disk ≡ option_map (λ d. d) disk
-same_disk None = refl
-same_disk (Some disk) = refl
-
-fitted_at : (reached : Option Dev) (access : PortAccess) (disk : Option Disk) →
-    fitted_accessed reached access disk ≡ option_map (λ disk. disk_accessed reached access disk) disk
-fitted_at (Some Ata) access disk = refl
-fitted_at _ access disk = same_disk disk
-
 fitted_stepped : (event : Event) (reply : Reply) (disk : Option Disk) →
     fitted_after event reply disk ≡ option_map (λ disk. disk_after event reply disk) disk
-fitted_stepped (Port access) reply disk = fitted_at (device_reached reply) access disk
-fitted_stepped (BadSector sector) reply disk = refl
-fitted_stepped _ reply disk = same_disk disk
+fitted_stepped event reply disk = grind (arith, nat_tests)
 
 -- ---- the devices after an entry that is no hard reset
 
@@ -248,13 +229,6 @@ pub value_at : (setup : Setup) (history : List Entry) (dev : Dev) (access : Port
     AreDevicesOf setup history devices →
     value_read dev access devices ≡ device_value setup history dev access.port access.width
 unfolding value_read device_value
-value_at setup history Pic0 access devices are = ap (λ (p : Pair). port_byte p access.port) are.pair
-value_at setup history Pic1 access devices are = ap (λ (p : Pair). port_byte p access.port) are.pair
-value_at setup history Pit access devices are = ap (λ t. (port_read access.port t).0) are.others.timer
-value_at setup history Clock access devices are = ap (λ t. read_value t access.port) are.others.clock
-value_at setup history Elcr access devices are =
-    ap (λ t. trigger_byte t (access.port == elcr_ports.1)) are.others.triggers
-value_at setup history Ata access devices are = rw are.others.disk refl
 value_at setup history dev access devices are = grind (arith, nat_tests)
 
 -- ---- the lines
@@ -320,11 +294,7 @@ they_are setup history = grind (arith, nat_tests)
 -- the level that a device drives is that after the history
 pub driven_is : (setup : Setup) (history : List Entry) (devices : DevicesValue) → AreAfter setup history devices →
     (dev : Dev) → driven dev devices ≡ level_driven dev setup history
-driven_is setup history devices are Pit = ap (λ t. out_of 0 t) are.timer
-driven_is setup history devices are Clock = ap interrupt_line are.clock
-driven_is setup history devices are Ata =
-    ap (λ (disk : Option Disk). option_map_or (λ disk. is_interrupt disk.drive) disk false) are.disk
-driven_is setup history devices are _ = refl
+driven_is setup history devices are dev = grind (arith, nat_tests)
 
 -- ---- an entry after which the lines stand
 
@@ -398,29 +368,15 @@ module _ (setup : Setup) (history : List Entry) (entry : Entry) (sets : SetsNoLe
 untouched : (reached : Option Dev) (access : PortAccess) (devices : DevicesValue) → is_chip reached ≡ false →
     devices_accessed reached access devices ≡ devices
 unfolding devices_accessed
-untouched None access devices none = refl
-untouched (Some Confadd) access devices none = refl
-untouched (Some Reset) access devices none = refl
-untouched (Some Wires) access devices none = refl
-untouched (Some (Vector chip)) access devices none = refl
-untouched (Some (Spurious chip)) access devices none = refl
-untouched _ access devices none = absurd (true≢false none)
+untouched reached access devices none = grind (arith, nat_tests)
 
 pub passed : (event : Event) (reply : Reply) (devices : DevicesValue) → PassesBy event (device_reached reply) →
     devices ≡ devices_after event reply devices
 unfolding devices_accessed
-passed (Memory access) reply devices by = refl
-passed (Wide access) reply devices by = refl
-passed (LookAt kind addr smm) reply devices by = refl
-passed (Port access) reply devices by = sym (untouched (device_reached reply) access devices by)
-passed _ reply devices by = absurd by
+passed event reply devices by = grind (arith, nat_tests, untouched)
 
 pub passing : (event : Event) (reached : Option Dev) → PassesBy event reached → SetsNoLevel event
-passing (Memory access) reached by = record { wire = λ n. refl; line = λ n. refl; room = λ d. tt; still = tt }
-passing (Wide access) reached by = record { wire = λ n. refl; line = λ n. refl; room = λ d. tt; still = tt }
-passing (LookAt kind addr smm) reached by = record { wire = λ n. refl; line = λ n. refl; room = λ d. tt; still = tt }
-passing (Port access) reached by = record { wire = λ n. refl; line = λ n. refl; room = λ d. tt; still = tt }
-passing _ reached by = absurd by
+passing event reached by = grind (arith, nat_tests)
 
 module _ {history : List Entry} {entry : Entry} (leaves : Leaves history entry) where
   pub left_asks : Asks history entry entry.event
@@ -466,8 +422,7 @@ module _ (setup : Setup) (history : List Entry) (entry : Entry) (hard : is_hard_
   -- an event that resets is an access at a port, which sets no level
   resets_by_port : (event : Event) → resets_hard (reset_control history) (control_written event) ≡ true →
       SetsNoLevel event
-  resets_by_port (Port access) is = record { wire = λ n. refl; line = λ n. refl; room = λ d. tt; still = tt }
-  resets_by_port _ is = cc
+  resets_by_port event is = grind (arith, nat_tests)
 
   no_level : SetsNoLevel entry.event
   no_level = resets_by_port entry.event hard
@@ -551,8 +506,7 @@ refused_length size refused disk =
     let is : is_disk_length size ≡ true = counted_sectors size disk.0 disk.1 disk.2 disk.3 in cc
 
 pub length_refused : (size : ℕ) → ¬ IsDiskSize size → is_disk_length size ≡ false
-length_refused size none =
-    elim (cases_Bool (is_disk_length size)) [ inl is ↦ absurd (none (whole_sectors size is)) | inr refused ↦ refused ]
+length_refused size none = grind (arith, nat_tests, cases_Bool, whole_sectors)
 
 pub opened_disk : (setup : Setup) (bytes : List ℕ) (disk : Disk) → setup.disk ≡ Some bytes →
     disk ≡ disk_at_power_on bytes → Some disk ≡ disk_of setup []

@@ -17,8 +17,7 @@ HasSectors count disk = sectors_of disk.medium ≡ count
 
 either_has : (count : ℕ) (b : Bool) (x y : Disk) → HasSectors count x → HasSectors count y →
     HasSectors count (cond b x y)
-either_has count true x y p q = p
-either_has count false x y p q = q
+either_has count b x y p q = grind (arith, nat_tests)
 
 bytes_written-has : (sector : ℕ) (bytes : List ℕ) (disk : Disk) →
     HasSectors (sectors_of disk.medium) (bytes_written sector bytes disk)
@@ -27,9 +26,7 @@ bytes_written-has sector bytes disk =
 
 activity_written-has : (activity : Activity) (word : ℕ) (disk : Disk) →
     HasSectors (sectors_of disk.medium) (activity_written activity word disk)
-activity_written-has (Writing sector bytes) word disk =
-    bytes_written-has sector (bytes ++ word % 256 ∷ word / 256 ∷ []) disk
-activity_written-has _ word disk = refl
+activity_written-has activity word disk = grind (arith, nat_tests, bytes_written-has)
 
 word_written-has : (word : ℕ) (disk : Disk) → HasSectors (sectors_of disk.medium) (word_written word disk)
 unfolding word_written
@@ -56,8 +53,7 @@ read_has port Four disk = refl
 
 pub fitted_spoiled : (sector : ℕ) (disk : Option Disk) →
     sectors_fitted (option_map (λ disk. after_bad sector disk) disk) ≡ sectors_fitted disk
-fitted_spoiled sector None = refl
-fitted_spoiled sector (Some disk) = ap (λ (count : ℕ). Some count) (length-set disk.medium.bad sector true)
+fitted_spoiled sector disk = grind (arith, nat_tests, length-set)
 
 -- ---- an access
 

@@ -1,18 +1,16 @@
 -- Events that move no line: the lines reach the pair as it saw them, and leave it.
-use Rattle.board_prelude.proofs.Common.{common_steps, cases_Bool, and-true, and-false, nat_tests, true≢false, is_bit}
-use Rattle.board_prelude.proofs.Common.{Levels, has, levels_of_byte, levels_where-same, Chip, interrupt, latches_after}
+use Rattle.board_prelude.proofs.Common.{common_steps, cases_Bool, and-true, and-false, nat_tests, is_bit, Levels, has}
+use Rattle.board_prelude.proofs.Common.{levels_of_byte, levels_where-same, Chip, interrupt, latches_after}
 use Rattle.board_prelude.proofs.Common.{chip_after_inputs, Pair, settled, master_inputs, pair_after_lines, same-levels}
-use Rattle.board_prelude.proofs.Common.{settled-asks, settled-quiet, latched, PortAccess, Dev, Pit, System, Elcr, Ata}
-use Rattle.board_prelude.proofs.Common.{bytes_of, PitState, out_of, set_gate2, port_read, Event, Port, Ack, Entry}
-use Rattle.board_prelude.proofs.Common.{Setup, is_hard_reset, is_config_port, timer_accessed, triggers_of, config_store}
-use Rattle.board_prelude.proofs.Common.{levels_of, elcr_of, pair_accessed, pair_after, pair_of, pair_has_seen, Triggers}
-use Rattle.board_prelude.proofs.Common.{triggers_accessed}
-use Rattle.std.proofs.Common.{◌≡◌, ℕ, ◌/◌, ◌%◌, ◌&&◌, ◌||◌, not, Bool, true, false, List, [], ◌∷◌, Option, Some, None}
-use Rattle.std.proofs.Common.{length, take, drop, refl, sym, ap, subst, ◌∙◌, inl, inr, is_some, arith}
-use Rattle.device_spec.specs.Pit.{Access, LowByte, HighByte, LowThenHigh, CounterState, read, read_live}
+use Rattle.board_prelude.proofs.Common.{settled-asks, settled-quiet, PortAccess, Dev, System, Elcr, bytes_of, PitState}
+use Rattle.board_prelude.proofs.Common.{out_of, set_gate2, port_read, Event, Port, Ack, Entry, Setup, is_hard_reset}
+use Rattle.board_prelude.proofs.Common.{is_config_port, timer_accessed, triggers_of, config_store, levels_of, elcr_of}
+use Rattle.board_prelude.proofs.Common.{pair_accessed, pair_after, pair_of, pair_has_seen, Triggers, triggers_accessed}
+use Rattle.std.proofs.Common.{◌≡◌, ℕ, ◌/◌, ◌%◌, ◌&&◌, ◌||◌, not, Bool, true, false, List, ◌∷◌, Option, Some, None}
+use Rattle.std.proofs.Common.{length, take, drop, refl, sym, ap, subst, ◌∙◌, is_some, arith}
+use Rattle.device_spec.specs.Pit.{Access, CounterState, read, read_live}
 use Rattle.device_spec.proofs.Common.{levels_where-has}
 use Rattle.board_spec.specs.Registers.{config_address}
-use Rattle.board_base.specs.declared.target.Dev.TheVariants.{Clock}
 use Rattle.board_devices.specs.Common.{DevicesValue, AreAfter, AreDevicesOf, driven, level_driven, sets_triggers}
 use Rattle.board_devices.specs.Common.{AccessLeavesLines, StillLeavesLines, AcknowledgeLeavesLines, is_chip_port}
 use Rattle.board_devices.specs.Common.{moves_lines, ReachesDevice, devices_accessed}
@@ -60,15 +58,7 @@ record Sees (levels : List Bool) (elcr : ℕ) (pair : Pair) : Type 0 where
 module _ (levels : List Bool) (elcr : ℕ) where
   settled_sees : (pair : Pair) → Sees levels elcr pair → Sees levels elcr (settled pair)
   settled_sees pair sees =
-      let is = sees.master in
-      let latched_sees : Sees levels elcr (latched pair) = record {
-        master = record { inputs_are = is.inputs_are; triggers_are = is.triggers_are; whole = eight _ };
-        slave = sees.slave;
-      } in
-      elim (cases_Bool (is_some (interrupt pair.slave))) [
-        | inl asks ↦ subst (Sees levels elcr) (sym (settled-asks pair asks)) latched_sees
-        | inr quiet ↦ subst (Sees levels elcr) (sym (settled-quiet pair quiet)) sees
-      ]
+      grind (arith, nat_tests, common_steps, cases_Bool, is_some, interrupt, settled-asks, settled-quiet, eight)
 
   lines_seen : (pair : Pair) → Sees levels elcr (pair_after_lines pair levels elcr)
   lines_seen pair = settled_sees (record {
@@ -111,11 +101,7 @@ module _ (levels : List Bool) (elcr : ℕ) where
 read_out : (c : CounterState) (status : Option ℕ) (count : List ℕ) (access : Access) →
     c.status_latch ≡ status → c.count_latch ≡ count → c.access ≡ access → (read c).1.out ≡ c.out
 unfolding read read_live
-read_out c (Some byte) count access is counts accesses = rw is refl
-read_out c None (byte ∷ rest) access is counts accesses = rw (is, counts) refl
-read_out c None [] LowByte is counts accesses = rw (is, counts, accesses) refl
-read_out c None [] HighByte is counts accesses = rw (is, counts, accesses) refl
-read_out c None [] LowThenHigh is counts accesses = rw (is, counts, accesses) refl
+read_out c status count access is counts accesses = grind (arith, nat_tests)
 
 port_read_out : (port : ℕ) (timer : PitState) → out_of 0 (port_read port timer).1 ≡ out_of 0 timer
 unfolding port_read out_of
@@ -150,26 +136,17 @@ others_drive : (other dev : Dev) (access : PortAccess) (devices : DevicesValue) 
     driven dev (devices_accessed (Some dev) access devices) ≡ driven dev devices →
     driven other (devices_accessed (Some dev) access devices) ≡ driven other devices
 unfolding devices_accessed
-others_drive Pit Pit access devices level = level
-others_drive Pit System access devices level = system_out access devices.timer
-others_drive Clock Clock access devices level = level
-others_drive Ata Ata access devices level = level
-others_drive _ _ access devices level = refl
+others_drive other dev access devices level = grind (arith, nat_tests, system_out)
 
 -- one that can move no line leaves the level of its own device
 own_stands : (dev : Dev) (access : PortAccess) (devices : DevicesValue) → moves_lines dev access.write ≡ false →
     driven dev (devices_accessed (Some dev) access devices) ≡ driven dev devices
 unfolding devices_accessed
-own_stands Pit access devices reads = rw reads (port_read_out access.port devices.timer)
-own_stands Clock access devices moves = absurd (true≢false moves)
-own_stands Ata access devices moves = absurd (true≢false moves)
-own_stands _ access devices none = refl
+own_stands dev access devices moves = grind (arith, nat_tests, port_read_out)
 
 triggers_stay : (dev : Dev) (access : PortAccess) (triggers : Triggers) → (access.write && sets_triggers dev) ≡ false →
     triggers_accessed (Some dev) access triggers ≡ triggers
-triggers_stay Elcr access triggers none =
-    let reads : access.write ≡ false = sym (and-true access.write) ∙ none in rw reads refl
-triggers_stay _ access triggers none = refl
+triggers_stay dev access triggers none = grind (arith, nat_tests, and-true)
 
 triggers_none : (dev : Dev) (write : Bool) → moves_lines dev write ≡ false → (write && sets_triggers dev) ≡ false
 triggers_none dev write none = grind (arith, nat_tests, and-true, and-false)
