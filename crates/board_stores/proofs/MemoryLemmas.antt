@@ -4,6 +4,8 @@ use Rattle.board_prelude.proofs.Common.{Width, Target, Rom, Entry, Part, Setup, 
 use Rattle.board_base.specs.declared.access.Access.{Access}
 use Rattle.board_stores.specs.Common.{part_in, value_in, value_with}
 use Rattle.board_stores.specs.declared.stores.Stores.{Stores}
+use Rattle.std.proofs.Common.{arith}
+use Rattle.board_prelude.proofs.Common.{nat_tests}
 
 -- by the register bytes after a history it is the answer to the part
 part_known : (setup : Setup) (history : List Entry) (access : Access) →
@@ -25,5 +27,4 @@ parts_answered setup history parts answers is = is ∙ λ k. map (λ access. par
 pub beside_rom :
     (stores : Stores) (rom : List ℕ) (target : Target) (place : ℕ) (width : Width) →
     ((off : ℕ) → target ≡ Rom off → ⊥) → value_in stores target place width ≡ value_with stores rom target place width
-beside_rom stores rom (Rom off) place width other = absurd (other off refl)
-beside_rom stores rom _ place width other = refl
+beside_rom stores rom target place width other = grind (arith, nat_tests)

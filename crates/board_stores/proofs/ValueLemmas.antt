@@ -10,6 +10,7 @@ use Rattle.board_base.specs.declared.access.Width.TheVariants.{Two, Four}
 use Rattle.board_base.specs.declared.access.Access.{Access}
 use Rattle.board_spec.specs.declared.event.Reply.TheVariants.{Parts}
 use Rattle.board_stores.specs.Targets.{IsHeld}
+use Rattle.board_prelude.proofs.Common.{nat_tests}
 
 -- ---- what is put
 
@@ -18,13 +19,11 @@ IsByte None = Unit {0}
 IsByte (Some put) = put < 256
 
 only_if : (test : Bool) (put : Option ℕ) → IsByte put → IsByte (if test then put else None)
-only_if true put is = is
-only_if false put is = tt
+only_if test put is = grind (arith, nat_tests)
 
 byte_at : (width : Width) (value : ℕ) (at : Option ℕ) →
     IsByte (option_and_then (λ k. if nat_lt k (bytes_of width) then Some (byte value k) else None) at)
-byte_at width value None = tt
-byte_at width value (Some k) = only_if (nat_lt k (bytes_of width)) (Some (byte value k)) (omega arith)
+byte_at width value at = grind (arith, nat_tests)
 
 put_is_byte :
     (target : Target) (addr : ℕ) (width : Width) (value : ℕ) (cell : Cell) →
@@ -37,8 +36,7 @@ memory_is_byte access target cell =
     only_if (is_write access.kind) _ (put_is_byte target access.addr access.width access.value cell)
 
 either_is_byte : (later first : Option ℕ) → IsByte later → IsByte first → IsByte (option_or later first)
-either_is_byte None first is is' = is'
-either_is_byte (Some put) first is is' = is
+either_is_byte later first is is' = grind (arith, nat_tests)
 
 parts_are_bytes : (parts : List Access) (replies : List Part) (cell : Cell) → IsByte (parts_put parts replies cell)
 unfolding parts_put
@@ -59,8 +57,7 @@ entry_is_byte _ _ cell = tt
 -- ---- what is stored
 
 put_over : (put : Option ℕ) (old : ℕ) → IsByte put → old < 256 → unwrap_or put old < 256
-put_over None old is below = below
-put_over (Some new) old is below = is
+put_over put old is below = grind (arith, nat_tests)
 
 stored_below : (history : List Entry) (cell : Cell) → stored_of history cell < 256
 unfolding stored_of
@@ -71,31 +68,19 @@ stored_below (entry ∷ before) cell =
     (stored_below before cell)
 
 dram_below : (setup : Setup) (history : List Entry) (addr : ℕ) → dram_byte setup history addr < 256
-dram_below setup history addr =
-    elim (cases_Bool (nat_lt addr (installed setup))) [
-      | inl there ↦ rw there (stored_below history (DramCell addr))
-      | inr past ↦ rw past (omega arith)
-    ]
+dram_below setup history addr = grind (arith, nat_tests, cases_Bool, stored_below history (DramCell addr))
 
 card_below : (setup : Setup) (history : List Entry) (dev base off : ℕ) → card_byte setup history dev base off < 256
 card_below setup history dev base off =
-    elim (cases_Bool (base == 6)) [
-      | inl rom ↦ rw rom (omega arith)
-      | inr other ↦ elim (cases_Bool (nat_lt off (kept_size (card_at setup dev) base))) [
-        | inl kept ↦ rw (other, kept) (stored_below history (CardCell dev base off))
-        | inr none ↦ rw (other, none) (omega arith)
-      ]
-    ]
+    grind (arith, nat_tests, cases_Bool, stored_below history (CardCell dev base off))
 
 -- ---- what is read
 
 pub wide_below :
     (byte_of : ℕ → ℕ) (from : ℕ) (width : Width) → ((at : ℕ) → byte_of at < 256) →
     wide byte_of from width < 256 ^ bytes_of width
-wide_below byte_of from One below = below from
-wide_below byte_of from Two below = omega (arith, below from, below (from + 1))
-wide_below byte_of from Four below =
-    omega (arith, below from, below (from + 1), below (from + 2), below (from + 3))
+wide_below byte_of from width below =
+    grind (arith, nat_tests, below from, below (from + 1), below (from + 2), below (from + 3))
 
 pub value_below :
     (setup : Setup) (history : List Entry) (rom : List ℕ) (contents : List (List ℕ)) (target : Target) (place : ℕ)
