@@ -93,8 +93,7 @@ pub acknowledged_keeps : (chip : Chip) (level : ℕ) → Keeps chip (acknowledge
 acknowledged_keeps chip level = cleared chip (acknowledged chip level) (λ l. not (l == level)) refl refl refl
 
 pub acknowledged_if_keeps : (chip : Chip) (level : Option ℕ) → Keeps chip (acknowledged_if chip level)
-acknowledged_if_keeps chip None = unmoved chip
-acknowledged_if_keeps chip (Some level) = acknowledged_keeps chip level
+acknowledged_if_keeps chip level = grind (arith, nat_tests, unmoved, acknowledged_keeps)
 
 unpolled : (old chip : Chip) → Keeps old chip → Keeps old (record chip { polls = false })
 unpolled old chip is = grind (arith, nat_tests)
@@ -130,9 +129,7 @@ module _ (P : Pair → Type 0)
       one_steps (is_slave_port access.port) pair _ _ (read_keeps pair.master) (read_keeps pair.slave) is
 
   accessed : (reached : Option Dev) (access : PortAccess) (pair : Pair) → P pair → P (pair_accessed reached access pair)
-  accessed (Some Pic0) access pair is = ported access.write access pair is
-  accessed (Some Pic1) access pair is = ported access.write access pair is
-  accessed _ access pair is = is
+  accessed reached access pair is = grind (arith, nat_tests, ported)
 
   acknowledged_at : (pair : Pair) (level : Option ℕ) → P pair → P (pair_acknowledged_at pair level)
   acknowledged_at pair None is = is

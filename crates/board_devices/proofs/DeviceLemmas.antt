@@ -15,9 +15,9 @@ use Rattle.board_prelude.proofs.Common.{levels_of, elcr_of, device_value, pair_a
 use Rattle.board_prelude.proofs.Common.{pair_of, after_bad, byte_of, config_store, elcr-same, is_line_driven, list_any}
 use Rattle.board_prelude.proofs.Common.{map-same}
 use Rattle.std.proofs.Common.{◌≡◌, ℕ, ◌<◌, ◌≤◌, Bool, true, false, ◌||◌, ◌&&◌, List, [], ◌∷◌, Option, Some, None}
-use Rattle.std.proofs.Common.{length, get_or, refl, sym, ◌∙◌, ap, subst, arith, inl, inr, ◌*◌, ◌/◌, ◌%◌, replicate}
-use Rattle.std.proofs.Common.{eq-eqb, ne_eqb, get_or-set_same, get_or-set_other, length-set, ◌↔◌, Result, Err, ◌==◌}
-use Rattle.std.proofs.Common.{unwrap_or, map, option_map, slice_index_or, slice_set, if◌then◌else◌}
+use Rattle.std.proofs.Common.{length, get_or, refl, sym, ◌∙◌, ap, subst, arith, ◌*◌, ◌/◌, ◌%◌, replicate, eq-eqb}
+use Rattle.std.proofs.Common.{ne_eqb, get_or-set_same, get_or-set_other, length-set, ◌↔◌, Result, Err, ◌==◌, unwrap_or}
+use Rattle.std.proofs.Common.{map, option_map, slice_index_or, slice_set, if◌then◌else◌}
 use Rattle.board_prelude.specs.Common.{is_interrupt}
 use Rattle.board_devices.specs.Common.{LeavesDevices, DevicesValue, AreIrqsOf, AreAfter, AreDevicesOf, ReachesDevice}
 use Rattle.board_devices.specs.Common.{Asks, is_chip, PassesBy, Leaves, value_read, after_read, after_write}
@@ -94,18 +94,13 @@ HasRoom _ devices = Unit {0}
 wire_stepped : (event : Event) (devices : DevicesValue) (n : ℕ) (was : Bool) → HasRoom event devices →
     slice_index_or devices.wires n false ≡ was →
     slice_index_or (wires_after event devices.wires) n false ≡ unwrap_or (wire_set n event) was
-wire_stepped (Wire dev on) devices n was room is =
-    level_set devices.wires dev n on room
-    ∙ ap (λ (level : Bool). unwrap_or (if dev == n then Some on else None) level) is
-wire_stepped _ devices n was room is = is
+wire_stepped event devices n was room is = grind (arith, nat_tests, level_set)
 
 irq_stepped : (event : Event) (devices : DevicesValue) (line : ℕ) (was : Bool) → HasRoom event devices →
     slice_index_or devices.irqs line false ≡ (is_free_line line && was) →
     slice_index_or (irqs_after event devices.irqs) line false
     ≡ (is_free_line line && unwrap_or (line_set line event) was)
-irq_stepped (Line irq on) devices line was room is =
-    free_set devices.irqs irq line on was room.0 room.1 (free_low irq room.0) is
-irq_stepped _ devices line was room is = is
+irq_stepped event devices line was room is = grind (arith, nat_tests, free_set, free_low)
 
 -- ---- the disk, where one is fitted
 
@@ -139,8 +134,7 @@ module _ (setup : Setup) (history : List Entry) (entry : Entry) (soft : is_hard_
       (option_map (λ bytes. disk_with bytes history) fitted)
       ≡ option_map (λ bytes. disk_with bytes (entry ∷ history)) fitted
   unfolding disk_with
-  disk_soft None = refl
-  disk_soft (Some bytes) = rw soft refl
+  disk_soft fitted = grind (arith, nat_tests)
 
   -- what the entry leaves of all of them
   others_soft : (devices : DevicesValue) → HasRoom entry.event devices → AreAfter setup history devices →
@@ -416,8 +410,7 @@ module _ (setup : Setup) (history : List Entry) (entry : Entry) (hard : is_hard_
       option_map (λ disk. disk_after_reset disk) (option_map (λ bytes. disk_with bytes history) fitted)
       ≡ option_map (λ bytes. disk_with bytes (entry ∷ history)) fitted
   unfolding disk_with
-  disk_hard None = refl
-  disk_hard (Some bytes) = rw hard refl
+  disk_hard fitted = grind (arith, nat_tests)
 
   -- an event that resets is an access at a port, which sets no level
   resets_by_port : (event : Event) → resets_hard (reset_control history) (control_written event) ≡ true →

@@ -1,11 +1,11 @@
 -- No access, reset or bad sector changes how many sectors a disk has.
 use Rattle.board_prelude.proofs.Common.{common_steps, nat_tests, PortAccess, Dev, Ata, Width, One, Setup, Disk, IsDisk}
 use Rattle.board_prelude.proofs.Common.{IsDiskSize, disk_with, disk_of}
-use Rattle.std.proofs.Common.{◌≡◌, ℕ, ◌*◌, ◌/◌, ◌%◌, Bool, true, false, cond, eqb, List, [], ◌∷◌, ◌++◌, length, Option}
-use Rattle.std.proofs.Common.{Some, None, refl, sym, ◌∙◌, ap, arith, option_map, length-set}
+use Rattle.std.proofs.Common.{◌≡◌, ℕ, ◌*◌, ◌/◌, ◌%◌, Bool, true, false, cond, eqb, List, [], length, Option, Some, None}
+use Rattle.std.proofs.Common.{refl, sym, ◌∙◌, ap, arith, option_map, length-set}
 use Rattle.board_base.specs.declared.access.Width.TheVariants.{Two, Four}
-use Rattle.device_spec.proofs.Common.{length-replicate, Activity, Writing, sectors_of, is_drq, bytes_written}
-use Rattle.device_spec.proofs.Common.{activity_written, word_written, byte_written, disk_status_port}
+use Rattle.device_spec.proofs.Common.{length-replicate, Activity, sectors_of, is_drq, bytes_written, activity_written}
+use Rattle.device_spec.proofs.Common.{word_written, byte_written, disk_status_port}
 use Rattle.device_spec.specs.Ata.Steps.{after_read as disk_after_read, after_write as disk_after_write, after_bad}
 use Rattle.board_devices.specs.Devices.{DevicesValue, HasDisk, sectors_fitted}
 use Rattle.board_devices.specs.Steps.{after_read, after_write, devices_accessed, fitted_accessed}
@@ -45,9 +45,7 @@ written_has port Four value disk =
 
 read_has : (port : ℕ) (width : Width) (disk : Disk) →
     HasSectors (sectors_of disk.medium) (disk_after_read port width disk)
-read_has port One disk = either_has (sectors_of disk.medium) (eqb port disk_status_port) _ _ refl refl
-read_has port Two disk = refl
-read_has port Four disk = refl
+read_has port width disk = grind (arith, nat_tests)
 
 -- ---- where one is fitted
 
@@ -83,8 +81,7 @@ has_opened bytes is = grind (arith, nat_tests, common_steps, sectors_of, disk_wi
 
 fitted_opened : (disk : Option (List ℕ)) → IsDisk disk →
     HasDisk disk (option_map (λ bytes. disk_with bytes []) disk)
-fitted_opened None is = refl
-fitted_opened (Some bytes) is = ap (λ (count : ℕ). Some count) (sym (has_opened bytes is))
+fitted_opened disk is = grind (arith, nat_tests, has_opened)
 
 pub opened_has : (setup : Setup) (devices : DevicesValue) → IsDisk setup.disk → devices.disk ≡ disk_of setup [] →
     HasDisk setup.disk devices.disk

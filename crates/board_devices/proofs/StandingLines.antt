@@ -2,7 +2,7 @@
 use Rattle.board_prelude.proofs.Common.{common_steps, cases_Bool, and-true, and-false, nat_tests, is_bit, Levels, has}
 use Rattle.board_prelude.proofs.Common.{levels_of_byte, levels_where-same, Chip, interrupt, latches_after}
 use Rattle.board_prelude.proofs.Common.{chip_after_inputs, Pair, settled, master_inputs, pair_after_lines, same-levels}
-use Rattle.board_prelude.proofs.Common.{settled-asks, settled-quiet, PortAccess, Dev, System, Elcr, bytes_of, PitState}
+use Rattle.board_prelude.proofs.Common.{settled-asks, settled-quiet, PortAccess, Dev, System, bytes_of, PitState}
 use Rattle.board_prelude.proofs.Common.{out_of, set_gate2, port_read, Event, Port, Ack, Entry, Setup, is_hard_reset}
 use Rattle.board_prelude.proofs.Common.{is_config_port, timer_accessed, triggers_of, config_store, levels_of, elcr_of}
 use Rattle.board_prelude.proofs.Common.{pair_accessed, pair_after, pair_of, pair_has_seen, Triggers, triggers_accessed}
