@@ -1,11 +1,9 @@
 -- What an access to memory reaches.
-use Rattle.std.proofs.Common.{◌≡◌, ℕ, List, ◌∙◌, refl, map}
-use Rattle.board_prelude.proofs.Common.{Width, Target, Rom, Entry, Part, Setup, byte_of, part_answer}
+use Rattle.std.proofs.Common.{◌≡◌, ℕ, List, ◌∙◌, refl, map, arith}
+use Rattle.board_prelude.proofs.Common.{Width, Target, Rom, Entry, Part, Setup, byte_of, part_answer, nat_tests}
 use Rattle.board_base.specs.declared.access.Access.{Access}
 use Rattle.board_stores.specs.Common.{part_in, value_in, value_with}
 use Rattle.board_stores.specs.declared.stores.Stores.{Stores}
-use Rattle.std.proofs.Common.{arith}
-use Rattle.board_prelude.proofs.Common.{nat_tests}
 
 -- by the register bytes after a history it is the answer to the part
 part_known : (setup : Setup) (history : List Entry) (access : Access) →

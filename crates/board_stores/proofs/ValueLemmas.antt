@@ -1,16 +1,15 @@
 -- What is read of memory fits the width of the access: each byte that is stored is below 256.
-use Rattle.std.proofs.Common.{◌≡◌, ℕ, ◌+◌, ◌^◌, ◌<◌, Bool, true, false, List, [], ◌∷◌, Option, Some, None, inl, inr}
-use Rattle.std.proofs.Common.{arith, ◌==◌, nat_lt, if◌then◌else◌, unwrap_or, option_and_then, slice_index}
+use Rattle.std.proofs.Common.{◌≡◌, ℕ, ◌+◌, ◌^◌, ◌<◌, Bool, List, [], ◌∷◌, Option, Some, None, arith, nat_lt}
+use Rattle.std.proofs.Common.{if◌then◌else◌, unwrap_or, option_and_then, slice_index}
 use Rattle.board_prelude.proofs.Common.{option_or, cases_Bool, Width, One, Target, Rom, Card, Device, Config, Abort}
-use Rattle.board_prelude.proofs.Common.{bytes_of, Event, Memory, Wide, Port, Reply, Bus, Part, Entry, Setup, card_at}
-use Rattle.board_prelude.proofs.Common.{installed, kept_size, byte, wide, parts_of, parts_list, Cell, DramCell}
-use Rattle.board_prelude.proofs.Common.{CardCell, first_cell, distance, is_write, byte_put, memory_put, parts_put}
-use Rattle.board_prelude.proofs.Common.{entry_put, stored_of, dram_byte, card_byte, value_at}
+use Rattle.board_prelude.proofs.Common.{bytes_of, Event, Memory, Wide, Port, Reply, Bus, Part, Entry, Setup, byte, wide}
+use Rattle.board_prelude.proofs.Common.{parts_of, parts_list, Cell, DramCell, CardCell, first_cell, distance, is_write}
+use Rattle.board_prelude.proofs.Common.{byte_put, memory_put, parts_put, entry_put, stored_of, dram_byte, card_byte}
+use Rattle.board_prelude.proofs.Common.{value_at, nat_tests}
 use Rattle.board_base.specs.declared.access.Width.TheVariants.{Two, Four}
 use Rattle.board_base.specs.declared.access.Access.{Access}
 use Rattle.board_spec.specs.declared.event.Reply.TheVariants.{Parts}
 use Rattle.board_stores.specs.Targets.{IsHeld}
-use Rattle.board_prelude.proofs.Common.{nat_tests}
 
 -- ---- what is put
 
@@ -48,11 +47,7 @@ parts_are_bytes (part ∷ parts) (reply ∷ replies) cell =
     (memory_is_byte part reply.target cell)
 
 entry_is_byte : (event : Event) (reply : Reply) (cell : Cell) → IsByte (entry_put event reply cell)
-entry_is_byte (Memory access) (Bus value target denial) cell = memory_is_byte access target cell
-entry_is_byte (Port access) (Bus value target denial) cell =
-    only_if access.write _ (put_is_byte target access.port access.width access.value cell)
-entry_is_byte (Wide access) (Parts parts value) cell = parts_are_bytes (parts_of access) (parts_list parts) cell
-entry_is_byte _ _ cell = tt
+entry_is_byte event reply cell = grind (arith, nat_tests, memory_is_byte, only_if, put_is_byte, parts_are_bytes)
 
 -- ---- what is stored
 
