@@ -1,8 +1,8 @@
 -- The worked texts of logs.
 use Rattle.std.proofs.Common.{ℕ, ◌≡◌, ◌+◌, ◌≤◌, ◌==◌, true, List, [], ◌∷◌, ◌++◌, length, codes, refl, if◌then◌else◌}
-use Rattle.std.proofs.Common.{get_or, take, drop, arith, inl, inr, sym, ap, ◌∙◌}
-use Rattle.board_prelude.proofs.Common.{digits, common_steps, All-nil, Entry, line_feed, event_text, reply_text}
-use Rattle.board_prelude.proofs.Common.{line_text, lines_text, log_text, Statement, statements_of}
+use Rattle.std.proofs.Common.{get_or, take, arith, inl, inr, sym, ap, ◌∙◌}
+use Rattle.board_prelude.proofs.Common.{digits, All-nil, Entry, line_feed, event_text, reply_text, line_text}
+use Rattle.board_prelude.proofs.Common.{lines_text, log_text, complete_is_whole}
 use Rattle.board_examples.specs.Common.{small_board, phases, look_last, LookLast, NoEntries, NoSuchVersion, EmptyLog}
 use Rattle.board_examples.specs.Common.{EmptyLogDiffers, CutLogDiffers, OpenLogDiffers, LongLogDiffers, order_lines}
 use Rattle.board_examples.specs.Common.{last_line}
@@ -30,10 +30,8 @@ no_log version entries e = cc
 heading_byte : (version : ℕ) (entries : List Entry) → IsVersion version →
     get_or (log_text version entries) 11 0 ≡ 0x33 → ⊥
 unfolding digits
-heading_byte version entries (inl one) e =
-    let byte : 0x31 ≡ 0x33 = ap (λ (v : ℕ). get_or (log_text v entries) 11 0) (sym one) ∙ e in omega (arith, byte)
-heading_byte version entries (inr two) e =
-    let byte : 0x32 ≡ 0x33 = ap (λ (v : ℕ). get_or (log_text v entries) 11 0) (sym two) ∙ e in omega (arith, byte)
+heading_byte version entries (inl one) e = let byte : 0x31 ≡ 0x33 = rw one at e in omega (arith, byte)
+heading_byte version entries (inr two) e = let byte : 0x32 ≡ 0x33 = rw two at e in omega (arith, byte)
 
 pub texts : NoEntries × NoSuchVersion × EmptyLog
 unfolding NoEntries NoSuchVersion EmptyLog digits lines_text
@@ -105,12 +103,7 @@ feeds-log history = simp feeds-lines (omega arith)
 -- a complete history has an entry for each statement, so the log has four line feeds
 four_feeds : (bytes : List ℕ) → OrderLog bytes → feeds bytes ≡ 4
 four_feeds bytes log =
-    let statements : List Statement = statements_of log.history in
-    let count : length statements ≡ length log.history = grind (arith, common_steps) in
-    let first : length (take 1 statements) ≡ 1 = log.complete.0.size in
-    let later : length (take 2 (drop 1 statements)) ≡ 2 = log.complete.1.0.size in
-    let none : length (drop 2 (drop 1 statements)) ≡ 0 = ap length log.complete.1.1 in
-    let three : length log.history ≡ 3 = grind (arith, common_steps) in
+    let three : length log.history ≡ 3 = complete_is_whole phases log.history log.complete in
     rw (log.text, feeds-log log.history, three) refl
 
 whole_log : text_of_lines order_lines ++ (last_line ++ line_feed ∷ []) ≡ log_text 1 look_last

@@ -1,5 +1,5 @@
 -- The flat map after reset and after a write to SMRAM, range by range: the register matters in its own range alone.
-use Rattle.std.proofs.Common.{ℕ, zero, suc, ◌≡◌, ◌<◌, ◌≤◌, ◌+◌, ◌-◌, ◌/◌, ◌∙◌, Bool, true, false, ◌&&◌, not, nat_lt}
+use Rattle.std.proofs.Common.{ℕ, suc, ◌≡◌, ◌<◌, ◌≤◌, ◌+◌, ◌-◌, ◌/◌, ◌∙◌, Bool, true, false, ◌&&◌, not, nat_lt}
 use Rattle.std.proofs.Common.{if◌then◌else◌, List, [], ◌∷◌, map, replicate, All, arith, rules}
 use Rattle.std.proofs.lemmas.List.Elements.{All-from_recursion}
 use Rattle.board_prelude.proofs.Common.{nat_tests, Bytes, Area, Kind, Fetch, Read, Write, is_within, bridge, pam}
@@ -33,13 +33,8 @@ nothing_open high kind = grind (arith, nat_tests)
 
 module _ (bytes : Bytes) (plain : IsPlain bytes) where
   pam_byte : (k : ℕ) → k < 6 → bytes (bridge (0x5A + k)) ≡ 0
-  pam_byte zero less = cc plain.pams
-  pam_byte (suc zero) less = cc plain.pams
-  pam_byte (suc (suc zero)) less = cc plain.pams
-  pam_byte (suc (suc (suc zero))) less = cc plain.pams
-  pam_byte (suc (suc (suc (suc zero)))) less = cc plain.pams
-  pam_byte (suc (suc (suc (suc (suc zero))))) less = cc plain.pams
   pam_byte (suc (suc (suc (suc (suc (suc k)))))) less = absurd (omega arith)
+  pam_byte _ less = cc plain.pams
 
   no_shadow : (x : ℕ) (kind : Kind) → is_shadowed bytes x kind ≡ false
   no_shadow x kind = grind (arith, nat_tests, plain.bios, pam_byte ((x - 0xC_0000) / 0x8000), nothing_open)
