@@ -1,10 +1,10 @@
 -- Whole counts of modes 0, 1, 4 and 5, and the pulse that loads.
-use Rattle.std.proofs.Common.{◌≡◌, ℕ, zero, suc, ◌+◌, ◌-◌, ◌<◌, ◌≤◌, not, Bool, true, false, inl, inr, refl, ap, sym}
-use Rattle.std.proofs.Common.{◌∙◌, arith, add-zero, add-suc}
+use Rattle.std.proofs.Common.{◌≡◌, ℕ, zero, suc, ◌+◌, ◌-◌, ◌<◌, ◌≤◌, not, Bool, true, false, refl, ap, sym, ◌∙◌, arith}
+use Rattle.std.proofs.Common.{add-zero, add-suc}
 use Rattle.board_prelude.proofs.Common.{cases_lt, nat_tests, Mode, TerminalCount, OneShot, SoftwareStrobe}
 use Rattle.board_prelude.proofs.Common.{HardwareStrobe, CounterState, load, count_down, count_to_end, count_to_strobe}
 use Rattle.board_prelude.proofs.Common.{pulse_by_mode, pulse, pulses_of, IsAtLoad, phase, phase-self, is_periodic}
-use Rattle.board_prelude.proofs.Common.{cases_eq}
+use Rattle.board_prelude.proofs.Common.{cases_eq, common_steps}
 use Rattle.board_laws.specs.PitCounts.{PulseLoads, EndsOnce, CountsEndOnce, StrobesOnce, CountsStrobeOnce, out_at_load}
 
 -- THE PULSE THAT LOADS
@@ -98,10 +98,7 @@ one_end mode gate (suc n) c p on least s = record {
 }
 
 ends_once : (gate : Bool) (n : ℕ) (c : CounterState) → OneEnd gate false n c → EndsOnce gate n c
-ends_once gate n c is = record {
-  low = is.before;
-  high = λ k h. elim (cases_eq k n) [ inl e ↦ rw e is.now | inr apart ↦ is.after k (omega arith) ];
-}
+ends_once gate n c is = grind (arith, nat_tests, common_steps, cases_eq)
 
 pub counts_end_once : CountsEndOnce
 counts_end_once = record {
@@ -111,10 +108,7 @@ counts_end_once = record {
 }
 
 strobes_once : (gate : Bool) (n : ℕ) (c : CounterState) → OneEnd gate true n c → StrobesOnce gate n c
-strobes_once gate n c is = record {
-  low = is.now;
-  high = λ k apart. elim (cases_lt k n) [ inl below ↦ is.before k below | inr past ↦ is.after k (omega arith) ];
-}
+strobes_once gate n c is = grind (arith, nat_tests, common_steps, cases_lt)
 
 pub counts_strobe_once : CountsStrobeOnce
 counts_strobe_once = record {
