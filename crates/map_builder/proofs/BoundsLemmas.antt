@@ -1,9 +1,9 @@
 -- Each window that a change may change ends where it begins or above.
-use Rattle.board_prelude.proofs.Common.{common_steps, nat_tests, AllByRecursion, option_map_or, cases_Bool, Reg}
-use Rattle.board_prelude.proofs.Common.{bytes_of, MapChange, Store, Reset, FittedCard, Setup, card_at, Bytes, Window}
-use Rattle.board_prelude.proofs.Common.{rom_window, vga_window, reg_after}
-use Rattle.std.proofs.Common.{◌≡◌, ℕ, zero, suc, ◌/◌, ◌≤◌, inl, inr, List, [], ◌∷◌, ◌++◌, map, Option, Some, None, refl}
-use Rattle.std.proofs.Common.{◌∙◌, ap, arith, ◌==◌, flat_map, filter, get_or}
+use Rattle.board_prelude.proofs.Common.{common_steps, nat_tests, AllByRecursion, option_map_or, bytes_of, MapChange}
+use Rattle.board_prelude.proofs.Common.{Store, Reset, FittedCard, Setup, card_at, Bytes, Window, rom_window, vga_window}
+use Rattle.board_prelude.proofs.Common.{reg_after}
+use Rattle.std.proofs.Common.{◌≡◌, ℕ, zero, suc, ◌/◌, ◌≤◌, List, [], ◌∷◌, ◌++◌, map, Option, Some, None, refl, ◌∙◌, ap}
+use Rattle.std.proofs.Common.{arith, ◌==◌, flat_map, filter, get_or, take}
 use Rattle.map_ranges.specs.declared.range.Changed.{Changed}
 use Rattle.addr_decode.specs.declared.register.MapRegister.{MapRegister}
 use Rattle.addr_decode.specs.declared.register.MapRegister.TheVariants.{Pam, RowBoundary, Single, Card}
@@ -11,9 +11,8 @@ use Rattle.addr_decode.specs.declared.register.CardRegister.{CardRegister}
 use Rattle.addr_decode.specs.declared.register.CardRegister.TheVariants.{Command, Base, ExpansionRom}
 use Rattle.addr_decode.specs.MapRegister.{map_register}
 use Rattle.addr_decode.proofs.NameLemmas.{offsets}
-use Rattle.map_builder.specs.Changed.{decoded, base_windows, pam_windows, card_windows, register_windows, name_windows}
-use Rattle.map_builder.specs.Changed.{windows_of, windows_covered, changed_windows, both, joined, bounds}
-use Rattle.map_builder.specs.Changed.{windows_of_singles}
+use Rattle.map_builder.specs.Changed.{decoded, base_windows, card_windows, register_windows, name_windows, windows_of}
+use Rattle.map_builder.specs.Changed.{windows_covered, changed_windows, joined, bounds, windows_of_singles}
 
 abbrev pub IsOrdered : Changed → Type 0
 IsOrdered window = window.lo ≤ window.hi
@@ -48,10 +47,6 @@ device_ordered : (bytes : Bytes) (register : CardRegister) (card : Option Fitted
 device_ordered bytes register None = tt
 device_ordered bytes register (Some card) = card_ordered bytes register card
 
-pam_ordered : (number : ℕ) → IsOrdered (pam_windows number)
-pam_ordered number =
-    elim (cases_Bool (number == 0)) [ inl first ↦ rw first (omega arith) | inr other ↦ rw other (omega arith) ]
-
 row_ordered : (rows : List (List Changed)) → AllByRecursion Ordered rows → (k : ℕ) → Ordered (get_or rows k [])
 row_ordered [] all k = tt
 row_ordered (row ∷ later) all zero = all.0
@@ -59,7 +54,7 @@ row_ordered (row ∷ later) all (suc k) = row_ordered later all.1 k
 
 register_ordered : (setup : Setup) (bytes : Bytes) (register : MapRegister) →
     Ordered (register_windows setup bytes register)
-register_ordered setup bytes (Pam number) = (pam_ordered number, tt)
+register_ordered setup bytes (Pam number) = (grind (arith, nat_tests), tt)
 register_ordered setup bytes (RowBoundary row) = (omega arith, tt)
 register_ordered setup bytes (Single number) = row_ordered windows_of_singles (search arith) number
 register_ordered setup bytes (Card dev register) = device_ordered bytes register (card_at setup dev)
@@ -68,15 +63,13 @@ name_ordered : (setup : Setup) (bytes : Bytes) (name : Option MapRegister) → O
 name_ordered setup bytes None = tt
 name_ordered setup bytes (Some register) = register_ordered setup bytes register
 
-windows_ordered : (setup : Setup) (bytes : Bytes) (reg : Reg) → Ordered (windows_of setup bytes reg)
-windows_ordered setup bytes reg = name_ordered setup bytes (map_register setup.cards reg)
-
 pub covered_ordered : (setup : Setup) (bytes : Bytes) (change : MapChange) →
     Ordered (windows_covered setup bytes change)
 unfolding windows_covered
 covered_ordered setup bytes Reset = (omega arith, tt)
 covered_ordered setup bytes (Store reg width value) =
-    grind (arith, nat_tests, common_steps, ordered_flat_map, reg_after, bytes_of, offsets, windows_ordered)
+    ordered_flat_map (λ k. windows_of setup bytes (reg_after reg k)) (take (bytes_of width) offsets)
+    (λ k. name_ordered setup bytes (map_register setup.cards (reg_after reg k)))
 
 pub changed_ordered : (setup : Setup) (bytes : Bytes) (change : MapChange) →
     Ordered (changed_windows setup bytes change)
@@ -88,14 +81,11 @@ abbrev joined_maybe : Option Changed → Option Changed → Option Changed
 joined_maybe None there = there
 joined_maybe (Some here) there = Some (joined here there)
 
-both_on : (a b c : Changed) → both a (both b c) ≡ both (both a b) c
-both_on a b c = grind (arith, nat_tests)
-
 joined_on : (window : Changed) (here there : Option Changed) →
     joined window (joined_maybe here there) ≡ joined (joined window here) there
 joined_on window None there = refl
 joined_on window (Some here) None = refl
-joined_on window (Some here) (Some there) = both_on window here there
+joined_on window (Some here) (Some there) = grind (arith, nat_tests)
 
 bounds_two : (xs ys : List Changed) → bounds (xs ++ ys) ≡ joined_maybe (bounds xs) (bounds ys)
 unfolding bounds

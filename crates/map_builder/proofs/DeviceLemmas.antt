@@ -1,11 +1,12 @@
 -- The windows that the registers of a card govern are those that the code finds by the values of its bases.
 use Rattle.std.proofs.Common.{◌≡◌, ◌≢◌, ℕ, zero, suc, ◌+◌, ◌/◌, ◌<◌, ◌≤◌, inl, inr, Bool, List, [], ◌∷◌, ◌++◌, length}
-use Rattle.std.proofs.Common.{map, filter, Option, Some, None, refl, ap, ◌∙◌, arith, ◌==◌, All, find, flat_map}
-use Rattle.std.proofs.Common.{slice_get, slice_index}
-use Rattle.board_prelude.proofs.Common.{option_map_or, enumerate_from, cases_Bool, eq-eqb, ne_eqb, map-append, All-head}
-use Rattle.board_prelude.proofs.Common.{All-tail, Reg, Base, IoBase, FittedCard, Setup, IsCard, card_at, Bytes, Window}
-use Rattle.board_prelude.proofs.Common.{base_value, memory_window, rom_window, rom_window_of, vga_window}
-use Rattle.pci_bars.specs.Cards.{CardBytes, HoldsRom, DecodesAs, AreCards, AreDecoded, cards_of}
+use Rattle.std.proofs.Common.{map, filter, Option, Some, None, refl, ap, ◌∙◌, arith, ◌==◌, find, flat_map, slice_get}
+use Rattle.std.proofs.Common.{slice_index, option_map}
+use Rattle.board_prelude.proofs.Common.{option_map_or, enumerate_from, cases_Bool, eq-eqb, ne_eqb, map-append, Reg}
+use Rattle.board_prelude.proofs.Common.{Base, IoBase, FittedCard, Setup, IsCard, card_at, Bytes, Window, base_value}
+use Rattle.board_prelude.proofs.Common.{memory_window, rom_window, rom_window_of, vga_window}
+use Rattle.pci_bars.specs.Cards.{CardBytes, HoldsRom, DecodesAs, AreCards, AreDecoded}
+use Rattle.pci_bars.proofs.CardListLemmas.{found, find-cards}
 use Rattle.addr_decode.specs.declared.register.CardRegister.{CardRegister}
 use Rattle.addr_decode.specs.declared.register.CardRegister.TheVariants.{Command, Base as BaseByte, ExpansionRom}
 use Rattle.addr_decode.specs.MapRegister.{IsCardNumber, in_device, map_register}
@@ -92,32 +93,20 @@ card_is bytes card (BaseByte k) number few hold hold_rom =
     (hold (k / 4) (omega (arith, number)))
 card_is bytes card (ExpansionRom k) number few hold hold_rom = hold_rom
 
-cards_are : (setup : Setup) (bytes : Bytes) (cards : List CardBytes) (dev : ℕ) (register : CardRegister) →
-    IsCardNumber register → AreCards cards →
-    All (DecodesAs setup bytes) cards →
-    option_map_or (card_windows bytes register) (find (λ card. card.dev == dev) (cards_of cards)) []
-    ≡ device_held dev register cards
-cards_are setup bytes [] dev register number fit are = refl
-cards_are setup bytes (card ∷ later) dev register number fit are =
-    elim (cases_Bool (card.card.dev == dev)) [
-      | inl here ↦
-          let is : DecodesAs setup bytes card = All-head (DecodesAs setup bytes) card later are in
-          rw here
-          (card_is bytes card register number (All-head (λ card. IsCard card.card) card later fit).count
-          (λ k below. (is.bases k below).number)
-          (rom_is bytes card.card.dev card.rom card.card.rom is.rom))
-      | inr not_here ↦
-          rw not_here
-          (cards_are setup bytes later dev register number (All-tail (λ card. IsCard card.card) card later fit)
-          (All-tail (DecodesAs setup bytes) card later are))
-    ]
+module _ (setup : Setup) (bytes : Bytes) (cards : List CardBytes) (dev : ℕ) (register : CardRegister)
+    (number : IsCardNumber register) (fit : AreCards cards) (are : AreDecoded setup bytes cards) where
+  -- by what is found at the device number
+  found_is : (card : Option CardBytes) → find (λ card. card.card.dev == dev) cards ≡ card →
+      option_map_or (card_windows bytes register) (option_map (λ card. card.card) card) []
+      ≡ option_map_or (card_held register) card []
+  found_is None there = refl
+  found_is (Some card) there =
+      let is = (found (DecodesAs setup bytes) cards dev card are.1 there).0 in
+      card_is bytes card register number (found (λ card. IsCard card.card) cards dev card fit there).0.count
+      (λ k below. (is.bases k below).number) (rom_is bytes card.card.dev card.rom card.card.rom is.rom)
 
-pub device_is : (setup : Setup) (bytes : Bytes) (cards : List CardBytes) (dev : ℕ) (register : CardRegister) →
-    IsCardNumber register → AreCards cards →
-    AreDecoded setup bytes cards →
-    option_map_or (card_windows bytes register) (card_at setup dev) [] ≡ device_held dev register cards
-device_is setup bytes cards dev register number fit are =
-    rw are.0 (cards_are setup bytes cards dev register number fit are.1)
+  pub device_is : option_map_or (card_windows bytes register) (card_at setup dev) [] ≡ device_held dev register cards
+  device_is = rw (are.0, ← find-cards cards dev) (found_is _ refl)
 
 -- ---- a register of a card
 

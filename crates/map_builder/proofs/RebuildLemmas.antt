@@ -27,11 +27,10 @@ open_at ranges k = range (range_at ranges k).lo 0xFFFF_FFFF (row_at ranges k)
 
 pub differ_at : (ranges : List Range) (k : ℕ) → NeighboursDiffer (map range_of ranges) → k + 1 < length ranges →
     row_at ranges (k + 1) ≢ row_at ranges k
-differ_at [] k differ within = absurd (omega arith)
-differ_at (here ∷ []) k differ within = absurd (omega arith)
 differ_at (here ∷ next ∷ later) zero differ within = λ same. differ.0 (sym same)
 differ_at (here ∷ next ∷ later) (suc k) differ within =
     let place : suc k + 1 ≡ suc (k + 1) = omega arith in rw place (differ_at (next ∷ later) k differ.1 (omega arith))
+differ_at _ k differ within = absurd (omega arith)
 
 -- the last address of a range is an address
 pub range_below : (from : ℕ) (ranges : List MapRange) → Tiles from ranges → (k : ℕ) (d : MapRange) → k < length ranges →

@@ -74,10 +74,7 @@ rise_sorted (window ∷ later) ordered = rise_with window (sorted later) ordered
 
 -- an interval of two that overlap holds no other address
 beside_both : (addr : ℕ) → Joins (IsOutside addr)
-beside_both addr other window low high (inl before) (inl below) = inl (omega (arith, before, below))
-beside_both addr other window low high (inl before) (inr above) = absurd (omega (arith, low, high, before, above))
-beside_both addr other window low high (inr after) (inl below) = absurd (omega (arith, low, high, after, below))
-beside_both addr other window low high (inr after) (inr above) = inr (omega (arith, after, above))
+beside_both addr other window low high one two = grind (arith, nat_tests)
 
 -- an address beside windows is beside them when they are sorted
 pub beside_sorted : (addr : ℕ) (windows : List Changed) → Outside addr windows → Outside addr (sorted windows)

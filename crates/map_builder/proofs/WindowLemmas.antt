@@ -5,7 +5,7 @@ use Rattle.board_prelude.proofs.Common.{MapChange, Store}
 use Rattle.std.proofs.Common.{◌≡◌, ℕ, zero, suc, ◌+◌, ◌-◌, ◌*◌, ◌/◌, ◌^◌, ◌<◌, ◌≤◌, List, [], ◌∷◌, ◌++◌, length, map}
 use Rattle.std.proofs.Common.{get_or, refl, sym, ◌∙◌, ap, arith, mul_comm, Option, None, slice_get, slice_index}
 use Rattle.std.proofs.Common.{flat_map, take}
-use Rattle.std.proofs.lemmas.Option.{slice_get-map, slice_get_past}
+use Rattle.std.proofs.lemmas.Option.{slice_get-map, slice_get_past, slice_get-get_or}
 use Rattle.std.proofs.lemmas.Nat.{mul-add-lt}
 use Rattle.pci_bars.specs.declared.spec.BaseSpec.{BaseSpec}
 use Rattle.pci_bars.specs.Bases.{base_of}
@@ -59,9 +59,7 @@ numbered_at (name ∷ later) (suc k) d below each = numbered_at later k d (omega
 held_one : (value : ℕ) (bases : List BaseSpec) (k : ℕ) (d : BaseSpec) → k < length bases →
     option_map_or (λ base. held_by base value) (slice_get (map base_of bases) k) []
     ≡ held_by (base_of (get_or bases k d)) value
-held_one value [] k d within = absurd (omega arith)
-held_one value (base ∷ later) zero d within = refl
-held_one value (base ∷ later) (suc k) d within = held_one value later k d (omega arith)
+held_one value bases k d within = rw (slice_get-map base_of bases k, slice_get-get_or bases k d within) refl
 
 pub held_here : (values : List ℕ) (bases : List BaseSpec) (k : ℕ) (base : BaseSpec) → k < length bases →
     base ≡ get_or bases k base →
