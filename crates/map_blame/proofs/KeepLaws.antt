@@ -112,15 +112,11 @@ lock_number (Store at width value ∷ before) number is = elim (or_cases (first_
 -- a change that is not chosen locks nothing that was open
 lock_left : (old : Option ℕ) (sets : Bool) (number : ℕ) → (old ≡ None → sets ≡ true → ⊥) →
     is_some old ≡ is_some (option_or old (if sets then Some number else None))
-lock_left (Some first) sets number not = refl
-lock_left None true number not = absurd (not refl refl)
-lock_left None false number not = refl
+lock_left old sets number not = grind (arith, nat_tests)
 
 some_or : (old : Option ℕ) (sets : Bool) (number : ℕ) →
     is_some (option_or old (if sets then Some number else None)) ≡ (is_some old || sets)
-some_or (Some first) sets number = refl
-some_or None true number = refl
-some_or None false number = refl
+some_or old sets number = grind (arith, nat_tests)
 
 module _ (setup : Setup) (keep : List ℕ) where
   -- no change up to the last reset is chosen

@@ -1,12 +1,12 @@
 -- The kept changes as they are found, one after another.
 use Rattle.std.proofs.Common.{◌≡◌, ℕ, suc, ◌+◌, ◌-◌, ◌<◌, ◌≤◌, ◌⊎◌, inl, inr, Bool, true, false, ◌||◌, List, [], ◌∷◌}
 use Rattle.std.proofs.Common.{◌++◌, length, get_or, reverse, take, refl, sym, ap, ◌∙◌, arith, ◌==◌, Option, Some, None}
-use Rattle.board_prelude.proofs.Common.{list_any, AllPairs, cases_Bool, cases_lt, eq-eqb, eqb-true, and_parts, and_from}
+use Rattle.board_prelude.proofs.Common.{AllPairs, cases_Bool, cases_lt, eq-eqb, eqb-true, and_parts, and_from}
 use Rattle.board_prelude.proofs.Common.{false≢true, nat_tests, get_or_default, length-reverse, list_any_at, Width, One}
 use Rattle.board_prelude.proofs.Common.{Reg, bytes_of, bytes_few, MapChange, Store, Reset, Setup, IsCardList, bridge}
 use Rattle.board_prelude.proofs.Common.{covers, is_map_byte, reg_after, or_right, or-false}
 use Rattle.std.proofs.lemmas.List.{get_or-reverse}
-use Rattle.std.proofs.lemmas.List.Folds.{list_any-append}
+use Rattle.std.proofs.lemmas.List.Folds.{list_any-append, Any-from_list_any}
 use Rattle.std.proofs.lemmas.List.Quantifiers.{all_pairs_push}
 use Rattle.addr_decode.proofs.NameLemmas.{offsets}
 use Rattle.map_blame.specs.declared.covers.Covers.{Covers}
@@ -90,13 +90,6 @@ covers_at at width reg is = (
       (grind (arith, nat_tests)),
 )
 
-any_found : (test : ℕ → Bool) (numbers : List ℕ) → list_any test numbers ≡ true → (k : ℕ) × (test k ≡ true)
-any_found test [] is = absurd (false≢true is)
-any_found test (k ∷ later) is = elim (cases_Bool (test k)) [
-  | inl here ↦ (k, here)
-  | inr other ↦ any_found test later (rw other at is)
-]
-
 module _ (setup : Setup) (changes : List MapChange) (covers : Covers) (cards : IsCardList setup.cards)
     (are : AreCoversOf changes covers) where
   last_found : (number : ℕ) (reg : Reg) → is_last_at setup covers number reg ≡ true → IsLastCover setup changes number
@@ -118,8 +111,9 @@ module _ (setup : Setup) (changes : List MapChange) (covers : Covers) (cards : I
       IsLastCover setup changes number
   last_change_found number Reset is = absurd (false≢true is)
   last_change_found number (Store at width value) is =
-      let found = any_found (λ k. is_last_at setup covers number (reg_after at k)) (take (bytes_of width) offsets) is in
-      last_found number (reg_after at found.0) found.1
+      let found = Any-from_list_any (λ k. is_last_at setup covers number (reg_after at k))
+      (take (bytes_of width) offsets) is in
+      last_found number (reg_after at found.1) found.4
 
   last_change_is : (number : ℕ) (change : MapChange) (reg : Reg) → covers_by change reg ≡ true →
       is_last_at setup covers number reg ≡ true → is_last_of setup covers number change ≡ true

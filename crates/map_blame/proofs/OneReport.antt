@@ -1,7 +1,8 @@
 -- There is only one report of a list of changes.
-use Rattle.board_prelude.proofs.Common.{nat_tests, AllPairs, AllByRecursion, cases_Bool, eq-eqb, eqb-true, false≢true}
+use Rattle.board_prelude.proofs.Common.{nat_tests, AllPairs, AllByRecursion, eq-eqb, eqb-true, false≢true}
 use Rattle.board_prelude.proofs.Common.{recursion_from_All, MapChange, Setup, registers_after, MapRange, OneFlatMap}
-use Rattle.std.proofs.Common.{◌≡◌, ℕ, suc, ◌<◌, inl, inr, true, List, [], ◌∷◌, length, get_or, map, refl, arith, ◌==◌}
+use Rattle.std.proofs.Common.{◌≡◌, ℕ, suc, ◌<◌, true, List, [], ◌∷◌, map, refl, arith, ◌==◌}
+use Rattle.std.proofs.lemmas.List.Folds.{Any-from_list_any}
 use Rattle.map_blame.specs.declared.blamed.Blamed.{Blamed}
 use Rattle.map_blame.specs.Common.{IsSince, is_among, IsKeep, map_range_of, OneReport}
 
@@ -16,21 +17,13 @@ rise_later : (number : ℕ) (later : List ℕ) → AllPairs (λ one other. one <
     AllPairs (λ one other. one < other) later
 rise_later number later rises i j d order below = rises (suc i) (suc j) d (omega (arith, order)) (omega (arith, below))
 
-place_of : (number : ℕ) (numbers : List ℕ) → is_among number numbers ≡ true →
-    (k : ℕ) × (k < length numbers) × (get_or numbers k 0 ≡ number)
-place_of number [] is = absurd (false≢true is)
-place_of number (first ∷ later) is = elim (cases_Bool (first == number)) [
-  | inl here ↦ (0, omega arith, eqb-true first number here)
-  | inr other ↦ let rest = place_of number later (rw other at is) in (suc rest.0, omega (arith, rest.1), rest.2)
-]
-
 rise_is : (numbers : List ℕ) → AllPairs (λ one other. one < other) numbers → Rise numbers
 rise_is [] rises = tt
 rise_is (number ∷ later) rises = (
   (λ other among.
-      let place = place_of other later among in
-      let below = rises 0 (suc place.0) 0 (omega arith) (omega (arith, place.1)) in
-      omega (arith, place.2)),
+      let place = Any-from_list_any (λ it. it == other) later among in
+      let below = rises 0 (suc place.0) place.1 (omega arith) (omega (arith, place.2)) in
+      omega (arith, below, place.3, eqb-true place.1 other place.4)),
   rise_is later (rise_later number later rises),
 )
 
