@@ -1,6 +1,6 @@
 -- A phase that an order takes in, and an order that begins.
-use Rattle.std.proofs.Common.{◌≡◌, ℕ, ◌≤◌, List, ◌++◌, length, take, drop, All, Some, Result, Ok, Err, OnOk}
-use Rattle.std.proofs.Common.{sym, ◌∙◌, ap, reverse}
+use Rattle.std.proofs.Common.{◌≡◌, ℕ, ◌≤◌, List, ◌++◌, length, take, drop, All, Some, Result, Ok, Err, OnOk, sym, ◌∙◌}
+use Rattle.std.proofs.Common.{ap, reverse}
 use Rattle.board_spec.proofs.ReplayLaws.{legal_before}
 use Rattle.board_prelude.proofs.Common.{reverse-append, reverse-reverse, take-append-drop, length-reverse}
 use Rattle.board_prelude.proofs.Common.{length-take-le, Entry, Setup, IsLegal}

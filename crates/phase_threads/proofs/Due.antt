@@ -3,10 +3,10 @@ use Rattle.std.proofs.Common.{◌≡◌, ℕ, ◌+◌, ◌<◌, ◌≤◌, ◌==
 use Rattle.std.proofs.Common.{take, get_or, set, filter, All, sym, ◌∙◌, ap, arith, inl, inr, slice_index}
 use Rattle.std.proofs.Common.{slice_index_or, reverse}
 use Rattle.std.proofs.lemmas.List.Filters.{length-filter_more}
+use Rattle.std.proofs.lemmas.List.Sums.{length-filter, count_by-le-length}
 use Rattle.std.proofs.lemmas.List.FromFn.{map-range_with_len_more}
-use Rattle.board_prelude.proofs.Common.{cases_Bool, cases_eq, nat_tests, get_or-map, get_or-set_at, get_or-set_other}
-use Rattle.board_prelude.proofs.Common.{length-append, length-map, map-append, range_with_len, Event, Statement}
-use Rattle.board_prelude.proofs.Common.{events_by}
+use Rattle.board_prelude.proofs.Common.{cases_eq, nat_tests, get_or-map, get_or-set_at, get_or-set_other, length-append}
+use Rattle.board_prelude.proofs.Common.{length-map, map-append, range_with_len, Event, Statement, events_by}
 use Rattle.run_order.proofs.Common.{all_turned}
 use Rattle.phase_work.specs.declared.worker.Work.{Work}
 use Rattle.phase_threads.specs.declared.jobs.Job.{Job}
@@ -26,10 +26,9 @@ abbrev count_in : List Statement → ℕ → ℕ
 count_in phase actor = length (events_by actor phase)
 
 pub few_by : (actor : ℕ) (phase : List Statement) → length (events_by actor phase) ≤ length phase
-few_by actor [] = omega arith
-few_by actor (statement ∷ phase) =
-    let below : length (events_by actor phase) ≤ length phase = few_by actor phase in
-    elim (cases_Bool (statement.actor == actor)) [ inl own ↦ rw own (omega arith) | inr other ↦ rw other (omega arith) ]
+few_by actor phase =
+    omega (arith, length-map (filter (is_by actor) phase) event_in, length-filter (is_by actor) phase,
+    count_by-le-length (is_by actor) phase)
 
 -- one statement more
 pub counts_more : (counts : List ℕ) (phase : List Statement) (i : ℕ) (d : Statement) (actor other : ℕ)

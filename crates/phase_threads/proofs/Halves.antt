@@ -2,8 +2,8 @@
 use Rattle.std.proofs.Common.{◌≡◌, ℕ, ◌<◌, List, [], ◌∷◌, ◌++◌, length, map, All, Option, refl, sym, ◌∙◌, ap, arith}
 use Rattle.std.specs.List.{AllZip}
 use Rattle.std.proofs.lemmas.List.Elements.{AllZip-get_or, length_all_zip}
-use Rattle.board_prelude.proofs.Common.{All-head, All-tail, Entry, Event, Statement, MapChange, Setup}
-use Rattle.board_prelude.proofs.Common.{entries_by, events_by, map_writes_of}
+use Rattle.board_prelude.proofs.Common.{All-head, All-tail, Entry, Event, Statement, MapChange, Setup, entries_by}
+use Rattle.board_prelude.proofs.Common.{events_by, map_writes_of}
 use Rattle.board_core.specs.Kept.{Standing}
 use Rattle.board_live.specs.declared.live.Live.{Live}
 use Rattle.shared_board.specs.declared.shared.Origin.{Origin}

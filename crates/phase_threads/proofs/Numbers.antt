@@ -1,6 +1,6 @@
 -- Lists of jobs and of callers, by the numbers of their processors.
 use Rattle.std.proofs.Common.{◌≡◌, ℕ, ◌+◌, ◌<◌, ◌≤◌, ◌==◌, List, [], ◌∷◌, ◌++◌, map, length, take, drop, All, refl, sym}
-use Rattle.std.proofs.Common.{◌∙◌, ap, arith, inl, inr, reverse, slice_index_or}
+use Rattle.std.proofs.Common.{◌∙◌, ap, arith, inl, inr, reverse, slice_index_or, filter, Bool, true, false}
 use Rattle.board_prelude.proofs.Common.{Any, range_with_len, cases_Bool, nat_tests, get_or-map, get_or_default}
 use Rattle.board_prelude.proofs.Common.{reverse-append, append-nil, take_all, drop_all, map-append, length-map}
 use Rattle.board_prelude.proofs.Common.{length-reverse, All-head, All-tail}
@@ -27,6 +27,18 @@ same_lengths f g xs ys e = sym (length-map xs f) ∙ (ap length e ∙ length-map
 
 pub numbered_length : {X : Type 0} (f : X → ℕ) (xs : List X) (n : ℕ) → map f xs ≡ range_with_len 0 n → length xs ≡ n
 numbered_length f xs n e = sym (length-map xs f) ∙ (ap length e ∙ length-range_with_len 0 n)
+
+pub filter_all : {X : Type 0} (p : X → Bool) (xs : List X) → All (λ x. p x ≡ true) xs → filter p xs ≡ xs
+filter_all p [] all = refl
+filter_all p (x ∷ xs) all =
+    let own : p x ≡ true = All-head (λ x. p x ≡ true) x xs all in
+    rw (own, filter_all p xs (All-tail (λ x. p x ≡ true) x xs all)) refl
+
+pub filter_none : {X : Type 0} (p : X → Bool) (xs : List X) → All (λ x. p x ≡ false) xs → filter p xs ≡ []
+filter_none p [] none = refl
+filter_none p (x ∷ xs) none =
+    let own : p x ≡ false = All-head (λ x. p x ≡ false) x xs none in
+    rw own (filter_none p xs (All-tail (λ x. p x ≡ false) x xs none))
 
 -- each stands at the place of its number
 pub number_at : {X : Type 0} (f : X → ℕ) (xs : List X) (n : ℕ) → map f xs ≡ range_with_len 0 n → (k : ℕ) (d : X)

@@ -1,14 +1,13 @@
 -- A phase, as the history of the run takes it in.
 use Rattle.std.proofs.Common.{◌≡◌, ℕ, ◌+◌, ◌<◌, ◌≤◌, List, [], ◌∷◌, ◌++◌, map, length, take, drop, get_or, flat_map}
 use Rattle.std.proofs.Common.{All, Option, Vec, Global, sym, ◌∙◌, ap, arith, reverse}
-use Rattle.board_prelude.proofs.Common.{reverse-append, reverse-reverse, length-append, length-reverse, map-append}
-use Rattle.board_prelude.proofs.Common.{append-nil, take-append-drop, drop_more, flat_map-append, drop-append_seam}
+use Rattle.board_prelude.proofs.Common.{reverse-append, reverse-reverse, length-append, map-append, append-nil}
+use Rattle.board_prelude.proofs.Common.{take-append-drop, drop_more, flat_map-append, drop-append_seam}
 use Rattle.board_prelude.proofs.Common.{take-append_seam, All-drop, Entry, Statement, Setup, IsCardList, version_of}
 use Rattle.board_prelude.proofs.Common.{IsLegal}
 use Rattle.board_core.specs.Kept.{Standing}
 use Rattle.run_order.specs.declared.done.Done.{Done}
-use Rattle.run_order.specs.Common.{placed, Order, bare, IsPhaseRun, PhaseRuns, AreInPlace}
-use Rattle.run_order.specs.Common.{AreAllInPlace, Begins}
+use Rattle.run_order.specs.Common.{placed, Order, bare, IsPhaseRun, PhaseRuns, AreInPlace, AreAllInPlace, Begins}
 use Rattle.phase_work.specs.declared.worker.Work.{Work}
 use Rattle.phase_threads.specs.Common.{IsStatement, TakesIn, entries_of}
 use Rattle.phase_threads.specs.Unseen.{HasRunSo}
@@ -18,31 +17,37 @@ use Rattle.run_order.proofs.Over.{all_reverse}
 abbrev pub gained : (opened entries : List Entry) → List Entry
 gained opened entries = drop (length opened) entries
 
-pub gained_all : (P : Entry → Type 0) (now opened entries : List Entry) → entries ≡ reverse now → All P now
-    → All P (gained opened entries)
-gained_all P now opened entries is all = All-drop P (length opened) entries (rw is (all_reverse P now all))
+-- a history that went from `before` to `now`, and the same with the oldest entry first
+pub record Grew (before now opened entries : List Entry) : Type 0 where
+  pub begins : Begins before now
+  pub old : opened ≡ reverse before
+  pub is : entries ≡ reverse now
 
-pub back_is : (now entries : List Entry) → entries ≡ reverse now → reverse entries ≡ now
-back_is now entries is = ap reverse is ∙ reverse-reverse now
+parts : (before more opened entries : List Entry) → opened ≡ reverse before → entries ≡ reverse before ++ reverse more
+    → (take (length opened) entries ≡ reverse before) × (drop (length opened) entries ≡ reverse more)
+parts before more opened entries old cut =
+    rw (cut, old) (take-append_seam (reverse before) (reverse more), drop-append_seam (reverse before) (reverse more))
 
-module _ (before now opened entries : List Entry) (b : Begins before now) (old : opened ≡ reverse before)
-    (is : entries ≡ reverse now) where
-  cut : entries ≡ reverse before ++ reverse b.0
-  cut = is ∙ (ap reverse b.1 ∙ reverse-append b.0 before)
+module _ {before now opened entries : List Entry} (grew : Grew before now opened entries) where
+  cut : entries ≡ reverse before ++ reverse grew.begins.0
+  cut = grew.is ∙ (ap reverse grew.begins.1 ∙ reverse-append grew.begins.0 before)
+
+  pub back_is : reverse entries ≡ now
+  back_is = ap reverse grew.is ∙ reverse-reverse now
+
+  pub gained_all : (P : Entry → Type 0) → All P now → All P (gained opened entries)
+  gained_all P all = All-drop P (length opened) entries (rw grew.is (all_reverse P now all))
 
   pub whole_is : reverse (gained opened entries) ++ before ≡ now
   whole_is =
-      let later : drop (length opened) entries ≡ reverse b.0 =
-      rw (cut, old) (drop-append_seam (reverse before) (reverse b.0)) in
-      rw (later, reverse-reverse b.0) (sym b.1)
+      rw ((parts before grew.begins.0 opened entries grew.old cut).1, reverse-reverse grew.begins.0)
+      (sym grew.begins.1)
 
   pub gained_within : length opened ≤ length entries
-  gained_within =
-      let all : length now ≡ length b.0 + length before = ap length b.1 ∙ length-append b.0 before in
-      omega (arith, all, ap length old, ap length is, length-reverse before, length-reverse now)
+  gained_within = rw (grew.old, cut) (omega (arith, length-append (reverse before) (reverse grew.begins.0)))
 
   front : take (length opened) entries ≡ reverse before
-  front = rw (cut, old) (take-append_seam (reverse before) (reverse b.0))
+  front = (parts before grew.begins.0 opened entries grew.old cut).0
 
   pub front_is : reverse (take (length opened) entries) ≡ before
   front_is = ap reverse front ∙ reverse-reverse before
@@ -54,43 +59,38 @@ module _ (before now opened entries : List Entry) (b : Begins before now) (old :
       let one = all k d less in omega (arith, one, few)))
 
 pub phase_is_run : (before now : Standing) (opened entries : List Entry) (phase : List Statement) (works : List Work)
-    → (run : HasRunSo before now phase works) → opened ≡ reverse before.entries → entries ≡ reverse now.entries
+    → (run : HasRunSo before now phase works) → Grew before.entries now.entries opened entries
     → IsCardList before.setup.cards
     → IsLegal now.setup now.entries → All (λ entry. entry.actor < length works) now.entries
     → All (IsStatement before.setup (length works)) phase
     → IsPhaseRun before.setup before.entries (gained opened entries) phase run.lists
-phase_is_run before now opened entries phase works run old is cards legal callers speakers =
-    let whole = whole_is before.entries now.entries opened entries run.begins old is in
-    record {
-      cards = cards;
-      legal = rw (whole, ← run.setup) legal;
-      callers = rw run.count
-          (gained_all (λ (entry : Entry). entry.actor < length works) now.entries opened entries is callers);
-      speakers = rw run.count (λ k d less. (speakers k d less).actor);
-      each = λ actor less. rw whole (run.each actor (rw run.count at less));
-    }
+phase_is_run before now opened entries phase works run grew cards legal callers speakers = record {
+  cards = cards;
+  legal = rw (whole_is grew, ← run.setup) legal;
+  callers = rw run.count (gained_all grew (λ (entry : Entry). entry.actor < length works) callers);
+  speakers = rw run.count (λ k d less. (speakers k d less).actor);
+  each = λ actor less. rw (whole_is grew) (run.each actor (rw run.count at less));
+}
 
 -- ---- the history of the run
 
 pub takes_in : (before now : Standing) (opened entries : List Entry) (phase : List Statement) (lists : List (List Done))
     (old new : Option Order) (version : ℕ)
     → PhaseRuns → IsPhaseRun before.setup before.entries (gained opened entries) phase lists
-    → Begins before.entries now.entries
-    → opened ≡ reverse before.entries → entries ≡ reverse now.entries → version ≡ version_of before.setup before.entries
+    → Grew before.entries now.entries opened entries → version ≡ version_of before.setup before.entries
     → IsLegal before.setup (entries_of old before.entries) → bare (entries_of old before.entries) ≡ bare before.entries
     → entries_of new (reverse entries)
     ≡ placed version (gained opened entries) lists (entries_of old (reverse (take (length opened) entries)))
     → TakesIn phase before now (entries_of old before.entries) (entries_of new now.entries)
-takes_in before now opened entries phase lists old new version law run b is_old is version_is legal same placed_is =
+takes_in before now opened entries phase lists old new version law run grew version_is legal same placed_is =
     let later : List Entry = gained opened entries in
     let history : List Entry = entries_of old before.entries in
-    let front = front_is before.entries now.entries opened entries b is_old is in
     let all : entries_of new now.entries ≡ placed (version_of before.setup before.entries) later lists history =
-    rw (back_is now.entries entries is, version_is, front) at placed_is in
+    rw (back_is grew, version_is, front_is grew) at placed_is in
     let there = rw (← all) at (law before.setup before.entries later phase lists history run legal same) in
     record {
       legal = there.legal;
-      same = there.bus ∙ ap bare (whole_is before.entries now.entries opened entries b is_old is);
+      same = there.bus ∙ ap bare (whole_is grew);
       phases = there.phases;
       added = there.added;
       adds = there.adds;
@@ -100,10 +100,10 @@ takes_in before now opened entries phase lists old new version law run b is_old 
 
 -- ---- phase after phase
 
-abbrev Phase : Type 0
+abbrev pub Phase : Type 0
 Phase = Vec Statement Global
 
-abbrev in_phase : Phase → List Statement
+abbrev pub in_phase : Phase → List Statement
 in_phase phase = phase.items
 
 pub phases_more : (done : List Phase) (phase : Phase)

@@ -1,89 +1,25 @@
 -- A phase of which what was done is not kept, since none of it is a look.
-use Rattle.std.proofs.Common.{◌≡◌, ℕ, zero, suc, ◌+◌, ◌<◌, ◌≤◌, ◌==◌, true, false, List, [], ◌∷◌, ◌++◌, length, map}
-use Rattle.std.proofs.Common.{take, get_or, set, All, slice_index_or, inl, inr, refl, sym, ◌∙◌, ap, arith}
-use Rattle.std.proofs.Common.{reverse}
-use Rattle.board_prelude.proofs.Common.{cases_Bool, nat_tests, get_or-map, get_or-set_at, get_or-set_other, length-map}
-use Rattle.board_prelude.proofs.Common.{length-reverse, length-set, map-append, reverse-append, reverse-reverse}
-use Rattle.board_prelude.proofs.Common.{take_more, All-nil, All-cons, All-head, All-tail, Entry, Event, Statement}
-use Rattle.board_prelude.proofs.Common.{Setup, entries_by, events_by, map_writes_of, next_entry}
-use Rattle.std.proofs.lemmas.List.Elements.{All-map, All-set}
+use Rattle.std.proofs.Common.{◌≡◌, ℕ, zero, suc, ◌+◌, ◌<◌, ◌≤◌, ◌==◌, false, List, [], ◌∷◌, ◌++◌, length, map, take}
+use Rattle.std.proofs.Common.{set, All, slice_index_or, refl, sym, ◌∙◌, ap, arith, reverse, not, length-append, Bool, get_or}
+use Rattle.board_prelude.proofs.Common.{eq-eqb, get_or-set_at, get_or-set_other, length-map, length-reverse}
+use Rattle.board_prelude.proofs.Common.{length-set, map-append, reverse-append, reverse-reverse, take_more, All-cons}
+use Rattle.board_prelude.proofs.Common.{All-head, All-tail, Entry, Event, Statement, Setup, entries_by, events_by}
+use Rattle.board_prelude.proofs.Common.{map_writes_of}
+use Rattle.std.proofs.lemmas.List.Elements.{All-map, filter-append}
 use Rattle.board_core.specs.Kept.{Standing}
 use Rattle.run_order.specs.declared.done.Done.{Done}
-use Rattle.run_order.specs.declared.done.Done.TheVariants.{Went, Looked}
-use Rattle.run_order.specs.Common.{event_of, is_look, done_by, without_first, passed, noted}
-use Rattle.run_order.specs.Common.{placed, IsNotDue, IsSettled, IsDone, Begins}
-use Rattle.run_order.proofs.Settled.{settled_placed, settled_left, settled_more}
-use Rattle.run_order.proofs.Common.{all_reverse}
+use Rattle.run_order.specs.declared.done.Done.TheVariants.{Went}
+use Rattle.run_order.specs.Common.{event_of, is_look, looks_in, all_looks_in, IsDone}
+use Rattle.run_order.proofs.Counts.{looks_append, count_set, nobody_looked}
+use Rattle.run_order.proofs.Unlooked.{placed_alone}
 use Rattle.phase_work.specs.declared.worker.Work.{Work}
 use Rattle.phase_work.specs.Works.{HasDone}
 use Rattle.phase_threads.specs.Others.{others}
 use Rattle.phase_threads.specs.Jobs.{HasRun, done_in}
 use Rattle.phase_threads.specs.Unseen.{HasAdded, HasRunSo, HasStepped}
-use Rattle.phase_threads.proofs.Numbers.{map_reverse}
-use Rattle.phase_threads.proofs.OneActs.{listed_at, others_same, one_acted}
-use Rattle.phase_threads.proofs.OneActs.{has_grown, gone_alone}
-
--- ---- lists without looks
-
-abbrev IsWent : Done → Type 0
-IsWent (Went version event) = Unit {0}
-IsWent (Looked kind addr smm look) = ⊥
-
-abbrev AreWent : List Done → Type 0
-AreWent done = All IsWent done
-
-abbrev ArePlain : List (List Done) → Type 0
-ArePlain rests = All AreWent rests
-
-not_due : (version : ℕ) (done : List Done) → AreWent done → IsNotDue version done
-not_due version [] all = tt
-not_due version (Went after event ∷ done) all = tt
-not_due version (Looked kind addr smm look ∷ done) all = absurd (All-head IsWent (Looked kind addr smm look) done all)
-
-settled : (version : ℕ) (rests : List (List Done)) → ArePlain rests → IsSettled version rests
-settled version [] plain = λ k. tt
-settled version (done ∷ rests) plain =
-    settled_more version done rests (not_due version done (All-head AreWent done rests plain))
-    (settled version rests (All-tail AreWent done rests plain))
-
-plain_first : (done : List Done) → AreWent done → AreWent (without_first done)
-plain_first [] all = all
-plain_first (one ∷ done) all = All-tail IsWent one done all
-
-plain_passed : (first actor : ℕ) (rests : List (List Done)) → ArePlain rests → ArePlain (passed first actor rests)
-unfolding passed
-plain_passed first actor [] plain = plain
-plain_passed first actor (done ∷ rests) plain =
-    let here = All-head AreWent done rests plain in
-    let later = All-tail AreWent done rests plain in
-    elim (cases_Bool (actor == first)) [
-      | inl is ↦ rw is (All-cons AreWent (without_first done) rests (plain_first done here) later)
-      | inr not ↦ rw not (All-cons AreWent done (passed (first + 1) actor rests) here (plain_passed (first + 1) actor
-          rests later))
-    ]
-
--- whatever they are, the entries of the bus alone enter the history
-plain_same : (version other : ℕ) (later : List Entry) (rests lists : List (List Done)) (history : List Entry)
-    → ArePlain rests → ArePlain lists
-    → placed version later rests history ≡ placed other later lists history
-unfolding placed
-plain_same version other [] rests lists history one two =
-    settled_placed version 0 rests history (settled version rests one)
-    ∙ sym (settled_placed other 0 lists history (settled other lists two))
-plain_same version other (entry ∷ later) rests lists history one two =
-    let before = settled_placed version 0 rests history (settled version rests one) in
-    let left = settled_left version rests (settled version rests one) in
-    let before' = settled_placed other 0 lists history (settled other lists two) in
-    let left' = settled_left other lists (settled other lists two) in
-    rw (before, left, before', left')
-    (plain_same (noted version (done_by 0 entry.actor rests)) (noted other (done_by 0 entry.actor lists)) later
-    (passed 0 entry.actor rests) (passed 0 entry.actor lists)
-    (next_entry history entry.actor entry.event entry.reply ∷ history) (plain_passed 0 entry.actor rests one)
-    (plain_passed 0 entry.actor lists two))
-
-empty_is_plain : (works : List Work) → All (λ work. work.done.items ≡ []) works → ArePlain (done_in works)
-empty_is_plain works empty =
-    All-map AreWent (λ (work : Work). work.done.items) works (λ k d less. rw (empty k d less) (All-nil IsWent))
+use Rattle.phase_threads.specs.Acts.{CanAct}
+use Rattle.phase_threads.proofs.Numbers.{map_reverse, filter_all, filter_none}
+use Rattle.phase_threads.proofs.OneActs.{one_acted, has_grown, gone_alone}
 
 -- ---- what was done, as the history tells it, the newest first
 
@@ -92,12 +28,14 @@ dones setup opened [] = []
 dones setup opened (entry ∷ before) =
     Went (length (map_writes_of setup (entry ∷ (before ++ opened)))) entry.event ∷ dones setup opened before
 
-dones_went : (setup : Setup) (opened more : List Entry) → AreWent (dones setup opened more)
-dones_went setup opened [] = All-nil IsWent
-dones_went setup opened (entry ∷ before) =
-    All-cons IsWent (Went (length (map_writes_of setup (entry ∷ (before ++ opened)))) entry.event) (dones setup opened
-    before) tt
-    (dones_went setup opened before)
+no_looks : (setup : Setup) (opened more : List Entry) → looks_in (reverse (dones setup opened more)) ≡ 0
+no_looks setup opened [] = refl
+no_looks setup opened (entry ∷ before) =
+    let one : List Done = Went (length (map_writes_of setup (entry ∷ (before ++ opened)))) entry.event ∷ [] in
+    let others : List Done = dones setup opened before in
+    let same : looks_in (reverse (one ++ others)) ≡ looks_in (reverse others ++ one) =
+    ap looks_in (reverse-append one others) in
+    omega (arith, same, looks_append (reverse others) one, no_looks setup opened before)
 
 dones_events : (setup : Setup) (opened more : List Entry)
     → map event_of (dones setup opened more) ≡ map (λ (entry : Entry). entry.event) more
@@ -121,29 +59,25 @@ dones_trace setup number opened (entry ∷ before) own plain = (
 
 own_events : (number : ℕ) (phase : List Statement) → All (λ statement. statement.actor ≡ number) phase
     → events_by number phase ≡ map (λ (statement : Statement). statement.event) phase
-own_events number [] all = refl
-own_events number (statement ∷ phase) all =
-    let own = All-head (λ (s : Statement). s.actor ≡ number) statement phase all in
-    let is : (statement.actor == number) ≡ true = grind (arith, nat_tests) in
-    rw (is, own_events number phase (All-tail (λ (s : Statement). s.actor ≡ number) statement phase all)) refl
+own_events number phase all =
+    ap (map (λ (s : Statement). s.event)) (filter_all (λ (s : Statement). s.actor == number) phase
+    (λ k d less. eq-eqb (get_or phase k d).actor number (all k d less)))
 
 -- ---- entries of one processor after a history
 
 others_more : (number : ℕ) (more opened : List Entry) → All (λ entry. entry.actor ≡ number) more
     → others number (more ++ opened) ≡ others number opened
-others_more number [] opened own = refl
-others_more number (entry ∷ more) opened own =
-    others_same number entry (more ++ opened) (All-head (λ (e : Entry). e.actor ≡ number) entry more own)
-    ∙ others_more number more opened (All-tail (λ (e : Entry). e.actor ≡ number) entry more own)
+others_more number more opened own =
+    filter-append (λ (e : Entry). not (e.actor == number)) more opened
+    ∙ ap (λ (h : List Entry). h ++ others number opened) (filter_none (λ (e : Entry). not (e.actor == number)) more
+    (λ k d less. rw (eq-eqb (get_or more k d).actor number (own k d less)) refl))
 
 own_more : (number : ℕ) (more opened : List Entry) → All (λ entry. entry.actor ≡ number) more
     → length (entries_by number (more ++ opened)) ≡ length more + length (entries_by number opened)
-own_more number [] opened own = omega arith
-own_more number (entry ∷ more) opened own =
-    let here = All-head (λ (e : Entry). e.actor ≡ number) entry more own in
-    let is : (entry.actor == number) ≡ true = grind (arith, nat_tests) in
-    let rest = own_more number more opened (All-tail (λ (e : Entry). e.actor ≡ number) entry more own) in
-    rw is (omega (arith, rest))
+own_more number more opened own =
+    let its : Entry → Bool = λ entry. entry.actor == number in
+    rw (filter-append its more opened, filter_all its more
+    (λ k d less. eq-eqb (get_or more k d).actor number (own k d less))) (length-append more (entries_by number opened))
 
 added_count : (number : ℕ) (phase : List Statement) (before now : Standing) (a : HasAdded number phase before now)
     → length a.more ≡ length phase
@@ -180,43 +114,26 @@ has_done number phase before now a only =
           (own_events number phase only)));
     }
 
-nothing_at : (works : List Work) (k : ℕ) → k < length works → All (λ work. work.done.items ≡ []) works
-    → get_or (done_in works) k [] ≡ []
-nothing_at [] k less empty = refl
-nothing_at (work ∷ works) k less empty =
-    get_or-map (λ (w : Work). w.done.items) (work ∷ works) k work [] less ∙ empty k work less
-
 pub plain_has_run : (number : ℕ) (before now : Standing) (phase : List Statement) (old new : List Work)
-    → number < length old
-    → All (λ work. work.done.items ≡ []) old → All (λ statement. statement.actor ≡ number) phase → HasStepped number
-    before now phase old new
-    → HasRunSo before now phase new
-plain_has_run number before now phase old new within empty only stepped =
-    let a = stepped.added in
+    → CanAct number before old phase → All (λ statement. statement.actor ≡ number) phase
+    → HasStepped number before now phase old new → HasRunSo before now phase new
+plain_has_run number before now phase old new can only stepped =
+    let a = stepped.added in let did : Work → List Done = λ work. work.done.items in
     let done : List Done = reverse (dones before.setup before.entries a.more) in
-    let has = has_done number phase before now a only in
-    let begins : Begins before.entries now.entries = (a.more, a.grows) in
-    let size : length (done_in old) ≡ length old = length-map old (λ (work : Work). work.done.items) in
+    let size : length (done_in old) ≡ length old = length-map old did in
+    let within : number < length (done_in old) = omega (arith, size, can.within) in
     let lists : List (List Done) = set (done_in old) number done in
     let count : length lists ≡ length (done_in old) = length-set (done_in old) number done in
-    let plain : ArePlain (done_in old) = empty_is_plain old empty in
-    record {
-      setup = a.setup;
-      begins = begins;
-      lists = lists;
-      count = count ∙ (size ∙ sym stepped.grown.count);
-      each = λ actor less. one_acted before.setup before.entries now.entries phase number lists done
-          (map_writes_of before.setup now.entries) begins only stepped.grown.others has refl
-          (listed_at lists number ∙ get_or-set_at (done_in old) number number done [] refl
-          (omega (arith, size, within)))
-          (λ other unlike few. listed_at lists other ∙ (get_or-set_other (done_in old) number other done [] unlike
-          ∙ nothing_at old other (omega (arith, few, count, size)) empty)) actor
-          (omega (arith, less, count, size, stepped.grown.count));
-      same = λ version later history. rw stepped.kept
-          (plain_same version version later (done_in old) lists history plain
-          (All-set AreWent (done_in old) number done (all_reverse IsWent (dones before.setup before.entries a.more)
-          (dones_went before.setup before.entries a.more)) plain));
-    }
+    let none : all_looks_in (done_in old) ≡ 0 = nobody_looked did old (λ k d less. rw (can.empty k d less) refl) in
+    let plain : all_looks_in lists ≡ 0 = omega (arith, count_set (done_in old) number done within, none,
+    no_looks before.setup before.entries a.more) in
+    one_acted number before now phase old new lists done _ stepped.grown only
+    (has_done number phase before now a only) refl (omega (arith, count, size, stepped.grown.count))
+    (get_or-set_at (done_in old) number number done [] refl within)
+    (λ other unlike few. get_or-set_other (done_in old) number other done [] unlike
+    ∙ All-map (λ (items : List Done). items ≡ []) did old can.empty other [] (omega (arith, few, count)))
+    (λ version later history. rw stepped.kept (placed_alone version later (done_in old) history none
+    ∙ sym (placed_alone version later lists history plain)))
 
 -- ---- a step of the loop
 

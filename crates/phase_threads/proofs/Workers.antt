@@ -1,9 +1,8 @@
 -- What the workers of a phase leave, put together.
-use Rattle.std.proofs.Common.{◌≡◌, ℕ, ◌+◌, ◌<◌, ◌≤◌, ◌==◌, false, List, [], ◌∷◌, map, length, All, Option, Some, refl}
-use Rattle.std.proofs.Common.{sym, ◌∙◌, ap, arith, inl, inr, reverse}
-use Rattle.board_prelude.proofs.Common.{Any, range_with_len, cases_lt, nat_tests, length-map, length-reverse, All-head}
-use Rattle.board_prelude.proofs.Common.{All-tail, Entry, Statement, MapChange, Setup, IsInRange, entries_by}
-use Rattle.board_prelude.proofs.Common.{most_statements}
+use Rattle.std.proofs.Common.{◌≡◌, ℕ, ◌+◌, ◌<◌, ◌≤◌, ◌==◌, false, List, [], ◌∷◌, map, length, All, Option, Some, sym}
+use Rattle.std.proofs.Common.{◌∙◌, ap, arith, inl, inr, reverse, get_or}
+use Rattle.board_prelude.proofs.Common.{Any, range_with_len, cases_lt, ne_eqb, length-map, length-reverse, All-head}
+use Rattle.board_prelude.proofs.Common.{Entry, Statement, MapChange, Setup, IsInRange, entries_by, most_statements}
 use Rattle.std.proofs.lemmas.Simd.{map-map}
 use Rattle.std.proofs.lemmas.List.Elements.{All-map}
 use Rattle.bus_turn.specs.Passes.{part_of}
@@ -20,19 +19,19 @@ use Rattle.phase_work.specs.declared.worker.Work.{Work}
 use Rattle.phase_threads.specs.declared.jobs.Job.{Job}
 use Rattle.phase_threads.specs.Jobs.{IsReadyToWork, IsRun, AreAsked, AreDue, HasRun, done_in}
 use Rattle.phase_threads.proofs.Due.{due_by_number}
-use Rattle.phase_threads.proofs.Numbers.{map_reverse, all_mapped, same_lengths, numbered_length}
+use Rattle.phase_threads.proofs.Numbers.{filter_none, map_reverse, all_mapped, same_lengths, numbered_length}
 use Rattle.phase_threads.proofs.Numbers.{numbers_below, same_numbers, by_number}
 
-abbrev cpu_in : Job → Cpu
+abbrev pub cpu_in : Job → Cpu
 cpu_in job = job.cpu
 
-abbrev work_in : Job → Work
+abbrev pub work_in : Job → Work
 work_in job = job.work
 
-abbrev number_in : Job → ℕ
+abbrev pub number_in : Job → ℕ
 number_in job = job.cpu.number
 
-abbrev number_by : Cpu → ℕ
+abbrev pub number_by : Cpu → ℕ
 number_by cpu = cpu.number
 
 from_jobs : {X : Type 0} (f : Job → X) (P : X → Type 0) (jobs : List Job) (xs : List X) → map f (reverse jobs) ≡ xs
@@ -104,11 +103,8 @@ whole_begins live board now part phase before (job ∷ jobs) some run closes fin
 -- nobody else has entries
 none_by : (n actor : ℕ) (entries : List Entry) → n ≤ actor → All (λ entry. entry.actor < n) entries
     → length (entries_by actor entries) ≡ 0
-none_by n actor [] past all = refl
-none_by n actor (entry ∷ entries) past all =
-    let less = All-head (λ (e : Entry). e.actor < n) entry entries all in
-    let not : (entry.actor == actor) ≡ false = grind (arith, nat_tests) in
-    rw not (none_by n actor entries past (All-tail (λ (e : Entry). e.actor < n) entry entries all))
+none_by n actor entries past all = ap length (filter_none (λ (e : Entry). e.actor == actor) entries
+    (λ k d less. ne_eqb (get_or entries k d).actor actor (λ e. omega (arith, past, all k d less, e))))
 
 -- the jobs of the callers of a board that was just opened
 module _ (live : Live) (board : Standing) (n : ℕ) (cpus : List Cpu) (jobs : List Job) (phase : List Statement)
@@ -134,77 +130,85 @@ module _ (live : Live) (board : Standing) (n : ℕ) (cpus : List Cpu) (jobs : Li
         room = room;
       }
 
-  -- the same jobs when the workers have ended
-  module _ (cpus1 : List Cpu) (jobs1 : List Job) (are_cpus1 : map cpu_in (reverse jobs1) ≡ cpus1)
-      (same : map number_in jobs1 ≡ map number_in jobs)
-      (run : All (IsRun live board (Some o.all.opened) phase before) jobs1) where
-    again : map number_by cpus1 ≡ map number_by cpus
-    again = numbers_again cpus cpus1 jobs jobs1 are_cpus are_cpus1 same
+-- the jobs of the callers of a board that was opened for a phase, when the workers have ended
+pub record HaveRun (live : Live) (board : Standing) (n : ℕ) (cpus cpus1 : List Cpu) (phase : List Statement)
+    (before : ℕ) (jobs1 : List Job) : Type 0 where
+  pub o : AreOpened board n live cpus
+  pub jobs : List Job
+  pub are_cpus : map cpu_in (reverse jobs) ≡ cpus
+  pub are_cpus1 : map cpu_in (reverse jobs1) ≡ cpus1
+  pub same : map number_in jobs1 ≡ map number_in jobs
+  pub run : All (IsRun live board (Some o.all.opened) phase before) jobs1
 
-    named_again : map number_in (reverse jobs1) ≡ range_with_len 0 n
-    named_again = job_numbers cpus1 jobs1 n are_cpus1 (again ∙ o.numbers)
+module _ {live : Live} {board : Standing} {n : ℕ} {cpus cpus1 : List Cpu} {phase : List Statement} {before : ℕ}
+    {jobs1 : List Job} (h : HaveRun live board n cpus cpus1 phase before jobs1) where
+  again : map number_by cpus1 ≡ map number_by cpus
+  again = numbers_again cpus cpus1 h.jobs jobs1 h.are_cpus h.are_cpus1 h.same
 
-    size_again : length (reverse jobs1) ≡ n
-    size_again = numbered_length number_in (reverse jobs1) n named_again
+  named_again : map number_in (reverse jobs1) ≡ range_with_len 0 n
+  named_again = job_numbers cpus1 jobs1 n h.are_cpus1 (again ∙ h.o.numbers)
 
-    pub all_again : AreAllOf live cpus1
-    all_again =
-        let size : length cpus1 ≡ length cpus = same_lengths number_by number_by cpus1 cpus again in
-        record {
-          opened = o.all.opened;
-          own = to_jobs cpu_in (IsCallerOf live) jobs1 cpus1 are_cpus1 (λ k d less. (run k d less).own);
-          same = to_jobs cpu_in (λ cpu. part_of cpu.pass ≡ Some o.all.opened) jobs1 cpus1 are_cpus1
-              (λ k d less. (run k d less).same);
-          count = size ∙ o.all.count;
-          some = omega (arith, size, o.all.some);
-          each = λ number less. same_numbers number_by cpus cpus1 number again (o.all.each number (rw size at less));
-        }
+  size_again : length (reverse jobs1) ≡ n
+  size_again = numbered_length number_in (reverse jobs1) n named_again
+
+  pub all_again : AreAllOf live cpus1
+  all_again =
+      let size : length cpus1 ≡ length cpus = same_lengths number_by number_by cpus1 cpus again in
+      record {
+        opened = h.o.all.opened;
+        own = to_jobs cpu_in (IsCallerOf live) jobs1 cpus1 h.are_cpus1 (λ k d less. (h.run k d less).own);
+        same = to_jobs cpu_in (λ cpu. part_of cpu.pass ≡ Some h.o.all.opened) jobs1 cpus1 h.are_cpus1
+            (λ k d less. (h.run k d less).same);
+        count = size ∙ h.o.all.count;
+        some = omega (arith, size, h.o.all.some);
+        each = λ number less. same_numbers number_by cpus cpus1 number again (h.o.all.each number (rw size at less));
+      }
+
+  module _ (works1 : List Work) (are_works1 : map work_in (reverse jobs1) ≡ works1) where
+    pub listed : length works1 ≡ n
+    listed = sym (ap length are_works1) ∙ (length-map (reverse jobs1) work_in ∙ size_again)
 
     -- what holds of each job's processor holds by processor
     by_processor : (W : ℕ → List Done → Type 0) → All (λ job. W job.cpu.number job.work.done.items) jobs1
-        → (works1 : List Work) → map work_in (reverse jobs1) ≡ works1 → (actor : ℕ) → actor < n
-        → W actor (done_by 0 actor (done_in works1))
-    by_processor W all works1 are_works1 actor less =
+        → (actor : ℕ) → actor < n → W actor (done_by 0 actor (done_in works1))
+    by_processor W all actor less =
         let named : map number_in (reverse jobs1) ≡ range_with_len 0 (length (reverse jobs1)) =
         rw size_again named_again in
         rw are_works1 at (by_number W (reverse jobs1) 0
         (all_reverse (λ job. W job.cpu.number job.work.done.items) jobs1 all) named actor (omega arith)
         (omega (arith, less, size_again)))
 
-    module _ (now : Standing) (works1 : List Work) (are_works1 : map work_in (reverse jobs1) ≡ works1)
-        (fine : All (λ job. job.refused ≡ false) jobs1) (closes : All (ClosesBoard now) cpus1) where
-      listed : length works1 ≡ n
-      listed = sym (ap length are_works1) ∙ (length-map (reverse jobs1) work_in ∙ size_again)
+    module _ (now : Standing) (fine : All (λ job. job.refused ≡ false) jobs1) (closes : All (ClosesBoard now) cpus1)
+      where
+        closed : All (λ job. ClosesBoard now job.cpu) jobs1
+        closed = from_jobs cpu_in (ClosesBoard now) jobs1 cpus1 h.are_cpus1 closes
 
-      closed : All (λ job. ClosesBoard now job.cpu) jobs1
-      closed = from_jobs cpu_in (ClosesBoard now) jobs1 cpus1 are_cpus1 closes
+        pub has_run : 1 ≤ n → HasRun board now phase works1
+        has_run some =
+            let many : 0 < length jobs1 = omega (arith, size_again, length-reverse jobs1, some) in
+            let whole = whole_begins live board now (Some h.o.all.opened) phase before jobs1 many h.run closed fine in
+            record {
+              setup = whole.0;
+              begins = whole.1;
+              each = λ actor less. by_processor
+                  (λ actor done. IsWork board.setup board.entries now.entries phase actor done)
+                  (λ k d less. work_of live board now (Some h.o.all.opened) phase before _ (h.run k d less)
+                  (closed k d less) (fine k d less)) actor (omega (arith, less, listed));
+            }
 
-      pub has_run : 1 ≤ n → HasRun board now phase works1
-      has_run some =
-          let many : 0 < length jobs1 = omega (arith, size_again, length-reverse jobs1, some) in
-          let whole = whole_begins live board now (Some o.all.opened) phase before jobs1 many run closed fine in
-          record {
-            setup = whole.0;
-            begins = whole.1;
-            each = λ actor less. by_processor
-                (λ actor done. IsWork board.setup board.entries now.entries phase actor done)
-                (λ k d less. work_of live board now (Some o.all.opened) phase before _ (run k d less) (closed k d less)
-                (fine k d less)) works1 are_works1 actor (omega (arith, less, listed));
-          }
-
-      pub are_asked : All (λ entry. Any (λ cpu. cpu.number ≡ entry.actor) cpus1) now.entries
-          → AreAsked (before + length phase) now.entries works1
-      are_asked callers =
-          let actors : All (λ entry. entry.actor < n) now.entries =
-          λ k d less. numbers_below number_by cpus1 n _ (again ∙ o.numbers) (callers k d less) in
-          record {
-            actors = rw listed actors;
-            mine = λ actor. elim (cases_lt actor n) [
-              | inl few ↦ by_processor (λ actor done. length (entries_by actor now.entries) ≤ before + length phase)
-                  (λ k d less. rw (closed k d less).mine ((run k d less).mine (fine k d less))) works1 are_works1 actor
-                  few
-              | inr past ↦ omega (arith, none_by n actor now.entries (omega (arith, past)) actors)
-            ];
-            asked = to_jobs work_in (λ work. work.asked ≤ before + length phase) jobs1 works1 are_works1
-                (λ k d less. (run k d less).asked);
-          }
+        pub are_asked : All (λ entry. Any (λ cpu. cpu.number ≡ entry.actor) cpus1) now.entries
+            → AreAsked (before + length phase) now.entries works1
+        are_asked callers =
+            let actors : All (λ entry. entry.actor < n) now.entries =
+            λ k d less. numbers_below number_by cpus1 n _ (again ∙ h.o.numbers) (callers k d less) in
+            record {
+              actors = rw listed actors;
+              mine = λ actor. elim (cases_lt actor n) [
+                | inl few ↦ by_processor
+                    (λ actor done. length (entries_by actor now.entries) ≤ before + length phase) (λ k d less.
+                    rw (closed k d less).mine ((h.run k d less).mine (fine k d less))) actor few
+                | inr past ↦ omega (arith, none_by n actor now.entries (omega (arith, past)) actors)
+              ];
+              asked = to_jobs work_in (λ work. work.asked ≤ before + length phase) jobs1 works1 are_works1
+                  (λ k d less. (h.run k d less).asked);
+            }

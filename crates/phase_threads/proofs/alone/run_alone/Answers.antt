@@ -1,46 +1,22 @@
-use Rattle.std.proofs.Common.{rules, ◌∙◌, ap, map, arith}
-use Rattle.phase_work.specs.declared.worker.Work.{Work}
-use Rattle.phase_threads.proofs.Numbers.{same_lengths, asked_again}
-use Rattle.phase_threads.proofs.OneActs.{can_act, alone_has_run, alone_asked}
-use Rattle.phase_threads.proofs.Unkept.{so}
+use Rattle.std.proofs.Common.{rules}
+use Rattle.phase_threads.proofs.OneActs.{can_act, grows, alone_has_run}
 use Rattle.phase_threads.proofs.alone.run_alone.Goals as goal
 
 pub do_all-requires : goal.do_all-requires
-do_all-requires g c =
-    let works = c.args.run.works.items in
-    let next = c.in_ok-works.works.items in
-    let same = c.in_ok-works.ensures.asked ∙ ap (map (λ (w : Work). w.asked)) c.deref.ensures.value in
-    let size = same_lengths (λ (w : Work). w.asked) (λ (w : Work). w.asked) next works same in
-    let can = c.requires.can in (
-      search rules,
-      can_act c.args.actor can.most c.args.run.board works next c.args.phase.now can.some can.few
-          (λ k d less. (can.in_range k d less).event) (omega (arith, size, c.requires.below))
-          c.in_ok-works.ensures.empty
-          (asked_again can.most works next same can.asked.asked) can.asked can.room,
-    )
+do_all-requires g c = (
+  search rules,
+  can_act c.args.actor c.args.run c.args.phase.now c.deref.result.now c.in_ok-works.works.items c.deref.ensures.value
+      c.in_ok-works.ensures.asked c.requires.below c.requires.can c.in_ok-works.ensures.empty,
+)
 
 pub returns-clause-goes_on : goal.returns-clause-goes_on
 returns-clause-goes_on g c =
-    let works = c.args.run.works.items in
-    let next = c.in_ok-works.works.items in
-    let same = c.in_ok-works.ensures.asked ∙ ap (map (λ (w : Work). w.asked)) c.deref.ensures.value in
-    let size = same_lengths (λ (w : Work). w.asked) (λ (w : Work). w.asked) next works same in
-    let acted = c.in_ok-do_all.ensures.acted in
-    record {
-      count = omega (arith, size, acted.grown.count);
-      asked = λ most asked room.
-          alone_asked c.args.actor most c.args.run.board c.do_all.new.alone.board c.args.phase.now works next
-          c.do_all.new.works.items (omega (arith, size, c.requires.below)) size
-          (asked_again most works next same asked.asked) asked acted.grown;
-    }
+    grows c.args.actor c.args.run c.args.phase.now c.deref.result.now c.in_ok-works.works.items c.deref.ensures.value
+    c.in_ok-works.ensures.asked c.requires.below _ c.in_ok-do_all.ensures.acted.grown
 
 pub returns-clause-run : goal.returns-clause-run
 returns-clause-run g c =
-    let works = c.args.run.works.items in
-    let next = c.in_ok-works.works.items in
-    let same = c.in_ok-works.ensures.asked ∙ ap (map (λ (w : Work). w.asked)) c.deref.ensures.value in
-    let size = same_lengths (λ (w : Work). w.asked) (λ (w : Work). w.asked) next works same in
-    so c.args.run.board c.do_all.new.alone.board c.args.phase.now c.do_all.new.works.items
-    (alone_has_run c.args.actor c.args.run.board c.do_all.new.alone.board c.args.phase.now next
-    c.do_all.new.works.items (omega (arith, size, c.requires.below)) c.in_ok-works.ensures.empty c.requires.only
-    c.in_ok-do_all.ensures.acted)
+    let can = can_act c.args.actor c.args.run c.args.phase.now c.deref.result.now c.in_ok-works.works.items
+    c.deref.ensures.value c.in_ok-works.ensures.asked c.requires.below c.requires.can c.in_ok-works.ensures.empty in
+    alone_has_run c.args.actor c.args.run.board c.do_all.new.alone.board c.args.phase.now c.in_ok-works.works.items
+    c.do_all.new.works.items can c.requires.only c.in_ok-do_all.ensures.acted

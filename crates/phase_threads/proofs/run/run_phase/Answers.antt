@@ -4,19 +4,20 @@ use Rattle.board_prelude.proofs.Common.{Entry, version_of, length-map}
 use Rattle.run_order.specs.declared.done.Done.{Done}
 use Rattle.phase_work.specs.declared.worker.Work.{Work}
 use Rattle.phase_threads.specs.Common.{AreAsked, GrowsBy, done_in, entries_of}
-use Rattle.phase_threads.proofs.Phases.{gained, gained_all, gained_within, front_is, front_all, back_is, phase_is_run}
-use Rattle.phase_threads.proofs.Phases.{takes_in}
+use Rattle.phase_threads.proofs.Phases.{gained, Grew, gained_all, gained_within, front_is, front_all, back_is}
+use Rattle.phase_threads.proofs.Phases.{phase_is_run, takes_in}
 use Rattle.phase_threads.proofs.run.run_phase.Given.{Over}
 use Rattle.phase_threads.proofs.run.run_phase.Goals.{After-works_of}
 use Rattle.phase_threads.proofs.run.run_phase.Goals as goal
 
--- the board's history before the phase and after it, the oldest first
-old_is : (g : Over) (c : After-works_of g) → c.entries.result ≡ reverse c.args.run.board.entries
-old_is g c = c.entries.ensures.entries ∙ ap (λ (past : Past). reverse past.entries) c.history.ensures.history
-
-now_is : (g : Over) (c : After-works_of g) → c.entries-entries.result ≡ reverse c.in_ok-run.run'.board.entries
-now_is g c =
-    c.entries-entries.ensures.entries ∙ ap (λ (past : Past). reverse past.entries) c.history-2.ensures.history
+-- the board's history before the phase and after it
+grew : (g : Over) (c : After-works_of g)
+    → Grew c.args.run.board.entries c.in_ok-run.run'.board.entries c.entries.result c.entries-entries.result
+grew g c = record {
+  begins = c.in_ok-run.ensures.run.begins;
+  old = c.entries.ensures.entries ∙ ap (λ (past : Past). reverse past.entries) c.history.ensures.history;
+  is = c.entries-entries.ensures.entries ∙ ap (λ (past : Past). reverse past.entries) c.history-2.ensures.history;
+}
 
 -- what was done, as it is handed on
 are_done : (g : Over) (c : After-works_of g)
@@ -32,23 +33,19 @@ asked g c = (grows g c).asked c.requires.can.most c.requires.can.asked c.require
 
 pub add-requires : goal.add-requires
 add-requires g c =
-    let at = (goal.at.add-requires g c).After-works_of in
-    let before = c.args.run.board in let now = c.in_ok-run.run'.board in
+    let at = (goal.at.add-requires g c).After-works_of in let all = grew g at in
     let works : List Work = c.in_ok-run.run'.works.items in
-    let opened : List Entry = c.entries.result in let entries : List Entry = c.entries-entries.result in
-    let old = old_is g at in let is = now_is g at in
     let count : length c.works_of.result.items ≡ length works =
     sym (length-map c.works_of.result.items (λ (done : Bor (List Done)). done.now))
     ∙ (ap length (are_done g at) ∙ length-map works (λ (work : Work). work.done.items)) in
-    let begins = c.in_ok-run.ensures.run.begins in let size = c.len-opened.ensures.length in
+    let size = c.len-opened.ensures.length in
     record {
-      legal = (now.setup, rw (back_is now.entries entries is) c.history-2.ensures.legal);
-      gained = rw size (gained_within before.entries now.entries opened entries begins old is);
-      up_to = rw (size, front_is before.entries now.entries opened entries begins old is) c.requires.up_to;
-      earlier = rw size (front_all before.entries now.entries opened entries begins old is
-          (length c.args.run.works.items) c.requires.can.few c.requires.can.asked.actors);
-      callers = rw (size, count) (gained_all (λ (entry : Entry). entry.actor < length works) now.entries opened entries
-          is (asked g at).actors);
+      legal = (c.in_ok-run.run'.board.setup, rw (back_is all) c.history-2.ensures.legal);
+      gained = rw size (gained_within all);
+      up_to = rw (size, front_is all) c.requires.up_to;
+      earlier = rw size
+          (front_all all (length c.args.run.works.items) c.requires.can.few c.requires.can.asked.actors);
+      callers = rw (size, count) (gained_all all (λ (entry : Entry). entry.actor < length works) (asked g at).actors);
     }
 
 pub returns-clause-goes_on : goal.returns-clause-goes_on
@@ -60,19 +57,16 @@ returns-clause-takes_in g c =
     let before = c.args.run.board in let now = c.in_ok-run.run'.board in
     let opened : List Entry = c.entries.result in let entries : List Entry = c.entries-entries.result in
     let ran = rw c.deref.ensures.value at c.in_ok-run.ensures.run in
-    let run = phase_is_run before now opened entries c.args.phase.items c.in_ok-run.run'.works.items ran (old_is g at)
-    (now_is g at) c.requires.cards c.history-2.ensures.legal (asked g at).actors
-    (rw (grows g at).count c.requires.can.in_range) in
+    let run = phase_is_run before now opened entries c.args.phase.items c.in_ok-run.run'.works.items ran (grew g at)
+    c.requires.cards c.history-2.ensures.legal (asked g at).actors (rw (grows g at).count c.requires.can.in_range) in
     let version : c.version-version.result ≡ version_of before.setup before.entries = c.version-version.ensures.version
     ∙ c.map.ensures.version in
     let added = rw (c.len-opened.ensures.length, are_done g at) at c.in_ok-add.ensures.placed in
     let history : List Entry = entries_of c.args.placing.now.order (reverse (take (length opened) entries)) in
     takes_in before now opened entries c.args.phase.items ran.lists c.args.placing.now.order c.add.new.self.order
-    c.version-version.result c.law_phase_runs.ensures.runs run c.in_ok-run.ensures.run.begins (old_is g at)
-    (now_is g at) version c.requires.legal c.requires.same
+    c.version-version.result c.law_phase_runs.ensures.runs run (grew g at) version c.requires.legal c.requires.same
     (added ∙ ran.same c.version-version.result (gained opened entries) history)
 
 pub returns-clause-up_to : goal.returns-clause-up_to
 returns-clause-up_to g c =
-    let is = now_is g (goal.at.returns-clause-up_to g c).After-works_of in
-    rw (back_is c.in_ok-run.run'.board.entries c.entries-entries.result is) at c.in_ok-add.ensures.up_to
+    rw (back_is (grew g (goal.at.returns-clause-up_to g c).After-works_of)) at c.in_ok-add.ensures.up_to

@@ -1,16 +1,10 @@
-use Rattle.std.proofs.Common.{rules, ◌≡◌, ◌+◌, ◌<◌, ◌≤◌, List, [], ◌∷◌, ◌++◌, length, flat_map, All, Vec, Global}
-use Rattle.std.proofs.Common.{◌∙◌, ap, arith, append_assoc}
-use Rattle.board_prelude.proofs.Common.{into_iter_items, length-append, get_or-append_seam, Statement}
-use Rattle.board_prelude.proofs.Common.{most_statements}
+use Rattle.std.proofs.Common.{rules, ◌≡◌, ◌+◌, ◌<◌, ◌≤◌, List, [], ◌∷◌, ◌++◌, length, flat_map, All, ◌∙◌, ap, arith}
+use Rattle.std.proofs.Common.{append_assoc}
+use Rattle.board_prelude.proofs.Common.{into_iter_items, length-append, get_or-append_seam, most_statements}
 use Rattle.phase_threads.specs.Common.{IsStatement}
-use Rattle.phase_threads.proofs.Phases.{phases_more, newest_first, all_in_place, statements_more, statements_within}
+use Rattle.phase_threads.proofs.Phases.{Phase, in_phase, phases_more, newest_first, all_in_place, statements_more}
+use Rattle.phase_threads.proofs.Phases.{statements_within}
 use Rattle.phase_threads.proofs.run.run_phases.Goals as goal
-
-abbrev Phase : Type 0
-Phase = Vec Statement Global
-
-abbrev in_phase : Phase → List Statement
-in_phase phase = phase.items
 
 -- what holds of each phase holds of one between others
 of_one : (P : Phase → Type 0) (done : List Phase) (phase : Phase) (rest : List Phase) → All P (done ++ phase ∷ rest)

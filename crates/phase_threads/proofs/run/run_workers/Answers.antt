@@ -1,13 +1,13 @@
 use Rattle.std.proofs.Common.{rules, ◌≡◌, ℕ, ◌+◌, ◌<◌, ◌≤◌, ◌++◌, List, All, length, map, take, drop, sym, ◌∙◌, ap}
 use Rattle.std.proofs.Common.{arith, false, Some, reverse}
 use Rattle.board_prelude.proofs.Common.{most_statements}
-use Rattle.board_live.specs.declared.cpu.Cpu.{Cpu}
 use Rattle.phase_work.specs.declared.worker.Work.{Work}
 use Rattle.phase_threads.specs.declared.jobs.Job.{Job}
-use Rattle.phase_threads.specs.Jobs.{IsReadyToWork, IsRun, AreAsked}
+use Rattle.phase_threads.specs.Jobs.{IsReadyToWork, AreAsked}
 use Rattle.phase_threads.proofs.Numbers.{same_lengths, numbered_length, jobs_count, asked_again, lent_back, counted}
 use Rattle.phase_threads.proofs.Halves.{numbers_stay, all_run}
-use Rattle.phase_threads.proofs.Workers.{ready, all_again, has_run, are_asked}
+use Rattle.phase_threads.proofs.Workers.{cpu_in, work_in, number_in, number_by, ready, HaveRun, all_again, listed}
+use Rattle.phase_threads.proofs.Workers.{has_run, are_asked}
 use Rattle.phase_threads.proofs.Unkept.{so}
 use Rattle.phase_threads.proofs.run.run_workers.Given.{Over}
 use Rattle.phase_threads.proofs.run.run_workers.Goals.{After-len-2, After-begin, After-end}
@@ -34,12 +34,10 @@ all_ready g c most asked room =
     asked.mine room
 
 -- when they have run, they are as they were numbered, and their callers and works come back
-numbers : (g : Over) (c : After-end g)
-    → map (λ (job : Job). job.cpu.number) c.run_jobs.new.jobs
-    ≡ map (λ (job : Job). job.cpu.number) c.begin.new.jobs.items
+numbers : (g : Over) (c : After-end g) → map number_in c.run_jobs.new.jobs ≡ map number_in c.begin.new.jobs.items
 numbers g c =
     numbers_stay c.in-Ok.live c.args.phase.now c.deref_mut.result.now c.run_jobs.new.jobs c.run_jobs.ensures.runs
-    ∙ ap (map (λ (job : Job). job.cpu.number)) c.deref_mut.ensures.value
+    ∙ ap (map number_in) c.deref_mut.ensures.value
 
 back : (g : Over) (c : After-end g)
     → take c.begin.new.jobs.len (c.run_jobs.new.jobs ++ drop (length c.run_jobs.new.jobs) c.begin.new.jobs.items)
@@ -47,26 +45,25 @@ back : (g : Over) (c : After-end g)
 back g c =
     let len : c.begin.new.jobs.len ≡ length c.begin.new.jobs.items = search rules in
     lent_back c.begin.new.jobs.len c.begin.new.jobs.items c.run_jobs.new.jobs len
-    (same_lengths (λ (job : Job). job.cpu.number) (λ (job : Job). job.cpu.number) c.run_jobs.new.jobs
-    c.begin.new.jobs.items (numbers g c))
+    (same_lengths number_in number_in c.run_jobs.new.jobs c.begin.new.jobs.items (numbers g c))
 
-cpus : (g : Over) (c : After-end g) → map (λ (job : Job). job.cpu) (reverse c.run_jobs.new.jobs) ≡ c.end.new.cpus.items
-cpus g c =
-    ap (λ (jobs : List Job). map (λ (job : Job). job.cpu) (reverse jobs)) (sym (back g c)) ∙ c.end.ensures.cpus
-
-works : (g : Over) (c : After-end g)
-    → map (λ (job : Job). job.work) (reverse c.run_jobs.new.jobs) ≡ c.end.new.works.items
-works g c =
-    ap (λ (jobs : List Job). map (λ (job : Job). job.work) (reverse jobs)) (sym (back g c)) ∙ c.end.ensures.works
+works : (g : Over) (c : After-end g) → map work_in (reverse c.run_jobs.new.jobs) ≡ c.end.new.works.items
+works g c = ap (λ (jobs : List Job). map work_in (reverse jobs)) (sym (back g c)) ∙ c.end.ensures.works
 
 have_run : (g : Over) (c : After-end g) (most : ℕ)
     → All (IsReadyToWork c.in-Ok.live c.args.run.board (Some c.in-Ok.ensures.opened.all.opened) c.args.phase.now most)
     c.begin.new.jobs.items
-    → All (IsRun c.in-Ok.live c.args.run.board (Some c.in-Ok.ensures.opened.all.opened) c.args.phase.now most)
+    → HaveRun c.in-Ok.live c.args.run.board c.len-2.result c.in-Ok.cpus.items c.end.new.cpus.items c.args.phase.now most
     c.run_jobs.new.jobs
-have_run g c most all =
-    all_run c.in-Ok.live c.args.run.board (Some c.in-Ok.ensures.opened.all.opened) c.args.phase.now most
-    c.deref_mut.result.now c.run_jobs.new.jobs c.run_jobs.ensures.runs (rw c.deref_mut.ensures.value all)
+have_run g c most all = record {
+  o = c.in-Ok.ensures.opened;
+  jobs = c.begin.new.jobs.items;
+  are_cpus = c.begin.ensures.cpus;
+  are_cpus1 = ap (λ (jobs : List Job). map cpu_in (reverse jobs)) (sym (back g c)) ∙ c.end.ensures.cpus;
+  same = numbers g c;
+  run = all_run c.in-Ok.live c.args.run.board (Some c.in-Ok.ensures.opened.all.opened) c.args.phase.now most
+      c.deref_mut.result.now c.run_jobs.new.jobs c.run_jobs.ensures.runs (rw c.deref_mut.ensures.value all);
+}
 
 pub overflow_cast-len : goal.overflow_cast-len
 overflow_cast-len g c =
@@ -91,22 +88,19 @@ open-requires g c =
 pub begin-requires-clause-same : goal.begin-requires-clause-same
 begin-requires-clause-same g c =
     let listed : c.in_ok-works.works.len ≡ length c.in_ok-works.works.items = search rules in
-    let size = numbered_length (λ (cpu : Cpu). cpu.number) c.in-Ok.cpus.items c.len-2.result
-    c.in-Ok.ensures.opened.numbers in
+    let size = numbered_length number_by c.in-Ok.cpus.items c.len-2.result c.in-Ok.ensures.opened.numbers in
     omega (arith, listed, c.len-2.ensures, size)
 
 pub begin-requires-clause-room : goal.begin-requires-clause-room
 begin-requires-clause-room g c =
-    let size = numbered_length (λ (cpu : Cpu). cpu.number) c.in-Ok.cpus.items c.len-2.result
-    c.in-Ok.ensures.opened.numbers in
+    let size = numbered_length number_by c.in-Ok.cpus.items c.len-2.result c.in-Ok.ensures.opened.numbers in
     omega (arith, size, c.len-2.ensures, c.len.ensures, c.in_ok-jobs.ensures.capacity)
 
 pub run_jobs-requires-clause-some : goal.run_jobs-requires-clause-some
 run_jobs-requires-clause-some g c κs within =
     let count = many g (goal.at.run_jobs-requires-clause-some g c).After-len-2 in
-    let size = numbered_length (λ (cpu : Cpu). cpu.number) c.in-Ok.cpus.items c.len-2.result
-    c.in-Ok.ensures.opened.numbers in
-    let jobs = jobs_count (λ (job : Job). job.cpu) c.begin.new.jobs.items c.in-Ok.cpus.items c.begin.ensures.cpus in
+    let size = numbered_length number_by c.in-Ok.cpus.items c.len-2.result c.in-Ok.ensures.opened.numbers in
+    let jobs = jobs_count cpu_in c.begin.new.jobs.items c.in-Ok.cpus.items c.begin.ensures.cpus in
     omega (arith, size, count, jobs, ap length c.deref_mut.ensures.value, c.requires.can.some)
 
 pub run_jobs-requires-clause-can : goal.run_jobs-requires-clause-can
@@ -118,46 +112,31 @@ run_jobs-requires-clause-can g c κs within =
 
 pub close-board-requires : goal.close-board-requires
 close-board-requires g c =
-    let at = goal.at.close-board-requires g c in let end = at.After-end in let can = c.requires.can in
-    let run = have_run g end can.most (all_ready g at.After-begin can.most can.asked can.room) in
+    let at = goal.at.close-board-requires g c in let can = c.requires.can in
     record {
-      cpus = all_again c.in-Ok.live c.args.run.board c.len-2.result c.in-Ok.cpus.items c.begin.new.jobs.items
-          c.args.phase.now can.most c.in-Ok.ensures.opened c.begin.ensures.cpus c.end.new.cpus.items c.run_jobs.new.jobs
-          (cpus g end) (numbers g end) run;
+      cpus = all_again (have_run g at.After-end can.most (all_ready g at.After-begin can.most can.asked can.room));
     }
 
 pub returns-clause-goes_on : goal.returns-clause-goes_on
 returns-clause-goes_on g c =
-    let at = goal.at.returns-clause-goes_on g c in let end = at.After-end in
-    let lent : List Job = c.run_jobs.new.jobs in
-    let count = many g at.After-len-2 in
-    let size = numbered_length (λ (cpu : Cpu). cpu.number) c.in-Ok.cpus.items c.len-2.result
-    c.in-Ok.ensures.opened.numbers in
-    let jobs = jobs_count (λ (job : Job). job.cpu) c.begin.new.jobs.items c.in-Ok.cpus.items c.begin.ensures.cpus in
-    let same = same_lengths (λ (job : Job). job.cpu.number) (λ (job : Job). job.cpu.number) lent c.begin.new.jobs.items
-    (numbers g end) in
-    let kept = jobs_count (λ (job : Job). job.work) lent c.end.new.works.items (works g end) in
+    let at = goal.at.returns-clause-goes_on g c in let end = at.After-end in let can = c.requires.can in
+    let run = λ (most : ℕ) (asked : AreAsked most c.args.run.board.entries c.args.run.works.items)
+    (room : most + length c.args.phase.now ≤ most_statements).
+    have_run g end most (all_ready g at.After-begin most asked room) in
+    let fine : All (λ (job : Job). job.refused ≡ false) c.run_jobs.new.jobs =
+    rw (c.deref-2.ensures.value, back g end) at (c.is_refused-refused.ensures.none c.if-refused.false) in
     record {
-      count = omega (arith, size, count, jobs, same, kept);
-      asked = λ most asked room.
-          let run = have_run g end most (all_ready g at.After-begin most asked room) in
-          let fine : All (λ (job : Job). job.refused ≡ false) lent =
-          rw (c.deref-2.ensures.value, back g end) at (c.is_refused-refused.ensures.none c.if-refused.false) in
-          are_asked c.in-Ok.live c.args.run.board c.len-2.result c.in-Ok.cpus.items c.begin.new.jobs.items
-          c.args.phase.now most c.in-Ok.ensures.opened c.begin.ensures.cpus c.end.new.cpus.items lent (cpus g end)
-          (numbers g end) run c.close-board.result c.end.new.works.items (works g end) fine c.close-board.ensures.cpus
-          c.close-board.ensures.entries;
+      count = listed (run can.most can.asked can.room) c.end.new.works.items (works g end) ∙ many g at.After-len-2;
+      asked = λ most asked room. are_asked (run most asked room) c.end.new.works.items (works g end)
+          c.close-board.result fine c.close-board.ensures.cpus c.close-board.ensures.entries;
     }
 
 pub returns-clause-run : goal.returns-clause-run
 returns-clause-run g c =
     let at = goal.at.returns-clause-run g c in let end = at.After-end in let can = c.requires.can in
-    let count = many g at.After-len-2 in
     let run = have_run g end can.most (all_ready g at.After-begin can.most can.asked can.room) in
     let fine : All (λ (job : Job). job.refused ≡ false) c.run_jobs.new.jobs =
     rw (c.deref-2.ensures.value, back g end) at (c.is_refused-refused.ensures.none c.if-refused.false) in
     so c.args.run.board c.close-board.result c.args.phase.now c.end.new.works.items
-    (has_run c.in-Ok.live c.args.run.board c.len-2.result c.in-Ok.cpus.items c.begin.new.jobs.items c.args.phase.now
-    can.most c.in-Ok.ensures.opened c.begin.ensures.cpus c.end.new.cpus.items c.run_jobs.new.jobs (cpus g end)
-    (numbers g end) run c.close-board.result c.end.new.works.items (works g end) fine c.close-board.ensures.cpus
-    (omega (arith, count, can.some)))
+    (has_run run c.end.new.works.items (works g end) c.close-board.result fine c.close-board.ensures.cpus
+    (omega (arith, many g at.After-len-2, can.some)))
