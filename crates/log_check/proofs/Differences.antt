@@ -1,6 +1,6 @@
 -- Where a walk stops, the bytes leave the logs of the script.
 use Rattle.std.proofs.Common.{ℕ, ◌≡◌, ◌≢◌, ◌+◌, List, [], ◌∷◌, ◌++◌, length, reverse, All, refl, sym, ap, ◌∙◌, subst}
-use Rattle.std.proofs.Common.{append_assoc, append-nil, arith}
+use Rattle.std.proofs.Common.{append_assoc, append-nil, length-append, arith}
 use Rattle.board_prelude.proofs.Common.{common_steps, nat_tests, All-nil, Entry, Statement, Setup, IsNext, IsLegal}
 use Rattle.board_prelude.proofs.Common.{IsBegunFor, IsCompleteFor, in_file_order, IsAddressed, OneReplay, line_feed}
 use Rattle.board_prelude.proofs.Common.{line_text, lines_text, log_text, complete_is_begun, none_so_far}
@@ -11,7 +11,7 @@ use Rattle.log_check.specs.Common.{IsTyped, GoesOnWithNone, StopsAt}
 use Rattle.log_check.proofs.TextCuts.{cut_line}
 use Rattle.log_check.proofs.LogLines.{heading_whole, heading-log, log_parts, lines_from, newest_last, lines_left}
 use Rattle.log_check.proofs.LogLines.{log_joined, lined, one_line_more}
-use Rattle.log_check.proofs.Histories.{no_line, begun_front, Extends, extends, completed}
+use Rattle.log_check.proofs.Histories.{begun_front, Extends, extends, completed}
 use Rattle.logs_and_maps.specs.Reading.{heading}
 
 -- what is known of a script
@@ -55,7 +55,8 @@ module _ (setup : Setup) (version : ℕ) (phases : List (List Statement)) where
       GoesOnWithNone setup phases history (this ++ line_feed ∷ after) → IsOneLine this →
       IsLegal setup whole → IsCompleteFor phases whole → whole ≡ reverse more ++ history →
       this ++ line_feed ∷ rest ≡ lines_from (length history) more → ⊥
-  no_more history whole rest this after [] none single legal complete is text = absurd (no_line this rest text)
+  no_more history whole rest this after [] none single legal complete is text =
+      absurd (omega (arith, ap length text, length-append this (line_feed ∷ rest)))
   no_more history whole rest this after (next ∷ later) none single legal complete is text =
       grind (arith, nat_tests, common_steps, entry_may_come, cut_line, line_text, lines_from, line_whole, line_feed)
 

@@ -2,7 +2,7 @@
 use Rattle.std.proofs.Common.{ℕ, ◌≡◌, ◌+◌, ◌/◌, ◌%◌, ◌^◌, ◌<◌, ◌≤◌, [], ◌∷◌, length, ap, ◌∙◌, length-append, arith}
 use Rattle.std.proofs.Common.{decimal}
 use Rattle.board_prelude.proofs.Common.{common_steps, nat_tests}
-use Rattle.std.proofs.lemmas.Fmt.{decimal_digit, decimal_step}
+use Rattle.std.proofs.lemmas.Fmt.{decimal_digit, decimal_step, length-decimal-le_succ}
 
 pub one_digit : (n : ℕ) → n < 10 → length (decimal n) ≡ 1
 one_digit n below = ap length (decimal_digit n below)
@@ -26,6 +26,10 @@ pub five_digits : (n : ℕ) → 10000 ≤ n → n < 100000 → length (decimal n
 five_digits n large below =
     omega (arith, one_more n (omega arith) (omega arith), four_digits (n / 10) (omega arith) (omega arith))
 
+pub ruleset digit_counts = (one_digit, two_digits, three_digits, four_digits, five_digits)
+
 -- without its last five a number has five digits less
 pub five_more : (n : ℕ) → 100000 ≤ n → n < 2 ^ 64 → length (decimal n) ≡ length (decimal (n / 100000)) + 5
 five_more n large fits = grind (arith, nat_tests, common_steps, one_more, decimal)
+
+pub ruleset more_digits = (five_more, length-decimal-le_succ)

@@ -1,6 +1,6 @@
 -- A history that begins with the lines of another goes on from it, and a begun history can be completed.
 use Rattle.std.proofs.Common.{ℕ, zero, suc, ◌≡◌, ◌+◌, ◌-◌, ◌<◌, List, [], ◌∷◌, ◌++◌, length, reverse, All, refl, sym}
-use Rattle.std.proofs.Common.{ap, ◌∙◌, inl, append-nil, add-one, arith, decimal}
+use Rattle.std.proofs.Common.{ap, ◌∙◌, inl, append-nil, length-append, add-one, arith, decimal}
 use Rattle.board_spec.proofs.ReplayLaws.{legal_before}
 use Rattle.board_prelude.proofs.Common.{reverse-reverse, Entry, Statement, Setup, IsLegal, IsBegunFor, IsCompleteFor}
 use Rattle.board_prelude.proofs.Common.{in_file_order, IsAddressed, OneReplay, space, line_feed, line_text, lines_text}
@@ -51,10 +51,6 @@ pub record Extends (history whole : List Entry) (rest : List ℕ) : Type 0 where
   pub is : whole ≡ reverse more ++ history
   pub text : rest ≡ lines_from (length history) more
 
-pub no_line : (line rest : List ℕ) → line ++ line_feed ∷ rest ≡ [] → ⊥
-no_line [] rest e = cc
-no_line (c ∷ cs) rest e = cc
-
 extends_step :
     OneReplay → (setup : Setup) (phases : List (List Statement)) (entry : Entry) (before whole : List Entry)
     (rest : List ℕ) (more : List Entry) → All IsTyped (in_file_order phases) → IsLegal setup (entry ∷ before) →
@@ -63,7 +59,7 @@ extends_step :
     line_text (length before + 1) entry ++ line_feed ∷ rest ≡ lines_from (length before) more →
     Extends (entry ∷ before) whole rest
 extends_step one setup phases entry before whole rest [] typed legal begun all wholly is text =
-    absurd (no_line (line_text (length before + 1) entry) rest text)
+    absurd (omega (arith, ap length text, length-append (line_text (length before + 1) entry) (line_feed ∷ rest)))
 extends_step one setup phases entry before whole rest (next ∷ later) typed legal begun all wholly is text =
     let n : ℕ = length before + 1 in
     let cut =

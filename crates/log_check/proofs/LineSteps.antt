@@ -1,6 +1,6 @@
 -- A line of a log: past it, or where the walk stops.
-use Rattle.std.proofs.Common.{ℕ, ◌≡◌, ◌≢◌, ◌+◌, ◌<◌, List, [], ◌∷◌, ◌++◌, length, All, refl, sym, ap, ◌∙◌, inl, inr}
-use Rattle.std.proofs.Common.{append_assoc, arith, Option, Some, None, Result, Ok, Err, MatchResult}
+use Rattle.std.proofs.Common.{ℕ, ◌≡◌, ◌≢◌, ◌+◌, ◌-◌, ◌<◌, List, [], ◌∷◌, ◌++◌, length, All, refl, sym, ap, ◌∙◌, inl}
+use Rattle.std.proofs.Common.{inr, append_assoc, arith, Option, Some, None, Result, Ok, Err, MatchResult}
 use Rattle.std.specs.Borrow.{Bor}
 use Rattle.std.specs.Result.{IsErrAnd}
 use Rattle.board_prelude.proofs.Common.{Event, Entry, Statement, Setup, IsNext, IsLegal, IsBegunFor, OneReplay}
@@ -17,42 +17,65 @@ use Rattle.log_check.proofs.Steps.{within_begun, within_unfinished, within_next,
 abbrev pub phases_of : WalkPlace → List Statement → List (List Statement)
 phases_of place phase = place.done ++ phase ∷ place.later
 
--- a walk before a line
-pub record Walk (setup : Setup) (place : WalkPlace) (phase : List Statement) (left : ℕ → List Event)
-    (history : List Entry) (rest : List ℕ) : Type 0 where
+-- a walk before a line, when so many lines of entries are past
+pub record Walk (setup : Setup) (phase : List Statement) (left : ℕ → List Event) (history : List Entry)
+    (rest : List ℕ) (lines : ℕ) : Type 0 where
   pub legal : IsLegal setup history
   pub typed : All IsTyped phase
-  pub within : IsWithin place phase left history
-  pub past : IsPast place history rest
-  pub short : place.count < length phase
+  pub count : lines ≡ length history
 
--- the processor of the next line is this, where that line is an entry's
-abbrev pub Names : List Entry → List ℕ → Option ℕ → Type 0
-Names history rest processor =
-    (entry : Entry) (after : List ℕ) → entry.actor < 256 → rest ≡ line_text (length history + 1) entry ++ after →
+-- the processor of line `n` is this, where that line is an entry's
+abbrev pub Names : (n : ℕ) → List ℕ → Option ℕ → Type 0
+Names n rest processor =
+    (entry : Entry) (after : List ℕ) → entry.actor < 256 → rest ≡ line_text n entry ++ after →
     processor ≡ Some entry.actor
 
-module _ {setup : Setup} {place : WalkPlace} {phase : List Statement} {left : ℕ → List Event} {history : List Entry}
-    {rest : List ℕ} (walk : Walk setup place phase left history rest) where
-  begun : IsBegunFor (phases_of place phase) history
-  begun = within_begun place phase left history walk.within (omega (arith, walk.short))
+abbrev pub next_place : WalkPlace → WalkPlace
+next_place place = record place { count = place.count + 1 }
 
-  -- an entry that may come next has a processor
-  small : (entry : Entry) → IsBegunFor (phases_of place phase) (entry ∷ history) → entry.actor < 256
-  small entry more = small_actor place phase left history walk.within entry walk.short walk.typed more
+-- the entry of a processor's next statement is made
+pub record Made (setup : Setup) (left after : ℕ → List Event) (history : List Entry) (entry : Entry) : Type 0 where
+  pub next : IsNext setup history entry
+  pub own : left entry.actor ≡ entry.event ∷ after entry.actor
+  pub others : (other : ℕ) → other ≢ entry.actor → after other ≡ left other
+
+module _ {setup : Setup} {phase : List Statement} {left : ℕ → List Event} {history : List Entry} {rest : List ℕ}
+    {lines : ℕ} (walk : Walk setup phase left history rest lines) (place : WalkPlace)
+    (within : IsWithin place phase left history) (past : IsPast place history rest)
+    (short : place.count < length phase) where
+  abbrev Stops : List Entry → CheckFault → Type 0
+  Stops entries fault = StoppedCheck setup place.version (phases_of place phase) place.bytes entries fault
+
+  begun : IsBegunFor (phases_of place phase) history
+  begun = within_begun place phase left history within (omega (arith, short))
+
+  -- an entry that may come next has the processor that is named
+  is_named :
+      (processor : Option ℕ) → Names (lines + 2 - 1) rest processor → (entry : Entry) (after : List ℕ) →
+      IsBegunFor (phases_of place phase) (entry ∷ history) →
+      rest ≡ line_text (length history + 1) entry ++ line_feed ∷ after → processor ≡ Some entry.actor
+  is_named processor named entry after more text =
+      let number : lines + 2 - 1 ≡ length history + 1 = omega (arith, walk.count) in
+      named entry (line_feed ∷ after) (small_actor place phase left history within entry short walk.typed more)
+      (rw number text)
 
   stopped :
-      (entries : List Entry) (line : ℕ) → GoesOnWithNone setup (phases_of place phase) history rest →
+      (entries : List Entry) → GoesOnWithNone setup (phases_of place phase) history rest →
       IsAtMostNext history entries → IsLegal setup entries → IsBegunFor (phases_of place phase) entries →
-      line ≡ length history + 2 →
-      StoppedCheck setup place.version (phases_of place phase) place.bytes entries (Differs line)
-  stopped entries line none stepped legal after is = record {
+      Stops entries (Differs (lines + 2))
+  stopped entries none stepped legal after = record {
     by = record {
-      at_line = record { before = history; rest = rest; text = walk.past; place = is; stepped = stepped };
+      at_line = record {
+        before = history;
+        rest = rest;
+        text = past;
+        place = omega (arith, walk.count);
+        stepped = stepped;
+      };
       legal = walk.legal;
       begun = begun;
       none = none;
-      unfinished = λ nothing. within_unfinished place phase left history walk.within walk.short;
+      unfinished = λ nothing. within_unfinished place phase left history within short;
     };
     legal = legal;
     begun = after;
@@ -60,88 +83,72 @@ module _ {setup : Setup} {place : WalkPlace} {phase : List Statement} {left : �
 
   -- no processor is named
   pub stops_unnamed :
-      (line : ℕ) (processor : Option ℕ) → Names history rest processor → processor ≡ None →
-      line ≡ length history + 2 →
-      StoppedCheck setup place.version (phases_of place phase) place.bytes history (Differs line)
-  stops_unnamed line processor named lost is =
-      stopped history line
-      (λ entry after next more text.
-      let found : None ≡ Some entry.actor = sym lost ∙ named entry (line_feed ∷ after) (small entry more) text in cc)
-      (inl refl) walk.legal begun is
+      (processor : Option ℕ) → Names (lines + 2 - 1) rest processor → processor ≡ None →
+      Stops history (Differs (lines + 2))
+  stops_unnamed processor named lost =
+      stopped history
+      (λ entry after next more text. let found = is_named processor named entry after more text in cc)
+      (inl refl) walk.legal begun
 
   -- the processor has nothing left
   pub stops_idle :
-      (line actor : ℕ) → Names history rest (Some actor) → left actor ≡ [] → line ≡ length history + 2 →
-      StoppedCheck setup place.version (phases_of place phase) place.bytes history (Differs line)
-  stops_idle line actor named nothing is =
-      stopped history line
+      (actor : ℕ) → Names (lines + 2 - 1) rest (Some actor) → left actor ≡ [] → Stops history (Differs (lines + 2))
+  stops_idle actor named nothing =
+      stopped history
       (λ entry after next more text.
-      let same = same_some actor entry.actor (named entry (line_feed ∷ after) (small entry more) text) in
-      none_left place phase left history walk.within entry walk.short (rw same at nothing) more)
-      (inl refl) walk.legal begun is
+      let same = same_some actor entry.actor (is_named (Some actor) named entry after more text) in
+      none_left place phase left history within entry short (rw same at nothing) more)
+      (inl refl) walk.legal begun
 
--- ---- with the entry of the processor's next statement
+  -- ---- with the entry of the processor's next statement
 
-abbrev pub next_place : WalkPlace → WalkPlace
-next_place place = record place { count = place.count + 1 }
+  module _ {after : ℕ → List Event} {entry : Entry} (made : Made setup left after history entry) where
+    within_made : IsWithin (next_place place) phase after (entry ∷ history)
+    within_made = within_next place phase left history within after entry made.own made.others
 
--- the entry is made
-pub record Made (setup : Setup) (left after : ℕ → List Event) (history : List Entry) (entry : Entry) : Type 0 where
-  pub next : IsNext setup history entry
-  pub own : left entry.actor ≡ entry.event ∷ after entry.actor
-  pub others : (other : ℕ) → other ≢ entry.actor → after other ≡ left other
+    begun_made : IsBegunFor (phases_of place phase) (entry ∷ history)
+    begun_made = within_begun (next_place place) phase after (entry ∷ history) within_made (omega (arith, short))
 
-module _ {setup : Setup} {place : WalkPlace} {phase : List Statement} {left after : ℕ → List Event}
-    {history : List Entry} {entry : Entry} {rest : List ℕ} (walk : Walk setup place phase left history rest)
-    (made : Made setup left after history entry) where
-  within_made : IsWithin (next_place place) phase after (entry ∷ history)
-  within_made = within_next place phase left history walk.within after entry made.own made.others
+    -- there is no memory for its line
+    pub stops_without_memory : Stops (entry ∷ history) NoMemory
+    stops_without_memory = record {
+      by = (
+        length history + 2,
+        record { before = history; rest = rest; text = past; place = refl; stepped = inr (entry, refl) },
+      );
+      legal = (made.next, walk.legal);
+      begun = begun_made;
+    }
 
-  begun_made : IsBegunFor (phases_of place phase) (entry ∷ history)
-  begun_made = within_begun (next_place place) phase after (entry ∷ history) within_made (omega (arith, walk.short))
-
-  -- there is no memory for its line
-  pub stops_without_memory :
-      StoppedCheck setup place.version (phases_of place phase) place.bytes (entry ∷ history) NoMemory
-  stops_without_memory = record {
-    by = (
-      length history + 2,
-      record { before = history; rest = rest; text = walk.past; place = refl; stepped = inr (entry, refl) },
-    );
-    legal = (made.next, walk.legal);
-    begun = begun_made;
-  }
-
-  -- the log goes on with its line, or not
-  pub past_line :
-      (printed : List ℕ) (line : ℕ) (result : Result (Bor (List ℕ)) CheckFault) → OneReplay →
-      (actor : ℕ) → entry.actor ≡ actor → Names history rest (Some actor) →
-      printed ≡ line_text (length history + 1) entry ++ line_feed ∷ [] →
-      line ≡ length history + 2 →
-      MatchResult result (λ remaining. rest ≡ printed ++ remaining.now)
-      (λ fault. (fault ≡ Differs line) × ((remaining : List ℕ) → rest ≢ printed ++ remaining)) →
-      MatchResult result
-      (λ remaining. IsWithin (next_place place) phase after (entry ∷ history)
-      × IsPast place (entry ∷ history) remaining.now)
-      (λ fault. StoppedCheck setup place.version (phases_of place phase) place.bytes (entry ∷ history) fault)
-  past_line printed line (Ok remaining) one actor own named is at_place told =
-      let text : List ℕ = line_text (length history + 1) entry in (
-        within_made,
-        walk.past
-            ∙ ap (λ (t : List ℕ). log_text place.version history ++ t)
-            (told ∙ ap (λ (t : List ℕ). t ++ remaining.now) is ∙ append_assoc text (line_feed ∷ []) remaining.now)
-            ∙ sym (log-newest place.version entry history remaining.now),
-      )
-  past_line printed line (Err fault) one actor own named is at_place told =
-      rw told.0
-      (stopped walk (entry ∷ history) line
-      (λ other remaining next more same.
-      let equal : entry ≡ other =
-      same_next one setup (phases_of place phase) history entry other walk.legal made.next next begun_made more
-      (own ∙ same_some actor other.actor (named other (line_feed ∷ remaining) (small walk other more) same)) in
-      told.1 remaining
-      (rw (is, append_assoc (line_text (length history + 1) entry) (line_feed ∷ []) remaining, equal) same))
-      (inr (entry, refl)) (made.next, walk.legal) begun_made at_place)
+    -- the log goes on with its line, or not
+    pub past_line :
+        (printed : List ℕ) (actor : ℕ) (result : Result (Bor (List ℕ)) CheckFault) → OneReplay →
+        entry.actor ≡ actor → Names (lines + 2 - 1) rest (Some actor) →
+        printed ≡ line_text (length history + 1) entry ++ line_feed ∷ [] →
+        MatchResult result (λ remaining. rest ≡ printed ++ remaining.now)
+        (λ fault. (fault ≡ Differs (lines + 2)) × ((remaining : List ℕ) → rest ≢ printed ++ remaining)) →
+        MatchResult result
+        (λ remaining. IsWithin (next_place place) phase after (entry ∷ history)
+        × IsPast place (entry ∷ history) remaining.now)
+        (λ fault. Stops (entry ∷ history) fault)
+    past_line printed actor (Ok remaining) one own named is told =
+        let text : List ℕ = line_text (length history + 1) entry in (
+          within_made,
+          past
+              ∙ ap (λ (t : List ℕ). log_text place.version history ++ t)
+              (told ∙ ap (λ (t : List ℕ). t ++ remaining.now) is ∙ append_assoc text (line_feed ∷ []) remaining.now)
+              ∙ sym (log-newest place.version entry history remaining.now),
+        )
+    past_line printed actor (Err fault) one own named is told =
+        rw told.0
+        (stopped (entry ∷ history)
+        (λ other remaining next more same.
+        let equal : entry ≡ other =
+        same_next one setup (phases_of place phase) history entry other walk.legal made.next next begun_made more
+        (own ∙ same_some actor other.actor (is_named (Some actor) named other remaining more same)) in
+        told.1 remaining
+        (rw (is, append_assoc (line_text (length history + 1) entry) (line_feed ∷ []) remaining, equal) same))
+        (inr (entry, refl)) (made.next, walk.legal) begun_made)
 
 -- a fault is handed on
 pub handed_on :

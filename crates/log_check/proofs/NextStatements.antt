@@ -1,6 +1,6 @@
 -- A processor has one statement that may come next.
 use Rattle.std.proofs.Common.{ℕ, ◌≡◌, ◌≢◌, ◌+◌, ◌<◌, ◌≤◌, List, [], ◌∷◌, ◌++◌, length, drop, All, refl, sym, ◌∙◌, subst}
-use Rattle.std.proofs.Common.{inl, inr, append_assoc, length-append, add-one, arith}
+use Rattle.std.proofs.Common.{ap, inl, inr, append_assoc, length-append, add-one, arith}
 use Rattle.board_prelude.proofs.Common.{common_steps, nat_tests, take-append_seam, drop-append_seam, cases_lt}
 use Rattle.board_prelude.proofs.Common.{cond-true, eq-eqb, ne_eqb, append_cancel_left, append-nil, All-head, All-tail}
 use Rattle.board_prelude.proofs.Common.{All-drop, Event, Entry, Statement, Setup, IsNext, IsLegal, statement_of}
@@ -18,11 +18,6 @@ pub events-own :
     events_by actor (first ∷ later) ≡ first.event ∷ events_by actor later
 events-own actor first later own = rw (eq-eqb first.actor actor own) refl
 
-events-other :
-    (actor : ℕ) (first : Statement) (later : List Statement) → first.actor ≢ actor →
-    events_by actor (first ∷ later) ≡ events_by actor later
-events-other actor first later other = rw (ne_eqb first.actor actor other) refl
-
 pub events-last :
     (actor : ℕ) (part : List Statement) (last : Statement) → last.actor ≡ actor →
     events_by actor (part ++ last ∷ []) ≡ events_by actor part ++ last.event ∷ []
@@ -33,7 +28,7 @@ pub events-last_other :
     (actor : ℕ) (part : List Statement) (last : Statement) → last.actor ≢ actor →
     events_by actor (part ++ last ∷ []) ≡ events_by actor part
 events-last_other actor part last other =
-    rw (events-append actor part (last ∷ []), events-other actor last [] other) (append-nil (events_by actor part))
+    rw (events-append actor part (last ∷ []), ne_eqb last.actor actor other) (append-nil (events_by actor part))
 
 -- ---- the next statement of a front
 
@@ -64,10 +59,6 @@ same_first phase part left right l r same =
     (sym mine ∙ r.whole) in
     cc
 
-some_statement : (statements : List Statement) (last : Statement) → statements ++ last ∷ [] ≡ [] → ⊥
-some_statement [] last e = cc
-some_statement (first ∷ later) last e = cc
-
 longer : (statements : List Statement) (last : Statement) (n : ℕ) → length statements < n →
     length (statements ++ last ∷ []) ≤ n
 longer statements last n short =
@@ -78,7 +69,7 @@ same_event :
     (phases : List (List Statement)) (statements : List Statement) (left right : Statement) →
     HasPhasesSoFar phases (statements ++ left ∷ []) → HasPhasesSoFar phases (statements ++ right ∷ []) →
     left.actor ≡ right.actor → left.event ≡ right.event
-same_event [] statements left right l r same = absurd (some_statement statements left l)
+same_event [] statements left right l r same = absurd (omega (arith, ap length l, length-append statements (left ∷ [])))
 same_event (phase ∷ later) statements left right l r same =
     elim (cases_lt (length statements) (length phase)) [
       | inl short ↦
@@ -94,14 +85,6 @@ same_event (phase ∷ later) statements left right l r same =
           (past_first_phase phase later statements right long r) same
     ]
 
-said : ℕ → Event → Statement
-said actor event = record { actor = actor; event = event }
-
-same_statement : (left right : Statement) → left.actor ≡ right.actor → left.event ≡ right.event → left ≡ right
-unfolding said
-same_statement left right actor event =
-    let whole : said left.actor left.event ≡ said right.actor right.event = cc in whole
-
 -- two entries of a processor that may come next are one
 pub same_next :
     OneReplay → (setup : Setup) (phases : List (List Statement)) (history : List Entry) (left right : Entry) →
@@ -111,8 +94,7 @@ same_next one setup phases history left right legal l r begun others same =
     let event : left.event ≡ right.event =
     same_event phases (statements_of history) (statement_of left) (statement_of right)
     (rw (statements-newest left history) at begun) (rw (statements-newest right history) at others) same in
-    let statement : statement_of left ≡ statement_of right =
-    same_statement (statement_of left) (statement_of right) same event in
+    let statement : statement_of left ≡ statement_of right = λ t. record { actor = same t; event = event t } in
     let lists : statements_of (right ∷ history) ≡ statements_of (left ∷ history) =
     cc (statements-newest right history, statements-newest left history) in
     let whole : left ∷ history ≡ right ∷ history =
@@ -133,12 +115,8 @@ no_events :
 no_events actor [] typed large = refl
 no_events actor (first ∷ later) typed large =
     let small : first.actor < 256 = (All-head IsTyped first later typed).actor in
-    events-other actor first later (λ same. omega (arith, same))
-    ∙ no_events actor later (All-tail IsTyped first later typed) large
-
-no_event_more : (events : List Event) (event : Event) (rest : List Event) → [] ≡ events ++ (event ∷ rest) → ⊥
-no_event_more [] event rest e = cc
-no_event_more (first ∷ later) event rest e = cc
+    rw (ne_eqb first.actor actor (λ same. omega (arith, same)))
+    (no_events actor later (All-tail IsTyped first later typed) large)
 
 pub known_first :
     (phase part : List Statement) (last : Statement) → All IsTyped phase → GoesFirst phase part last →
@@ -147,8 +125,8 @@ known_first phase part last typed first =
     elim (cases_lt last.actor 256) [
       | inl small ↦ small
       | inr large ↦
-          absurd (no_event_more (events_by last.actor part) last.event first.rest
-          (sym (no_events last.actor phase typed large) ∙ first.whole))
+          let none = ap length (sym (no_events last.actor phase typed large) ∙ first.whole) in
+          absurd (omega (arith, none, length-append (events_by last.actor part) (last.event ∷ first.rest)))
     ]
 
 pub all_parts :
@@ -162,7 +140,8 @@ all_parts P first later all = (
 known_statement :
     (phases : List (List Statement)) (statements : List Statement) (last : Statement) →
     All IsTyped (in_file_order phases) → HasPhasesSoFar phases (statements ++ last ∷ []) → last.actor < 256
-known_statement [] statements last typed begun = absurd (some_statement statements last begun)
+known_statement [] statements last typed begun =
+    absurd (omega (arith, ap length begun, length-append statements (last ∷ [])))
 known_statement (phase ∷ later) statements last typed begun =
     let parts : All IsTyped phase × All IsTyped (in_file_order later) =
     all_parts IsTyped phase (in_file_order later) typed in

@@ -42,6 +42,8 @@ pub past_mark :
     take (length bytes - (at + 1)) (drop (at + 1) bytes) ≡ after
 past_mark mark at bytes before after is place = grind (arith, nat_tests, common_steps, take_rest, is, drop-append-add)
 
+pub ruleset after_marks = (past_mark, length-append)
+
 -- and what stands before it
 pub cut_at_mark :
     (mark at : ℕ) (bytes before after : List ℕ) → All (λ byte. byte ≢ mark) before → bytes ≡ before ++ mark ∷ after →

@@ -40,6 +40,7 @@ fn digit(byte: u8) -> Option<u8>
 }
 
 /// The number that one digit before a full stop writes.
+#[tactic(auto, using(crate::proofs::TextCuts::single_if))]
 fn single(bytes: &[u8]) -> Option<u8>
     ensures single { IfSome result (λ digit. (number : ℕ) (after : List ℕ) → number < 256
         → bytes.now ≡ decimal number ++ 0x2E ∷ after → number ≡ digit) }
@@ -54,6 +55,7 @@ fn single(bytes: &[u8]) -> Option<u8>
 }
 
 /// The number before the first full stop.
+#[tactic(auto, using(crate::proofs::TextCuts::decimal_apart))]
 fn before_stop(bytes: &[u8]) -> Option<u8>
     ensures number { (number : ℕ) (after : List ℕ) → number < 256 → bytes.now ≡ decimal number ++ 0x2E ∷ after
         → result ≡ Some number }
@@ -63,6 +65,7 @@ fn before_stop(bytes: &[u8]) -> Option<u8>
 }
 
 /// How many digits a number below 100,000 has.
+#[tactic(auto, using(crate::proofs::Digits::digit_counts))]
 fn few_digits(n: u32) -> usize
     requires below { n < 100_000 }
     ensures digits { result ≡ length (decimal n) }
@@ -83,6 +86,7 @@ fn few_digits(n: u32) -> usize
 }
 
 /// How many digits a number has.
+#[tactic(auto, using(crate::proofs::Digits::more_digits))]
 fn digit_count(n: u32) -> usize
     ensures digits { result ≡ length (decimal n) }
 {
@@ -93,6 +97,7 @@ fn digit_count(n: u32) -> usize
 }
 
 /// What stands after the number `n` and a space.
+#[tactic(auto, using(crate::proofs::TextCuts::after_marks))]
 fn past_number(n: u32, bytes: &[u8]) -> Option<&[u8]>
     ensures past { (after : List ℕ) → bytes.now ≡ decimal n ++ space ∷ after
         → MatchOption result ⊥ (λ later. later.now ≡ after) }

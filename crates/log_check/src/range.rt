@@ -38,6 +38,7 @@ pub(crate) fn phases_fit(phases: &[Vec<Statement>])
 }
 
 /// How many statements the phases have.
+#[tactic(auto, using(crate::proofs::PhaseLists::few_so_far))]
 pub fn statement_count(phases: &[Vec<Statement>]) -> u32
     requires few { length (in_file_order (lists_of phases.now)) ≤ most_statements }
     ensures count { result ≡ length (in_file_order (lists_of phases.now)) }

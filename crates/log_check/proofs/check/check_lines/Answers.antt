@@ -1,11 +1,24 @@
-use Rattle.std.proofs.Common.{ℕ, ◌++◌, List, length, sym, ap, ◌∙◌}
-use Rattle.board_prelude.proofs.Common.{Statement, Setup}
+use Rattle.std.proofs.Common.{ℕ, ◌≡◌, ◌++◌, [], List, length, sym, ap, ◌∙◌}
+use Rattle.board_prelude.proofs.Common.{log_text}
 use Rattle.log_check.specs.declared.fault.CheckFault.TheVariants.{NoMemory}
 use Rattle.script_spec.specs.Phases.{lists_of}
+use Rattle.log_check.proofs.Differences.{Known}
 use Rattle.log_check.proofs.LineSteps.{handed_on}
 use Rattle.log_check.proofs.LogChecks.{known, failed_first, failed_heading, failed_within, passed, failed_end}
 use Rattle.log_check.proofs.LogChecks.{nothing_left, something_left}
+use Rattle.log_check.proofs.check.check_lines.Goals.{After-law_one_replay, After-check_phases, After-len-count}
 use Rattle.log_check.proofs.check.check_lines.Goals as goal
+
+script : (c : After-law_one_replay) → Known c.args.board.now.setup (lists_of c.args.phases.now)
+script c = known c.args.board.now.setup (lists_of c.args.phases.now) c.law_one_replay.ensures.one c.requires.typed
+    c.requires.in_range
+
+past_heading : (c : After-check_phases) → c.args.bytes.now ≡ log_text c.args.version [] ++ c.in_ok-rest.rest.now
+past_heading c = c.in_ok-rest.ensures.cases
+    ∙ ap (λ (t : List ℕ). t ++ c.in_ok-rest.rest.now) (c.deref.ensures ∙ c.in_ok-print_heading.ensures.printed)
+
+count_is : (c : After-len-count) → c.len-count.result ≡ length c.check_phases.new.board.entries
+count_is c = c.len-count.ensures.length ∙ ap (λ history. length history.entries) c.history.ensures.history
 
 pub returns-in_err-print_heading-clause-checked : goal.returns-in_err-print_heading-clause-checked
 returns-in_err-print_heading-clause-checked c =
@@ -15,52 +28,39 @@ returns-in_err-print_heading-clause-checked c =
 
 pub returns-in_err-rest-clause-checked : goal.returns-in_err-rest-clause-checked
 returns-in_err-rest-clause-checked c =
-    let setup : Setup = c.args.board.now.setup in
-    let phases : List (List Statement) = lists_of c.args.phases.now in
+    let at = (goal.at.returns-in_err-rest-clause-checked c).After-law_one_replay in
     let printed = c.deref.ensures ∙ c.in_ok-print_heading.ensures.printed in
     handed_on c.from_residual-in_err-rest.result c.in_err-rest.field-0.0 _ _ c.from_residual-in_err-rest.ensures.1
     (rw c.in_err-rest.ensures.cases.0
-    (failed_heading setup c.args.version phases c.args.bytes.now c.args.board.now.entries
-    (known setup phases c.law_one_replay.ensures.one c.requires.typed c.requires.in_range) c.requires.fresh
+    (failed_heading c.args.board.now.setup c.args.version (lists_of c.args.phases.now) c.args.bytes.now
+    c.args.board.now.entries (script at) c.requires.fresh
     (λ after text. c.in_err-rest.ensures.cases.1 after (rw printed text))))
 
 pub returns-in_err-rest-2-clause-checked : goal.returns-in_err-rest-2-clause-checked
 returns-in_err-rest-2-clause-checked c =
-    let setup : Setup = c.args.board.now.setup in
-    let phases : List (List Statement) = lists_of c.args.phases.now in
-    let printed = c.deref.ensures ∙ c.in_ok-print_heading.ensures.printed in
+    let at = goal.at.returns-in_err-rest-2-clause-checked c in
     handed_on c.from_residual-in_err-rest-2.result c.in_err-rest-2.field-0.0 _ _ c.from_residual-in_err-rest-2.ensures.1
-    (failed_within setup c.args.version phases c.args.bytes.now c.check_phases.new.board.entries
-    c.in_err-rest-2.field-0.0
-    (known setup phases c.law_one_replay.ensures.one c.requires.typed c.requires.in_range)
-    (c.in_err-rest-2.ensures.walked c.args.version c.args.bytes.now
-    (c.in_ok-rest.ensures.cases ∙ ap (λ (t : List ℕ). t ++ c.in_ok-rest.rest.now) printed)))
+    (failed_within c.args.board.now.setup c.args.version (lists_of c.args.phases.now) c.args.bytes.now
+    c.check_phases.new.board.entries c.in_err-rest-2.field-0.0 (script at.After-law_one_replay)
+    (c.in_err-rest-2.ensures.walked c.args.version c.args.bytes.now (past_heading at.After-check_phases)))
 
 pub returns-then-is_empty-clause-checked : goal.returns-then-is_empty-clause-checked
 returns-then-is_empty-clause-checked c =
-    let printed = c.deref.ensures ∙ c.in_ok-print_heading.ensures.printed in
+    let at = goal.at.returns-then-is_empty-clause-checked c in
     let walked =
-    c.in_ok-rest-2.ensures.walked c.args.version c.args.bytes.now
-    (c.in_ok-rest.ensures.cases ∙ ap (λ (t : List ℕ). t ++ c.in_ok-rest.rest.now) printed) in
+    c.in_ok-rest-2.ensures.walked c.args.version c.args.bytes.now (past_heading at.After-check_phases) in
     passed c.args.board.now.setup c.args.version (lists_of c.args.phases.now) c.args.bytes.now
     c.check_phases.new.board.entries c.in_ok-rest-2.rest.now c.len-count.result
-    (rw c.check_phases.ensures.setup at c.history.ensures.legal)
-    walked.0 walked.1
-    (nothing_left c.in_ok-rest-2.rest.now (sym c.is_empty.ensures ∙ c.if-is_empty.true))
-    (c.len-count.ensures.length ∙ ap (λ history. length history.entries) c.history.ensures.history)
+    (rw c.check_phases.ensures.setup at c.history.ensures.legal) walked.0 walked.1
+    (nothing_left c.in_ok-rest-2.rest.now (sym c.is_empty.ensures ∙ c.if-is_empty.true)) (count_is at.After-len-count)
 
 pub returns-clause-checked : goal.returns-clause-checked
 returns-clause-checked c =
-    let setup : Setup = c.args.board.now.setup in
-    let phases : List (List Statement) = lists_of c.args.phases.now in
-    let printed = c.deref.ensures ∙ c.in_ok-print_heading.ensures.printed in
+    let at = goal.at.returns-clause-checked c in
     let walked =
-    c.in_ok-rest-2.ensures.walked c.args.version c.args.bytes.now
-    (c.in_ok-rest.ensures.cases ∙ ap (λ (t : List ℕ). t ++ c.in_ok-rest.rest.now) printed) in
-    failed_end setup c.args.version phases c.args.bytes.now
-    c.check_phases.new.board.entries c.in_ok-rest-2.rest.now c.len-count.result
-    (known setup phases c.law_one_replay.ensures.one c.requires.typed c.requires.in_range)
-    (rw c.check_phases.ensures.setup at c.history.ensures.legal)
-    walked.0 walked.1
+    c.in_ok-rest-2.ensures.walked c.args.version c.args.bytes.now (past_heading at.After-check_phases) in
+    failed_end c.args.board.now.setup c.args.version (lists_of c.args.phases.now) c.args.bytes.now
+    c.check_phases.new.board.entries c.in_ok-rest-2.rest.now c.len-count.result (script at.After-law_one_replay)
+    (rw c.check_phases.ensures.setup at c.history.ensures.legal) walked.0 walked.1
     (something_left c.in_ok-rest-2.rest.now (sym c.is_empty.ensures ∙ c.if-is_empty.false))
-    (c.len-count.ensures.length ∙ ap (λ history. length history.entries) c.history.ensures.history)
+    (count_is at.After-len-count)
