@@ -1,10 +1,8 @@
 -- How many looks there are, and how many entries each has.
-use Rattle.std.proofs.Common.{◌≡◌, ℕ, zero, suc, ◌+◌, ◌-◌, ◌^◌, ◌<◌, ◌≤◌, ◌==◌, Bool, true, false, List, [], ◌∷◌, ◌++◌}
-use Rattle.std.proofs.Common.{length, map, take, get_or, set, All, ◌≢◌, refl, sym, ◌∙◌, ap, arith, inl, inr}
-use Rattle.std.proofs.Common.{slice_index, reverse}
-use Rattle.board_prelude.proofs.Common.{cases_eq, nat_tests, take_more, map-append, length-map, get_or-set_other}
-use Rattle.board_prelude.proofs.Common.{reverse-append, length-reverse, get_or-set_at, All-cons, All-head, All-tail}
-use Rattle.board_prelude.proofs.Common.{Entry, entries_by}
+use Rattle.std.proofs.Common.{◌≡◌, ℕ, zero, suc, ◌+◌, ◌-◌, ◌^◌, ◌<◌, ◌≤◌, ◌==◌, Bool, List, [], ◌∷◌, ◌++◌, length, map}
+use Rattle.std.proofs.Common.{take, get_or, set, All, ◌≢◌, refl, sym, ◌∙◌, ap, arith, slice_index, reverse}
+use Rattle.board_prelude.proofs.Common.{nat_tests, take_more, map-append, length-map, get_or-set_other, reverse-append}
+use Rattle.board_prelude.proofs.Common.{length-reverse, get_or-set_at, All-cons, All-head, All-tail, Entry, entries_by}
 use Rattle.std.proofs.lemmas.List.Sums.{length-filter, count_by-le-length}
 use Rattle.run_order.specs.declared.done.Done.{Done}
 use Rattle.run_order.specs.declared.done.Done.TheVariants.{Went, Looked}
@@ -61,17 +59,10 @@ counts_more : (counts : List ℕ) (actor other : ℕ) (entry : Entry) (before : 
     → entry.actor ≡ actor
     → slice_index counts other ≡ length (entries_by other before)
     → slice_index (set counts actor (slice_index counts actor + 1)) other ≡ length (entries_by other (entry ∷ before))
-counts_more counts actor other entry before eight small own was = elim (cases_eq other actor) [
-  | inl same ↦
-      let is : (entry.actor == other) ≡ true = grind (arith, nat_tests) in
-      let new = get_or-set_at counts actor other (get_or counts actor 0 + 1) 0 same
-      (omega (arith, eight, small, same)) in
-      let old = ap (slice_index counts) same in
-      rw is (omega (arith, new, old, was))
-  | inr not ↦
-      let isnt : (entry.actor == other) ≡ false = grind (arith, nat_tests) in
-      rw isnt (get_or-set_other counts actor other (get_or counts actor 0 + 1) 0 not ∙ was)
-]
+counts_more counts actor other entry before eight small own was =
+    let next : ℕ = get_or counts actor 0 + 1 in
+    grind (arith, nat_tests, eight, small, own, was, get_or-set_at counts actor other next 0,
+    get_or-set_other counts actor other next 0)
 
 -- an entry more
 pub order_more : {spare bus capacity : ℕ} {counts : List ℕ} (items items' : List RunEntry) (capacity' actor place : ℕ)

@@ -1,8 +1,8 @@
 -- Beginnings of a history, and a processor's entries in it.
-use Rattle.std.proofs.Common.{◌≡◌, ℕ, ◌+◌, ◌<◌, ◌≤◌, ◌==◌, true, List, [], ◌∷◌, ◌++◌, length, refl, sym, ◌∙◌, ap, arith}
-use Rattle.std.proofs.Common.{append_assoc, Option, inl, inr, reverse}
-use Rattle.board_prelude.proofs.Common.{option_to_list, reverse-append, cases_Bool, nat_tests, Entry, MapChange, Setup}
-use Rattle.board_prelude.proofs.Common.{version_of, IsLegal, map_change_of, map_writes_of, entries_by}
+use Rattle.std.proofs.Common.{◌≡◌, ℕ, ◌+◌, ◌<◌, ◌≤◌, List, [], ◌∷◌, ◌++◌, length, refl, sym, ◌∙◌, ap, arith}
+use Rattle.std.proofs.Common.{append_assoc, Option, reverse}
+use Rattle.board_prelude.proofs.Common.{option_to_list, reverse-append, nat_tests, Entry, MapChange, Setup, version_of}
+use Rattle.board_prelude.proofs.Common.{IsLegal, map_change_of, map_writes_of, entries_by}
 use Rattle.run_order.specs.Trace.{Begins}
 
 -- what comes later, the oldest first, put before a list with the newest first
@@ -40,11 +40,8 @@ onto_begins (entry ∷ later) before = begins_before entry before (onto later (e
 -- an entry of the processor's own counts
 own_counts : (actor : ℕ) (more : List Entry) (entry : Entry) (before : List Entry) → entry.actor ≡ actor
     → length (entries_by actor before) < length (entries_by actor (more ++ entry ∷ before))
-own_counts actor [] entry before own =
-    let is : (entry.actor == actor) ≡ true = grind (arith, nat_tests) in rw is (omega arith)
-own_counts actor (last ∷ more) entry before own =
-    let less = own_counts actor more entry before own in
-    elim (cases_Bool (last.actor == actor)) [ inl is ↦ rw is (omega arith) | inr not ↦ rw not (omega arith) ]
+own_counts actor [] entry before own = grind (arith, nat_tests)
+own_counts actor (last ∷ more) entry before own = grind (arith, nat_tests, own_counts actor more entry before own)
 
 pub own_later : (actor : ℕ) (entry : Entry) (before whole : List Entry) → Begins (entry ∷ before) whole
     → entry.actor ≡ actor → length (entries_by actor before) < length (entries_by actor whole)

@@ -1,6 +1,6 @@
 -- The law of the places: a phase that was placed is whole.
-use Rattle.std.proofs.Common.{◌≡◌, ℕ, suc, ◌+◌, ◌<◌, ◌≤◌, ◌==◌, true, false, cond, List, [], ◌∷◌, ◌++◌, map, length}
-use Rattle.std.proofs.Common.{take, drop, All, refl, sym, ◌∙◌, ap, subst, arith, inl, inr, reverse, if◌then◌else◌}
+use Rattle.std.proofs.Common.{◌≡◌, ℕ, ◌+◌, ◌<◌, ◌≤◌, ◌==◌, false, cond, List, [], ◌∷◌, ◌++◌, map, length, take, drop}
+use Rattle.std.proofs.Common.{All, refl, sym, ◌∙◌, ap, arith, inl, inr, reverse, if◌then◌else◌}
 use Rattle.std.proofs.lemmas.List.{append_cancel_right}
 use Rattle.board_spec.proofs.OrderLawProofs.{events-append, statements-append, statements-newest}
 use Rattle.board_prelude.proofs.Common.{cases_Bool, cases_lt, nat_tests, append-nil, reverse-append, reverse-reverse}
@@ -52,44 +52,31 @@ nobody_else actor n (statement ∷ phase) past few =
 abbrev count : ℕ → List Statement → ℕ
 count c xs = length (events_by c xs)
 
-count_cons : (c : ℕ) (x : Statement) (xs : List Statement) → count c (x ∷ xs) ≡ count c xs + cond (x.actor == c) 1 0
-count_cons c x xs = elim (cases_Bool (x.actor == c)) [ inl is ↦ rw is (omega arith) | inr not ↦ rw not (omega arith) ]
-
-one_self : (a : ℕ) → ◌≡◌ {A = ℕ} (cond (a == a) 1 0) 1
-one_self a = let is : (a == a) ≡ true = grind (arith, nat_tests) in rw is refl
-
 drop_one : ℕ → List Statement → List Statement
 drop_one a [] = []
 drop_one a (y ∷ ys) = if y.actor == a then ys else y ∷ drop_one a ys
 
-one_fewer : (a : ℕ) (ys : List Statement) → 0 < count a ys → (length ys ≡ suc (length (drop_one a ys)))
-    × ((c : ℕ) → count c ys ≡ count c (drop_one a ys) + cond (a == c) 1 0)
+drop_size : (a : ℕ) (ys : List Statement) → 0 < count a ys → length ys ≡ length (drop_one a ys) + 1
 unfolding drop_one
-one_fewer a [] some = absurd (omega (arith, some))
-one_fewer a (y ∷ ys) some =
-    elim (cases_Bool (y.actor == a)) [
-      | inl is ↦
-          let same : y.actor ≡ a = grind (arith, nat_tests) in
-          rw is (
-            refl,
-            λ c. subst (λ (k : ℕ). count c (y ∷ ys) ≡ count c ys + cond (k == c) 1 0) same
-                (count_cons c y ys),
-          )
-      | inr not ↦
-          let none : ◌≡◌ {A = ℕ} (cond (y.actor == a) 1 0) 0 = rw not refl in
-          let more = one_fewer a ys (omega (arith, some, count_cons a y ys, none)) in
-          rw not (ap suc more.0, λ c. omega (arith, count_cons c y ys, count_cons c y (drop_one a ys), more.1 c))
-    ]
+drop_size a [] some = absurd (omega (arith, some))
+drop_size a (y ∷ ys) some = grind (arith, nat_tests, some, drop_size a ys)
+
+drop_count : (a c : ℕ) (ys : List Statement) → 0 < count a ys
+    → count c ys ≡ count c (drop_one a ys) + cond (a == c) 1 0
+unfolding drop_one
+drop_count a c [] some = absurd (omega (arith, some))
+drop_count a c (y ∷ ys) some = grind (arith, nat_tests, some, drop_count a c ys)
 
 -- two lists of statements with as many of each processor's are as long
 same_size : (xs ys : List Statement) → ((c : ℕ) → count c xs ≡ count c ys) → length xs ≡ length ys
 same_size [] [] same = refl
-same_size [] (y ∷ ys) same =
-    absurd (omega (arith, same y.actor, count_cons y.actor y ys, one_self y.actor))
+same_size [] (y ∷ ys) same = let none = same y.actor in absurd (grind (arith, nat_tests, none))
 same_size (x ∷ xs) ys same =
-    let fewer = one_fewer x.actor ys (omega (arith, same x.actor, count_cons x.actor x xs, one_self x.actor)) in
-    let rest = same_size xs (drop_one x.actor ys) (λ c. omega (arith, same c, count_cons c x xs, fewer.1 c)) in
-    omega (arith, rest, fewer.0)
+    let own = same x.actor in
+    let some : 0 < count x.actor ys = grind (arith, nat_tests, own) in
+    let rest = same_size xs (drop_one x.actor ys)
+    (λ c. let own = same c in grind (arith, nat_tests, own, drop_count x.actor c ys some)) in
+    omega (arith, rest, drop_size x.actor ys some)
 
 -- ---- phases
 

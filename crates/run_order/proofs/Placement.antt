@@ -6,7 +6,7 @@ use Rattle.board_prelude.proofs.Common.{next_entry, get_or-map, length-map, All-
 use Rattle.board_spec.specs.declared.event.Event.TheVariants.{Look as LookAt}
 use Rattle.run_order.specs.declared.done.Done.{Done}
 use Rattle.run_order.specs.declared.done.Done.TheVariants.{Looked}
-use Rattle.run_order.specs.Common.{is_look, event_of, with_looks, left_after, with_all_looks, all_left, done_by, passed}
+use Rattle.run_order.specs.Common.{event_of, with_looks, left_after, with_all_looks, all_left, done_by, passed}
 use Rattle.run_order.specs.Common.{without_first, placed, AreInPlace, bare, AnswersAreBlind}
 use Rattle.run_order.proofs.Histories.{onto, legal_front}
 use Rattle.run_order.proofs.Blindness.{version_same}
@@ -39,11 +39,7 @@ pub record HasPlaced (setup : Setup) (history whole : List Entry) (rests : List 
 bare_bus : (entry : Entry) (before final : List Entry) → bare final ≡ bare before
     → bare (next_entry final entry.actor entry.event entry.reply ∷ final) ≡ bare (entry ∷ before)
 unfolding bare
-bare_bus entry before final same =
-    elim (cases_Bool (is_look entry.event)) [
-      | inl is ↦ rw is same
-      | inr not ↦ rw not (ap (λ (h : List Entry). record entry { seq = 0 } ∷ h) same)
-    ]
+bare_bus entry before final same = grind (arith, nat_tests, same)
 
 module _ (blind : AnswersAreBlind) (setup : Setup) (history : List Entry) where
   module _ (before since : List Entry) (ends : EndsBare since) where

@@ -1,6 +1,6 @@
 -- Each processor's events stand in the placed history, in its order.
-use Rattle.std.proofs.Common.{◌≡◌, ◌≢◌, ℕ, ◌+◌, ◌<◌, ◌==◌, nat_le, true, false, List, [], ◌∷◌, map, length, get_or, set}
-use Rattle.std.proofs.Common.{refl, ◌∙◌, ap, subst, arith, inl, inr}
+use Rattle.std.proofs.Common.{◌≡◌, ◌≢◌, ℕ, ◌+◌, ◌<◌, ◌==◌, true, false, List, [], ◌∷◌, map, length, get_or, set, refl}
+use Rattle.std.proofs.Common.{subst, arith, inl, inr}
 use Rattle.board_prelude.proofs.Common.{cases_Bool, nat_tests, get_or-set_at, get_or-set_other, Event, Saw, Entry}
 use Rattle.board_prelude.proofs.Common.{entries_by, next_entry}
 use Rattle.board_spec.specs.declared.event.Event.TheVariants.{Look as LookAt}
@@ -20,13 +20,8 @@ with_looks_own : (v actor : ℕ) (items : List Done) (final : List Entry)
     (own actor final)
 unfolding with_looks left_after
 with_looks_own v actor (Looked kind addr smm look ∷ items) final =
-    let is : (actor == actor) ≡ true = grind (arith, nat_tests) in
-    elim (cases_Bool (nat_le look.version v)) [
-      | inl low ↦ rw low
-          (with_looks_own v actor items (next_entry final actor (LookAt kind addr smm) (Saw look) ∷ final)
-          ∙ rw is refl)
-      | inr not ↦ rw not refl
-    ]
+    let entry : Entry = next_entry final actor (LookAt kind addr smm) (Saw look) in
+    grind (arith, nat_tests, with_looks_own v actor items (entry ∷ final))
 with_looks_own v actor _ final = refl
 
 with_looks_other : (v actor c : ℕ) (items : List Done) (final : List Entry) → (actor == c) ≡ false
@@ -42,9 +37,8 @@ with_all_other : (v : ℕ) (rests : List (List Done)) (first c : ℕ) (final : L
 unfolding with_all_looks
 with_all_other v [] first c final less = refl
 with_all_other v (items ∷ rests) first c final less =
-    let other : (first == c) ≡ false = grind (arith, nat_tests) in
-    with_all_other v rests (first + 1) c (with_looks v first items final) (omega (arith, less))
-    ∙ with_looks_other v first c items final other
+    grind (arith, nat_tests, with_all_other v rests (first + 1) c (with_looks v first items final),
+    with_looks_other v first c items final)
 
 pub all_own : (v : ℕ) (rests : List (List Done)) (first c : ℕ) (final : List Entry)
     → onto (map event_of (done_by first c (all_left v rests))) (own c (with_all_looks v first rests final)) ≡ onto
@@ -52,16 +46,9 @@ pub all_own : (v : ℕ) (rests : List (List Done)) (first c : ℕ) (final : List
 unfolding with_all_looks done_by
 all_own v [] first c final = refl
 all_own v (items ∷ rests) first c final =
-    elim (cases_Bool (c == first)) [
-      | inl is ↦
-          let here : first ≡ c = grind (arith, nat_tests) in
-          rw (is, ← here, with_all_other v rests (first + 1) first (with_looks v first items final) (omega arith))
-          (with_looks_own v first items final)
-      | inr not ↦
-          let other : (first == c) ≡ false = grind (arith, nat_tests) in
-          rw not (all_own v rests (first + 1) c (with_looks v first items final)
-          ∙ ap (onto (map event_of (done_by (first + 1) c rests))) (with_looks_other v first c items final other))
-    ]
+    let looked : List Entry = with_looks v first items final in
+    grind (arith, nat_tests, with_all_other v rests (first + 1) c looked, with_looks_own v first items final,
+    with_looks_other v first c items final, all_own v rests (first + 1) c looked)
 
 passed_own : (actor : ℕ) (rests : List (List Done)) → actor < length rests
     → done_by 0 actor (passed 0 actor rests) ≡ without_first (done_by 0 actor rests)
