@@ -1,11 +1,10 @@
 -- How many statements each processor has in a phase.
-use Rattle.std.proofs.Common.{◌≡◌, ℕ, ◌+◌, ◌<◌, ◌≤◌, ◌==◌, Bool, true, false, cond, List, [], ◌∷◌, ◌++◌, length, map}
-use Rattle.std.proofs.Common.{take, get_or, set, filter, All, sym, ◌∙◌, ap, arith, inl, inr, slice_index}
-use Rattle.std.proofs.Common.{slice_index_or, reverse}
+use Rattle.std.proofs.Common.{◌≡◌, ℕ, ◌+◌, ◌<◌, ◌≤◌, ◌==◌, Bool, List, [], ◌∷◌, ◌++◌, length, map, take, get_or, set}
+use Rattle.std.proofs.Common.{filter, All, sym, ◌∙◌, ap, arith, slice_index, slice_index_or, reverse}
 use Rattle.std.proofs.lemmas.List.Filters.{length-filter_more}
 use Rattle.std.proofs.lemmas.List.Sums.{length-filter, count_by-le-length}
 use Rattle.std.proofs.lemmas.List.FromFn.{map-range_with_len_more}
-use Rattle.board_prelude.proofs.Common.{cases_eq, nat_tests, get_or-map, get_or-set_at, get_or-set_other, length-append}
+use Rattle.board_prelude.proofs.Common.{nat_tests, get_or-map, get_or-set_at, get_or-set_other, length-append}
 use Rattle.board_prelude.proofs.Common.{length-map, map-append, range_with_len, Event, Statement, events_by}
 use Rattle.run_order.proofs.Common.{all_turned}
 use Rattle.phase_work.specs.declared.worker.Work.{Work}
@@ -40,20 +39,9 @@ counts_more counts phase i d actor other many small less own was =
     let more = length-filter_more (is_by other) phase i d less in
     let before = length-map (filter (is_by other) (take i phase)) event_in in
     let after = length-map (filter (is_by other) (take (i + 1) phase)) event_in in
-    elim (cases_eq other actor) [
-      | inl same ↦
-          let is : is_by other (slice_index_or phase i d) ≡ true = grind (arith, nat_tests) in
-          let new = get_or-set_at counts actor other (get_or counts actor 0 + 1) 0 same
-          (omega (arith, many, small, same)) in
-          let old = ap (slice_index counts) same in
-          let one = ap {B = ℕ} (λ (b : Bool). cond b 1 0) is in
-          omega (arith, new, old, was, more, before, after, one)
-      | inr not ↦
-          let isnt : is_by other (slice_index_or phase i d) ≡ false = grind (arith, nat_tests) in
-          let new = get_or-set_other counts actor other (get_or counts actor 0 + 1) 0 not in
-          let one = ap {B = ℕ} (λ (b : Bool). cond b 1 0) isnt in
-          omega (arith, new, was, more, before, after, one)
-    ]
+    let next : ℕ = get_or counts actor 0 + 1 in
+    grind (arith, nat_tests, more, before, after, many, small, own, was, get_or-set_at counts actor other next 0,
+    get_or-set_other counts actor other next 0)
 
 -- one processor more
 pub due_more : (works : List Work) (work : Work) (phase : List Statement) (actor : ℕ) (next : List Work)

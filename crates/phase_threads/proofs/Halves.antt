@@ -2,16 +2,12 @@
 use Rattle.std.proofs.Common.{◌≡◌, ℕ, ◌<◌, List, [], ◌∷◌, ◌++◌, length, map, All, Option, refl, sym, ◌∙◌, ap, arith}
 use Rattle.std.specs.List.{AllZip}
 use Rattle.std.proofs.lemmas.List.Elements.{AllZip-get_or, length_all_zip}
-use Rattle.board_prelude.proofs.Common.{All-head, All-tail, Entry, Event, Statement, MapChange, Setup, entries_by}
-use Rattle.board_prelude.proofs.Common.{events_by, map_writes_of}
+use Rattle.board_prelude.proofs.Common.{All-head, All-tail, Entry, Event, Statement, entries_by, events_by}
 use Rattle.board_core.specs.Kept.{Standing}
 use Rattle.board_live.specs.declared.live.Live.{Live}
 use Rattle.shared_board.specs.declared.shared.Origin.{Origin}
-use Rattle.board_live.specs.Callers.{seen_of, known_of}
-use Rattle.run_order.specs.declared.done.Done.{Done}
 use Rattle.phase_threads.specs.declared.jobs.Job.{Job}
 use Rattle.phase_threads.specs.Jobs.{IsReadyToWork, IsRun, Runs}
-use Rattle.phase_work.specs.Works.{HasDone}
 
 zip_append : {X : Type 0} (R : X → X → Type 0) (xs ys us vs : List X) → AllZip R xs us → AllZip R ys vs
     → AllZip R (xs ++ ys) (us ++ vs)
@@ -29,14 +25,6 @@ no_events : (events : List Event) → length events ≡ 0 → events ≡ []
 no_events [] none = refl
 no_events (event ∷ events) none = absurd (omega (arith, none))
 
--- a processor without statements has done all of them
-nothing_done : (setup : Setup) (actor : ℕ) (opened : List Entry) (phase : List Statement) (done : List Done)
-    (seen : List Entry) (known : List MapChange)
-    → done ≡ [] → events_by actor phase ≡ [] → seen ≡ opened → known ≡ map_writes_of setup opened
-    → HasDone setup actor opened phase done seen known
-nothing_done setup actor opened phase done seen known empty none same all =
-    rw empty (record { trace = (same, all); said = sym none })
-
 -- a worker that has no statement ends as it began
 idle_runs : (live : Live) (phase : List Statement) (job : Job) → job.work.due ≡ 0 → Runs live phase job job
 idle_runs live phase job idle = record {
@@ -50,9 +38,10 @@ idle_runs live phase job idle = record {
         setup = ready.new.setup;
         asked = omega (arith, ready.asked);
         mine = λ fine. omega (arith, mine, ready.mine);
-        done = λ fine. nothing_done board.setup job.cpu.number board.entries phase job.work.done.items (seen_of job.cpu)
-            (known_of job.cpu)
-            ready.empty (no_events (events_by job.cpu.number phase) none) ready.new.seen ready.new.known;
+        done = λ fine. rw ready.empty (record {
+          trace = (ready.new.seen, ready.new.known);
+          said = sym (no_events (events_by job.cpu.number phase) none);
+        });
       };
 }
 

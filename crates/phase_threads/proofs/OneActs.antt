@@ -1,6 +1,6 @@
 -- A phase in which one processor acts.
-use Rattle.std.proofs.Common.{set, Result, Ok, Err, OnOk, ◌≡◌, ◌≢◌, ℕ, ◌+◌, ◌<◌, ◌≤◌, ◌==◌, false, not, List, [], ◌∷◌}
-use Rattle.std.proofs.Common.{length, All, get_or, slice_index_or, refl, sym, ◌∙◌, ap, arith, inl, inr, map}
+use Rattle.std.proofs.Common.{set, Result, Ok, Err, OnOk, ◌≡◌, ◌≢◌, ℕ, ◌+◌, ◌<◌, ◌≤◌, ◌==◌, not, List, [], ◌∷◌, length}
+use Rattle.std.proofs.Common.{All, get_or, slice_index_or, refl, sym, ◌∙◌, ap, arith, inl, inr, map}
 use Rattle.board_prelude.proofs.Common.{cases_Bool, cases_eq, nat_tests, length-map, get_or-map, All-head, All-tail}
 use Rattle.board_prelude.proofs.Common.{All-cons, Entry, Statement, MapChange, Setup, entries_by, events_by}
 use Rattle.board_prelude.proofs.Common.{map_writes_of, ne_eqb}
@@ -37,11 +37,6 @@ pub by_other : (number actor : ℕ) → actor ≢ number → (entries : List Ent
     → entries_by actor entries ≡ entries_by actor (others number entries)
 by_other number actor unlike [] = refl
 by_other number actor unlike (entry ∷ before) = grind (arith, nat_tests, unlike, by_other number actor unlike before)
-
-others_below : (number n : ℕ) (entries : List Entry) → All (λ entry. entry.actor < n) entries
-    → All (λ entry. entry.actor < n) (others number entries)
-others_below number n entries =
-    All-filter (λ (entry : Entry). not (entry.actor == number)) (λ (entry : Entry). entry.actor < n) entries
 
 all_below : (number n : ℕ) → number < n → (entries : List Entry)
     → All (λ entry. entry.actor < n) (others number entries)
@@ -185,7 +180,8 @@ module _ (number : ℕ) (run : Run) (phase : List Statement) (given old : List W
         count = sym size;
         asked = λ most asked room. record {
           actors = all_below number n (omega (arith, below, size)) now.board.entries
-              (rw grown.others (others_below number n run.board.entries (rw size at asked.actors)));
+              (rw grown.others (All-filter (λ (e : Entry). not (e.actor == number)) (λ (e : Entry). e.actor < n)
+              run.board.entries (rw size at asked.actors)));
           mine = λ actor. elim (cases_eq actor number) [
             | inl is ↦ rw is (omega (arith, grown.mine, asked.mine number))
             | inr other ↦

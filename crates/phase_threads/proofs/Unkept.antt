@@ -1,10 +1,10 @@
 -- A phase of which what was done is not kept, since none of it is a look.
 use Rattle.std.proofs.Common.{◌≡◌, ℕ, zero, suc, ◌+◌, ◌<◌, ◌≤◌, ◌==◌, false, List, [], ◌∷◌, ◌++◌, length, map, take}
-use Rattle.std.proofs.Common.{set, All, slice_index_or, refl, sym, ◌∙◌, ap, arith, reverse, not, length-append, Bool, get_or}
-use Rattle.board_prelude.proofs.Common.{eq-eqb, get_or-set_at, get_or-set_other, length-map, length-reverse}
-use Rattle.board_prelude.proofs.Common.{length-set, map-append, reverse-append, reverse-reverse, take_more, All-cons}
-use Rattle.board_prelude.proofs.Common.{All-head, All-tail, Entry, Event, Statement, Setup, entries_by, events_by}
-use Rattle.board_prelude.proofs.Common.{map_writes_of}
+use Rattle.std.proofs.Common.{set, All, slice_index_or, refl, sym, ◌∙◌, ap, arith, reverse, not, length-append, Bool}
+use Rattle.std.proofs.Common.{get_or}
+use Rattle.board_prelude.proofs.Common.{eq-eqb, get_or-set_at, get_or-set_other, length-map, length-reverse, length-set}
+use Rattle.board_prelude.proofs.Common.{map-append, reverse-append, reverse-reverse, take_more, All-cons, All-head}
+use Rattle.board_prelude.proofs.Common.{All-tail, Entry, Event, Statement, Setup, entries_by, events_by, map_writes_of}
 use Rattle.std.proofs.lemmas.List.Elements.{All-map, filter-append}
 use Rattle.board_core.specs.Kept.{Standing}
 use Rattle.run_order.specs.declared.done.Done.{Done}

@@ -53,6 +53,7 @@ impl Caller for Alone {
         self.board.map().version()
     }
 
+    #[tactic(auto, using(crate::proofs::OneActs::both))]
     fn bus<R: Wait>(&mut self, _shared: &(), _rt: &R, event: &Event) -> Result<(), NoMemory> {
         self.board.reserve(1)?;
         self.board.step(self.number, event);

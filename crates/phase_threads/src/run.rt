@@ -131,6 +131,7 @@ fn run_phase<R: Threads + Wait + Sync, G: Gate>(
 }
 
 /// How many statements there are in all.
+#[tactic(auto, using(crate::proofs::Phases::few_so_far))]
 fn statements_in(phases: &[Vec<Statement>]) -> u32
     requires few { length (flat_map (λ phase. phase.items) phases.now) ≤ most_statements }
     ensures count { result ≡ length (flat_map (λ phase. phase.items) phases.now) }
