@@ -66,6 +66,7 @@ fn check_line<'a>(
 }
 
 /// Goes past the lines of a phase.
+#[tactic(auto, using(crate::proofs::LineSteps::handed_on, crate::proofs::Steps::within_whole))]
 fn check_phase<'a>(
     board: &mut Board,
     text: &mut String,
@@ -152,6 +153,7 @@ fn check_lines(
 /// its entries, or the first line that no such log has after the same lines. The board is fresh, and there are at most
 /// 250,000 statements, each in range for the board. The board goes through the statements of the lines before the
 /// named one, and perhaps through that of the named line.
+#[tactic(auto, using(crate::proofs::LogChecks::nothing_begun, crate::proofs::LogChecks::begun_after))]
 pub fn check_log(
     alloc: Global,
     board: &mut Board,

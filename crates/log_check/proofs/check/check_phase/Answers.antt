@@ -1,8 +1,7 @@
 use Rattle.std.proofs.Common.{All, sym, subst, add-zero, arith}
 use Rattle.board_prelude.proofs.Common.{common_steps, nat_tests}
 use Rattle.log_check.specs.Common.{IsTyped}
-use Rattle.log_check.proofs.Steps.{within_start, within_whole}
-use Rattle.log_check.proofs.LineSteps.{handed_on}
+use Rattle.log_check.proofs.Steps.{within_start}
 use Rattle.log_check.proofs.check.check_phase.Goals as goal
 
 pub check_line-requires-clause-spare : goal.check_line-requires-clause-spare
@@ -21,9 +20,3 @@ loop-init c = grind (arith, nat_tests, common_steps, add-zero, within_start)
 
 pub loop-preserved : goal.loop-preserved
 loop-preserved c = grind (arith, nat_tests, common_steps)
-
-pub returns-in_err-left-clause-walked : goal.returns-in_err-left-clause-walked
-returns-in_err-left-clause-walked c = grind (arith, nat_tests, common_steps, handed_on)
-
-pub returns-clause-walked : goal.returns-clause-walked
-returns-clause-walked c = grind (arith, nat_tests, common_steps, within_whole)
