@@ -3,11 +3,11 @@ use Rattle.std.proofs.Common.{◌≡◌, ℕ, ◌+◌, ◌<◌, ◌≤◌, ◌==
 use Rattle.std.proofs.Common.{All, refl, sym, ◌∙◌, ap, arith, inl, inr, reverse, if◌then◌else◌}
 use Rattle.std.proofs.lemmas.List.{append_cancel_right}
 use Rattle.board_spec.proofs.OrderLawProofs.{events-append, statements-append, statements-newest}
-use Rattle.board_prelude.proofs.Common.{cases_Bool, cases_lt, nat_tests, append-nil, reverse-append, reverse-reverse}
-use Rattle.board_prelude.proofs.Common.{get_or_past, filter-append, map-append, length-map, length-reverse, length-take}
-use Rattle.board_prelude.proofs.Common.{take_all, drop_all, take-append-le, drop-append-le, All-head, All-tail, Event}
-use Rattle.board_prelude.proofs.Common.{Entry, Statement, version_of, entries_by, statement_of, statements_of}
-use Rattle.board_prelude.proofs.Common.{events_by, IsWholePhase, HasPhases}
+use Rattle.board_prelude.proofs.Common.{cases_lt, nat_tests, append-nil, reverse-append, reverse-reverse, get_or_past}
+use Rattle.board_prelude.proofs.Common.{filter-append, map-append, length-map, length-reverse, length-take, take_all}
+use Rattle.board_prelude.proofs.Common.{drop_all, take-append-le, drop-append-le, All-head, All-tail, Event, Entry}
+use Rattle.board_prelude.proofs.Common.{Statement, version_of, entries_by, statement_of, statements_of, events_by}
+use Rattle.board_prelude.proofs.Common.{IsWholePhase, HasPhases}
 use Rattle.run_order.specs.declared.done.Done.{Done}
 use Rattle.run_order.specs.Common.{event_of, placed, done_by, bare, AnswersAreBlind, PhaseRuns}
 use Rattle.run_order.proofs.Histories.{onto, onto_is}
@@ -28,13 +28,9 @@ own_append c xs ys =
 events_own : (c : ℕ) (h : List Entry) → events_by c (statements_of h) ≡ reverse (own c h)
 events_own c [] = refl
 events_own c (entry ∷ before) =
-    ap (events_by c) (statements-newest entry before)
-    ∙ (events-append c (statements_of before) (statement_of entry ∷ [])
-    ∙ (ap (λ (es : List Event). es ++ events_by c (statement_of entry ∷ [])) (events_own c before)
-    ∙ elim (cases_Bool (entry.actor == c)) [
-      | inl is ↦ rw is (sym (reverse-append (entry.event ∷ []) (own c before)))
-      | inr not ↦ rw not (append-nil (reverse (own c before)))
-    ]))
+    grind (arith, nat_tests, statements-newest entry before, events_own c before, append-nil (reverse (own c before)),
+    events-append c (statements_of before) (statement_of entry ∷ []),
+    reverse-append (entry.event ∷ []) (own c before))
 
 back_again : (items : List Done) → onto (reverse items) [] ≡ items
 back_again items = onto_is (reverse items) [] ∙ (append-nil (reverse (reverse items)) ∙ reverse-reverse items)

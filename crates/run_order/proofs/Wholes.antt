@@ -1,8 +1,8 @@
 -- Each processor's events stand in the placed history, in its order.
-use Rattle.std.proofs.Common.{◌≡◌, ◌≢◌, ℕ, ◌+◌, ◌<◌, ◌==◌, true, false, List, [], ◌∷◌, map, length, get_or, set, refl}
-use Rattle.std.proofs.Common.{subst, arith, inl, inr}
-use Rattle.board_prelude.proofs.Common.{cases_Bool, nat_tests, get_or-set_at, get_or-set_other, Event, Saw, Entry}
-use Rattle.board_prelude.proofs.Common.{entries_by, next_entry}
+use Rattle.std.proofs.Common.{◌≡◌, ◌≢◌, ℕ, ◌+◌, ◌<◌, ◌==◌, false, List, [], ◌∷◌, map, length, get_or, set, refl, arith}
+use Rattle.std.proofs.Common.{ap}
+use Rattle.board_prelude.proofs.Common.{nat_tests, get_or-set_at, get_or-set_other, Event, Saw, Entry, entries_by}
+use Rattle.board_prelude.proofs.Common.{next_entry}
 use Rattle.board_spec.specs.declared.event.Event.TheVariants.{Look as LookAt}
 use Rattle.run_order.specs.declared.done.Done.{Done}
 use Rattle.run_order.specs.declared.done.Done.TheVariants.{Looked}
@@ -73,13 +73,7 @@ pub call_own : (c : ℕ) (new : Entry) (looked : List Entry) (left : List (List 
     → onto (map event_of (done_by 0 c (passed 0 new.actor left))) (own c (new ∷ looked))
     ≡ onto (map event_of (done_by 0 c left)) (own c looked)
 call_own c new looked left few events =
-    elim (cases_Bool (new.actor == c)) [
-      | inl is ↦
-          let same : new.actor ≡ c = grind (arith, nat_tests) in
-          let self : (new.actor == new.actor) ≡ true = grind (arith, nat_tests) in
-          subst (λ (k : ℕ). onto (map event_of (done_by 0 k (passed 0 new.actor left))) (own k (new ∷ looked))
-          ≡ onto (map event_of (done_by 0 k left)) (own k looked)) same
-          (rw (self, passed_own new.actor left few, events) refl)
-      | inr not ↦
-          let other : c ≢ new.actor = grind (arith, nat_tests) in rw (not, passed_other new.actor c left other) refl
-    ]
+    let taken : onto (map event_of (done_by 0 new.actor left)) (own c looked)
+    ≡ onto (map event_of (without_first (done_by 0 new.actor left))) (new.event ∷ own c looked) =
+    ap (λ (es : List Event). onto es (own c looked)) events in
+    grind (arith, nat_tests, taken, passed_own new.actor left few, passed_other new.actor c left)
