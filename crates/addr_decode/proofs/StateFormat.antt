@@ -85,7 +85,7 @@ card_format card =
     ))
     (λ t.
     let rom = rom_from card.rom t.2.2.2.0 t.2.2.2.1 in (
-      (refl, record { widths = record { command = t.1; line = t.2.1; bases = t.2.2.1; rom = rom.0 }; no_rom = rom.1; }),
+      (refl, record { widths = record { command = t.1; line = t.2.1; bases = t.2.2.1; rom = rom.0 }; no_rom = rom.1 }),
       refl,
     ))
 

@@ -82,9 +82,13 @@ module _ (place : Cell → Option ℕ) (from : ℕ) (bytes : List ℕ) where
       IsStateOf setup (entries ++ history) (record old { stores = new })
   state_in_turn {history = history} kept entries all each are =
       let others = others_stay kept.registers kept.devices entries each in
-      assumption (others.0, others.1, stores_after {later = entries ++ history}
-      {put = λ cell. all_put (place cell) from bytes (length bytes)} kept.stores
-      (λ cell. rw (← all) (stored history cell entries each)) are)
+      assumption (
+        others.0,
+        others.1,
+        stores_after {later = entries ++ history}
+            {put = λ cell. all_put (place cell) from bytes (length bytes)} kept.stores
+            (λ cell. rw (← all) (stored history cell entries each)) are,
+      )
 
 -- ---- entries that were made
 

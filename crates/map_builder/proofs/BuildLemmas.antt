@@ -101,8 +101,13 @@ built_over {last = last} {addr = addr} {hi = hi} order same is =
       built = record { tiles = is.built.tiles; least = is.built.least; begun = omega arith; open_end = is.built.open_end };
       of_board = λ setup bytes stands. record {
         right = (is.of_board setup bytes stands).right;
-        so_far = λ x low high. grind (arith, nat_tests, (is.of_board setup bytes stands).so_far x,
-            (is.of_board setup bytes stands).so_far addr, same setup bytes stands x);
+        so_far = λ x low high. grind (
+          arith,
+          nat_tests,
+          (is.of_board setup bytes stands).so_far x,
+          (is.of_board setup bytes stands).so_far addr,
+          same setup bytes stands x,
+        );
       };
       few = λ board. omega (arith, is.few board, edges_left board.setup board.bytes addr hi order);
     }

@@ -52,8 +52,14 @@ pub number_fits : {order : Order} {capacity : ℕ} {counts : List ℕ} (actor pl
     → IsOrder order capacity counts → slice_index counts place + order.spare < 2 ^ 32
 number_fits {order} actor place same below kept =
     let all : List Entry = over [] order.entries in let own : Entry → Bool = λ entry. entry.actor == actor in
-    rw same (omega (arith, kept.counted [] actor below, length-filter own all, count_by-le-length own all,
-    length-map order.entries (entry_of []), kept.few))
+    rw same (omega (
+      arith,
+      kept.counted [] actor below,
+      length-filter own all,
+      count_by-le-length own all,
+      length-map order.entries (entry_of []),
+      kept.few,
+    ))
 
 counts_more : (counts : List ℕ) (actor other : ℕ) (entry : Entry) (before : List Entry) → length counts ≡ 8 → other < 8
     → entry.actor ≡ actor
@@ -61,8 +67,16 @@ counts_more : (counts : List ℕ) (actor other : ℕ) (entry : Entry) (before : 
     → slice_index (set counts actor (slice_index counts actor + 1)) other ≡ length (entries_by other (entry ∷ before))
 counts_more counts actor other entry before eight small own was =
     let next : ℕ = get_or counts actor 0 + 1 in
-    grind (arith, nat_tests, eight, small, own, was, get_or-set_at counts actor other next 0,
-    get_or-set_other counts actor other next 0)
+    grind (
+      arith,
+      nat_tests,
+      eight,
+      small,
+      own,
+      was,
+      get_or-set_at counts actor other next 0,
+      get_or-set_other counts actor other next 0,
+    )
 
 -- an entry more
 pub order_more : {spare bus capacity : ℕ} {counts : List ℕ} (items items' : List RunEntry) (capacity' actor place : ℕ)

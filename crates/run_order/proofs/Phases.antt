@@ -28,9 +28,15 @@ own_append c xs ys =
 events_own : (c : ℕ) (h : List Entry) → events_by c (statements_of h) ≡ reverse (own c h)
 events_own c [] = refl
 events_own c (entry ∷ before) =
-    grind (arith, nat_tests, statements-newest entry before, events_own c before, append-nil (reverse (own c before)),
-    events-append c (statements_of before) (statement_of entry ∷ []),
-    reverse-append (entry.event ∷ []) (own c before))
+    grind (
+      arith,
+      nat_tests,
+      statements-newest entry before,
+      events_own c before,
+      append-nil (reverse (own c before)),
+      events-append c (statements_of before) (statement_of entry ∷ []),
+      reverse-append (entry.event ∷ []) (own c before),
+    )
 
 back_again : (items : List Done) → onto (reverse items) [] ≡ items
 back_again items = onto_is (reverse items) [] ∙ (append-nil (reverse (reverse items)) ∙ reverse-reverse items)

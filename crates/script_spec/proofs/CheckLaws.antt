@@ -76,9 +76,9 @@ module _ (IsText : List ℕ → Type 0) where
   }
 
   module _ (bytes : List ℕ) (line place : ℕ) (one : LeavesAt IsText bytes line) (two : LeavesAt IsText bytes place)
-      where
-    not_longer : GoesOn one.before one.rest two.before two.rest → ⊥
-    not_longer on = grind (arith, nat_tests, begun_front)
+    where
+      not_longer : GoesOn one.before one.rest two.before two.rest → ⊥
+      not_longer on = grind (arith, nat_tests, begun_front)
 
   one_leaving : (bytes : List ℕ) (line place : ℕ) → LeavesAt IsText bytes line → LeavesAt IsText bytes place
       → line ≡ place

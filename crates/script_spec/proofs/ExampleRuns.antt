@@ -89,15 +89,15 @@ says : (bytes : List ℕ) (script : Script) (items : List Item) → is_good (jud
     → IsScriptText bytes script
 says bytes script items good version is cpus memory rom disk cards rises phases =
     judged_so bytes script (judge bytes) (judged_is (lines_of bytes)) good version (subst (IsSaidBy script) (sym is) (
-      record {
-        cpus = cpus;
-        memory = memory;
-        rom = rom;
-        disk = disk;
-        cards = subst (IsPermutation (cards_of items)) cards (IsPermutation-refl (cards_of items));
-        rises = rises;
-        phases = phases;
-      }
+    record {
+      cpus = cpus;
+      memory = memory;
+      rom = rom;
+      disk = disk;
+      cards = subst (IsPermutation (cards_of items)) cards (IsPermutation-refl (cards_of items));
+      rises = rises;
+      phases = phases;
+    }
     ))
 
 -- ---- the worked texts

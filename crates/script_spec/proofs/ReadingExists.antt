@@ -98,19 +98,19 @@ put_rises card (first ∷ later) rises apart = elim (cases_Bool (nat_lt card.dev
 ]
 
 module _ (items : List Item) (card : FittedCard) (cards : List FittedCard) (same : IsPermutation (cards_of items) cards)
-    where
-  pub card_put : IsPermutation (card ∷ cards_of items) (put card cards)
-  card_put =
-      IsPermutation-trans (card ∷ cards_of items) (card ∷ cards) (put card cards)
-      (IsPermutation-cons card (cards_of items) cards same) (IsPermutation-insert cards _ card)
+  where
+    pub card_put : IsPermutation (card ∷ cards_of items) (put card cards)
+    card_put =
+        IsPermutation-trans (card ∷ cards_of items) (card ∷ cards) (put card cards)
+        (IsPermutation-cons card (cards_of items) cards same) (IsPermutation-insert cards _ card)
 
-  -- no card is of the device of a new one
-  pub cards_rise : Rises cards → has_card items card.dev ≡ false → Rises (put card cards)
-  cards_rise rises none =
-      let apart : All (λ other. (other.dev == card.dev) ≡ false) cards =
-      All-permutation (λ other. (other.dev == card.dev) ≡ false) (cards_of items) cards same
-      (none_any (λ other. other.dev == card.dev) (cards_of items) none) in
-      put_rises card cards rises (λ k d inside. eqb-false (get_or cards k d).dev card.dev (apart k d inside))
+    -- no card is of the device of a new one
+    pub cards_rise : Rises cards → has_card items card.dev ≡ false → Rises (put card cards)
+    cards_rise rises none =
+        let apart : All (λ other. (other.dev == card.dev) ≡ false) cards =
+        All-permutation (λ other. (other.dev == card.dev) ≡ false) (cards_of items) cards same
+        (none_any (λ other. other.dev == card.dev) (cards_of items) none) in
+        put_rises card cards rises (λ k d inside. eqb-false (get_or cards k d).dev card.dev (apart k d inside))
 
 record InOrder (cards : List FittedCard) : Type 0 where
   ordered : List FittedCard

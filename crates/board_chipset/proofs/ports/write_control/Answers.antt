@@ -19,8 +19,11 @@ returns-then-write_control c = record {
       let registers = c.write_control.ensures.registers setup history entry writes kept.registers in
       let hard : is_hard_reset history entry.event ≡ true =
       rw (writes.control_is, ← kept.registers.control) (sym c.write_control.ensures.hard ∙ c.if-write_control.true) in
-      assumption (registers, stores_stay {entry = entry} kept.stores (puts_none is (λ cell. refl)),
-      c.reset.ensures.reset setup history entry kept.devices hard registers.kept.south.routes);
+      assumption (
+        registers,
+        stores_stay {entry = entry} kept.stores (puts_none is (λ cell. refl)),
+        c.reset.ensures.reset setup history entry kept.devices hard registers.kept.south.routes,
+      );
 }
 
 pub returns-else-write_control : goal.returns-else-write_control

@@ -12,9 +12,12 @@ returns-then-store c = record {
   board = λ setup history entry kept is.
       let writes = entry_writes refl c.requires.writes is in
       let registers = c.store.ensures.registers setup history entry kept.registers writes in
-      assumption (registers, stores_stay {entry = entry} kept.stores (puts_none is (λ cell. refl)),
-      c.reroute.ensures.devices setup history entry kept.devices
-      (record { passes = passes is refl; soft = soft writes }) registers.kept.south.routes);
+      assumption (
+        registers,
+        stores_stay {entry = entry} kept.stores (puts_none is (λ cell. refl)),
+        c.reroute.ensures.devices setup history entry kept.devices
+            (record { passes = passes is refl; soft = soft writes }) registers.kept.south.routes,
+      );
 }
 
 pub returns-else-store : goal.returns-else-store

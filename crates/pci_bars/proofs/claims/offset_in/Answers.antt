@@ -12,8 +12,11 @@ returns c =
     record {
       offset = offset;
       memory = λ setup bytes window are found same_dev same_base.
-          rw ((memory_claim_sized setup bytes c.args.cards.now _ _ c.requires.cards are found).bits, same_dev,
-          same_base) (offset setup are.0);
+          rw (
+            (memory_claim_sized setup bytes c.args.cards.now _ _ c.requires.cards are found).bits,
+            same_dev,
+            same_base,
+          ) (offset setup are.0);
       ports = λ setup bytes window are found same_dev same_base.
           rw ((io_claim_sized setup bytes c.args.cards.now _ _ c.requires.cards are found).bits, same_dev, same_base)
           (offset setup are.0);

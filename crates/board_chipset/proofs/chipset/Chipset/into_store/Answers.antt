@@ -20,5 +20,7 @@ returns-clause-disk c = λ history left. c.into_disk.ensures.disk ∙ (left_in c
 pub returns-clause-store : goal.returns-clause-store
 returns-clause-store c = λ history left.
     let is = left_in c.self.view_is left in
-    assumption (returns-clause-regs c history left,
-    ap (λ (setup : Setup). setup.rom) c.setup.view_is ∙ ap (λ (chipset : Running). chipset.setup.rom) c.self.view_is)
+    assumption (
+      returns-clause-regs c history left,
+      ap (λ (setup : Setup). setup.rom) c.setup.view_is ∙ ap (λ (chipset : Running). chipset.setup.rom) c.self.view_is,
+    )

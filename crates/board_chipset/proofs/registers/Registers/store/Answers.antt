@@ -9,8 +9,11 @@ pub returns-clause-registers : goal.returns-clause-registers
 returns-clause-registers c = λ setup history entry has writes.
     let bytes = byte_of setup history in
     follows writes has refl refl
-    (assumption (c.store_from.ensures.stored.stands setup bytes has.kept.map,
-    c.store_from.ensures.stored.cards setup bytes has.kept.cards, c.store.ensures.stored setup bytes has.kept.south))
+    (assumption (
+      c.store_from.ensures.stored.stands setup bytes has.kept.map,
+      c.store_from.ensures.stored.cards setup bytes has.kept.cards,
+      c.store.ensures.stored setup bytes has.kept.south,
+    ))
     (c.store_from.ensures.stored.version setup has.kept.cards.0)
     (store_follows setup history c.args.register.now.reg c.args.width c.args.value
     (c.store_from.ensures.stored.windows setup bytes has.kept.map)

@@ -11,8 +11,11 @@ returns-clause-fresh c =
     let rom : IsRomSize (length setup.rom) =
     rw (← c.rom.ensures.bytes) (c.is_rom_size.ensures.size.0 c.if-not-is_rom_size.false) in
     record {
-      fits = assumption (rom, disk_opened setup.disk _ c.open.result c.in_ok-devices.devices c.open.ensures.bad
-      c.in_ok-devices.was c.disk.ensures.bytes);
+      fits = assumption (
+        rom,
+        disk_opened setup.disk _ c.open.result c.in_ok-devices.devices c.open.ensures.bad
+            c.in_ok-devices.was c.disk.ensures.bytes,
+      );
       registers = c.new.ensures.reset setup
           (ap (λ (s : Setup). s.cards) (sym is) ∙ sym c.deref-2.ensures.value);
       stores = c.in_ok-stores.ensures.fresh setup (ap (λ (s : Setup). s.mib) (sym is))
