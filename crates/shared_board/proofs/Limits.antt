@@ -14,8 +14,7 @@ total (suc n) history = total n history + length (entries_by n history)
 
 total_no_less : (n : ℕ) (entry : Entry) (history : List Entry) → total n history ≤ total n (entry ∷ history)
 total_no_less zero entry history = omega arith
-total_no_less (suc n) entry history =
-    omega (arith, total_no_less n entry history, no_less n entry history)
+total_no_less (suc n) entry history = omega (arith, total_no_less n entry history, no_less n entry history)
 
 total_more : (n : ℕ) (entry : Entry) (history : List Entry) → entry.actor < n →
     total n history + 1 ≤ total n (entry ∷ history)
@@ -35,13 +34,11 @@ covered n (entry ∷ history) all =
 bounded : (n : ℕ) (history : List Entry) → ((actor : ℕ) → length (entries_by actor history) ≤ most_each) →
     total n history ≤ n * most_each
 bounded zero history each = omega arith
-bounded (suc n) history each =
-    omega (arith, bounded n history each, each n)
+bounded (suc n) history each = omega (arith, bounded n history each, each n)
 
 pub few_entries : (callers : ℕ) (history : List Entry) → AreFew callers history → length history ≤ 2_000_000
 few_entries callers history few =
-    let all : length history ≤ total callers history = covered callers history few.actors in
-    omega (arith, all, bounded callers history few.each, few.most)
+    omega (arith, covered callers history few.actors, bounded callers history few.each, few.most)
 
 one_more : (actor : ℕ) (entry : Entry) (history : List Entry) → length (entries_by actor history) ≤ most_each →
     length (entries_by entry.actor history) < most_each → length (entries_by actor (entry ∷ history)) ≤ most_each

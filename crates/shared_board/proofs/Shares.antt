@@ -1,6 +1,5 @@
 -- What is published, when an entry is added.
-use Rattle.std.proofs.Common.{◌≡◌, ℕ, ◌+◌, ◌≤◌, List, ◌∷◌, ◌++◌, length, sym, ap, ◌∙◌, append_assoc, length-append}
-use Rattle.std.proofs.Common.{arith}
+use Rattle.std.proofs.Common.{◌≡◌, ℕ, ◌+◌, ◌≤◌, List, ◌∷◌, ◌++◌, length, sym, ap, append_assoc, length-append, arith}
 use Rattle.board_prelude.proofs.Common.{option_to_list, Event, Reply, Entry, Setup, next_entry, map_change_of}
 use Rattle.board_prelude.proofs.Common.{map_writes_of, version_of, nat_tests}
 use Rattle.board_core.specs.Kept.{Standing}
@@ -25,10 +24,7 @@ pub published_version :
     (setup : Setup) (opened : ℕ) (history : List Entry) (log : List Mark) → ArePublished setup opened history log →
     (opened_of log).version ≡ version_of setup (oldest opened history) → version_after log ≡ version_of setup history
 published_version setup opened history log published version =
-    let both : length (map_writes_of setup history)
-    ≡ length (changes_of log) + length (map_writes_of setup (oldest opened history)) =
-    ap length published ∙ length-append (changes_of log) (map_writes_of setup (oldest opened history)) in
-    omega (arith, both, version)
+    omega (arith, simp length-append at (ap length published), version)
 
 -- ---- the board that is stepped
 

@@ -1,5 +1,5 @@
 use Rattle.std.proofs.Common.{rules, ◌≡◌, ◌≤◌, ◌++◌, List, Option, length, refl, ap, ◌∙◌, arith}
-use Rattle.board_prelude.proofs.Common.{option_to_list, Entry, MapChange, map_change_of, version_of}
+use Rattle.board_prelude.proofs.Common.{option_to_list, Entry, MapChange, map_change_of}
 use Rattle.board_core.specs.Kept.{Standing}
 use Rattle.map_publish.specs.declared.publisher.Publisher.{Publisher}
 use Rattle.map_publish.specs.Lists.{opened_of, changes_of, version_after}
@@ -12,26 +12,17 @@ use Rattle.shared_board.proofs.shared.Shared.step.Goals as goal
 
 pub reserve-requires : goal.reserve-requires
 reserve-requires g c =
-    let board = c.args.self.now.board.value in
-    let all : length board.entries ≤ 2_000_000 =
-    few_entries c.args.self.now.callers board.entries c.args.self.now.few in
-    let same : length c.deref_mut.result.now.entries ≡ length board.entries =
-    ap (λ (b : Standing). length b.entries) c.deref_mut.ensures.value in
-    omega (arith, all, same)
+    let same = ap (λ (b : Standing). length b.entries) c.deref_mut.ensures.value in
+    omega (arith, few_entries _ _ c.args.self.now.few, same)
 
 pub publish-requires : goal.publish-requires
 publish-requires g c =
     let shared = c.args.self.now in
+    let board = shared.board.value in
     let log = shared.publisher.value.front.seen.log in
-    let all : length shared.board.value.entries ≤ 2_000_000 =
-    few_entries shared.callers shared.board.value.entries shared.few in
-    let writes = writes_few shared.board.value.setup shared.board.value.entries in
-    let version : version_after log ≡ version_of shared.board.value.setup shared.board.value.entries =
-    published_version shared.board.value.setup shared.opened shared.board.value.entries log shared.published
-    shared.opens.version in
-    let same : version_after c.deref_mut-2.result.now.front.seen.log ≡ version_after log =
-    ap (λ (p : Publisher). version_after p.front.seen.log) c.deref_mut-2.ensures.value in
-    record { room = omega (arith, all, writes, version, same) }
+    let version = published_version board.setup shared.opened board.entries log shared.published shared.opens.version in
+    let same = ap (λ (p : Publisher). version_after p.front.seen.log) c.deref_mut-2.ensures.value in
+    record { room = omega (arith, few_entries _ _ shared.few, writes_few board.setup board.entries, version, same) }
 
 pub invariant_of-self-2 : goal.invariant_of-self-2
 invariant_of-self-2 g c =
