@@ -6,7 +6,6 @@ use Rattle.board_chipset.specs.Chipset.{Running}
 use Rattle.board_chipset.specs.ChipsetState.{stores_bytes, state_bytes, chipset_bytes}
 
 pub between : (chipset : Running) →
-    chipset_bytes chipset
-    ≡ before_dram chipset ++ (dram_bytes chipset.state.stores.dram ++ after_dram chipset)
+    chipset_bytes chipset ≡ before_dram chipset ++ (dram_bytes chipset.state.stores.dram ++ after_dram chipset)
 unfolding chipset_bytes state_bytes stores_bytes
 between chipset = simp append_assoc

@@ -1,8 +1,7 @@
 -- Cards and bases that are tested one after another.
 use Rattle.std.proofs.Common.{◌≡◌, ℕ, ◌+◌, ◌<◌, ◌≤◌, List, [], ◌∷◌, length, get_or, drop, map, subst, arith, ◌↔◌, All}
-use Rattle.std.proofs.lemmas.List.{drop_more}
-use Rattle.board_prelude.proofs.Common.{drop_all, get_or-map, length-map, All-nil, All-cons, All-head, All-tail}
-use Rattle.board_prelude.proofs.Common.{FittedCard, IsBase, IsCard, IsCardList, Rises}
+use Rattle.board_prelude.proofs.Common.{drop_more, drop_all, get_or-map, length-map, All-nil, All-cons, All-head}
+use Rattle.board_prelude.proofs.Common.{All-tail, FittedCard, IsBase, IsCard, IsCardList, Rises}
 use Rattle.pci_bars.specs.declared.spec.BaseSpec.{BaseSpec}
 use Rattle.pci_bars.specs.Bases.{base_of}
 use Rattle.board_chipset.specs.Setups.{RiseFrom}

@@ -130,8 +130,7 @@ module _ {old new : List (List ℕ)} {dev base off : ℕ} {bytes : List ℕ} (is
   sizes_stay d b number = grind (arith, copied_here d b, copied_apart d b number, over_length (held old d b) bytes off)
 
   copied_byte : (d b at : ℕ) → IsBaseNumber d b →
-      slice_index (held new d b) at
-      ≡ unwrap_or (all_put (in_card dev base (CardCell d b at)) off bytes (length bytes))
+      slice_index (held new d b) at ≡ unwrap_or (all_put (in_card dev base (CardCell d b at)) off bytes (length bytes))
       (slice_index (held old d b) at)
   copied_byte d b at number =
       let here = copied_here d b in

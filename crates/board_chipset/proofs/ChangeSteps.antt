@@ -8,9 +8,8 @@ use Rattle.board_chipset.proofs.MapVersions.{map_write}
 use Rattle.board_chipset.proofs.StateSteps.{change_by, change_is, writes_none}
 use Rattle.board_chipset.proofs.PortSteps.{Reached, writes_at}
 
-pub changes :
-    {setup : Setup} {history : List Entry} {event : Event} {written address : Option ℕ} {store : Option MapChange} →
-    Writes setup history event written address store →
+pub changes : {setup : Setup} {history : List Entry} {event : Event} {written address : Option ℕ}
+    {store : Option MapChange} → Writes setup history event written address store →
     map_write setup (change_by (reset_control history) written store) ≡ map_change_of setup history event
 unfolding map_change_of
 changes {setup} writes = ap (map_write setup) (sym (change_is writes))
@@ -20,10 +19,8 @@ reset_or_none : (setup : Setup) (hard : Bool) →
 reset_or_none setup true = refl
 reset_or_none setup false = refl
 
-pub by_device :
-    (setup : Setup) (history : List Entry) (access : PortAccess) (dev : Dev) (change : Option MapChange) →
-    access.write ≡ true →
-    Reached setup history access (Device dev) →
+pub by_device : (setup : Setup) (history : List Entry) (access : PortAccess) (dev : Dev) (change : Option MapChange) →
+    access.write ≡ true → Reached setup history access (Device dev) →
     (dev ≡ ResetPort → change ≡ (if is_hard_value (reset_control history) access.value then Some Reset else None)) →
     ((dev ≡ ResetPort → ⊥) → change ≡ None) → change ≡ map_change_of setup history (Port access)
 by_device setup history access ResetPort change writes at control other =
@@ -34,6 +31,5 @@ by_device setup history access dev change writes at control other =
 
 -- an event that is no access at a port
 pub no_port : (setup : Setup) (history : List Entry) (event : Event) →
-    ((access : PortAccess) → event ≡ Port access → ⊥) →
-    None ≡ map_change_of setup history event
+    ((access : PortAccess) → event ≡ Port access → ⊥) → None ≡ map_change_of setup history event
 no_port setup history event not = changes (writes_none setup history event not)

@@ -27,9 +27,8 @@ use Rattle.board_chipset.specs.ChipsetState.{stores_fields, state_bytes, state_f
 -- ---- the head
 
 -- a number that has one value
-one_number :
-    {size : Size} {limit : ℕ} → IsWide size limit → (value : ℕ) → value < limit →
-    IsFormat (byte_len size) (within size value value) (to_le_bytes size) (λ n. n ≡ value)
+one_number : {size : Size} {limit : ℕ} → IsWide size limit → (value : ℕ) → value < limit → IsFormat (byte_len size)
+    (within size value value) (to_le_bytes size) (λ n. n ≡ value)
 one_number wide value fits =
     format_as _ _ _ (within_format wide value value fits) (omega arith) (λ n is. (omega arith, omega arith))
     (λ n good. omega (arith, good.0, good.1)) (λ n good. refl)

@@ -1,13 +1,11 @@
 -- What was read is a chipset, and the one that was saved.
 use Rattle.std.proofs.Common.{◌≡◌, ℕ, ◌↔◌, inl, inr, false, List, [], ◌++◌, length, Option, Result, Ok, Err, IfOk, refl}
 use Rattle.std.proofs.Common.{sym, ap, ◌∙◌, append_assoc, arith, ◌+◌, ◌≤◌}
-use Rattle.board_prelude.proofs.Common.{nat_tests, w16, to_le_bytes, Entry, Setup, IsSetup, append-nil}
+use Rattle.board_prelude.proofs.Common.{nat_tests, w16, to_le_bytes, Entry, Setup, IsSetup, append-nil, Disk}
 use Rattle.byte_fields.specs.declared.fault.Fault.{Fault}
-use Rattle.byte_fields.specs.declared.fault.Fault.TheVariants as faults
 use Rattle.byte_fields.specs.Fields.{AreBytes, Filled}
 use Rattle.byte_fields.proofs.Formats.{ok_is, not_err}
 use Rattle.byte_fields.proofs.Numbers.{wide16, within_format}
-use Rattle.device_spec.specs.Common.{Disk}
 use Rattle.map_builder.specs.Map.{Mapped}
 use Rattle.map_builder.specs.State.{IsMapped, SameMap}
 use Rattle.board_devices.specs.Common.{HasDisk}
@@ -23,6 +21,7 @@ use Rattle.board_chipset.proofs.KeptBytes.{has_bytes}
 use Rattle.board_chipset.proofs.ChipsetFormats.{IsBareChipset, chipset_format}
 use Rattle.board_chipset.specs.Alone.{alone}
 use Rattle.board_chipset.proofs.Marks.{alone_bad}
+use Rattle.byte_fields.specs.declared.fault.Fault.TheVariants as faults
 
 -- ---- a chipset that can be saved is one that steps can go on from
 
@@ -86,8 +85,7 @@ read_back setup chipset before rest same is begins =
 
 -- the chipset that is read
 pub read_is : (setup : Setup) (chipset : Running) (before after : List ℕ) → IsSetup setup → AreBytes before →
-    chipset_fields setup before ≡ Ok (bare_chipset chipset, after) →
-    IsMapped setup.cards chipset.state.registers.map →
+    chipset_fields setup before ≡ Ok (bare_chipset chipset, after) → IsMapped setup.cards chipset.state.registers.map →
     (chipset.setup ≡ setup) × IsChipset chipset × (before ≡ chipset_bytes chipset ++ after)
 read_is setup chipset before after fits are read mapped =
     let told = (chipset_format setup fits).taken before (bare_chipset chipset) after are read in
@@ -155,8 +153,7 @@ of_version chipset rest =
 -- ---- what is read with nothing behind it
 
 -- where a chipset was read, the bytes of one alone are its, and nothing is behind them
-pub alone_is :
-    {setup : Setup} {before mid : List ℕ} {chipset : Running} → LoadsChipset setup before mid (Ok chipset) →
+pub alone_is : {setup : Setup} {before mid : List ℕ} {chipset : Running} → LoadsChipset setup before mid (Ok chipset) →
     (other : Running) → other.setup ≡ setup → IsChipset other → before ≡ chipset_bytes other →
     (chipset ≡ other) × (mid ≡ [])
 alone_is loads other same is begins =
@@ -166,8 +163,7 @@ alone_is loads other same is begins =
     ]
 
 -- a bad field begins within the bytes
-pub bad_within :
-    {setup : Setup} {bytes all : List ℕ} (after : List ℕ) → IsSetup setup → AreBytes bytes → all ≡ bytes →
+pub bad_within : {setup : Setup} {bytes all : List ℕ} (after : List ℕ) → IsSetup setup → AreBytes bytes → all ≡ bytes →
     alone (chipset_fields setup) all ≡ Err (length after) →
     (length after ≤ length bytes) × ((at : ℕ) → at + length after ≡ length bytes → IsBadStateAt setup bytes at)
 bad_within {setup} {bytes} after fits are same is =

@@ -35,23 +35,19 @@ pub claim_line :
     IsClaim claim dev base
 claim_line smram shadow dram rom row claim dev base is = grind (arith, nat_tests)
 
-claimed :
-    (setup : Setup) (bytes : Bytes) (addr : ℕ) (kind : Kind) (smm : Bool) (dev base : ℕ) →
-    area_of setup bytes addr kind smm ≡ CardArea dev base →
-    IsClaim (memory_claim setup bytes addr) dev base
+claimed : (setup : Setup) (bytes : Bytes) (addr : ℕ) (kind : Kind) (smm : Bool) (dev base : ℕ) →
+    area_of setup bytes addr kind smm ≡ CardArea dev base → IsClaim (memory_claim setup bytes addr) dev base
 unfolding area_of
-claimed setup bytes addr kind smm dev base is =
-    claim_line _ _ _ _ _ (memory_claim setup bytes addr) dev base is
+claimed setup bytes addr kind smm dev base is = claim_line _ _ _ _ _ (memory_claim setup bytes addr) dev base is
 
 -- an aligned access ends within the ROM
 pub rom_within : (addr size : ℕ) (width : Width) → IsRomSize size → addr % bytes_of width ≡ 0 →
     addr % size + bytes_of width ≤ size
 rom_within addr size width is aligned = grind (arith, nat_tests)
 
-pub lies_in_base :
-    (setup : Setup) (contents : List (List ℕ)) (window : Window) (dev base place : ℕ) (width : Width) →
-    IsSized setup window → window.dev ≡ dev →
-    window.base ≡ base → LiesIn contents window.dev window.base (place % 2 ^ window.bits) width →
+pub lies_in_base : (setup : Setup) (contents : List (List ℕ)) (window : Window) (dev base place : ℕ) (width : Width) →
+    IsSized setup window → window.dev ≡ dev → window.base ≡ base →
+    LiesIn contents window.dev window.base (place % 2 ^ window.bits) width →
     LiesIn contents dev base (place % 2 ^ window_bits setup dev base) width
 lies_in_base setup contents window dev base place width sized device number lies =
     rw (← device, ← number, ← sized.bits) lies
@@ -65,8 +61,7 @@ module _ {setup : Setup} {state : State} (kept : IsSound setup state) where
   cards_fitted =
       fitted_list state.registers.map.regs.cards setup.cards (sym kept.registers.kept.cards.0) kept.fits.cards
 
-  held_in :
-      (addr : ℕ) (width : Width) (area : Area) → addr % bytes_of width ≡ 0 →
+  held_in : (addr : ℕ) (width : Width) (area : Area) → addr % bytes_of width ≡ 0 →
       ((dev base : ℕ) → area ≡ CardArea dev base → IsClaim (memory_claim setup kept.registers.bytes addr) dev base) →
       IsHeld setup.rom state.stores.contents (target_at setup area addr) width
   held_in addr width RomArea aligned claim = rom_within addr (length setup.rom) width kept.fits.rom aligned
@@ -79,11 +74,9 @@ module _ {setup : Setup} {state : State} (kept : IsSound setup state) where
       (lies_in_window setup state.stores.contents by.0 addr width sized kept.contents aligned)
   held_in addr width _ aligned claim = tt
 
-  pub ready :
-      {rom : List ℕ} {access : Access} {answer : Part} → setup.rom ≡ rom →
+  pub ready : {rom : List ℕ} {access : Access} {answer : Part} → setup.rom ≡ rom →
       IsBusAccess (is_write access.kind) access.addr access.width access.value →
-      answer ≡ part_in setup kept.registers.bytes access →
-      IsReady rom state.stores.contents access answer
+      answer ≡ part_in setup kept.registers.bytes access → IsReady rom state.stores.contents access answer
   ready {rom} {access} image bus is = record {
     bus = bus;
     held = rw (is, ← image)
@@ -91,8 +84,7 @@ module _ {setup : Setup} {state : State} (kept : IsSound setup state) where
         (claimed setup kept.registers.bytes access.addr access.kind access.smm));
   }
 
-  stored_target :
-      (port : ℕ) (width : Width) (target : Target) → port % bytes_of width ≡ 0 →
+  stored_target : (port : ℕ) (width : Width) (target : Target) → port % bytes_of width ≡ 0 →
       IsReached setup kept.registers.bytes state.registers.address port width target →
       ((dev : Dev) → target ≡ Device dev → ⊥) → ((reg : Reg) → target ≡ Config reg → ⊥) →
       IsStored state.stores.contents target width

@@ -4,7 +4,7 @@ use Rattle.std.proofs.Common.{replicate, bytes_eq, map, option_map, unwrap_or, i
 use Rattle.std.proofs.Common.{ap, ◌∙◌, arith, ◌+◌, ◌-◌, nat_le, nat_lt, ◌&&◌, if◌then◌else◌, slice_index, Result, OnOk}
 use Rattle.std.proofs.Common.{append_assoc}
 use Rattle.board_prelude.proofs.Common.{bytes_eq-Decides, length-replicate, length-take, length-drop, nat_tests, Bytes}
-use Rattle.board_prelude.proofs.Common.{Disk, IsDisk, Setup, IsSetup}
+use Rattle.board_prelude.proofs.Common.{Disk, IsDisk, Setup, IsSetup, reset_byte}
 use Rattle.std.proofs.lemmas.List.{drop_min, take_min}
 use Rattle.byte_fields.specs.Pages.{memory_bytes, memory_page, page_bytes, pages_bytes}
 use Rattle.byte_fields.proofs.PageFormats.{bytes_first}
@@ -17,7 +17,6 @@ use Rattle.board_devices.specs.State.{devices_bytes, fitted_bytes, machines_byte
 use Rattle.board_chipset.specs.ChipsetState.{head_bytes, size_bytes, disk_size}
 use Rattle.board_chipset.specs.Given.{devices_left, fitted_with, unless_left, zeros}
 use Rattle.std.proofs.lemmas.Result.{on_ok_weaker}
-use Rattle.board_spec.specs.RegisterTable.{reset_byte}
 use Rattle.std.proofs.lemmas.Grind.{same_number_lists}
 use Rattle.std.proofs.lemmas.List.Elements.{All-weaker}
 use Rattle.dram_store.specs.Dram.{dram_at, IsWritten}
@@ -94,8 +93,7 @@ left_disk : (fitted : Option (List ℕ)) (disk : Option Disk) → HasDisk fitted
     (option_map (holding (zeros (unwrap_or (sectors_in disk) []))) disk)
 unfolding fitted_bytes
 left_disk None None has own = refl
-left_disk (Some bytes) (Some disk) has own =
-    left_over bytes disk (some_is _ _ has ∙ sym (some_is _ _ own))
+left_disk (Some bytes) (Some disk) has own = left_over bytes disk (some_is _ _ has ∙ sym (some_is _ _ own))
 left_disk _ _ has own = absurd (let never = has in cc)
 
 pub left_devices : (fitted : Option (List ℕ)) (devices : DevicesValue) → HasDisk fitted devices.disk →
@@ -125,8 +123,7 @@ left_head left setup =
 -- ---- all bytes of a DRAM were written
 
 byte_is : (old new : List ℕ) (count at byte : ℕ) → at < length new → count ≡ length new → length old ≡ length new →
-    dram_at new at
-    ≡ (if nat_le 0 at && nat_lt at (0 + count) && nat_lt at (length old) then byte else dram_at old at) →
+    dram_at new at ≡ (if nat_le 0 at && nat_lt at (0 + count) && nat_lt at (length old) then byte else dram_at old at) →
     slice_index new at ≡ byte
 byte_is old new count at byte within whole same is = grind (arith, nat_tests)
 
@@ -180,8 +177,7 @@ module _ (bytes : List ℕ) (setup : Setup) where
 
 -- ---- the state without the bytes of the disk
 
-pub left_added :
-    {T E : Type 0} (result : Result T E) (fitted sectors : Option (List ℕ)) (devices : DevicesValue)
+pub left_added : {T E : Type 0} (result : Result T E) (fitted sectors : Option (List ℕ)) (devices : DevicesValue)
     (old mid new contents : List ℕ) → HasDisk fitted devices.disk → HasDisk (sectors_in devices.disk) devices.disk →
     sectors ≡ sectors_in devices.disk → mid ≡ old ++ contents →
     OnOk result (new ≡ mid ++ devices_bytes sectors devices) →

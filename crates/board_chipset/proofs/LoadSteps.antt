@@ -42,9 +42,8 @@ InTurn place from bytes (entry ∷ earlier) =
     IsPut (λ cell. one_put (place cell) from bytes (length earlier)) entry.event entry.reply
     × InTurn place from bytes earlier
 
-one_more : (found : Option ℕ) (from n was : ℕ) (bytes : List ℕ) →
-    unwrap_or (one_put found from bytes n) (unwrap_or (all_put found from bytes n) was)
-    ≡ unwrap_or (all_put found from bytes (suc n)) was
+one_more : (found : Option ℕ) (from n was : ℕ) (bytes : List ℕ) → unwrap_or (one_put found from bytes n)
+    (unwrap_or (all_put found from bytes n) was) ≡ unwrap_or (all_put found from bytes (suc n)) was
 one_more found from n was bytes = grind (arith, nat_tests)
 
 none_yet : (found : Option ℕ) (from was : ℕ) (bytes : List ℕ) → was ≡ unwrap_or (all_put found from bytes 0) was

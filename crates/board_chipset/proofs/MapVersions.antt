@@ -57,9 +57,8 @@ follow : (setup : Setup) (history : List Entry) (write : Option MapChange) (old 
 follow setup history None old new was same = rw same was
 follow setup history (Some change) old new was are = are
 
-pub changed_after :
-    (setup : Setup) (history : List Entry) (entry : Entry) (change : Option MapChange) (old new : List Changed) →
-    register_change setup history entry.event ≡ change → AreLastChanged setup history old →
+pub changed_after : (setup : Setup) (history : List Entry) (entry : Entry) (change : Option MapChange)
+    (old new : List Changed) → register_change setup history entry.event ≡ change → AreLastChanged setup history old →
     Follow setup history change old new → AreLastChanged setup (entry ∷ history) new
 unfolding AreLastChanged map_change_of
 changed_after setup history entry change old new is was are =

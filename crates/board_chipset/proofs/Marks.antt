@@ -1,6 +1,5 @@
 -- Fixed bytes, and that nothing follows.
-use Rattle.std.proofs.Common.{◌≡◌, ℕ, ◌≤◌, inl, inr, List, [], ◌∷◌, length, Err, ap, ◌∙◌, arith}
-use Rattle.board_prelude.proofs.Common.{length-append}
+use Rattle.std.proofs.Common.{◌≡◌, ℕ, ◌≤◌, inl, inr, List, [], ◌∷◌, length, Err, ap, ◌∙◌, arith, length-append}
 use Rattle.byte_fields.specs.Fields.{AreBytes, Reading, then_read, gives, ended}
 use Rattle.board_chipset.specs.Alone.{alone}
 use Rattle.byte_fields.proofs.Formats.{IsFormat, err_is, then_err}
@@ -12,8 +11,7 @@ end_bad value [] bad is = absurd cc
 end_bad {A} value (byte ∷ later) bad is = err_is {X = A × List ℕ} (length (byte ∷ later)) bad is
 
 -- a bad field begins within the bytes
-pub alone_bad :
-    {A : Type 0} {n : ℕ} {reads : Reading A} {spelled : A → List ℕ} {IsGood : A → Type 0} →
+pub alone_bad : {A : Type 0} {n : ℕ} {reads : Reading A} {spelled : A → List ℕ} {IsGood : A → Type 0} →
     IsFormat n reads spelled IsGood → (bytes : List ℕ) (left : ℕ) → AreBytes bytes → alone reads bytes ≡ Err left →
     left ≤ length bytes
 unfolding alone

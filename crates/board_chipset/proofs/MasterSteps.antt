@@ -22,8 +22,7 @@ closed_lines shadow dram rom row claim =
     AbortArea
 
 of_master : (setup : Setup) (bytes : Bytes) (addr : ℕ) (kind : Kind) →
-    master_area setup bytes addr kind
-    ≡ closed_lines (is_some (row_of bytes addr) && is_shadowed bytes addr kind)
+    master_area setup bytes addr kind ≡ closed_lines (is_some (row_of bytes addr) && is_shadowed bytes addr kind)
     (not (lies_in upper_memory addr) && is_some (row_of bytes addr) && not (is_in_hole bytes addr))
     (is_bios_selected bytes addr) (unwrap_or (row_of bytes addr) 0) (memory_claim setup bytes addr)
 unfolding master_area

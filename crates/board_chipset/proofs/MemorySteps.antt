@@ -64,9 +64,8 @@ module _
       AreReady rom state.stores.contents cycles
   cycles_ready cycles parts is decoded = all_ready cycles (rw is parts.each) (rw is decoded)
 
-pub all_write : (access : WideAccess) (cycles : List Cycle) → is_write access.kind ≡ true →
-    All (IsPart access) (accesses cycles) →
-    All (λ cycle. is_write cycle.access.kind ≡ true) cycles
+pub all_write : (access : WideAccess) (cycles : List Cycle) → is_write access.kind ≡ true → All (IsPart access)
+    (accesses cycles) → All (λ cycle. is_write cycle.access.kind ≡ true) cycles
 all_write access cycles writes each =
     λ k d within. let part = each k d.access (omega (arith, within, length-map cycles (λ (it : Cycle). it.access))) in
     let it = rw (get_or-map (λ (it : Cycle). it.access) cycles k d d.access within) at part in
@@ -74,8 +73,7 @@ all_write access cycles writes each =
 
 -- parts that read put nothing
 pub parts_none : (access : WideAccess) (parts : List Access) (replies : List Part) (cell : Cell) →
-    is_write access.kind ≡ false → All (IsPart access) parts →
-    parts_put parts replies cell ≡ None
+    is_write access.kind ≡ false → All (IsPart access) parts → parts_put parts replies cell ≡ None
 unfolding parts_put
 parts_none access [] replies cell reads each = refl
 parts_none access (part ∷ later) [] cell reads each = refl
@@ -91,10 +89,8 @@ unfolding wide_value
 wide_written setup history access parts writes each = record { value_is = rw writes refl; each = each }
 
 pub wide_read : (setup : Setup) (history : List Entry) (access : WideAccess) (parts : Parts) (value : ℕ) →
-    is_write access.kind ≡ false →
-    parts_list parts ≡ map (part_answer setup history) (parts_of access) →
+    is_write access.kind ≡ false → parts_list parts ≡ map (part_answer setup history) (parts_of access) →
     value ≡ joined (λ part. value_at setup history (memory_target setup history part) part.addr part.width)
-    (parts_of access) →
-    IsWideAnswer setup history access (Some value) parts
+    (parts_of access) → IsWideAnswer setup history access (Some value) parts
 unfolding wide_value
 wide_read setup history access parts value reads each is = record { value_is = rw (reads, is) refl; each = each }

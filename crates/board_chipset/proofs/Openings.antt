@@ -9,18 +9,12 @@ disk_fits : (bytes : Option (List ℕ)) → ¬ ¬ IsDisk bytes → IsDisk bytes
 disk_fits None opened = tt
 disk_fits (Some bytes) opened =
     elim (cases_Bool (is_disk_length (length bytes))) [
-      | inl whole ↦ (
-        length bytes / 512,
-        grind (arith, nat_tests),
-        grind (arith, nat_tests),
-        grind (arith, nat_tests),
-      )
+      | inl whole ↦ (length bytes / 512, grind (arith, nat_tests), grind (arith, nat_tests), grind (arith, nat_tests))
       | inr broken ↦ absurd (opened (refused_length (length bytes) broken))
     ]
 
 pub disk_opened : {T : Type 0} (bytes shown : Option (List ℕ)) (result : Result T AtaOpen) (devices : T) →
-    (result ≡ Err AtaOpen.BadLength) ↔ ¬ IsDisk shown →
-    result ≡ Ok devices → shown ≡ bytes → IsDisk bytes
+    (result ≡ Err AtaOpen.BadLength) ↔ ¬ IsDisk shown → result ≡ Ok devices → shown ≡ bytes → IsDisk bytes
 disk_opened bytes shown result devices bad opened same =
     subst IsDisk same (disk_fits shown (λ none. let no : result ≡ Err AtaOpen.BadLength = bad.1 none in cc))
 

@@ -1,10 +1,8 @@
 -- The cycles of an access to ports, done one after another.
 use Rattle.board_prelude.proofs.Common.{nat_tests, take_more, reverse-append, get_or-map, length-map, pow-le-pow_right}
-use Rattle.board_prelude.proofs.Common.{mod-eq_of_lt, PortAccess, bytes_of, some_bytes, Setup, IsBusAccess}
+use Rattle.board_prelude.proofs.Common.{mod-eq_of_lt, PortAccess, bytes_of, some_bytes, Setup, IsBusAccess, drop_more}
 use Rattle.std.proofs.Common.{◌≡◌, ℕ, ◌+◌, ◌-◌, ◌*◌, ◌%◌, ◌^◌, ◌<◌, ◌≤◌, List, [], ◌∷◌, ◌++◌, length, get_or, take}
-use Rattle.std.proofs.Common.{drop, refl, ◌∙◌, ap, subst, arith, lit<, reverse}
-use Rattle.std.proofs.lemmas.List.{drop_more}
-use Rattle.std.proofs.lemmas.Nat.{pow-add}
+use Rattle.std.proofs.Common.{drop, refl, ◌∙◌, ap, subst, arith, lit<, reverse, pow-add}
 use Rattle.std.proofs.Math.Nat.{mul-le-mul_right}
 use Rattle.board_stores.specs.declared.ports.PortCycle.{PortCycle}
 use Rattle.board_stores.specs.PortCycles.{Follow, port_accesses, AreBusCycles}
@@ -19,8 +17,7 @@ unfolding AnswerInTurn value_read strongest
 none_done setup start first history [] left each = (refl, refl, left)
 none_done setup start first history (entry ∷ earlier) left each = absurd each
 
-next_done :
-    (setup : Setup) (start mid now : Running) (first : ℕ) (sooner : List PortAccess) (cycle : PortAccess)
+next_done : (setup : Setup) (start mid now : Running) (first : ℕ) (sooner : List PortAccess) (cycle : PortAccess)
     (value read : ℕ) (reset made : ResetKind) → AreCyclesDone setup start first sooner mid value reset →
     IsCycleStep setup mid cycle now read made →
     AreCyclesDone setup start first (cycle ∷ sooner) now (value + read * 256 ^ (cycle.port - first))
@@ -39,13 +36,11 @@ reversed : {X : Type 0} (xs : List X) (i : ℕ) (x : X) → i < length xs →
 reversed xs i x within = ap reverse (take_more xs i x within) ∙ reverse-append (take i xs) (get_or xs i x ∷ [])
 
 -- a cycle more
-pub cycle_done :
-    (setup : Setup) (start mid now : Running) (first value read next : ℕ) (reset made after : ResetKind)
+pub cycle_done : (setup : Setup) (start mid now : Running) (first value read next : ℕ) (reset made after : ResetKind)
     (cycles : List PortAccess) (i : ℕ) (cycle : PortAccess) → i < length cycles → get_or cycles i cycle ≡ cycle →
     AreCyclesDone setup start first (reverse (take i cycles)) mid value reset →
-    IsCycleStep setup mid cycle now read made →
-    next ≡ value + read * 256 ^ (cycle.port - first) → after ≡ stronger made reset →
-    AreCyclesDone setup start first (reverse (take (i + 1) cycles)) now next after
+    IsCycleStep setup mid cycle now read made → next ≡ value + read * 256 ^ (cycle.port - first) →
+    after ≡ stronger made reset → AreCyclesDone setup start first (reverse (take (i + 1) cycles)) now next after
 cycle_done setup start mid now first value read next reset made after cycles i cycle within is so_far step next_is
     after_is =
     rw (reversed cycles i cycle within, is, next_is, after_is)

@@ -81,8 +81,7 @@ module _ (setup : Setup) (bytes : Bytes) (address : ℕ) (disk : Bool) (port : �
   -- ---- what a card can claim
 
   claimed_or : (denial : Denial) (claim : Option Window) → IsBeside setup address port width →
-      io_claim setup bytes port ≡ claim →
-      Lands (unwrap_or (option_map (card_port port) claim) (nobody denial))
+      io_claim setup bytes port ≡ claim → Lands (unwrap_or (option_map (card_port port) claim) (nobody denial))
   claimed_or denial None by is = by
   claimed_or denial (Some window) by is = (by, (window, is, refl, refl, refl))
 
@@ -111,8 +110,7 @@ module _ (setup : Setup) (bytes : Bytes) (address : ℕ) (disk : Bool) (port : �
   at_device (Spurious chip) by is = absurd (false≢true is)
   at_device _ by is = (by, is)
 
-  in_table : (devices : List Dev) → IsBeside setup address port width →
-      Finds (first_with devices port (bytes_of width))
+  in_table : (devices : List Dev) → IsBeside setup address port width → Finds (first_with devices port (bytes_of width))
   in_table [] by = others _ by
   in_table (dev ∷ later) by =
       cond_both (is_port_of dev port (bytes_of width)) (Some dev) (first_with later port (bytes_of width)) Finds
@@ -170,10 +168,8 @@ fits_byte width value byte fits = grind (arith, nat_tests)
 -- ---- the configuration address, and the register that it names
 
 -- an access to a register that an address names stays within its function
-within_function :
-    (setup : Setup) (address port : ℕ) (width : Width) (reg : Reg) → kept_address address ≡ address →
-    port % bytes_of width ≡ 0 →
-    config_register setup address port ≡ Some reg → reg.off + bytes_of width ≤ 0x100
+within_function : (setup : Setup) (address port : ℕ) (width : Width) (reg : Reg) → kept_address address ≡ address →
+    port % bytes_of width ≡ 0 → config_register setup address port ≡ Some reg → reg.off + bytes_of width ≤ 0x100
 within_function setup address port width reg kept aligned is =
     let named = (cond_some _ _ reg is).1 in
     rw (← named) (within_space address port (register_of address) (port % 4) width
@@ -181,8 +177,7 @@ within_function setup address port width reg kept aligned is =
 
 -- ---- what an entry tells
 
-pub target_reached :
-    (setup : Setup) (history : List Entry) (access : PortAccess) (target : Target) →
+pub target_reached : (setup : Setup) (history : List Entry) (access : PortAccess) (target : Target) →
     target ≡ (reached setup history access).target → Reached setup history access target
 target_reached setup history access target is =
     rw is (reaches setup (byte_of setup history) (config_address history) (is_some setup.disk) access.port access.width)
@@ -201,17 +196,13 @@ register_within {access = access} reaching =
     within_function reaching.kept.setup _ access.port access.width _ reaching.kept.sound.registers.address
     reaching.bus.aligned (reached_in reaching).1
 
-pub entry_reached :
-    {setup : Setup} {history : List Entry} {access : PortAccess} {target shown : Target} {entry : Entry} →
-    target ≡ shown →
-    IsEntryOf setup history access target entry → Reached setup history access shown
+pub entry_reached : {setup : Setup} {history : List Entry} {access : PortAccess} {target shown : Target}
+    {entry : Entry} → target ≡ shown → IsEntryOf setup history access target entry → Reached setup history access shown
 entry_reached {setup} {history} {access} {shown = shown} same is =
     target_reached setup history access shown (rw same at is.target_is)
 
-pub entry_writes :
-    {setup : Setup} {history : List Entry} {access : PortAccess} {target shown : Target} {entry : Entry} →
-    target ≡ shown →
-    access.write ≡ true → IsEntryOf setup history access target entry →
+pub entry_writes : {setup : Setup} {history : List Entry} {access : PortAccess} {target shown : Target}
+    {entry : Entry} → target ≡ shown → access.write ≡ true → IsEntryOf setup history access target entry →
     Writes setup history entry.event (control_at shown access) (address_at shown access) (store_at shown access)
 entry_writes {setup} {history} {access} {target} {shown} same writes is =
     rw (is.event) (writes_at setup history access shown writes (entry_reached same is))
@@ -242,8 +233,7 @@ beside_found setup history access found device register is = grind (arith, nat_t
 -- a device with ports of its own
 chip_in : (setup : Setup) (bytes : Bytes) (address : ℕ) (access : PortAccess) (dev : Dev) → dev ≢ AddressPort →
     dev ≢ Reset → IsReached setup bytes address access.port access.width (Device dev) →
-    IsBeside setup address access.port access.width
-    × (is_chip_port dev access.port (bytes_of access.width) ≡ true)
+    IsBeside setup address access.port access.width × (is_chip_port dev access.port (bytes_of access.width) ≡ true)
 chip_in setup bytes address access dev named control is = grind (arith, nat_tests)
 
 pub chip_reached : {state : State} {access : PortAccess} {dev : Dev} → Reaching state access (Device dev) →
@@ -253,8 +243,7 @@ chip_reached {state} {access} {dev} reaching named control =
     (reached_in reaching)).1
 
 pub chip_value : (setup : Setup) (history : List Entry) (dev : Dev) (port : ℕ) (width : Width) → dev ≢ AddressPort →
-    dev ≢ Reset →
-    device_value setup history dev port width ≡ port_value setup history dev port width
+    dev ≢ Reset → device_value setup history dev port width ≡ port_value setup history dev port width
 chip_value setup history dev port width address control = grind (arith, nat_tests)
 
 -- ---- the state after an entry

@@ -26,9 +26,8 @@ use Rattle.board_chipset.specs.Resets.{reset_by_written}
 abbrev pub change_by : ℕ → Option ℕ → Option MapChange → Option MapChange
 change_by control written store = if resets_hard control written then Some Reset else store
 
-pub change_is :
-    {setup : Setup} {history : List Entry} {event : Event} {written address : Option ℕ} {store : Option MapChange} →
-    Writes setup history event written address store →
+pub change_is : {setup : Setup} {history : List Entry} {event : Event} {written address : Option ℕ}
+    {store : Option MapChange} → Writes setup history event written address store →
     register_change setup history event ≡ change_by (reset_control history) written store
 change_is writes = rw (writes.control_is, writes.store_is) refl
 
@@ -70,16 +69,14 @@ writes_none setup history (Port access) not = absurd (not access refl)
 writes_none setup history event not = record { control_is = refl; address_is = refl; store_is = refl }
 
 -- an event that writes no register leaves them all
-pub quiet :
-    {setup : Setup} {history : List Entry} {entry : Entry} {old : Registers} →
-    Writes setup history entry.event None None None →
-    HasRegisters setup history old → HasRegisters setup (entry ∷ history) old
+pub quiet : {setup : Setup} {history : List Entry} {entry : Entry} {old : Registers} →
+    Writes setup history entry.event None None None → HasRegisters setup history old →
+    HasRegisters setup (entry ∷ history) old
 quiet none has = follows none has refl refl has.kept refl refl has.flat
 
 pub registers_at_reset : (setup : Setup) (registers : Registers) → registers.address ≡ 0 → registers.control ≡ 0 →
     AreKeptOf setup (reset_byte setup) registers.map.regs registers.south → registers.map.version ≡ 0 →
-    registers.map.changed ≡ [] → IsFlat registers.map →
-    HasRegisters setup [] registers
+    registers.map.changed ≡ [] → IsFlat registers.map → HasRegisters setup [] registers
 unfolding byte_of config_address reset_control map_writes_of AreLastChanged
 registers_at_reset setup registers address control kept version windows flat = assumption
 
@@ -96,19 +93,16 @@ pub record HavePut (put : Cell → Option ℕ) (old new : Stores) : Type 0 where
       slice_index (held new.contents dev base) at
       ≡ unwrap_or (put (CardCell dev base at)) (slice_index (held old.contents dev base) at)
 
-pub stores_after :
-    {setup : Setup} {history later : List Entry} {put : Cell → Option ℕ} {old new : Stores} →
+pub stores_after : {setup : Setup} {history later : List Entry} {put : Cell → Option ℕ} {old new : Stores} →
     HasStores setup history old →
-    ((cell : Cell) → stored_of later cell ≡ unwrap_or (put cell) (stored_of history cell)) →
-    HavePut put old new → HasStores setup later new
+    ((cell : Cell) → stored_of later cell ≡ unwrap_or (put cell) (stored_of history cell)) → HavePut put old new →
+    HasStores setup later new
 stores_after {old = old} has same is = grind (arith, nat_tests)
 
 -- an entry puts the bytes that were put
-pub stores_put :
-    {setup : Setup} {history : List Entry} {entry : Entry} {put : Cell → Option ℕ} {old new : Stores} →
-    HasStores setup history old →
-    ((cell : Cell) → entry_put entry.event entry.reply cell ≡ put cell) → ArePut put old new →
-    HasStores setup (entry ∷ history) new
+pub stores_put : {setup : Setup} {history : List Entry} {entry : Entry} {put : Cell → Option ℕ} {old new : Stores} →
+    HasStores setup history old → ((cell : Cell) → entry_put entry.event entry.reply cell ≡ put cell) →
+    ArePut put old new → HasStores setup (entry ∷ history) new
 unfolding stored_of
 stores_put {put = put} {old} {new} has same is = grind (arith, nat_tests)
 
@@ -120,8 +114,7 @@ stores_stay has none = stores_put {put = λ cell. None} has none search
 
 -- ---- the state
 
-pub soft :
-    {setup : Setup} {history : List Entry} {event : Event} {address : Option ℕ} {store : Option MapChange} →
+pub soft : {setup : Setup} {history : List Entry} {event : Event} {address : Option ℕ} {store : Option MapChange} →
     Writes setup history event None address store → is_hard_reset history event ≡ false
 soft writes = rw (writes.control_is) refl
 

@@ -7,8 +7,7 @@ use Rattle.board_prelude.proofs.Common.{chip_after_odd_write, is_complete, chip_
 use Rattle.board_prelude.proofs.Common.{chip_after_write, chip_after_read, has-levels_where, Pair, settled}
 use Rattle.board_prelude.proofs.Common.{pair_after_write, pair_after_read, pair_acknowledged, pair_acknowledged_at}
 use Rattle.board_prelude.proofs.Common.{pair_after_acknowledge, is_slave_port, is_odd_port, PortAccess, Dev, Pic0, Pic1}
-use Rattle.board_prelude.proofs.Common.{Event, Port, Ack, Reply, device_reached, pair_accessed, pair_after}
-use Rattle.board_base.specs.Bits.{is_bit}
+use Rattle.board_prelude.proofs.Common.{Event, Port, Ack, Reply, device_reached, pair_accessed, pair_after, is_bit}
 use Rattle.device_spec.specs.Pic.{ended}
 
 -- a chip before and after a step: of its latches the step keeps these
@@ -84,8 +83,7 @@ even_keeps chip byte =
 
 pub write_keeps : (chip : Chip) (is_odd : Bool) (byte : ℕ) → Keeps chip (chip_after_write chip is_odd byte)
 unfolding chip_after_write
-write_keeps chip is_odd byte =
-    by_cond (Keeps chip) is_odd _ _ (odd_keeps chip chip.awaited byte) (even_keeps chip byte)
+write_keeps chip is_odd byte = by_cond (Keeps chip) is_odd _ _ (odd_keeps chip chip.awaited byte) (even_keeps chip byte)
 
 -- ---- acknowledges, and reads, which may poll
 
@@ -113,7 +111,7 @@ same_chips a b slave other p q = rw (p, q) refl
 
 -- what a pair keeps as its chips step and the slave is then heard, it keeps at every event
 module _ (P : Pair → Type 0)
-    (settles : (old new : Pair) → Keeps old.master new.master → Keeps old.slave new.slave → P old → P (settled new)) where
+    (settles : (a b : Pair) → Keeps a.master b.master → Keeps a.slave b.slave → P a → P (settled b)) where
   one_steps : (at_slave : Bool) (pair : Pair) (master slave : Chip) → Keeps pair.master master →
       Keeps pair.slave slave → P pair →
       P (settled (cond at_slave (record pair { slave = slave }) (record pair { master = master })))

@@ -1,24 +1,23 @@
 -- What an entry makes of the devices. All are stepped at once: the machines that an event leaves are the same by
 -- computing, so that no lemma about an entry has a column for each device.
 use Rattle.board_prelude.proofs.Common.{common_steps, or-false, nat_tests, cases_eq, cases_Bool, ext_get_or, length-map}
-use Rattle.board_prelude.proofs.Common.{get_or-map, same-levels, pair_has_seen, PortAccess, Dev, Pit, Ata, PitState}
-use Rattle.board_prelude.proofs.Common.{out_of, reset as timer_at_reset, after_reset as clock_after_reset}
-use Rattle.board_prelude.proofs.Common.{triggers_at_reset, reserved-rest, Pair, levels_at_power_on, pair_after_lines}
-use Rattle.board_prelude.proofs.Common.{pair_at_reset, Disk, option_map_or, is_disk_length}
-use Rattle.board_prelude.proofs.Common.{power_on as disk_at_power_on, Event, Port, Pulses, Wire, Line, BadSector, Reply}
-use Rattle.board_prelude.proofs.Common.{Entry, Setup, IsDisk, IsDiskSize, is_free_line, reset_control, control_written}
-use Rattle.board_prelude.proofs.Common.{resets_hard, is_hard_reset, plain_at_reset, device_reached, wire_set, wire_of}
-use Rattle.board_prelude.proofs.Common.{line_set, irq_of, triggers_after, triggers_of, plain_after, plain_of}
-use Rattle.board_prelude.proofs.Common.{timer_after, timer_of, clock_after, clock_of, disk_after, disk_with, disk_of}
-use Rattle.board_prelude.proofs.Common.{routes_of, pirq_levels, own_level, level_with, all_lines, levels_with}
-use Rattle.board_prelude.proofs.Common.{levels_of, elcr_of, device_value, pair_after, pair_reset_or_after, pair_stepped}
-use Rattle.board_prelude.proofs.Common.{pair_of, after_bad, byte_of, config_store, elcr-same, is_line_driven, list_any}
-use Rattle.board_prelude.proofs.Common.{map-same}
+use Rattle.board_prelude.proofs.Common.{get_or-map, same-levels, pair_has_seen, reset as timer_at_reset}
+use Rattle.board_prelude.proofs.Common.{after_reset as clock_after_reset, reserved-rest, power_on as disk_at_power_on}
+use Rattle.board_prelude.proofs.Common.{elcr-same, map-same}
+use Rattle.board_prelude.specs.Common.{PortAccess, Dev, Pit, Ata, PitState, out_of, triggers_at_reset, Pair}
+use Rattle.board_prelude.specs.Common.{levels_at_power_on, pair_after_lines, pair_at_reset, Disk, option_map_or}
+use Rattle.board_prelude.specs.Common.{is_disk_length, Event, Port, Pulses, Wire, Line, BadSector, Reply, Entry, Setup}
+use Rattle.board_prelude.specs.Common.{IsDisk, IsDiskSize, is_free_line, reset_control, control_written, resets_hard}
+use Rattle.board_prelude.specs.Common.{is_hard_reset, plain_at_reset, device_reached, wire_set, wire_of, line_set}
+use Rattle.board_prelude.specs.Common.{irq_of, triggers_after, triggers_of, plain_after, plain_of, timer_after}
+use Rattle.board_prelude.specs.Common.{timer_of, clock_after, clock_of, disk_after, disk_with, disk_of, routes_of}
+use Rattle.board_prelude.specs.Common.{pirq_levels, own_level, level_with, all_lines, levels_with, levels_of, elcr_of}
+use Rattle.board_prelude.specs.Common.{device_value, pair_after, pair_reset_or_after, pair_stepped, pair_of, after_bad}
+use Rattle.board_prelude.specs.Common.{byte_of, config_store, is_line_driven, list_any, is_interrupt, config_address}
 use Rattle.std.proofs.Common.{◌≡◌, ℕ, ◌<◌, ◌≤◌, Bool, true, false, ◌||◌, ◌&&◌, List, [], ◌∷◌, Option, Some, None}
 use Rattle.std.proofs.Common.{length, get_or, refl, sym, ◌∙◌, ap, subst, arith, ◌*◌, ◌/◌, ◌%◌, replicate, eq-eqb}
 use Rattle.std.proofs.Common.{ne_eqb, get_or-set_same, get_or-set_other, length-set, ◌↔◌, Result, Err, ◌==◌, unwrap_or}
 use Rattle.std.proofs.Common.{map, option_map, slice_index_or, slice_set, if◌then◌else◌}
-use Rattle.board_prelude.specs.Common.{is_interrupt}
 use Rattle.board_devices.specs.Common.{LeavesDevices, DevicesValue, AreIrqsOf, AreAfter, AreDevicesOf, ReachesDevice}
 use Rattle.board_devices.specs.Common.{Asks, is_chip, PassesBy, Leaves, value_read, after_read, after_write}
 use Rattle.board_devices.specs.Common.{devices_accessed, driven, fitted_accessed, level_driven}
@@ -26,7 +25,6 @@ use Rattle.ata_pio.specs.declared.ata.AtaOpen.{AtaOpen}
 use Rattle.board_base.specs.declared.target.Dev.TheVariants.{Clock}
 use Rattle.device_spec.specs.Clock.{interrupt_line, power_on as clock_at_power_on}
 use Rattle.device_spec.specs.Ata.Steps.{after_reset as disk_after_reset}
-use Rattle.board_spec.specs.Registers.{config_address}
 
 -- ---- the pair after an entry
 
@@ -153,9 +151,8 @@ module _ (setup : Setup) (history : List Entry) (entry : Entry) (soft : is_hard_
     irqs = λ line below. irq_stepped entry.event devices line (irq_of history line) room (are.irqs line below);
   }
 
-  pub pair_soft : NotPulses entry.event →
-      pair_of setup (entry ∷ history)
-      ≡ lined setup (entry ∷ history) (pair_after entry.event entry.reply (pair_of setup history))
+  pub pair_soft : NotPulses entry.event → pair_of setup (entry ∷ history) ≡ lined setup (entry ∷ history)
+      (pair_after entry.event entry.reply (pair_of setup history))
   pair_soft not = grind (arith, nat_tests, common_steps, pair_reset_or_after, pair_of, pair_after, pair_lined)
 
 -- ---- an entry that is this event, and no hard reset
@@ -173,9 +170,8 @@ module _ (setup : Setup) (history : List Entry) (entry : Entry) (event : Event) 
       subst (λ (e : Event). HasRoom e devices → AreAfter setup (entry ∷ history) (devices_after e entry.reply devices))
       asks.event_is (λ room. others_soft setup history entry asks.soft devices room are) room
 
-  pub pair_asked : NotPulses event →
-      pair_of setup (entry ∷ history)
-      ≡ lined setup (entry ∷ history) (pair_after event entry.reply (pair_of setup history))
+  pub pair_asked : NotPulses event → pair_of setup (entry ∷ history) ≡ lined setup (entry ∷ history)
+      (pair_after event entry.reply (pair_of setup history))
   pair_asked not = grind (arith, nat_tests, common_steps, pair_of, pair_after, pair_soft)
 
   -- the lines then reach the pair: the devices are those of the history with the entry
@@ -434,8 +430,7 @@ module _ (setup : Setup) (history : List Entry) (entry : Entry) (hard : is_hard_
       (record {
         timer = rw hard refl;
         clock = rw hard (ap (λ t. clock_after_reset t) are.clock);
-        disk =
-            ap (λ (d : Option Disk). option_map (λ disk. disk_after_reset disk) d) are.disk ∙ disk_hard setup.disk;
+        disk = ap (λ (d : Option Disk). option_map (λ disk. disk_after_reset disk) d) are.disk ∙ disk_hard setup.disk;
         triggers = rw hard refl;
         plain = rw hard refl;
         wires = λ dev low high. are.wires dev low high ∙ sym (wire_stays setup history entry no_level dev);
@@ -454,11 +449,9 @@ module _ (setup : Setup) (history : List Entry) (entry : Entry) (hard : is_hard_
 -- ---- power-on
 
 pub at_power_on : (setup : Setup) (devices : DevicesValue) → devices.timer ≡ timer_at_reset →
-    devices.clock ≡ clock_at_power_on →
-    devices.triggers ≡ triggers_at_reset → devices.plain ≡ plain_at_reset → devices.disk ≡ disk_of setup [] →
-    devices.wires ≡ replicate 16 false → devices.irqs ≡ replicate 16 false →
-    devices.pair ≡ pair_at_reset levels_at_power_on →
-    AreDevicesOf setup [] devices
+    devices.clock ≡ clock_at_power_on → devices.triggers ≡ triggers_at_reset → devices.plain ≡ plain_at_reset →
+    devices.disk ≡ disk_of setup [] → devices.wires ≡ replicate 16 false → devices.irqs ≡ replicate 16 false →
+    devices.pair ≡ pair_at_reset levels_at_power_on → AreDevicesOf setup [] devices
 unfolding timer_of clock_of triggers_of plain_of wire_of irq_of pair_of
 at_power_on setup devices timer clock triggers plain disk wires irqs pair = grind (arith, nat_tests)
 

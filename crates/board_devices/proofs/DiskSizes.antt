@@ -3,9 +3,8 @@ use Rattle.board_prelude.proofs.Common.{common_steps, nat_tests, PortAccess, Dev
 use Rattle.board_prelude.proofs.Common.{IsDiskSize, disk_with, disk_of}
 use Rattle.std.proofs.Common.{◌≡◌, ℕ, ◌*◌, ◌/◌, ◌%◌, Bool, true, false, cond, eqb, List, [], length, Option, Some, None}
 use Rattle.std.proofs.Common.{refl, sym, ◌∙◌, ap, arith, option_map, length-set}
-use Rattle.board_base.specs.declared.access.Width.TheVariants.{Two, Four}
-use Rattle.device_spec.proofs.Common.{length-replicate, Activity, sectors_of, is_drq, bytes_written, activity_written}
-use Rattle.device_spec.proofs.Common.{word_written, byte_written, disk_status_port}
+use Rattle.device_spec.proofs.Common.{Two, Four, length-replicate, Activity, sectors_of, is_drq, bytes_written}
+use Rattle.device_spec.proofs.Common.{activity_written, word_written, byte_written, disk_status_port}
 use Rattle.device_spec.specs.Ata.Steps.{after_read as disk_after_read, after_write as disk_after_write, after_bad}
 use Rattle.board_devices.specs.Devices.{DevicesValue, HasDisk, sectors_fitted}
 use Rattle.board_devices.specs.Steps.{after_read, after_write, devices_accessed, fitted_accessed}
@@ -79,8 +78,7 @@ has_opened : (bytes : List ℕ) → IsDiskSize (length bytes) →
 unfolding disk_with
 has_opened bytes is = grind (arith, nat_tests, common_steps, sectors_of, disk_with, length-replicate)
 
-fitted_opened : (disk : Option (List ℕ)) → IsDisk disk →
-    HasDisk disk (option_map (λ bytes. disk_with bytes []) disk)
+fitted_opened : (disk : Option (List ℕ)) → IsDisk disk → HasDisk disk (option_map (λ bytes. disk_with bytes []) disk)
 fitted_opened disk is = grind (arith, nat_tests, has_opened)
 
 pub opened_has : (setup : Setup) (devices : DevicesValue) → IsDisk setup.disk → devices.disk ≡ disk_of setup [] →

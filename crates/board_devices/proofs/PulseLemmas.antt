@@ -1,13 +1,12 @@
 -- Many pulses of the timer leave the pair as two sets of levels do.
-use Rattle.board_prelude.proofs.Common.{common_steps, cases_Bool, or_parts, true≢false, nat_tests, Levels, has}
-use Rattle.board_prelude.proofs.Common.{levels_where, with_level, levels_of_byte, Chip, interrupt, latches_after}
-use Rattle.board_prelude.proofs.Common.{chip_after_inputs, Pair, settled, master_inputs, pair_at_reset}
+use Rattle.board_spec.proofs.Common.{common_steps, cases_Bool, or_parts, true≢false, nat_tests, elcr-same, timer-pulsed}
+use Rattle.board_spec.proofs.Common.{triggers-pulsed, levels-pulsed, pair_has_seen, levels_where-same, has-levels_where}
+use Rattle.board_spec.proofs.Common.{same-levels, inputs-again, settled-asks, settled-quiet, latched, pair-pulsed}
+use Rattle.board_prelude.proofs.Common.{Levels, has, levels_where, with_level, levels_of_byte, Chip, interrupt}
+use Rattle.board_prelude.proofs.Common.{latches_after, chip_after_inputs, Pair, settled, master_inputs, pair_at_reset}
 use Rattle.board_prelude.proofs.Common.{levels_at_power_on, pair_after_lines, PitState, out_of, pulses, rises, Event}
 use Rattle.board_prelude.proofs.Common.{Pulses, Entry, Setup, is_hard_reset, timer_of, routes_of, levels_with}
-use Rattle.board_prelude.proofs.Common.{levels_of, elcr_of, elcr-same, timer-pulsed, triggers-pulsed, levels-pulsed}
-use Rattle.board_prelude.proofs.Common.{pair_pulsed, pair_reset_or_after, pair_stepped, pair_of, pair_has_seen}
-use Rattle.board_prelude.proofs.Common.{levels_where-same, has-levels_where, same-levels, inputs-again, settled-asks}
-use Rattle.board_prelude.proofs.Common.{settled-quiet, latched, pair-pulsed}
+use Rattle.board_prelude.proofs.Common.{levels_of, elcr_of, pair_pulsed, pair_reset_or_after, pair_stepped, pair_of}
 use Rattle.std.proofs.Common.{◌≡◌, ℕ, zero, suc, ◌+◌, ◌/◌, ◌%◌, ◌<◌, ◌==◌, nat_lt, ◌&&◌, ◌||◌, not, Bool, true, false}
 use Rattle.std.proofs.Common.{cond, List, [], ◌∷◌, is_some, take, drop, inl, inr, refl, ap, sym, subst, ◌∙◌, arith}
 use Rattle.std.proofs.Common.{lit<, slice_set}
@@ -114,9 +113,8 @@ module _ (rest : List Bool) (latches inputs : Levels) (fresh : (has latches 0 &&
   unfolding levels_where
   first_low = refl
 
-  base : (l : ℕ) → l < 8 →
-      after_at (after_at (has latches l) (has inputs l) (has high_at l)) (has high_at l) (has low_at l)
-      ≡ after_at (has latches l) (has inputs l) (has low_at l)
+  base : (l : ℕ) → l < 8 → after_at (after_at (has latches l) (has inputs l) (has high_at l)) (has high_at l)
+      (has low_at l) ≡ after_at (has latches l) (has inputs l) (has low_at l)
   base zero h = rw (first_high, first_low) (rises_and_falls (has latches 0) (has inputs 0) fresh)
   base (suc l) h = rw (same_above (true ∷ rest) l h)
       (stays_put (after_at (has latches (suc l)) (has inputs (suc l)) (has low_at (suc l))) (has low_at (suc l)))
@@ -227,11 +225,10 @@ module _ (setup : Setup) (history : List Entry) where
   abbrev lines : List Bool
   lines = levels_with setup history timer
 
-  pub pulsed : (n : ℕ) → IsFresh (pair_of setup history) →
-      lines_at lines (elcr_of history) (out_of 0 timer) (pair_of setup history) ≡ pair_of setup history →
-      pair_pulsed setup history n (pair_of setup history)
-      ≡ pair_after_run lines (elcr_of history) (nat_lt 0 (rises n timer)) (out_of 0 (pulses n timer))
-      (pair_of setup history)
+  pub pulsed : (n : ℕ) → IsFresh (pair_of setup history) → lines_at lines (elcr_of history) (out_of 0 timer)
+      (pair_of setup history) ≡ pair_of setup history →
+      pair_pulsed setup history n (pair_of setup history) ≡ pair_after_run lines (elcr_of history)
+      (nat_lt 0 (rises n timer)) (out_of 0 (pulses n timer)) (pair_of setup history)
   unfolding pair_pulsed rises pulses out_of
   pulsed zero is seen = sym seen
   pulsed (suc k) is seen =
@@ -291,8 +288,7 @@ same_run levels lines elcr bits n m out level pair same a b c d e = rw (a, b, c,
 
 -- no route moves
 pub routes_pulsed : (setup : Setup) (history : List Entry) (entry : Entry) (count : ℕ) →
-    Asks history entry (Pulses count) →
-    routes_of setup (entry ∷ history) ≡ routes_of setup history
+    Asks history entry (Pulses count) → routes_of setup (entry ∷ history) ≡ routes_of setup history
 routes_pulsed setup history entry count asks = routes_stand setup history entry asks.soft (rw asks.event_is refl)
 
 -- `run` are the devices whose timer alone ran

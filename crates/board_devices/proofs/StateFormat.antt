@@ -1,7 +1,6 @@
 -- The state of the devices is spelled and read back.
-use Rattle.board_prelude.proofs.Common.{nat_tests}
+use Rattle.board_prelude.proofs.Common.{nat_tests, Disk, IsDisk}
 use Rattle.std.proofs.Common.{◌≡◌, ℕ, ◌+◌, List, Option, Some, None, refl, ap, arith}
-use Rattle.board_prelude.specs.Common.{Disk, IsDisk}
 use Rattle.byte_fields.proofs.Formats.{IsFormat, fields_format, ◌then◌, ◌&◌, last_field}
 use Rattle.pic_pair.proofs.StateFormat.{pair_format, lines_format}
 use Rattle.pit_8254.proofs.StateFormat.{pit_format}
@@ -100,8 +99,5 @@ devices_format fitted is =
     fields_format
     (machines_format then λ machines good.
     last_field _ (fitted_format fitted is))
-    (λ d are. (
-      (record d { disk = None }, (with_disk d None are.machines, refl)) & (d.disk, are.disk),
-      refl,
-    ))
+    (λ d are. ((record d { disk = None }, (with_disk d None are.machines, refl)) & (d.disk, are.disk), refl))
     (λ t. (record { machines = with_disk t.0 t.2.0 t.1.0; disk = t.2.1 }, refl))

@@ -25,14 +25,12 @@ appended (Some xs) None new bytes first then = absurd first
 appended (Some xs) (Some ys) None bytes first then = absurd then
 appended (Some xs) (Some ys) (Some zs) bytes first then = rw first at then
 
-pub read_after :
-    {E : Type 0} (old mid new : Option (List ℕ)) (result : Result ℕ E) (into : List ℕ) → Keeps old mid →
+pub read_after : {E : Type 0} (old mid new : Option (List ℕ)) (result : Result ℕ E) (into : List ℕ) → Keeps old mid →
     ReadConsumes mid new result into → ReadConsumes old new result into
 read_after old mid new (Ok n) into first then = (consumed old mid new (take n into) first then.0, then.1)
 read_after old mid new (Err e) into first then = kept old mid new first then
 
-pub write_after :
-    {E : Type 0} (old mid new : Option (List ℕ)) (result : Result ℕ E) (piece : List ℕ) → Keeps old mid →
+pub write_after : {E : Type 0} (old mid new : Option (List ℕ)) (result : Result ℕ E) (piece : List ℕ) → Keeps old mid →
     WriteAppends mid new result piece → WriteAppends old new result piece
 write_after old mid new (Ok n) piece first then = appended old mid new (take n piece) first then
 write_after old mid new (Err e) piece first then = kept old mid new first then
@@ -40,8 +38,7 @@ write_after old mid new (Err e) piece first then = kept old mid new first then
 -- ---- bytes of a file that were passed over
 
 -- what is left after so many, and after the read of more
-pub passed_more :
-    (left new : Option (List ℕ)) (bytes taken : List ℕ) (from count : ℕ) → left ≡ Some (drop from bytes) →
+pub passed_more : (left new : Option (List ℕ)) (bytes taken : List ℕ) (from count : ℕ) → left ≡ Some (drop from bytes) →
     Consumes left new taken → length taken ≡ count → new ≡ Some (drop (from + count) bytes)
 passed_more None new bytes taken from count is then size = absurd (cc)
 passed_more (Some xs) None bytes taken from count is then size = absurd then
@@ -53,9 +50,8 @@ passed_more (Some xs) (Some ys) bytes taken from count is then size =
     some_is xs ys same = cc
 
 -- where nothing is left after so many, nothing is left after more
-pub passed_all :
-    (new : Option (List ℕ)) (bytes : List ℕ) (from count : ℕ) → from ≤ count → new ≡ Some (drop from bytes) →
-    IsAtEnd new → new ≡ Some (drop count bytes)
+pub passed_all : (new : Option (List ℕ)) (bytes : List ℕ) (from count : ℕ) → from ≤ count →
+    new ≡ Some (drop from bytes) → IsAtEnd new → new ≡ Some (drop count bytes)
 passed_all None bytes from count below is end = absurd (cc)
 passed_all (Some xs) bytes from count below is end =
     let none : drop from bytes ≡ [] = sym (some_is xs (drop from bytes) is) ∙ end in
@@ -73,8 +69,7 @@ passed_all (Some xs) bytes from count below is end =
 -- ---- what a read gives of a file
 
 -- the bytes that came are those of the file from this place on
-pub came_from :
-    (left new : Option (List ℕ)) (file taken : List ℕ) (at count : ℕ) → left ≡ Some (drop at file) →
+pub came_from : (left new : Option (List ℕ)) (file taken : List ℕ) (at count : ℕ) → left ≡ Some (drop at file) →
     Consumes left new taken → length taken ≡ count → taken ≡ take count (drop at file)
 came_from None new file taken at count is then size = absurd (cc)
 came_from (Some xs) None file taken at count is then size = absurd then
@@ -86,8 +81,7 @@ came_from (Some xs) (Some ys) file taken at count is then size =
     some_is xs ys same = cc
 
 -- where nothing came at the end, the file ends at this place or before
-pub ends_by :
-    (left new : Option (List ℕ)) (file taken : List ℕ) (at : ℕ) → left ≡ Some (drop at file) →
+pub ends_by : (left new : Option (List ℕ)) (file taken : List ℕ) (at : ℕ) → left ≡ Some (drop at file) →
     Consumes left new taken → length taken ≡ 0 → IsAtEnd new → length file ≤ at
 ends_by left new file taken at is then none end =
     let after : new ≡ Some (drop (at + 0) file) = passed_more left new file taken at 0 is then none in
@@ -101,8 +95,7 @@ ends_by left new file taken at is then none end =
         let same : xs ≡ bytes = cc in ap length (sym same ∙ end)
 
 -- where a folder tells its files, a fact of each of them is a fact of the file of this name
-pub of_file :
-    (files : Option (List ℕ → List ℕ)) (name : List ℕ) (P : List ℕ → Type 0) →
+pub of_file : (files : Option (List ℕ → List ℕ)) (name : List ℕ) (P : List ℕ → Type 0) →
     ((file_of : List ℕ → List ℕ) → files ≡ Some file_of → P (file_of name)) → OfFile files name P
 of_file None name P each = tt
 of_file (Some file_of) name P each = each file_of refl

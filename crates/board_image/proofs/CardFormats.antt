@@ -65,8 +65,7 @@ bases_from (base ∷ later) room good =
     let rest = bases_from later (room - memory_size base) good.1 in
     ((good.0.0, rest.0), omega (arith, whole, rest.1, good.0.1))
 
-bases_format : (room count : ℕ) → count ≤ 6 →
-    IsFormat 6 (bases_fields count room) (map base_byte)
+bases_format : (room count : ℕ) → count ≤ 6 → IsFormat 6 (bases_fields count room) (map base_byte)
     (λ bases. (length bases ≡ count) × AreBasesIn room bases)
 bases_format room count few =
     format_as 6 (map base_byte) (λ bases. (length bases ≡ count) × AreBasesIn room bases)
@@ -170,8 +169,7 @@ cards_from (card ∷ later) above room some good =
 -- ---- all cards of a board
 
 abbrev pub AreCardsOf : (count room : ℕ) → List FittedCard → Type 0
-AreCardsOf count room cards =
-    (length cards ≡ count) × All IsCard cards × Rises cards × (memory_of_cards cards ≤ room)
+AreCardsOf count room cards = (length cards ≡ count) × All IsCard cards × Rises cards × (memory_of_cards cards ≤ room)
 
 two_or_more : (cards : List FittedCard) → AllByRecursion IsCard cards → AllByRecursion (LiesAbove 1) cards
 two_or_more [] all = tt

@@ -9,14 +9,13 @@ use Rattle.board_base.specs.declared.access.Width.TheVariants.{Two, Four}
 use Rattle.board_base.specs.declared.access.Access.{Access}
 use Rattle.board_image.specs.Common.{kind_byte, tag_byte, memory_bytes, port_bytes, wide_bytes, kind_of, kind_field}
 use Rattle.board_image.specs.Common.{width_of, width_field, tag_of, tag_field, most_value, is_wide_size, is_wide_place}
-use Rattle.board_image.specs.Common.{memory_fields, port_fields, wide_fields}
+use Rattle.board_image.specs.Common.{memory_fields, port_fields, wide_fields, Reading}
 use Rattle.board_spec.specs.declared.stimulus.Stimulus.TheVariants.{Wire}
 use Rattle.image_writer.specs.declared.tag.Tag.{Tag}
-use Rattle.image_writer.specs.declared.tag.Tag.TheVariants as tags
-use Rattle.byte_fields.specs.Fields.{Reading}
 use Rattle.byte_fields.proofs.Formats.{IsFormat, format_as, fields_format, ◌then◌, ◌&◌, last_field}
 use Rattle.byte_fields.proofs.Numbers.{Any, flag_format, wide16, wide32, wide64, byte_format, byte_where, Tells, no_row}
 use Rattle.byte_fields.proofs.Numbers.{row, where_format, within_format, Ranges}
+use Rattle.image_writer.specs.declared.tag.Tag.TheVariants as tags
 
 kind_tells : Tells kind_of kind_byte
 kind_tells = row kind_byte 0 Fetch refl (row kind_byte 1 Read refl (row kind_byte 2 Write refl (no_row kind_byte)))
@@ -60,8 +59,7 @@ tag_format = byte_format tag_byte Any tag_said (λ n tag below is. (tag_tells n 
 -- ---- accesses
 
 -- in more bytes at most
-pub wider :
-    {A : Type 0} {n : ℕ} (m : ℕ) {reads : Reading A} {spelled : A → List ℕ} {IsGood : A → Type 0} →
+pub wider : {A : Type 0} {n : ℕ} (m : ℕ) {reads : Reading A} {spelled : A → List ℕ} {IsGood : A → Type 0} →
     IsFormat n reads spelled IsGood → n ≤ m → IsFormat m reads spelled IsGood
 wider m {spelled = spelled} {IsGood = IsGood} is few =
     format_as m spelled IsGood is few (λ value good. good) (λ value good. good) (λ value good. refl)
@@ -101,10 +99,7 @@ memory_format =
           & (access.value, value_to (is_write access.kind) access.addr access.width access.value can.1),
       refl,
     ))
-    (λ t. (
-      (t.2.2.2.1.0, bus_from (is_write t.0) t.2.2.2.0 t.2.2.0 t.2.2.2.2.0 t.2.2.2.1.1 t.2.2.2.2.1),
-      refl,
-    ))
+    (λ t. ((t.2.2.2.1.0, bus_from (is_write t.0) t.2.2.2.0 t.2.2.0 t.2.2.2.2.0 t.2.2.2.1.1 t.2.2.2.2.1), refl))
 
 pub port_format : IsFormat 8 port_fields port_bytes CanSpellPort
 unfolding port_fields port_bytes

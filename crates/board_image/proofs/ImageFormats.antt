@@ -1,19 +1,16 @@
 -- The fields of a whole image.
 use Rattle.std.proofs.Common.{◌≡◌, ℕ, ◌+◌, ◌%◌, ◌/◌, ◌^◌, ◌<◌, ◌≤◌, ◌↔◌, IsTrue, inl, inr, Bool, true, false, List, []}
 use Rattle.std.proofs.Common.{◌∷◌, ◌++◌, length, Option, Some, None, Ok, Err, refl, sym, ap, ◌∙◌, append_assoc, arith}
-use Rattle.std.proofs.Common.{flat_map, All, is_some, unwrap_or}
-use Rattle.board_prelude.proofs.Common.{AllByRecursion, w16, w32, to_le_bytes, nat_tests, eq-eqb, eqb-true, cases_Bool}
-use Rattle.board_prelude.proofs.Common.{false≢true, length-append, nil_from_length, append-nil, recursion_from_All}
-use Rattle.board_prelude.proofs.Common.{Statement, Setup, IsRomSize, is_rom_size, IsDisk, IsDiskSize, is_disk_length}
-use Rattle.board_prelude.proofs.Common.{most_statements, most_card_memory}
-use Rattle.board_prelude.specs.Common.{most_mib}
+use Rattle.std.proofs.Common.{flat_map, All, is_some, unwrap_or, eq-eqb, eqb-true, length-append, append-nil}
+use Rattle.board_prelude.specs.Common.{AllByRecursion, w16, w32, to_le_bytes, Statement, Setup, IsRomSize, is_rom_size}
+use Rattle.board_prelude.specs.Common.{IsDisk, IsDiskSize, is_disk_length, most_statements, most_card_memory, most_mib}
+use Rattle.board_prelude.proofs.Common.{nat_tests, cases_Bool, false≢true, nil_from_length, recursion_from_All}
 use Rattle.std.proofs.lemmas.List.Elements.{All-from_recursion}
 use Rattle.board_image.specs.declared.head.Head.{Head}
 use Rattle.board_image.specs.Common.{Saved, magic, image_version, flag_byte, card_bytes, disk_bytes, size_bytes}
 use Rattle.board_image.specs.Common.{head_bytes, step_bytes, image_bytes, IsImageStep, IsImage, then_read, gives, ended}
 use Rattle.board_image.specs.Common.{has_disk_size, disk_where, head_fields, setup_fields, steps_fields, saved_fields}
-use Rattle.board_image.specs.Common.{image_fields}
-use Rattle.byte_fields.specs.Fields.{AreBytes}
+use Rattle.board_image.specs.Common.{image_fields, AreBytes}
 use Rattle.byte_fields.proofs.Formats.{ok_is, not_err, err_is, then_ok, then_err, IsFormat, format_as, fields_format}
 use Rattle.byte_fields.proofs.Formats.{◌then◌, ◌&◌, last_field, many_format, plain_format, AreGood}
 use Rattle.byte_fields.proofs.Numbers.{flag_format, wide16, wide32, byte_within, within_format, where_format, Ranges}
@@ -149,17 +146,11 @@ disk_there true bytes = refl
 disk_there false bytes = refl
 
 made_of : (mib : ℕ) (has_disk : Bool) (setup : Setup) → setup.mib ≡ mib → is_some setup.disk ≡ has_disk →
-    setup ≡ record {
-      mib = mib;
-      cards = setup.cards;
-      rom = setup.rom;
-      disk = disk_where has_disk (disk_bytes setup);
-    }
+    setup ≡ record { mib = mib; cards = setup.cards; rom = setup.rom; disk = disk_where has_disk (disk_bytes setup) }
 made_of mib has_disk setup is there =
     rw (← is, ← there) (ap (λ (disk : Option (List ℕ)). record setup { disk = disk }) (disk_told setup.disk))
 
-setup_format : (head : Head) → IsHead head →
-    IsFormat 34_078_800 (setup_fields head) setup_spelled (IsFitted head)
+setup_format : (head : Head) → IsHead head → IsFormat 34_078_800 (setup_fields head) setup_spelled (IsFitted head)
 unfolding setup_fields
 setup_format head is =
     let rom = rom_most head.rom_size is.rom in
@@ -191,9 +182,8 @@ steps_from : (setup : Setup) (steps : List Statement) → AreGood same_setup IsI
 steps_from setup [] good = tt
 steps_from setup (step ∷ later) good = (good.0, steps_from setup later good.1)
 
-steps_format : (setup : Setup) (count : ℕ) → count ≤ most_statements →
-    IsFormat 4_250_000 (steps_fields setup count) (flat_map step_bytes)
-    (λ steps. (length steps ≡ count) × All (IsImageStep setup) steps)
+steps_format : (setup : Setup) (count : ℕ) → count ≤ most_statements → IsFormat 4_250_000 (steps_fields setup count)
+    (flat_map step_bytes) (λ steps. (length steps ≡ count) × All (IsImageStep setup) steps)
 steps_format setup count few =
     format_as 4_250_000 (flat_map step_bytes) (λ steps. (length steps ≡ count) × All (IsImageStep setup) steps)
     (many_format steps_loop step_format setup count) (omega (arith, few))

@@ -57,8 +57,7 @@ look_smm (LookAt kind addr smm) = smm
 look_smm event = false
 
 abbrev pub IsLook : Event → Type 0
-IsLook event =
-    (look_addr event < 2 ^ 32) × (event ≡ LookAt (look_kind event) (look_addr event) (look_smm event))
+IsLook event = (look_addr event < 2 ^ 32) × (event ≡ LookAt (look_kind event) (look_addr event) (look_smm event))
 
 look_format : IsFormat 6 look_fields field_bytes IsLook
 unfolding look_fields look_bytes field_bytes
@@ -144,15 +143,13 @@ CanSpell setup (tags.Stimulus one) event = IsStimulus setup one (stimulus_form o
 
 event_format : (setup : Setup) (tag : Tag) → IsFormat 15 (event_fields setup tag) field_bytes (CanSpell setup tag)
 unfolding event_fields field_bytes
-event_format setup tags.Memory =
-    wider 15 (made_format Memory field_bytes memory_format (λ access. refl)) (omega arith)
+event_format setup tags.Memory = wider 15 (made_format Memory field_bytes memory_format (λ access. refl)) (omega arith)
 event_format setup tags.Port = wider 15 (made_format Port field_bytes port_format (λ access. refl)) (omega arith)
 event_format setup tags.Look = wider 15 look_format (omega arith)
 event_format setup tags.Ack =
     format_as 15 field_bytes (CanSpell setup tags.Ack) (done_format Ack) (omega arith) (λ event good. good)
     (λ event good. good) (λ event good. sym (ap field_bytes good))
-event_format setup tags.Time =
-    wider 15 (made_format Time field_bytes moment_format (λ moment. refl)) (omega arith)
+event_format setup tags.Time = wider 15 (made_format Time field_bytes moment_format (λ moment. refl)) (omega arith)
 event_format setup tags.Wide = made_format Wide field_bytes wide_format (λ access. refl)
 event_format setup (tags.Stimulus one) = applied_format setup one (stimulus_form one).has_level refl
 

@@ -1,10 +1,8 @@
 -- A wide access is cut part by part.
 use Rattle.std.proofs.Common.{◌≡◌, ℕ, zero, suc, ◌+◌, ◌-◌, ◌*◌, ◌/◌, ◌%◌, ◌^◌, ◌<◌, ◌≤◌, List, [], ◌∷◌, ◌++◌, bit_and}
-use Rattle.std.proofs.Common.{refl, sym, ◌∙◌, ap, arith, map}
-use Rattle.board_prelude.proofs.Common.{and_mask, pow-add, ne_eqb, append-nil, map-append, nat_tests, Width, One}
-use Rattle.board_prelude.proofs.Common.{WideAccess, bytes_of, largest_of, Setup, Bytes, longest_at, part_at, parts_from}
-use Rattle.board_prelude.proofs.Common.{parts_of}
-use Rattle.std.proofs.lemmas.List.{append_assoc}
+use Rattle.std.proofs.Common.{refl, sym, ◌∙◌, ap, arith, map, pow-add, ne_eqb, append-nil, append_assoc}
+use Rattle.board_prelude.proofs.Common.{and_mask, map-append, nat_tests, Width, One, WideAccess, bytes_of, largest_of}
+use Rattle.board_prelude.proofs.Common.{Setup, Bytes, longest_at, part_at, parts_from, parts_of}
 use Rattle.board_base.specs.declared.access.Width.TheVariants.{Two, Four}
 use Rattle.board_base.specs.declared.access.Access.{Access}
 use Rattle.board_stores.specs.Common.{part_in, accesses, answers}
@@ -80,29 +78,24 @@ nothing access zero addr left none = refl
 nothing access (suc most) addr left none = rw none refl
 
 -- where nothing is left there are no more parts
-pub no_part :
-    (access : WideAccess) (parts : List Access) (count done : ℕ) → access.bytes ≤ done → GoesOn access parts count
-    done →
-    GoesOn access parts (count + 1) done
+pub no_part : (access : WideAccess) (parts : List Access) (count done : ℕ) → access.bytes ≤ done →
+    GoesOn access parts count done → GoesOn access parts (count + 1) done
 no_part access parts count done all on =
     let none : access.bytes - done ≡ 0 = omega arith in
     rw (nothing access (4 - (count + 1)) (access.addr + done) (access.bytes - done) none)
     (rw (nothing access (4 - count) (access.addr + done) (access.bytes - done) none) at on)
 
 -- after four parts nothing is left
-pub all_parts :
-    (access : WideAccess) (parts : List Access) (count done : ℕ) → count ≡ 4 → GoesOn access parts count done →
-    parts ≡ parts_of access
+pub all_parts : (access : WideAccess) (parts : List Access) (count done : ℕ) → count ≡ 4 →
+    GoesOn access parts count done → parts ≡ parts_of access
 unfolding parts_from
 all_parts access parts count done four on =
     let last : 4 - count ≡ 0 = omega arith in sym (append-nil parts) ∙ rw last at on
 
 -- ---- their answers
 
-pub all_decoded :
-    (setup : Setup) (bytes : Bytes) (cycles : List Cycle) (cycle : Cycle) →
-    answers cycles ≡ map (part_in setup bytes) (accesses cycles) →
-    cycle.answer ≡ part_in setup bytes cycle.access →
+pub all_decoded : (setup : Setup) (bytes : Bytes) (cycles : List Cycle) (cycle : Cycle) →
+    answers cycles ≡ map (part_in setup bytes) (accesses cycles) → cycle.answer ≡ part_in setup bytes cycle.access →
     answers (cycles ++ cycle ∷ []) ≡ map (part_in setup bytes) (accesses (cycles ++ cycle ∷ []))
 all_decoded setup bytes cycles cycle before last =
     rw (

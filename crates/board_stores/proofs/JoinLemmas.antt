@@ -31,8 +31,7 @@ pub few_bytes : (cycles : List Cycle) → (from end : ℕ) × Covers from end (a
 few_bytes cycles covers = let e = covered covers.0 covers.1 cycles covers.2 in omega (arith, covers.3)
 
 -- a shift that is passed before a cycle
-pub shift_below :
-    (cycles : List Cycle) (i shift : ℕ) → i < length cycles → bytes_in cycles ≤ 8 →
+pub shift_below : (cycles : List Cycle) (i shift : ℕ) → i < length cycles → bytes_in cycles ≤ 8 →
     shift + 8 * bytes_in (drop i cycles) ≡ 8 * bytes_in cycles → shift < 64
 shift_below [] i shift within few is = absurd (omega arith)
 shift_below (first ∷ later) i shift within few is =
@@ -40,8 +39,7 @@ shift_below (first ∷ later) i shift within few is =
     omega (arith, is, few, bytes_left cycles i first within, some_bytes (get_or cycles i first).access.width)
 
 -- and after it
-pub next_shift :
-    (cycles : List Cycle) (i shift bytes : ℕ) (d : Cycle) → i < length cycles → bytes_in cycles ≤ 8 →
+pub next_shift : (cycles : List Cycle) (i shift bytes : ℕ) (d : Cycle) → i < length cycles → bytes_in cycles ≤ 8 →
     bytes ≡ bytes_of (get_or cycles i d).access.width → shift + 8 * bytes_in (drop i cycles) ≡ 8 * bytes_in cycles →
     (shift + 8 * bytes ≤ 64) × (shift + 8 * bytes + 8 * bytes_in (drop (i + 1) cycles) ≡ 8 * bytes_in cycles)
 next_shift cycles i shift bytes d within few bytes_is is =
@@ -98,8 +96,7 @@ value_or so_far shift read bytes below fits short =
     let room : read * 2 ^ shift < 2 ^ 64 = omega arith in
     (rw (mod-eq_of_lt room, or_shifted_r read shift so_far below) (omega arith), whole)
 
-pub next_value :
-    (value : Cycle → ℕ) (cycles : List Cycle) (i so_far shift read : ℕ) (d : Cycle) → i < length cycles →
+pub next_value : (value : Cycle → ℕ) (cycles : List Cycle) (i so_far shift read : ℕ) (d : Cycle) → i < length cycles →
     read ≡ value (get_or cycles i d) → read < 256 ^ bytes_of (get_or cycles i d).access.width →
     shift + 8 * bytes_of (get_or cycles i d).access.width ≤ 64 → IsSoFar value cycles i so_far shift →
     IsSoFar value cycles (i + 1) (bit_or so_far (read * 2 ^ shift % 2 ^ 64))
@@ -123,9 +120,7 @@ next_value value cycles i so_far shift read d within is fits short before =
         rw (mul_assoc P B J, add_assoc so_far (P * read) (P * (B * J)), mul-add P read (B * J)) refl
 
 -- where no cycle is left
-pub whole_value :
-    (value : Cycle → ℕ) (cycles : List Cycle) (i so_far shift : ℕ) → drop i cycles ≡ [] →
-    IsSoFar value cycles i so_far shift →
-    so_far ≡ joined_cycles value cycles
+pub whole_value : (value : Cycle → ℕ) (cycles : List Cycle) (i so_far shift : ℕ) → drop i cycles ≡ [] →
+    IsSoFar value cycles i so_far shift → so_far ≡ joined_cycles value cycles
 whole_value value cycles i so_far shift end is =
     let sum = rw end at is.sum in omega (arith, sum)

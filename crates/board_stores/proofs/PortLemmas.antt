@@ -15,9 +15,8 @@ longest_aligned : (addr left : ℕ) → addr % bytes_of (longest_at addr left) �
 longest_aligned addr left = grind (arith, nat_tests)
 
 -- no more parts than bytes are left, so they end where the bytes do
-follow_from :
-    (access : PortAccess) (most addr left : ℕ) → left ≤ most →
-    Follow addr (addr + left) (map (cycle_of access.write) (parts_from (as_wide access) most addr left))
+follow_from : (access : PortAccess) (most addr left : ℕ) → left ≤ most → Follow addr (addr + left)
+    (map (cycle_of access.write) (parts_from (as_wide access) most addr left))
 unfolding parts_from
 follow_from access zero addr left few = omega (arith, few)
 follow_from access (suc most) addr left few =
@@ -34,9 +33,8 @@ follow_from access (suc most) addr left few =
           )
     ]
 
-each_from :
-    (access : PortAccess) (most addr left : ℕ) →
-    All (IsCycleOf access) (map (cycle_of access.write) (parts_from (as_wide access) most addr left))
+each_from : (access : PortAccess) (most addr left : ℕ) → All (IsCycleOf access)
+    (map (cycle_of access.write) (parts_from (as_wide access) most addr left))
 unfolding parts_from
 each_from access zero addr left = All-nil (IsCycleOf access)
 each_from access (suc most) addr left =
@@ -63,26 +61,21 @@ pub are_cycles_as : (access : PortAccess) (cycles : List PortAccess) → cycles 
 are_cycles_as access cycles is = rw is (are_cycles access)
 
 -- where all parts were made they are those of the access
-pub whole :
-    (access : PortAccess) (wide : WideAccess) (parts : List Access) (count done : ℕ) (cycles : List PortAccess) →
-    wide ≡ as_wide access → cycles ≡ map (cycle_of access.write) parts → count ≡ 4 → GoesOn wide parts count done →
-    cycles ≡ port_cycles access
-whole access wide parts count done cycles is are four on =
-    rw (are, all_parts wide parts count done four on, is) refl
+pub whole : (access : PortAccess) (wide : WideAccess) (parts : List Access) (count done : ℕ)
+    (cycles : List PortAccess) → wide ≡ as_wide access → cycles ≡ map (cycle_of access.write) parts → count ≡ 4 →
+    GoesOn wide parts count done → cycles ≡ port_cycles access
+whole access wide parts count done cycles is are four on = rw (are, all_parts wide parts count done four on, is) refl
 
 -- ---- on the bus
 
-cycle_fits :
-    (write : Bool) (whole width : Width) (value places : ℕ) → FitsAccess write whole value →
+cycle_fits : (write : Bool) (whole width : Width) (value places : ℕ) → FitsAccess write whole value →
     FitsAccess write width (value / places % 256 ^ bytes_of width)
 cycle_fits true whole One value places fits = omega arith
 cycle_fits true whole Two value places fits = omega arith
 cycle_fits true whole Four value places fits = omega arith
-cycle_fits false whole width value places fits =
-    rw (fits, zero-div places) (zero-mod (256 ^ bytes_of width))
+cycle_fits false whole width value places fits = rw (fits, zero-div places) (zero-mod (256 ^ bytes_of width))
 
-pub bus_cycles :
-    (access : PortAccess) (cycles : List PortAccess) → FitsAccess access.write access.width access.value →
+pub bus_cycles : (access : PortAccess) (cycles : List PortAccess) → FitsAccess access.write access.width access.value →
     All (IsCycleOf access) cycles → AreBusCycles cycles
 bus_cycles access [] fits each =
     All-nil (λ (cycle : PortAccess). IsBusAccess cycle.write cycle.port cycle.width cycle.value)

@@ -17,14 +17,12 @@ put_nothing stores = record {
   contents = λ dev base off number within. refl;
 }
 
-in_dram :
-    (put : Cell → Option ℕ) (old new : Stores) → ArePut put old new →
+in_dram : (put : Cell → Option ℕ) (old new : Stores) → ArePut put old new →
     HasPut (λ at. put (DramCell at)) old.dram new.dram
 in_dram put old new has = record { size = has.size; each = has.dram }
 
 -- bytes put after others stand over them
-pub put_then :
-    (first later : Cell → Option ℕ) (old mid new : Stores) → ArePut first old mid → ArePut later mid new →
+pub put_then : (first later : Cell → Option ℕ) (old mid new : Stores) → ArePut first old mid → ArePut later mid new →
     ArePut (λ cell. option_or (later cell) (first cell)) old new
 put_then first later old mid new before after =
     let dram = dram_then (λ at. first (DramCell at)) (λ at. later (DramCell at)) old.dram mid.dram new.dram
@@ -51,16 +49,14 @@ unfolding parts_put
 none_put stores = put_nothing stores
 
 -- a cycle and those after it
-pub put_next :
-    (cycle : Cycle) (later : List Cycle) (old mid new : Stores) → ArePut (memory_put cycle.access cycle.answer.target)
-    old mid →
-    ArePut (cycles_put later) mid new → ArePut (cycles_put (cycle ∷ later)) old new
+pub put_next : (cycle : Cycle) (later : List Cycle) (old mid new : Stores) →
+    ArePut (memory_put cycle.access cycle.answer.target) old mid → ArePut (cycles_put later) mid new →
+    ArePut (cycles_put (cycle ∷ later)) old new
 unfolding parts_put
 put_next cycle later old mid new first rest =
     put_then (memory_put cycle.access cycle.answer.target) (cycles_put later) old mid new first rest
 
-pub put_at :
-    (cycles : List Cycle) (i : ℕ) (d : Cycle) (old mid new : Stores) → i < length cycles →
+pub put_at : (cycles : List Cycle) (i : ℕ) (d : Cycle) (old mid new : Stores) → i < length cycles →
     ArePut (memory_put (get_or cycles i d).access (get_or cycles i d).answer.target) old mid →
     ArePut (cycles_put (drop (i + 1) cycles)) mid new → ArePut (cycles_put (drop i cycles)) old new
 put_at cycles i d old mid new within first rest =
@@ -70,10 +66,9 @@ put_at cycles i d old mid new within first rest =
 
 -- ---- the cycles that are left can still be done
 
-held_after :
-    (rom : List ℕ) (old new : List (List ℕ)) (target : Target) (width : Width) →
-    ((dev base : ℕ) → length (held new dev base) ≡ length (held old dev base)) → IsHeld rom old target width → IsHeld
-    rom new target width
+held_after : (rom : List ℕ) (old new : List (List ℕ)) (target : Target) (width : Width) →
+    ((dev base : ℕ) → length (held new dev base) ≡ length (held old dev base)) → IsHeld rom old target width →
+    IsHeld rom new target width
 held_after rom old new (Rom off) width same is = is
 held_after rom old new (Card dev base off) width same is =
     record {
@@ -87,11 +82,9 @@ held_after rom old new (Device dev) width same is = is
 held_after rom old new (Config reg) width same is = is
 held_after rom old new _ width same is = tt
 
-pub ready_after :
-    (rom : List ℕ) (old new : List (List ℕ)) (cycle : Cycle) →
-    ((dev base : ℕ) → length (held new dev base) ≡ length (held old dev base)) → IsReady rom old cycle.access
-    cycle.answer →
-    IsReady rom new cycle.access cycle.answer
+pub ready_after : (rom : List ℕ) (old new : List (List ℕ)) (cycle : Cycle) →
+    ((dev base : ℕ) → length (held new dev base) ≡ length (held old dev base)) →
+    IsReady rom old cycle.access cycle.answer → IsReady rom new cycle.access cycle.answer
 ready_after rom old new cycle same ready = record {
   bus = ready.bus;
   held = held_after rom old new cycle.answer.target cycle.access.width same ready.held;

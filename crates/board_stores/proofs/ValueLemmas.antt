@@ -24,8 +24,7 @@ byte_at : (width : Width) (value : ℕ) (at : Option ℕ) →
     IsByte (option_and_then (λ k. if nat_lt k (bytes_of width) then Some (byte value k) else None) at)
 byte_at width value at = grind (arith, nat_tests)
 
-put_is_byte :
-    (target : Target) (addr : ℕ) (width : Width) (value : ℕ) (cell : Cell) →
+put_is_byte : (target : Target) (addr : ℕ) (width : Width) (value : ℕ) (cell : Cell) →
     IsByte (byte_put target addr width value cell)
 put_is_byte target addr width value cell =
     byte_at width value (option_and_then (λ first. distance first cell) (first_cell target addr))
@@ -71,17 +70,14 @@ card_below setup history dev base off =
 
 -- ---- what is read
 
-pub wide_below :
-    (byte_of : ℕ → ℕ) (from : ℕ) (width : Width) → ((at : ℕ) → byte_of at < 256) →
+pub wide_below : (byte_of : ℕ → ℕ) (from : ℕ) (width : Width) → ((at : ℕ) → byte_of at < 256) →
     wide byte_of from width < 256 ^ bytes_of width
 wide_below byte_of from width below =
     grind (arith, nat_tests, below from, below (from + 1), below (from + 2), below (from + 3))
 
-pub value_below :
-    (setup : Setup) (history : List Entry) (rom : List ℕ) (contents : List (List ℕ)) (target : Target) (place : ℕ)
-    (width : Width) →
-    setup.rom ≡ rom → ((at : ℕ) → slice_index rom at < 256) → IsHeld rom contents target width →
-    value_at setup history target place width < 256 ^ bytes_of width
+pub value_below : (setup : Setup) (history : List Entry) (rom : List ℕ) (contents : List (List ℕ)) (target : Target)
+    (place : ℕ) (width : Width) → setup.rom ≡ rom → ((at : ℕ) → slice_index rom at < 256) →
+    IsHeld rom contents target width → value_at setup history target place width < 256 ^ bytes_of width
 value_below setup history rom contents (Rom off) place width image bytes is =
     wide_below (slice_index setup.rom) off width (λ at. rw image (bytes at))
 value_below setup history rom contents (Card dev base off) place width image bytes is =

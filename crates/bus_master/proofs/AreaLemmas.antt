@@ -39,8 +39,7 @@ module _ (setup : Setup) (bytes : Bytes) (addr : ℕ) where
   same_kind kind x same = grind (arith, nat_tests)
 
   before_end : (found : Option ℕ) → IfSome found (IsNextEdge setup bytes addr) → (x : ℕ) →
-      x < unwrap_or found 0xFFFF_FFFF →
-      (x < unwrap_or found address_count) × (x < address_count)
+      x < unwrap_or found 0xFFFF_FFFF → (x < unwrap_or found address_count) × (x < address_count)
   before_end found next x below = grind (arith, nat_tests)
 
   -- up to the end of an area a word has it, and so has the first word

@@ -3,11 +3,10 @@ use Rattle.board_base.specs.declared.target.Area.TheVariants.{Rom as RomArea, Ca
 use Rattle.board_base.specs.declared.target.Area.TheVariants.{Card as CardArea, Rom as RomArea, Card as CardArea}
 use Rattle.board_base.specs.declared.target.Area.TheVariants.{Rom as RomArea, Card as CardArea, Rom as RomArea}
 use Rattle.board_base.specs.declared.target.Area.TheVariants.{Card as CardArea}
-use Rattle.board_base.proofs.Common.{nat_tests}
+use Rattle.board_prelude.proofs.Common.{nat_tests, bytes_of, Kind, Width, Area, Target, Dram, Shadow, Smram, Card}
+use Rattle.board_prelude.proofs.Common.{Setup, lies_in, upper_memory, Bytes, row_of, is_smram_range, is_shadowed}
+use Rattle.board_prelude.proofs.Common.{memory_claim, target_at, Cell, is_in_hole, is_bios_selected}
 use Rattle.std.proofs.Common.{◌≡◌, ℕ, ◌%◌, false, not, ◌&&◌, List, length, sym, refl, arith, is_some, unwrap_or}
-use Rattle.board_prelude.proofs.Common.{bytes_of, Kind, Width, Area, Target, Dram, Shadow, Smram, Card, Setup, lies_in}
-use Rattle.board_prelude.proofs.Common.{upper_memory, Bytes, row_of, is_smram_range, is_shadowed, memory_claim}
-use Rattle.board_prelude.proofs.Common.{target_at, Cell, is_in_hole, is_bios_selected}
 use Rattle.pci_bars.specs.Cards.{AreFitted}
 use Rattle.pci_bars.proofs.WindowLemmas.{IsSized, memory_claim_sized, lies_in_window}
 use Rattle.addr_decode.specs.Master.{master_area}
@@ -55,10 +54,8 @@ module _ {setup : Setup} {bytes : Bytes} {store : Store} (is : IsStoreOf setup b
 -- ---- a read looks at bytes that there can be alone
 
 value_same : (setup : Setup) (rom : List ℕ) (contents : List (List ℕ)) (cells other : Cells) (target : Target)
-    (addr : ℕ)
-    (width : Width) →
-    ((cell : Cell) → IsCell cell → cells cell ≡ other cell) → IsHeld rom contents target width →
-    value_in setup cells target addr width ≡ value_in setup other target addr width
+    (addr : ℕ) (width : Width) → ((cell : Cell) → IsCell cell → cells cell ≡ other cell) →
+    IsHeld rom contents target width → value_in setup cells target addr width ≡ value_in setup other target addr width
 value_same setup rom contents cells other (Dram row) addr width same held = grind (arith, nat_tests)
 value_same setup rom contents cells other (Shadow row) addr width same held = grind (arith, nat_tests)
 value_same setup rom contents cells other Smram addr width same held = grind (arith, nat_tests)
@@ -75,8 +72,7 @@ master_value_same {setup} {bytes} {store} is cells other addr width aligned same
     (held is addr Kind.Read width aligned)
 
 pub held_at : {store : Store} {area : Area} {addr : ℕ} {kind : Kind} (reached : IsReached store area addr kind)
-    (width : Width) →
-    addr % bytes_of width ≡ 0 → (target : Target) → target ≡ target_at reached.setup area addr →
+    (width : Width) → addr % bytes_of width ≡ 0 → (target : Target) → target ≡ target_at reached.setup area addr →
     IsHeld store.rom.items store.contents target width
 held_at {store} {area} {addr} {kind} reached width aligned target is =
     rw (is, reached.reached) (held reached.of addr kind width aligned)

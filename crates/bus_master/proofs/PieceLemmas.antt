@@ -27,8 +27,7 @@ size_left count = grind (arith, nat_tests)
 -- some words, and then the others
 parted : (setup : Setup) (bytes : Bytes) (going : Going) (cells : Cells) (medium : Medium) (words : ℕ) →
     words ≤ going.words →
-    outcome setup bytes going cells medium
-    ≡ words_moved setup bytes going.direction going.lba (going.words - words)
+    outcome setup bytes going cells medium ≡ words_moved setup bytes going.direction going.lba (going.words - words)
     (words_moved setup bytes going.direction going.lba words (standing going cells medium))
 unfolding outcome
 parted setup bytes going cells medium words some =
@@ -37,8 +36,7 @@ parted setup bytes going cells medium words some =
     ∙ words_add setup bytes going.direction going.lba (going.words - words) words (standing going cells medium)
 
 first_word : (setup : Setup) (bytes : Bytes) (going : Going) (cells : Cells) (medium : Medium) → 1 ≤ going.words →
-    outcome setup bytes going cells medium
-    ≡ words_moved setup bytes going.direction going.lba (going.words - 1)
+    outcome setup bytes going cells medium ≡ words_moved setup bytes going.direction going.lba (going.words - 1)
     (next_moved setup bytes going.direction going.lba (standing going cells medium))
 unfolding words_moved
 first_word setup bytes going cells medium some = parted setup bytes going cells medium 1 some
@@ -72,16 +70,14 @@ module _ (setup : Setup) (bytes : Bytes) (going : Going) (cells : Cells) (medium
       is_missing going.lba going.place medium ≡ true →
       IsEnd (outcome setup bytes going cells medium) going cells medium (Sector (next_sector going.lba going.place))
   unfolding next_moved ready_for table_tested sector_tested
-  ends_missing some over missing =
-      ends_so (Sector (next_sector going.lba going.place)) some (rw (over, missing) refl)
+  ends_missing some over missing = ends_so (Sector (next_sector going.lba going.place)) some (rw (over, missing) refl)
 
   module _ (passed : HasPassed going medium) where
     pub ends_at_base : (end : End) → going.place.left ≡ 0 →
         Some end ≡ abort_at setup bytes Read going.place.table →
         IsEnd (outcome setup bytes going cells medium) going cells medium end
     unfolding next_moved ready_for table_tested sector_tested region_found answered
-    ends_at_base end used ends =
-        ends_so end passed.some (rw (passed.over, passed.sector, used, sym ends) refl)
+    ends_at_base end used ends = ends_so end passed.some (rw (passed.over, passed.sector, used, sym ends) refl)
 
     pub ends_at_count : (end : End) → going.place.left ≡ 0 →
         None ≡ abort_at setup bytes Read going.place.table →

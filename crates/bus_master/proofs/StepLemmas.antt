@@ -24,8 +24,7 @@ pub stands_skipped : {store : Store} {place : TransferPlace} {moving : Moving} {
 stands_skipped step is = grind (arith, nat_tests)
 
 pub stands_taken : {store new : Store} {place after : TransferPlace} {end : Option End} {moving : Moving}
-    (step : Moving → Moving) →
-    StandsAt moving store place None → StandsAt (step moving) new after end →
+    (step : Moving → Moving) → StandsAt moving store place None → StandsAt (step moving) new after end →
     StandsAt (moving and_then step) new after end
 stands_taken step is next = grind (arith, nat_tests)
 

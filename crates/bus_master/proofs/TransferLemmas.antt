@@ -1,7 +1,6 @@
 -- A whole transfer.
-use Rattle.board_base.proofs.Common.{nat_tests}
+use Rattle.board_prelude.proofs.Common.{nat_tests, Setup, Bytes, is_smram_range, DramCell}
 use Rattle.std.proofs.Common.{arith, ◌≡◌, ℕ, ◌*◌, ◌%◌, true, None, refl}
-use Rattle.board_prelude.proofs.Common.{Setup, Bytes, is_smram_range, DramCell}
 use Rattle.dram_store.specs.Dram.{dram_at}
 use Rattle.board_chipset.specs.declared.store.Store.{Store}
 use Rattle.bus_master.specs.declared.done.End.{End}

@@ -189,8 +189,7 @@ module _ (setup : Setup) (bytes : Bytes) (direction : Direction) (lba : ℕ) whe
 
   -- ---- the words of a stretch are copied one after another
 
-  word_place : (to : Direction) (moving : Moving) →
-      (word_moved setup bytes to lba moving).place ≡ moved_on moving.place
+  word_place : (to : Direction) (moving : Moving) → (word_moved setup bytes to lba moving).place ≡ moved_on moving.place
   unfolding word_moved
   word_place to moving = grind (arith, nat_tests)
 
@@ -216,12 +215,7 @@ module _ (setup : Setup) (bytes : Bytes) (direction : Direction) (lba : ℕ) whe
 
     pub copied_is : {place : TransferPlace} → place ≡ moving.place → None ≡ moving.end → (words : ℕ) → 1 ≤ words →
         after words
-        ≡ record {
-          cells = (after words).cells;
-          medium = (after words).medium;
-          place = went_on words place;
-          end = None;
-        }
+        ≡ record { cells = (after words).cells; medium = (after words).medium; place = went_on words place; end = None }
     copied_is come ends zero some = absurd (omega arith)
     copied_is come ends (suc words) some =
         is_standing (after (suc words)) (copied_place words ∙ sym (ap (went_on (suc words)) come))

@@ -3,8 +3,7 @@ use Rattle.std.proofs.Common.{◌≡◌, ◌≢◌, ℕ, ◌+◌, ◌<◌, ◌�
 use Rattle.std.proofs.Common.{refl, sym, arith, nat_le, nat_lt, slice_index}
 use Rattle.std.proofs.lemmas.List.{get_or-set_same, get_or-set_other, get_or_read}
 use Rattle.board_prelude.proofs.Common.{and_right, cases_eq, cases_lt, eq-eqb, ne_eqb, lt-ltb, le-ltb, get_or-replicate}
-use Rattle.board_prelude.proofs.Common.{get_or_past, length-replicate}
-use Rattle.board_prelude.specs.Common.{expansion_byte}
+use Rattle.board_prelude.proofs.Common.{get_or_past, length-replicate, expansion_byte}
 use Rattle.expansion_roms.specs.Roms.{byte_after, byte_in, given, put_byte, rom_byte}
 
 -- ---- none were given

@@ -70,8 +70,7 @@ all_from : (cards : List FittedIdentity) (before : Unit {0}) → AreGood past_id
 all_from [] before good = tt
 all_from (card ∷ later) before good = (good.0, all_from later before good.1)
 
-some_format : (count : ℕ) → count ≤ 8 →
-    IsFormat 120 (some_identities tt count) (flat_map identity_bytes)
+some_format : (count : ℕ) → count ≤ 8 → IsFormat 120 (some_identities tt count) (flat_map identity_bytes)
     (λ cards. (length cards ≡ count) × All IsIdentity cards)
 some_format count few =
     format_as 120 (flat_map identity_bytes) (λ cards. (length cards ≡ count) × All IsIdentity cards)

@@ -1,9 +1,8 @@
 -- A setup is spelled and read back.
 use Rattle.std.proofs.Common.{◌≡◌, ℕ, ◌^◌, ◌<◌, ◌≤◌, inl, inr, true, List, length, Option, Some, None, refl, sym, ◌∙◌}
 use Rattle.std.proofs.Common.{arith, ◌==◌}
-use Rattle.board_prelude.proofs.Common.{cases_Bool, eqb-true, nat_tests, nil_from_length, IsSetup, IsRomSize}
-use Rattle.board_prelude.proofs.Common.{is_rom_size, IsDisk, most_card_memory}
-use Rattle.board_prelude.specs.Common.{most_mib}
+use Rattle.board_prelude.proofs.Common.{cases_Bool, eqb-true, nat_tests, nil_from_length}
+use Rattle.board_prelude.specs.Common.{IsSetup, IsRomSize, is_rom_size, IsDisk, most_card_memory, most_mib}
 use Rattle.byte_fields.proofs.Formats.{IsFormat, fields_format, ◌then◌, ◌&◌, last_field, whole_field}
 use Rattle.byte_fields.proofs.Numbers.{wide32, byte_within, within_format, where_format}
 use Rattle.byte_fields.proofs.PageFormats.{memory_format}

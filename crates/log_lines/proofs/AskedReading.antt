@@ -96,11 +96,10 @@ said_again (Applies one number level) actor seq other event same = elim (cases_l
   | inr high ↦ absurd (high_asks actor seq one number level event high same)
 ]
 
-pub asked_exact : (version actor : ℕ) (text : List ℕ) (asked : Asked) (found : Option (ℕ × Event))
-    → HasForm version text (asked_said actor asked)
-    → MatchOption found ((event : Event) → ¬ IsEventOf asked event) (λ p. (p.0 ≡ actor) × IsEventOf asked p.1)
-    → MatchOption found ((seq : ℕ) (event : Event) → ¬ IsAsked version text seq event)
-    (λ p. IsAsked version text p.0 p.1)
+pub asked_exact : (version actor : ℕ) (text : List ℕ) (asked : Asked) (found : Option (ℕ × Event)) →
+    HasForm version text (asked_said actor asked) → MatchOption found ((event : Event) → ¬ IsEventOf asked event)
+    (λ p. (p.0 ≡ actor) × IsEventOf asked p.1) →
+    MatchOption found ((seq : ℕ) (event : Event) → ¬ IsAsked version text seq event) (λ p. IsAsked version text p.0 p.1)
 asked_exact version actor text asked None has exact = λ seq event is.
     exact event (record {
       said = λ other. said_again asked actor seq other event (asked_same version actor seq text asked event has is);

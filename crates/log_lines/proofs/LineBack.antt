@@ -9,9 +9,8 @@ use Rattle.log_lines.proofs.AskedReading.{ask_is}
 -- ---- the pieces of a line that was read
 
 -- the pieces are those of an entry
-pub pieces_are : (version n : ℕ) (entry : Entry) (line : List ℕ) (found : Option Pieces)
-    → IsWellFormed version entry → line ≡ line_text n entry
-    → found ≡ parse_pieces line → found ≡ Some (pieces entry)
+pub pieces_are : (version n : ℕ) (entry : Entry) (line : List ℕ) (found : Option Pieces) → IsWellFormed version entry →
+    line ≡ line_text n entry → found ≡ parse_pieces line → found ≡ Some (pieces entry)
 pieces_are version n entry line found formed is read = rw (read, is) (line_pieces version n entry formed)
 
 -- and say what it has

@@ -1,11 +1,10 @@
 -- Registers of the address map are those of some board, whatever its other registers hold: each stands for a byte of
 -- its own.
-use Rattle.board_prelude.proofs.Common.{common_steps, option_map_or, eq-eqb, ne_eqb, get_or-map, length-map, nat_tests}
-use Rattle.board_prelude.proofs.Common.{Setup, Rises, IsCard, IsCardList, byte, is_within, card_register, bridge, Bytes}
-use Rattle.board_prelude.proofs.Common.{Reg}
-use Rattle.std.proofs.Common.{◌≡◌, ℕ, zero, suc, ◌+◌, ◌-◌, ◌*◌, ◌/◌, ◌%◌, ◌^◌, ◌<◌, ◌≤◌, List, [], ◌∷◌, length, get_or}
-use Rattle.std.proofs.Common.{Option, Some, None, refl, ◌∙◌, arith, ◌==◌, nat_lt, if◌then◌else◌, false, ◌&&◌, All, find}
-use Rattle.std.proofs.Common.{is_some, slice_index}
+use Rattle.board_prelude.proofs.Common.{common_steps, option_map_or, get_or-map, length-map, nat_tests, Setup, Rises}
+use Rattle.board_prelude.proofs.Common.{IsCard, IsCardList, byte, is_within, card_register, bridge, Bytes, Reg}
+use Rattle.std.proofs.Common.{eq-eqb, ne_eqb, ◌≡◌, ℕ, zero, suc, ◌+◌, ◌-◌, ◌*◌, ◌/◌, ◌%◌, ◌^◌, ◌<◌, ◌≤◌, List, [], ◌∷◌}
+use Rattle.std.proofs.Common.{length, get_or, Option, Some, None, refl, ◌∙◌, arith, ◌==◌, nat_lt, if◌then◌else◌, false}
+use Rattle.std.proofs.Common.{◌&&◌, All, find, is_some, slice_index}
 use Rattle.pci_bars.specs.Cards.{CardBytes, HoldsLong, HoldsRom, DecodesAs, AreFitted, cards_of}
 use Rattle.pci_bars.proofs.CardListLemmas.{find-cards}
 use Rattle.addr_decode.specs.Common.{MapBytes, StandsFor, AreSinglesOf, single_number}
@@ -15,8 +14,7 @@ use Rattle.map_builder.specs.Map.{IsOfSomeBoard, HoldsDoublewords, HaveWidths}
 -- ---- these registers at their places, and other bytes elsewhere
 
 pub bridge_byte : MapBytes → ℕ → ℕ
-bridge_byte regs off =
-    if nat_lt off 0x60 then slice_index regs.pam (off - 0x59) else slice_index regs.drb (off - 0x60)
+bridge_byte regs off = if nat_lt off 0x60 then slice_index regs.pam (off - 0x59) else slice_index regs.drb (off - 0x60)
 
 pub card_byte : (other off : ℕ) → CardBytes → ℕ
 card_byte other off card =
@@ -35,8 +33,7 @@ beside_singles regs others reg =
     else option_map_or (card_byte (others reg) reg.off) (card_with reg.dev regs.cards) (others reg)
 
 unfoldable pub overlaid : MapBytes → (others : Bytes) → Bytes
-overlaid regs others reg =
-    option_map_or (slice_index regs.singles) (single_number reg) (beside_singles regs others reg)
+overlaid regs others reg = option_map_or (slice_index regs.singles) (single_number reg) (beside_singles regs others reg)
 
 unnumbered : (regs : MapBytes) (others : Bytes) (reg : Reg) → single_number reg ≡ None →
     overlaid regs others reg ≡ beside_singles regs others reg

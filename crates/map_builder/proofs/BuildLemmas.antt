@@ -5,11 +5,10 @@ use Rattle.board_prelude.proofs.Common.{MapRange, Tiles, NeighboursDiffer, IsRig
 use Rattle.board_prelude.proofs.Common.{length-map, length_push}
 use Rattle.std.proofs.Common.{◌≡◌, ◌≢◌, ℕ, ◌+◌, ◌-◌, ◌<◌, ◌≤◌, inl, inr, List, [], ◌∷◌, ◌++◌, length, refl, sym, ◌∙◌}
 use Rattle.std.proofs.Common.{arith, append_assoc, map, nat_lt, filter}
-use Rattle.addr_decode.specs.Edges.{SameAreas}
+use Rattle.addr_decode.specs.Common.{SameAreas, MapBytes, StandsFor, edges_of, edges_after}
 use Rattle.map_builder.specs.Common.{most_ranges, ContinuesAt, range_of, IsOfSomeBoard, IsBuilt, IsMapOf, IsWhole}
 use Rattle.std.proofs.lemmas.List.{map_push}
 use Rattle.pci_bars.specs.Cards.{AreFitted}
-use Rattle.addr_decode.specs.Common.{MapBytes, StandsFor, edges_of, edges_after}
 use Rattle.addr_decode.proofs.Common.{contains_cases, no_more, few_edges_after, areas_change_at_edges}
 use Rattle.map_ranges.specs.declared.range.Range.{Range}
 
@@ -98,7 +97,12 @@ pub built_over : {regs : MapBytes} {ranges : List MapRange} {last : MapRange} {a
 built_over {last = last} {addr = addr} {hi = hi} order same is =
     let begun = is.built.begun in
     record {
-      built = record { tiles = is.built.tiles; least = is.built.least; begun = omega arith; open_end = is.built.open_end };
+      built = record {
+        tiles = is.built.tiles;
+        least = is.built.least;
+        begun = omega arith;
+        open_end = is.built.open_end;
+      };
       of_board = λ setup bytes stands. record {
         right = (is.of_board setup bytes stands).right;
         so_far = λ x low high. grind (

@@ -1,19 +1,17 @@
 -- After a change the ranges of a map are right again for each address outside the bounds of the changed windows.
 use Rattle.std.proofs.Common.{◌≡◌, ℕ, ◌+◌, ◌<◌, ◌≤◌, Bool, true, false, List, [], ◌∷◌, ◌++◌, Option, Some, refl, sym}
-use Rattle.std.proofs.Common.{◌∙◌, ap, arith, IfSome, ◌||◌, not, flat_map, is_some, map, subst}
-use Rattle.board_prelude.proofs.Common.{true≢false, append-nil, list_any, Width, One, Reg, MapChange, Store, Reset}
-use Rattle.board_prelude.proofs.Common.{FittedCard, Setup, touches_map, Bytes, address_count, six_areas, MapRange}
-use Rattle.board_prelude.proofs.Common.{nat_tests, false≢true}
+use Rattle.std.proofs.Common.{◌∙◌, ap, arith, IfSome, ◌||◌, not, flat_map, is_some, map, subst, true≢false, append-nil}
+use Rattle.board_prelude.proofs.Common.{list_any, Width, One, Reg, MapChange, Store, Reset, FittedCard, Setup}
+use Rattle.board_prelude.proofs.Common.{touches_map, Bytes, address_count, six_areas, MapRange, nat_tests, false≢true}
 use Rattle.pci_bars.specs.Cards.{CardBytes, AreFitted, cards_of}
 use Rattle.addr_decode.proofs.Common.{no_low_card, names_touch}
 use Rattle.addr_decode.specs.declared.register.MapRegister.{MapRegister}
 use Rattle.addr_decode.specs.declared.register.MapRegister.TheVariants.{Card}
 use Rattle.addr_decode.specs.Common.{is_of_card, names_from, names_of, MapBytes, StandsFor, edges_after}
-use Rattle.map_ranges.specs.declared.range.Changed.{Changed}
+use Rattle.map_builder.specs.Common.{Changed, IsOfSomeBoard, IsMapOf, IsMapWhere, IsBeside, sorted, Rise, rows_in}
+use Rattle.map_builder.specs.Common.{AreChanged, after, bounds, rest_on_registers, name_windows, windows_covered}
+use Rattle.map_builder.specs.Common.{changed_windows, most_rows, AreMoved, IsHeldAt, IsSameByte, Mapped}
 use Rattle.map_builder.specs.Changed.{register_windows}
-use Rattle.map_builder.specs.Common.{IsOfSomeBoard, IsMapOf, IsMapWhere, IsBeside, sorted, Rise, rows_in, AreChanged}
-use Rattle.map_builder.specs.Common.{after, bounds, rest_on_registers, name_windows, windows_covered, changed_windows}
-use Rattle.map_builder.specs.Common.{most_rows, AreMoved, IsHeldAt, IsSameByte, Mapped}
 use Rattle.map_builder.proofs.BoundsLemmas.{covered_ordered, changed_ordered, bounds_twice}
 use Rattle.map_builder.proofs.SortedLemmas.{rise_sorted, outside_sorted, beside_sorted, rows_few, sorted_twice}
 use Rattle.map_builder.proofs.MovedRows.{covers_rows, rows_keep, moved_within}
@@ -249,9 +247,8 @@ module _ {old new : MapBytes} (change : MapChange) (next : Next old new change) 
 
 -- the names of the registers that a store covers say whether it touches the map of a board with these cards
 pub names_touched : (setup : Setup) (cards : List CardBytes) (reg : Reg) (width : Width) (value : ℕ)
-    (names : List (Option MapRegister)) →
-    AreFitted cards → setup.cards ≡ cards_of cards → names ≡ names_from (cards_of cards) reg width →
-    list_any is_some names ≡ touches_map setup (Store reg width value)
+    (names : List (Option MapRegister)) → AreFitted cards → setup.cards ≡ cards_of cards →
+    names ≡ names_from (cards_of cards) reg width → list_any is_some names ≡ touches_map setup (Store reg width value)
 names_touched setup cards reg width value names fitted same named =
     rw (named, ← same) (names_touch setup reg width value (no_low_card setup cards 0 (omega arith) fitted.each same)
     (no_low_card setup cards 1 (omega arith) fitted.each same))

@@ -34,8 +34,7 @@ rom_is bytes dev register (Some bits) holds = rw holds.number refl
 -- ---- the command governs them all
 
 all_held : (bytes : Bytes) (dev : ℕ) (values : List ℕ) (first : ℕ) (bases : List Base) → Hold bytes dev values →
-    first + length bases ≤ 6 →
-    map decoded (from_base bytes dev first bases) ≡ held_from values first bases
+    first + length bases ≤ 6 → map decoded (from_base bytes dev first bases) ≡ held_from values first bases
 all_held bytes dev values first [] hold few = refl
 all_held bytes dev values first (IoBase bits ∷ later) hold few =
     all_held bytes dev values (first + 1) later hold (omega arith)
@@ -73,9 +72,8 @@ one_held bytes dev k (suc j) first (base ∷ later) at =
 -- ---- a card
 
 pub card_is : (bytes : Bytes) (card : CardBytes) (register : CardRegister) → IsCardNumber register →
-    length card.card.bases ≤ 6 →
-    Hold bytes card.card.dev card.bases → HoldRom bytes card.card.dev card.rom card.card.rom →
-    card_windows bytes register card.card ≡ card_held register card
+    length card.card.bases ≤ 6 → Hold bytes card.card.dev card.bases →
+    HoldRom bytes card.card.dev card.rom card.card.rom → card_windows bytes register card.card ≡ card_held register card
 card_is bytes card Command number few hold hold_rom =
     let dev : ℕ = card.card.dev in
     let bases : List Window = from_base bytes dev 0 card.card.bases in

@@ -1,17 +1,15 @@
 -- The ranges of a map between two addresses, and those that follow the last window, as they follow those that were
 -- built.
 use Rattle.board_prelude.proofs.Common.{append-nil, drop_all, map-append, Area, address_count, MapRange, length-map}
-use Rattle.board_prelude.proofs.Common.{get_or-map, length-drop, take_all, take_more, cases_lt}
+use Rattle.board_prelude.proofs.Common.{get_or-map, length-drop, take_all, take_more, cases_lt, get_or-drop}
 use Rattle.std.proofs.Common.{◌≡◌, ℕ, ◌+◌, ◌-◌, ◌<◌, ◌≤◌, inl, inr, List, [], ◌∷◌, ◌++◌, length, map, take, drop, refl}
 use Rattle.std.proofs.Common.{sym, ◌∙◌, arith, append_assoc}
 use Rattle.addr_decode.specs.MapRegs.{MapBytes}
-use Rattle.map_ranges.specs.declared.range.Range.{Range}
-use Rattle.map_builder.specs.Common.{range_of, no_range, range_at, Holds, ContinuesAt, IsBuilt, IsMapWhere, IsBetween}
-use Rattle.map_builder.specs.Common.{IsOfSomeBoard, IsWhole}
+use Rattle.map_builder.specs.Common.{Range, range_of, no_range, range_at, Holds, ContinuesAt, IsBuilt, IsMapWhere}
+use Rattle.map_builder.specs.Common.{IsBetween, IsOfSomeBoard, IsWhole}
 use Rattle.map_builder.proofs.BuildLemmas.{is_whole}
 use Rattle.map_ranges.proofs.FindLemmas.{placed}
 use Rattle.map_builder.proofs.RebuildLemmas.{row_at, open_at, kept_on, copied, range_below}
-use Rattle.std.proofs.lemmas.List.{get_or-drop}
 
 -- the last range has the areas at which it went on
 pub areas_on : {ranges ranges' : List MapRange} {last last' : MapRange} (addr : ℕ) {areas : List Area} →
@@ -50,8 +48,9 @@ module _ {regs : MapBytes} (after until : ℕ) {k : ℕ} (ranges ranges' : List 
       let below = holds.below in
       let place : k + (end - (k + 1)) + 1 ≡ end = omega arith in
       rw (map-append, map-append)
-      (rw place at (copied after until address old agrees k (end - (k + 1)) until (rw place there) (omega arith) (omega arith)
-      (areas_on (after + 1) on) (kept_first (range_at old k).hi (omega arith) (omega arith) (omega arith))))
+      (rw place at (copied after until address old agrees k (end - (k + 1)) until (rw place there) (omega arith)
+      (omega arith) (areas_on (after + 1) on)
+      (kept_first (range_at old k).hi (omega arith) (omega arith) (omega arith))))
 
   -- to the last address
   pub whole_from : IsOfSomeBoard regs → until ≡ 0xFFFF_FFFF →

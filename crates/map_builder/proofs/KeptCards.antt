@@ -6,18 +6,16 @@ use Rattle.board_prelude.proofs.Common.{base_value, is_covered, rom_window, rom_
 use Rattle.board_prelude.proofs.Common.{memory_windows, is_enabled_for, memory_claim, card_register}
 use Rattle.std.proofs.Common.{◌≡◌, ℕ, zero, suc, ◌+◌, ◌-◌, ◌*◌, ◌/◌, ◌<◌, ◌≤◌, ◌⊎◌, inl, inr, Bool, false, List, []}
 use Rattle.std.proofs.Common.{◌∷◌, ◌++◌, length, map, get_or, Option, Some, None, refl, sym, ◌∙◌, ap, arith, ◌&&◌, All}
-use Rattle.std.proofs.Common.{find, flat_map, slice_get, if◌then◌else◌, is_some, option_map, lit<}
+use Rattle.std.proofs.Common.{find, flat_map, slice_get, if◌then◌else◌, is_some, option_map, lit<, below_more}
 use Rattle.std.proofs.lemmas.Option.{slice_get_within}
 use Rattle.addr_decode.specs.declared.register.CardRegister.{CardRegister}
 use Rattle.addr_decode.specs.declared.register.CardRegister.TheVariants.{Command, Base as BaseByte, ExpansionRom}
 use Rattle.addr_decode.specs.declared.register.MapRegister.TheVariants.{Card}
 use Rattle.addr_decode.specs.MapRegister.{in_card}
 use Rattle.addr_decode.proofs.CardLemmas.{find_at}
-use Rattle.map_builder.specs.Common.{decoded, base_windows, card_windows, name_windows, windows_of, held_by}
+use Rattle.map_builder.specs.Common.{decoded, base_windows, card_windows, name_windows, windows_of, held_by, Changed}
 use Rattle.map_builder.proofs.OutsideLemmas.{Outside, not_covered, none_covered, outside_decoded}
 use Rattle.map_builder.proofs.DeviceLemmas.{from_base, one_held, windows_of_card}
-use borrow.Author.Count.{below_more}
-use Rattle.map_ranges.specs.declared.range.Changed.{Changed}
 
 -- a register keeps its byte, or an address lies outside the windows that it governs, by what the registers held before
 -- and hold after
@@ -159,12 +157,10 @@ module _ (setup : Setup) (bytes new : Bytes) (addr : ℕ)
       ) rest
 
   base_same : (dev first : ℕ) (base : Base) (later : List Base) →
-      is_enabled_for 1 new dev ≡ is_enabled_for 1 bytes dev →
-      BaseKept dev first base →
-      find (claims new) (from_base new dev (first + 1) later)
-      ≡ find (claims bytes) (from_base bytes dev (first + 1) later) →
-      find (claims new) (from_base new dev first (base ∷ later))
-      ≡ find (claims bytes) (from_base bytes dev first (base ∷ later))
+      is_enabled_for 1 new dev ≡ is_enabled_for 1 bytes dev → BaseKept dev first base → find (claims new)
+      (from_base new dev (first + 1) later) ≡ find (claims bytes) (from_base bytes dev (first + 1) later) →
+      find (claims new) (from_base new dev first (base ∷ later)) ≡ find (claims bytes)
+      (from_base bytes dev first (base ∷ later))
   base_same dev first (MemoryBase bits) later enabled here rest = base_then dev first bits later enabled here rest
   base_same dev first (IoBase bits) later enabled here rest = rest
   base_same dev first (OutsideBase bits) later enabled here rest = base_then dev first bits later enabled here rest
@@ -211,8 +207,7 @@ module _ (setup : Setup) (bytes new : Bytes) (addr : ℕ)
       ((j : ℕ) → j < 4 → new (card_register dev (0x30 + j)) ≡ bytes (card_register dev (0x30 + j))) →
       rom_window_of new dev rom ≡ rom_window_of bytes dev rom
   rom_windows dev None same = refl
-  rom_windows dev (Some bits) same =
-      rw (same 0 (lit< tt), same 1 (lit< tt), same 2 (lit< tt), same 3 (lit< tt)) refl
+  rom_windows dev (Some bits) same = rw (same 0 (lit< tt), same 1 (lit< tt), same 2 (lit< tt), same 3 (lit< tt)) refl
 
   rom_same : (card : FittedCard) → IsFitted setup card →
       is_enabled_for 1 new card.dev ≡ is_enabled_for 1 bytes card.dev →
@@ -222,8 +217,7 @@ module _ (setup : Setup) (bytes new : Bytes) (addr : ℕ)
 
   vga_same : (card : FittedCard) → is_enabled_for 1 new card.dev ≡ is_enabled_for 1 bytes card.dev →
       find (claims new) (vga_window card) ≡ find (claims bytes) (vga_window card)
-  vga_same card enabled =
-      elim (cases_Bool card.vga) [ inr plain ↦ rw plain refl | inl vga ↦ rw (vga, enabled) refl ]
+  vga_same card enabled = elim (cases_Bool card.vga) [ inr plain ↦ rw plain refl | inl vga ↦ rw (vga, enabled) refl ]
 
   -- the windows of a card of which its command is none
   command_outside : (registers : Bytes) (card : FittedCard) → IsFitted setup card →
@@ -259,9 +253,8 @@ module _ (setup : Setup) (bytes new : Bytes) (addr : ℕ)
             simp find-append (rw (bases, rom_same card is enabled, vga_same card enabled) refl)
       ]
 
-  cards_same : (cards : List FittedCard) → AllByRecursion (IsFitted setup) cards →
-      find (claims new) (flat_map (memory_windows new) cards)
-      ≡ find (claims bytes) (flat_map (memory_windows bytes) cards)
+  cards_same : (cards : List FittedCard) → AllByRecursion (IsFitted setup) cards → find (claims new)
+      (flat_map (memory_windows new) cards) ≡ find (claims bytes) (flat_map (memory_windows bytes) cards)
   cards_same [] each = refl
   cards_same (card ∷ later) each =
       grind (arith, nat_tests, common_steps, find-append, memory_windows, flat_map, card_same, cards_same later each.1)

@@ -71,8 +71,7 @@ row_stays bytes new addr same =
     row_by new kept addr (λ row below. are row below ∙ sym (same row below)) ∙ sym (row_by bytes kept addr are)
 
 module _ (setup : Setup) (bytes new : Bytes) (addr : ℕ) (kept : (reg : Reg) → Kept setup bytes new addr reg) where
-  row_kept : (row : ℕ) → row < 8 →
-      (new (bridge (0x60 + row)) ≡ bytes (bridge (0x60 + row))) ⊎ (0x7F80_0000 ≤ addr)
+  row_kept : (row : ℕ) → row < 8 → (new (bridge (0x60 + row)) ≡ bytes (bridge (0x60 + row))) ⊎ (0x7F80_0000 ≤ addr)
   row_kept row below = grind (arith, nat_tests, common_steps, bridge, row_window)
 
   pub row_same : top_of bytes ≤ 0x7F80_0000 → top_of new ≤ 0x7F80_0000 → row_of new addr ≡ row_of bytes addr

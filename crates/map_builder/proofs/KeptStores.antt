@@ -8,8 +8,7 @@ use Rattle.std.proofs.Common.{◌≡◌, ℕ, zero, suc, ◌+◌, ◌-◌, ◌<�
 use Rattle.std.proofs.Common.{take, refl, arith, flat_map, Option, None, sym, ◌∙◌, IfSome, subst}
 use Rattle.addr_decode.proofs.NameLemmas.{offsets, covered_offset}
 use Rattle.addr_decode.proofs.StoreLemmas.{same_register}
-use Rattle.map_ranges.specs.declared.range.Changed.{Changed}
-use Rattle.map_builder.specs.Common.{windows_of, windows_covered, after, changed_windows, WindowsHoldChanges}
+use Rattle.map_builder.specs.Common.{Changed, windows_of, windows_covered, after, changed_windows, WindowsHoldChanges}
 use Rattle.map_builder.specs.Common.{BoundsHoldChanges, IsHeldAt}
 use Rattle.map_builder.proofs.OutsideLemmas.{Outside, outside_bounds, outside_parts}
 use Rattle.map_builder.proofs.KeptCards.{Kept}
@@ -20,8 +19,7 @@ use Rattle.addr_decode.specs.MapRegister.{map_register, names_of}
 -- ---- the registers that a store covers
 
 outside_at : (addr : ℕ) (windows : ℕ → List Changed) (xs : List ℕ) (k : ℕ) → k < length xs →
-    Outside addr (flat_map windows xs) →
-    Outside addr (windows (get_or xs k 0))
+    Outside addr (flat_map windows xs) → Outside addr (windows (get_or xs k 0))
 outside_at addr windows [] k within out = absurd (omega arith)
 outside_at addr windows (x ∷ xs) zero within out = (outside_parts addr (windows x) (flat_map windows xs) out).0
 outside_at addr windows (x ∷ xs) (suc k) within out =
@@ -86,8 +84,7 @@ top_after setup bytes (Store at width value) top =
 
 -- outside all changed windows nothing changes
 pub changes_keep : (setup : Setup) (bytes : Bytes) (change : MapChange) (addr : ℕ) → IsCardList setup.cards →
-    top_of bytes ≤ 0x7F80_0000 → addr < address_count →
-    Outside addr (changed_windows setup bytes change) →
+    top_of bytes ≤ 0x7F80_0000 → addr < address_count → Outside addr (changed_windows setup bytes change) →
     six_areas setup (after setup change bytes) addr ≡ six_areas setup bytes addr
 unfolding windows_covered
 changes_keep setup bytes Reset addr list top address out =
@@ -108,8 +105,7 @@ bounds_hold_changes setup bytes change addr list top address out =
 
 -- where one byte is stored and the register has the same byte before and after
 pub same_bytes : (setup : Setup) (bytes : Bytes) (change : MapChange) (held : ℕ) → IsHeldAt change bytes held →
-    IsHeldAt change (after setup change bytes) held →
-    (reg : Reg) → after setup change bytes reg ≡ bytes reg
+    IsHeldAt change (after setup change bytes) held → (reg : Reg) → after setup change bytes reg ≡ bytes reg
 same_bytes setup bytes (Store at One value) held before later reg =
     elim (cases_Bool (covers at One reg)) [
       | inr beside ↦ rw beside refl
@@ -121,16 +117,14 @@ same_bytes setup bytes (Store at One value) held before later reg =
 same_bytes setup bytes _ held before later reg = absurd before
 
 pub unchanged_keep : (setup : Setup) (bytes : Bytes) (change : MapChange) (addr held : ℕ) → IsCardList setup.cards →
-    IsHeldAt change bytes held →
-    IsHeldAt change (after setup change bytes) held →
+    IsHeldAt change bytes held → IsHeldAt change (after setup change bytes) held →
     six_areas setup (after setup change bytes) addr ≡ six_areas setup bytes addr
 unchanged_keep setup bytes change addr held list before later =
     grind (arith, nat_tests, common_steps, same_bytes, areas_same, row_stays, bridge)
 
 -- the byte of the one register that a change names is the byte that it stores to
 pub held_alone : (bytes : Bytes) (change : MapChange) (cards : List FittedCard) (names : List (Option MapRegister))
-    (found : Option ℕ) →
-    length names ≡ 1 → names ≡ names_of cards change →
+    (found : Option ℕ) → length names ≡ 1 → names ≡ names_of cards change →
     ((reg : Reg) → get_or names 0 None ≡ map_register cards reg → IfSome found (λ held. held ≡ bytes reg)) →
     IfSome found (IsHeldAt change bytes)
 held_alone bytes (Store at One value) cards names found one named is =

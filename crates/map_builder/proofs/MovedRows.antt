@@ -1,12 +1,11 @@
 -- What a store to the boundaries of the rows of DRAM moves, and that no more rows are looked up for it than the bound
 -- says.
-use Rattle.board_prelude.proofs.Common.{common_steps, AllByRecursion, list_any, cases_Bool, cases_lt, false≢true}
-use Rattle.board_prelude.proofs.Common.{and_parts, nat_tests, Width, One, Reg, bytes_of, some_bytes, MapChange, Store}
-use Rattle.board_prelude.proofs.Common.{Reset, FittedCard, Setup, IsCardList, covers, Bytes, row_of, reg_after}
-use Rattle.board_prelude.proofs.Common.{six_areas}
+use Rattle.board_base.proofs.Common.{common_steps, cases_Bool, cases_lt, false≢true, and_parts, nat_tests, some_bytes}
+use Rattle.board_prelude.proofs.Common.{AllByRecursion, list_any, Width, One, Reg, bytes_of, MapChange, Store, Reset}
+use Rattle.board_prelude.proofs.Common.{FittedCard, Setup, IsCardList, covers, Bytes, row_of, reg_after, six_areas}
 use Rattle.std.proofs.Common.{◌≡◌, ℕ, zero, suc, ◌⊎◌, Bool, ◌+◌, ◌-◌, ◌*◌, ◌<◌, ◌≤◌, inl, inr, true, false, List, []}
 use Rattle.std.proofs.Common.{◌∷◌, ◌++◌, take, refl, sym, ◌∙◌, ap, arith, ◌==◌, ◌&&◌, nat_le, if◌then◌else◌, Option}
-use Rattle.std.proofs.Common.{Some, None, min, max, slice_index, find, flat_map}
+use Rattle.std.proofs.Common.{Some, None, min, max, slice_index, find, flat_map, below_more}
 use Rattle.board_base.specs.declared.access.Width.TheVariants.{Two, Four}
 use Rattle.addr_decode.specs.declared.register.MapRegister.{MapRegister}
 use Rattle.addr_decode.specs.declared.register.MapRegister.TheVariants.{RowBoundary}
@@ -18,7 +17,6 @@ use Rattle.map_builder.specs.Common.{is_inside, edges_inside, count_of, IsOutsid
 use Rattle.map_builder.specs.Common.{IsHidden, StaysOrHidden, RowStays, IsInRows, AreMoved, Rise, rows_in}
 use Rattle.map_builder.proofs.KeptLemmas.{is_boundary, areas_same, row_window, row_by, rows_from}
 use Rattle.map_builder.proofs.SortedLemmas.{filter_more, one_window}
-use borrow.Author.Count.{below_more}
 
 -- ---- the registers that such a store covers
 
@@ -35,8 +33,7 @@ record IsRowAt (at : Reg) (k : ℕ) : Type 0 where
   pub to : at.off + k < 0x68
 
 row_named : (cards : List FittedCard) (at : Reg) (k : ℕ) (name : Option MapRegister) →
-    map_register cards (reg_after at k) ≡ name →
-    is_row_name name ≡ true → IsRowAt at k
+    map_register cards (reg_after at k) ≡ name → is_row_name name ≡ true → IsRowAt at k
 row_named cards at k (Some (RowBoundary row)) is row_is =
     let name = is_name cards (reg_after at k) (RowBoundary row) is in
     let number : row < 8 = name.number in
@@ -50,8 +47,7 @@ row_named cards at k (Some (RowBoundary row)) is row_is =
 row_named cards at k _ is row_is = absurd (false≢true row_is)
 
 rows_between : (at : Reg) (width : Width) (value last : ℕ) → last + 1 ≡ bytes_of width → IsRowAt at 0 →
-    IsRowAt at last →
-    covers_rows (Store at width value) ≡ true
+    IsRowAt at last → covers_rows (Store at width value) ≡ true
 rows_between at width value last count first end = grind (arith, nat_tests)
 
 -- where the names of the registers that it covers are of rows alone
@@ -103,8 +99,7 @@ where_same true b x y is same = rw is (same refl)
 where_same false b x y is same = rw is refl
 
 row_kept : (old new : MapBytes) (setup : Setup) (bytes later : Bytes) (addr : ℕ) → StandsFor setup bytes old →
-    StandsFor setup later new →
-    RowStays old.drb new.drb addr → row_of later addr ≡ row_of bytes addr
+    StandsFor setup later new → RowStays old.drb new.drb addr → row_of later addr ≡ row_of bytes addr
 row_kept old new setup bytes later addr stands stands' stays =
     rw (row_by bytes old.drb addr stands.rows, row_by later new.drb addr stands'.rows)
     (where_same (is_below old.drb addr 7) (is_below new.drb addr 7) _ _ stays.top
@@ -200,22 +195,19 @@ moved_within setup bytes new change (window ∷ other ∷ later) rows moved = ab
 
 -- an address outside of what lies between the boundaries of a row, which no earlier row hides and which lies below the
 -- top
-pub stays_on : (old new : List ℕ) (addr row first hidden end top : ℕ) →
-    first ≡ min (slice_index old row) (slice_index new row) →
-    end ≡ max (slice_index old row) (slice_index new row) → slice_index old 7 ≤ top → is_below old addr 7 ≡ true →
-    ((addr < max first hidden * 0x80_0000) ⊎ (min end top * 0x80_0000 ≤ addr)) →
-    (addr < hidden * 0x80_0000 → IsHidden old new addr row) →
-    StaysOrHidden old new addr row
+pub stays_on : (old new : List ℕ) (addr row first hidden end top : ℕ) → first ≡ min (slice_index old row)
+    (slice_index new row) → end ≡ max (slice_index old row) (slice_index new row) → slice_index old 7 ≤ top →
+    is_below old addr 7 ≡ true → ((addr < max first hidden * 0x80_0000) ⊎ (min end top * 0x80_0000 ≤ addr)) →
+    (addr < hidden * 0x80_0000 → IsHidden old new addr row) → StaysOrHidden old new addr row
 stays_on old new addr row first hidden end top first_is end_is high below (inl low) hides =
     elim (cases_lt addr (hidden * 0x80_0000)) [ inl is ↦ inr (hides is) | inr not ↦ inl (grind (arith, nat_tests)) ]
 stays_on old new addr row first hidden end top first_is end_is high below (inr past) hides =
     inl (grind (arith, nat_tests))
 
 -- the addresses that the rows so far hide, and those that one more hides
-pub hides_on : (old new : List ℕ) (addr row first hidden : ℕ) →
-    first ≡ min (slice_index old row) (slice_index new row) →
-    (addr < hidden * 0x80_0000 → IsHidden old new addr row) → addr < max hidden first * 0x80_0000 →
-    IsHidden old new addr (row + 1)
+pub hides_on : (old new : List ℕ) (addr row first hidden : ℕ) → first ≡ min (slice_index old row)
+    (slice_index new row) → (addr < hidden * 0x80_0000 → IsHidden old new addr row) →
+    addr < max hidden first * 0x80_0000 → IsHidden old new addr (row + 1)
 hides_on old new addr row first hidden first_is hides low =
     elim (cases_lt addr (hidden * 0x80_0000)) [
       | inl is ↦

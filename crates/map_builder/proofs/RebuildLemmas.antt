@@ -1,17 +1,14 @@
 -- What stays of a map that differs in some windows alone: the ranges below them, between them and above them.
 use Rattle.board_prelude.proofs.Common.{nat_tests, get_or-map, length-map, length-drop, drop_more, drop_all, append-nil}
-use Rattle.board_prelude.proofs.Common.{Area, Setup, Bytes, address_count, MapRange, NeighboursDiffer, IsFlatMapOf}
-use Rattle.board_prelude.proofs.Common.{Tiles}
+use Rattle.board_spec.specs.Common.{Area, Setup, Bytes, address_count, MapRange, NeighboursDiffer, IsFlatMapOf, Tiles}
 use Rattle.std.proofs.Common.{◌≡◌, ◌≢◌, ℕ, zero, suc, ◌+◌, ◌-◌, ◌<◌, ◌≤◌, inl, inr, List, [], ◌∷◌, ◌++◌, length, map}
 use Rattle.std.proofs.Common.{take, drop, get_or, refl, sym, ap, subst, arith, ◌∙◌, append_assoc}
 use Rattle.std.proofs.lemmas.List.{map_more, get_or-drop}
 use Rattle.board_spec.proofs.FlatMapLaws.{tiles_below}
 use Rattle.addr_decode.specs.MapRegs.{MapBytes, StandsFor}
-use Rattle.map_ranges.specs.declared.range.Changed.{Changed}
-use Rattle.map_ranges.specs.declared.range.Range.{Range}
-use Rattle.map_builder.specs.Common.{range_of, no_range, range_at, BeginsBelow, Holds, ContinuesAt, IsBuilt}
-use Rattle.map_builder.specs.Common.{IsRightWhere, IsMapWhere, IsBelow, IsBetween, IsBeside, from_to, AreAbove, Rise}
-use Rattle.map_builder.specs.Common.{rows_in}
+use Rattle.map_builder.specs.Common.{Changed, Range, range_of, no_range, range_at, BeginsBelow, Holds, ContinuesAt}
+use Rattle.map_builder.specs.Common.{IsBuilt, IsRightWhere, IsMapWhere, IsBelow, IsBetween, IsBeside, from_to, AreAbove}
+use Rattle.map_builder.specs.Common.{Rise, rows_in}
 use Rattle.map_builder.proofs.BuildLemmas.{range, AreasAt, one_address, same_at_each, is_built_first, built_step}
 use Rattle.map_builder.proofs.BuildLemmas.{built_over, built_range}
 use Rattle.map_ranges.proofs.FindLemmas.{Placed, placed}
@@ -233,8 +230,7 @@ next_window windows k within = drop_more windows k (from_to 0 0) within
 pub first_below : {regs : MapBytes} {ranges : List MapRange} (windows : List Changed) → 0 < length windows →
     Rise windows → IsMapWhere regs (IsBeside windows) ranges → IsMapWhere regs (IsBelow (window_at windows 0).lo) ranges
 first_below [] some rise beside = absurd (omega arith)
-first_below (window ∷ later) some rise beside =
-    fewer_where (λ addr low. below_first addr window later rise low) beside
+first_below (window ∷ later) some rise beside = fewer_where (λ addr low. below_first addr window later rise low) beside
 
 pub order_at : (windows : List Changed) (k : ℕ) → k < length windows → Rise (drop k windows) →
     (window_at windows k).lo ≤ (window_at windows k).hi

@@ -39,7 +39,8 @@ module _ (regs : MapBytes) (setup setup' : Setup) (bytes bytes' : Bytes) (stands
       rw place at ((decodes.bases (k / 4) (omega (arith, number))).each (k % 4) (omega arith)
       ∙ sym ((decodes'.bases (k / 4) (omega (arith, number))).each (k % 4) (omega arith)))
   decoded_same card (ExpansionRom k) above number decodes decodes' is =
-      let here = rw (ne_eqb card.card.dev 0 (omega arith), ne_eqb card.card.dev 1 (omega arith), decodes.fitted) at is in
+      let here =
+      rw (ne_eqb card.card.dev 0 (omega arith), ne_eqb card.card.dev 1 (omega arith), decodes.fitted) at is in
       rom_same card.card.dev card.rom k card.card.rom number (grind (arith, nat_tests)) decodes.rom decodes'.rom
 
   found_same : (card : Option CardBytes) (dev : ℕ) (register : CardRegister) → 2 ≤ dev → IsCardNumber register →
@@ -76,8 +77,7 @@ module _ (regs : MapBytes) (setup setup' : Setup) (bytes bytes' : Bytes) (stands
 
 -- of a board the cards alone count
 area_by_cards : (setup setup' : Setup) (bytes : Bytes) (addr : ℕ) (kind : Kind) (smm : Bool) →
-    setup.cards ≡ setup'.cards →
-    area_of setup bytes addr kind smm ≡ area_of setup' bytes addr kind smm
+    setup.cards ≡ setup'.cards → area_of setup bytes addr kind smm ≡ area_of setup' bytes addr kind smm
 unfolding area_of memory_claim
 area_by_cards setup setup' bytes addr kind smm same = rw same refl
 

@@ -5,9 +5,8 @@ use Rattle.std.proofs.Common.{◌≡◌, ℕ, ◌+◌, ◌<◌, ◌≤◌, inl, 
 use Rattle.std.proofs.Common.{arith, nat_lt, min, max, filter, rules}
 use Rattle.addr_decode.specs.Edges.{edges_of, edges_after}
 use Rattle.addr_decode.specs.Singles.{single_count}
-use Rattle.map_ranges.specs.declared.range.Changed.{Changed}
-use Rattle.map_builder.specs.Common.{both, is_above_first, is_inside, edges_inside, is_window, count_of, IsOutside}
-use Rattle.map_builder.specs.Common.{with_window, sorted, AreAbove, Rise, rows_in}
+use Rattle.map_builder.specs.Common.{Changed, both, is_above_first, is_inside, edges_inside, is_window, count_of}
+use Rattle.map_builder.specs.Common.{IsOutside, with_window, sorted, AreAbove, Rise, rows_in}
 use Rattle.map_builder.specs.Changed.{single_windows}
 use Rattle.map_builder.proofs.OutsideLemmas.{Outside, Misses, misses_both}
 use Rattle.map_builder.proofs.BoundsLemmas.{Ordered}

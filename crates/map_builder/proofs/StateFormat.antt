@@ -71,10 +71,7 @@ windows_format =
       refl,
     ))
     (λ t. (
-      record {
-        count = rw t.2.1.0 t.1;
-        each = All-from_recursion IsWindow t.2.0 (windows_good t.2.0 t.2.1.1);
-      },
+      record { count = rw t.2.1.0 t.1; each = All-from_recursion IsWindow t.2.0 (windows_good t.2.0 t.2.1.1) },
       rw t.2.1.0 refl,
     ))
 
@@ -118,10 +115,9 @@ same_map one left right of_left of_right same =
     ap (λ (m : Mapped). record m { ranges = left.ranges }) same
     ∙ ap (λ (ranges : List MapRange). record right { ranges = ranges }) ranges
 
-pub loads_map :
-    OneFlatMap → (fitted : List FittedCard) (before after : List ℕ) (result : Result Mapped Bad) → AreBytes before →
-    Took bare result after (mapped_fields fitted before) → IfOk result (λ map. IsMapOf map.regs map.ranges) →
-    LoadsMap fitted before after result
+pub loads_map : OneFlatMap → (fitted : List FittedCard) (before after : List ℕ) (result : Result Mapped Bad) →
+    AreBytes before → Took bare result after (mapped_fields fitted before) →
+    IfOk result (λ map. IsMapOf map.regs map.ranges) → LoadsMap fitted before after result
 loads_map one fitted before after (Ok got) are took whole =
     let read = loads (mapped_format fitted) before after (Ok (bare got)) are took in
     record {

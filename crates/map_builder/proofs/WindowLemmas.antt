@@ -1,18 +1,16 @@
 -- The windows that registers govern, as the code finds them.
-use Rattle.board_prelude.proofs.Common.{common_steps, nat_tests, AllByRecursion, option_map_or, take_all, take_more}
-use Rattle.board_prelude.proofs.Common.{pow-add, pow_pos, div-lt_iff_lt-mul, Width, Reg, FittedCard, Setup, Bytes}
-use Rattle.board_prelude.proofs.Common.{MapChange, Store}
-use Rattle.std.proofs.Common.{◌≡◌, ℕ, zero, suc, ◌+◌, ◌-◌, ◌*◌, ◌/◌, ◌^◌, ◌<◌, ◌≤◌, List, [], ◌∷◌, ◌++◌, length, map}
-use Rattle.std.proofs.Common.{get_or, refl, sym, ◌∙◌, ap, arith, mul_comm, Option, None, slice_get, slice_index}
-use Rattle.std.proofs.Common.{flat_map, take}
+use Rattle.board_prelude.proofs.Common.{common_steps, nat_tests, AllByRecursion, option_map_or, take_more}
+use Rattle.board_prelude.proofs.Common.{div-lt_iff_lt-mul, Width, Reg, FittedCard, Setup, Bytes, MapChange, Store}
+use Rattle.std.proofs.Common.{take_all, pow-add, pow_pos, ◌≡◌, ℕ, zero, suc, ◌+◌, ◌-◌, ◌*◌, ◌/◌, ◌^◌, ◌<◌, ◌≤◌, List}
+use Rattle.std.proofs.Common.{[], ◌∷◌, ◌++◌, length, map, get_or, refl, sym, ◌∙◌, ap, arith, mul_comm, Option, None}
+use Rattle.std.proofs.Common.{slice_get, slice_index, flat_map, take}
 use Rattle.std.proofs.lemmas.Option.{slice_get-map, slice_get_past, slice_get-get_or}
 use Rattle.std.proofs.lemmas.Nat.{mul-add-lt}
 use Rattle.pci_bars.specs.declared.spec.BaseSpec.{BaseSpec}
 use Rattle.pci_bars.specs.Bases.{base_of}
-use Rattle.map_ranges.specs.declared.range.Changed.{Changed}
+use Rattle.map_builder.specs.Common.{Changed, name_windows, windows_covered, held_by, held_at}
 use Rattle.addr_decode.specs.declared.register.MapRegister.{MapRegister}
 use Rattle.addr_decode.specs.MapRegister.{IsNumberedName, names_of}
-use Rattle.map_builder.specs.Common.{name_windows, windows_covered, held_by, held_at}
 use Rattle.std.proofs.lemmas.List.{flat_map_more}
 
 -- the last address of a block is an address
@@ -62,8 +60,7 @@ held_one : (value : ℕ) (bases : List BaseSpec) (k : ℕ) (d : BaseSpec) → k 
 held_one value bases k d within = rw (slice_get-map base_of bases k, slice_get-get_or bases k d within) refl
 
 pub held_here : (values : List ℕ) (bases : List BaseSpec) (k : ℕ) (base : BaseSpec) → k < length bases →
-    base ≡ get_or bases k base →
-    held_by (base_of base) (slice_index values k) ≡ held_at values (map base_of bases) k
+    base ≡ get_or bases k base → held_by (base_of base) (slice_index values k) ≡ held_at values (map base_of bases) k
 held_here values bases k base within is = grind (arith, nat_tests, common_steps, slice_index, held_one)
 
 -- there is no such base

@@ -15,9 +15,8 @@ shown log = []
 abbrev pub moved : List Mark → List Mark → ℕ → Type 0
 moved xs ys n = Unit {0}
 
-pub adds_goes : (log v : List Mark) (e : Mark) (old : ℕ) → length v ≡ old → IsPrefix v log
-    → (b : Bool) → (length log == old) ≡ b
-    → Goes KeepsLength shown moved 0 (v, (no_nib, None)) (λ n. either (n == old) (old + 1) n)
+pub adds_goes : (log v : List Mark) (e : Mark) (old : ℕ) → length v ≡ old → IsPrefix v log → (b : Bool) →
+    (length log == old) ≡ b → Goes KeepsLength shown moved 0 (v, (no_nib, None)) (λ n. either (n == old) (old + 1) n)
     (AddsStep (step 0 old (old + 1) e) (v, (no_nib, None))) ((length log, true) ∷ (0, true) ∷ []) log
 adds_goes log v e old len pre true is =
     let here : length log ≡ old = grind (arith, nat_tests) in

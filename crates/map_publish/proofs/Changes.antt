@@ -62,9 +62,8 @@ pub with_change_below : (log : List Mark) (change : MapChange) → version_after
 with_change_below log change below = grind (arith, nat_tests)
 
 -- the map of a list with a change made in it is the map of the list with the change at its end
-pub changed_map : (log : List Mark) (change : MapChange) {now next : Mapped} {bounds : Bounds} →
-    IsMapOfLog log now → IsApplied now next change bounds → now.version < 4_000_000 →
-    IsMapOfLog (log ++ Changed change ∷ []) next
+pub changed_map : (log : List Mark) (change : MapChange) {now next : Mapped} {bounds : Bounds} → IsMapOfLog log now →
+    IsApplied now next change bounds → now.version < 4_000_000 → IsMapOfLog (log ++ Changed change ∷ []) next
 unfolding bytes_after
 changed_map log change before made below =
     rw (opened_changed log change, changes_added log change) (record {

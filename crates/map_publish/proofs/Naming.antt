@@ -22,10 +22,9 @@ snoc_holds : (shown : Shown) (views : List Name) (given : Name) → AllKnow show
 snoc_holds shown views given holds knows seat other at =
     grind (arith, at_snoc views given other seat at, holds seat other)
 
-set_holds :
-    (shown next : Shown) (views : List Name) (seat : ℕ) (given : Name) →
-    ((j : ℕ) (other : Name) → get_elem? views j ≡ some other → KnowsBook next other) → KnowsBook next given
-    → AllKnow next (set views seat given)
+set_holds : (shown next : Shown) (views : List Name) (seat : ℕ) (given : Name) →
+    ((j : ℕ) (other : Name) → get_elem? views j ≡ some other → KnowsBook next other) → KnowsBook next given →
+    AllKnow next (set views seat given)
 set_holds shown next views seat given others knows j other at =
     elim (at_set views seat j given other at) [ inl here ↦ rw here.1 at knows | inr there ↦ others j other there.1 ]
 
@@ -65,20 +64,16 @@ names_it : (seat : ℕ) (given : Name) (shown next : Shown) → next.front.seen.
 names_it seat given shown next own map views holds at = grind (arith, set_holds, next_known)
 
 -- a change is published after the others
-pub publishes :
-    (seat : ℕ) (given : Name) (shown next : Shown) (change : MapChange) (front : Front) (ops : List Next) →
+pub publishes : (seat : ℕ) (given : Name) (shown next : Shown) (change : MapChange) (front : Front) (ops : List Next) →
     shown.list.log ≡ shown.front.seen.log → version_after shown.front.seen.log < 4_000_000 →
     front.seen.book ≡ shown.front.seen.book → front.seen.log ≡ shown.front.seen.log ++ Changed change ∷ [] →
-    ops ≡ Change change front ∷ [] →
-    (next.list.log, next.front) ≡ fold applied (shown.list.log, shown.front) ops
-    → TurnsAt AllKnow seat given shown next Stays
+    ops ≡ Change change front ∷ [] → (next.list.log, next.front) ≡ fold applied (shown.list.log, shown.front) ops →
+    TurnsAt AllKnow seat given shown next Stays
 publishes seat given shown next change front ops listed room own added is to =
     turns_to seat given shown next (grind arith) (grind (arith, with_change_below))
 
 -- the first publish names the seat
-pub begins :
-    (seat : ℕ) (given : Name) (shown next : Shown) (ops : List Next) →
-    shown.list.log ≡ shown.front.seen.log → ops ≡ Same ∷ [] →
-    (next.list.log, next.front) ≡ fold applied (shown.list.log, shown.front) ops
-    → TurnsAt AllKnow seat given shown next LearnsName
+pub begins : (seat : ℕ) (given : Name) (shown next : Shown) (ops : List Next) → shown.list.log ≡ shown.front.seen.log →
+    ops ≡ Same ∷ [] → (next.list.log, next.front) ≡ fold applied (shown.list.log, shown.front) ops →
+    TurnsAt AllKnow seat given shown next LearnsName
 begins seat given shown next ops listed is to = names_it seat given shown next (grind arith) (grind arith)

@@ -10,10 +10,8 @@ use Rattle.map_publish.specs.declared.mark.Mark.{Mark}
 use Rattle.map_publish.specs.Sights.{IsSight, IsSightOf, Sighted}
 
 -- a span is that of each address in it
-pub span_at :
-    (setup : Setup) (bytes : Bytes) (addr x : ℕ) (kind : Kind) (smm : Bool) (lo hi : ℕ) (area : Area)
-    → IsSpan setup bytes addr kind smm lo hi area →
-    lo ≤ x → x ≤ hi → IsSpan setup bytes x kind smm lo hi area
+pub span_at : (setup : Setup) (bytes : Bytes) (addr x : ℕ) (kind : Kind) (smm : Bool) (lo hi : ℕ) (area : Area) →
+    IsSpan setup bytes addr kind smm lo hi area → lo ≤ x → x ≤ hi → IsSpan setup bytes x kind smm lo hi area
 span_at setup bytes addr x kind smm lo hi area span above below = assumption
 
 -- the ranges of a map, where no span is remembered
@@ -25,10 +23,9 @@ pub kept_of :
 kept_of of seen cells count kind smm area ranges tiles few all room copied = grind (arith, length-map)
 
 -- the sight of a list's map is that of the list
-pub sight_of :
-    (log : List Mark) (of : Mapped) (sight : Sighted) → IsMapOfLog log of → sight.version ≡ of.version →
-    ((setup : Setup) (bytes : Bytes) → StandsFor setup bytes of.regs → IsFlatMapOf setup bytes sight.ranges)
-    → IsSightOf log sight
+pub sight_of : (log : List Mark) (of : Mapped) (sight : Sighted) → IsMapOfLog log of → sight.version ≡ of.version →
+    ((setup : Setup) (bytes : Bytes) → StandsFor setup bytes of.regs → IsFlatMapOf setup bytes sight.ranges) →
+    IsSightOf log sight
 sight_of log of sight is_map version flat = record {
   same = version ∙ is_map.version;
   flat = λ setup bytes stands. flat setup (bytes_after setup (changes_of log) bytes) (is_map.stands setup bytes stands);

@@ -1,21 +1,20 @@
 -- No answer depends on the looks and the numbers before it: each definition over histories gives the same without them.
 use Rattle.std.proofs.Common.{◌≡◌, ℕ, zero, suc, ◌==◌, nat_lt, Bool, true, false, List, [], ◌∷◌, length, refl, sym, ◌∙◌}
 use Rattle.std.proofs.Common.{ap, inl, inr, Option, Some, None, unwrap_or, if◌then◌else◌}
-use Rattle.board_prelude.proofs.Common.{option_map_or, cases_Bool, Kind, Width, Reg, Target, Rom, Card, Device, Config}
-use Rattle.board_prelude.proofs.Common.{Abort, Dev, Pic0, Pic1, Pit, Elcr, Ata, largest_of, Triggers, trigger_byte}
-use Rattle.board_prelude.proofs.Common.{PitState, out_of, pulses, port_read, Clock, read_value, Disk, read_of, Pair}
-use Rattle.board_prelude.proofs.Common.{pair_after_lines, port_byte, answer_of, Event, Memory, Wide, Port, Ack, Pulses}
-use Rattle.board_prelude.proofs.Common.{Reply, Bus, Saw, Entry, Setup, installed, version_of, wide, pirq}
-use Rattle.board_prelude.proofs.Common.{control_written, control_after, reset_control, address_written, config_address}
-use Rattle.board_prelude.proofs.Common.{config_store, register_change, byte_of, map_change_of, map_writes_of, Cell}
-use Rattle.board_prelude.proofs.Common.{DramCell, CardCell, entry_put, stored_of, dram_byte, expansion_byte, parts_of}
-use Rattle.board_prelude.proofs.Common.{wire_set, wire_of, line_set, irq_of, triggers_of, PlainPorts, plain_of}
-use Rattle.board_prelude.proofs.Common.{timer_of, clock_of, disk_with, pirqs, levels_with, levels_of, elcr_of}
-use Rattle.board_prelude.proofs.Common.{pair_pulsed, pair_reset_or_after, pair_stepped, pair_of, device_value}
-use Rattle.board_prelude.proofs.Common.{plain_value, who_answered, IsOfMemory, SameDevices, MemoryLeavesDevices}
-use Rattle.board_prelude.proofs.Common.{IsAnswer, memory_answer, part_answer, wide_value, port_answer, port_value}
-use Rattle.board_prelude.proofs.Common.{value_at, map-same, levels-same, disk_of-same, elcr-same, card_at, card_byte}
-use Rattle.board_prelude.proofs.Common.{kept_size}
+use Rattle.board_prelude.proofs.Common.{option_map_or, cases_Bool, Pic0, Pic1, Pit, Elcr, Ata, trigger_byte, read_value}
+use Rattle.board_prelude.proofs.Common.{read_of, port_byte, Event, Memory, Wide, Port, Ack, Pulses, Reply, Bus, Saw}
+use Rattle.board_prelude.proofs.Common.{Entry, plain_value, map-same, levels-same, disk_of-same, elcr-same}
+use Rattle.board_spec.specs.Common.{Kind, Width, Reg, Target, Rom, Card, Device, Config, Abort, Dev, largest_of}
+use Rattle.board_spec.specs.Common.{Triggers, PitState, out_of, pulses, port_read, Clock, Disk, Pair, pair_after_lines}
+use Rattle.board_spec.specs.Common.{answer_of, Setup, installed, version_of, wide, pirq, control_written, control_after}
+use Rattle.board_spec.specs.Common.{reset_control, address_written, config_address, config_store, register_change}
+use Rattle.board_spec.specs.Common.{byte_of, map_change_of, map_writes_of, Cell, DramCell, CardCell, entry_put}
+use Rattle.board_spec.specs.Common.{stored_of, dram_byte, expansion_byte, parts_of, wire_set, wire_of, line_set, irq_of}
+use Rattle.board_spec.specs.Common.{triggers_of, PlainPorts, plain_of, timer_of, clock_of, disk_with, pirqs}
+use Rattle.board_spec.specs.Common.{levels_with, levels_of, elcr_of, pair_pulsed, pair_reset_or_after, pair_stepped}
+use Rattle.board_spec.specs.Common.{pair_of, device_value, who_answered, IsOfMemory, SameDevices, MemoryLeavesDevices}
+use Rattle.board_spec.specs.Common.{IsAnswer, memory_answer, part_answer, wide_value, port_answer, port_value, value_at}
+use Rattle.board_spec.specs.Common.{card_at, card_byte, kept_size}
 use Rattle.board_base.specs.declared.access.Access.{Access}
 use Rattle.board_base.specs.declared.target.Dev.TheVariants.{Confadd, Reset, Clock as ClockChip}
 use Rattle.board_spec.specs.declared.event.Event.TheVariants.{Look as LookAt}
@@ -182,8 +181,7 @@ module _ (leaves : MemoryLeavesDevices) (setup : Setup) where
   -- an entry that is no look, after a history and after that history without its looks
   reached_next : (entry : Entry) (before : List Entry) (pair : Pair) → is_look entry.event ≡ false →
       pair_after_lines (pair_reset_or_after setup entry before pair) (levels_of setup (entry ∷ before))
-      (elcr_of (entry ∷ before))
-      ≡ pair_after_lines (pair_reset_or_after setup (plain entry) (bare before) pair)
+      (elcr_of (entry ∷ before)) ≡ pair_after_lines (pair_reset_or_after setup (plain entry) (bare before) pair)
       (levels_of setup (plain entry ∷ bare before)) (elcr_of (plain entry ∷ bare before))
   reached_next entry before pair not =
       let is = bare_entry entry before not in

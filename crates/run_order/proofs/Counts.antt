@@ -16,9 +16,8 @@ looks_append (Went version event ∷ xs) ys = looks_append xs ys
 looks_append (Looked kind addr smm look ∷ xs) ys = let more = looks_append xs ys in omega (arith, more)
 
 -- one more statement
-pub looks_next : (xs : List Done) (k : ℕ) (d : Done) (count one : ℕ) → k < length xs → count ≡ looks_in (take k xs)
-    → one ≡ looks_in (get_or xs k d ∷ []) →
-    count + one ≡ looks_in (take (k + 1) xs)
+pub looks_next : (xs : List Done) (k : ℕ) (d : Done) (count one : ℕ) → k < length xs → count ≡ looks_in (take k xs) →
+    one ≡ looks_in (get_or xs k d ∷ []) → count + one ≡ looks_in (take (k + 1) xs)
 looks_next xs k d count one less count_is one_is =
     rw (count_is, one_is, take_more xs k d less) (sym (looks_append (take k xs) (get_or xs k d ∷ [])))
 
@@ -61,10 +60,9 @@ number_fits {order} actor place same below kept =
       kept.few,
     ))
 
-counts_more : (counts : List ℕ) (actor other : ℕ) (entry : Entry) (before : List Entry) → length counts ≡ 8 → other < 8
-    → entry.actor ≡ actor
-    → slice_index counts other ≡ length (entries_by other before)
-    → slice_index (set counts actor (slice_index counts actor + 1)) other ≡ length (entries_by other (entry ∷ before))
+counts_more : (counts : List ℕ) (actor other : ℕ) (entry : Entry) (before : List Entry) → length counts ≡ 8 →
+    other < 8 → entry.actor ≡ actor → slice_index counts other ≡ length (entries_by other before) →
+    slice_index (set counts actor (slice_index counts actor + 1)) other ≡ length (entries_by other (entry ∷ before))
 counts_more counts actor other entry before eight small own was =
     let next : ℕ = get_or counts actor 0 + 1 in
     grind (

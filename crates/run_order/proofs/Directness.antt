@@ -66,8 +66,7 @@ module _ (setup : Setup) (history : List Entry) where
 
   pub direct_moves : (v actor n : ℕ) (added other : List Entry) → without_lower actor added ≡ without_lower actor other
       → Direct setup history v actor other n → Direct setup history v actor added n
-  direct_moves v actor n added other same direct due =
-      subst (IsPlaceOf setup history actor n) (sym same) (direct due)
+  direct_moves v actor n added other same direct due = subst (IsPlaceOf setup history actor n) (sym same) (direct due)
 
   -- a look that was not due before a call is due after it where the call is the map write
   pub write_direct : (actor n : ℕ) (entry : Entry) (before : List Entry) → is_look entry.event ≡ false

@@ -18,10 +18,9 @@ each_cons K first items rests head tail zero c is less = let here : c ≡ first 
 each_cons K first items rests head tail (suc k) c is less = tail k c (omega (arith, is)) (omega (arith, less))
 
 -- one has done what it did first, and the others are as they were
-pub passed_each : (K L : ℕ → List Done → Type 0) (actor : ℕ) (rests : List (List Done))
-    → ((items : List Done) → K actor items → L actor (without_first items))
-    → ((a : ℕ) (items : List Done) → a ≢ actor → K a items → L a items)
-    → Each K 0 rests → Each L 0 (passed 0 actor rests)
+pub passed_each : (K L : ℕ → List Done → Type 0) (actor : ℕ) (rests : List (List Done)) →
+    ((items : List Done) → K actor items → L actor (without_first items)) →
+    ((a : ℕ) (items : List Done) → a ≢ actor → K a items → L a items) → Each K 0 rests → Each L 0 (passed 0 actor rests)
 passed_each K L actor rests own others each =
     let next : List Done = without_first (get_or rests actor []) in
     rw ((from_first rests actor).1) (λ k c is less.

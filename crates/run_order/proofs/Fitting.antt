@@ -131,10 +131,9 @@ module _ (setup : Setup) (whole : List Entry) (actor : ℕ) where
             (omega (arith, ap (version_of setup) next));
       }
 
-  pub fits : (later before from : List Entry) (low : ℕ) (items : List Done) → whole ≡ onto later before
-      → entries_by actor before ≡ entries_by actor from
-      → Follows setup whole actor from low items → Late (version_of setup before) items
-      → Fits setup actor before later items
+  pub fits : (later before from : List Entry) (low : ℕ) (items : List Done) → whole ≡ onto later before →
+      entries_by actor before ≡ entries_by actor from → Follows setup whole actor from low items →
+      Late (version_of setup before) items → Fits setup actor before later items
   fits [] before from low items is n f late =
       due before from (λ rest. rest ≡ []) ([], is) (none_left before from is n) items low f late
   fits (entry ∷ later) before from low items is n f late =

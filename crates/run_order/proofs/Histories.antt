@@ -16,8 +16,7 @@ onto_is {X} (x ∷ later) before =
     onto_is later (x ∷ before) ∙ sym (ap (λ (h : List X). h ++ before) (reverse-append (x ∷ []) later)
     ∙ append_assoc (reverse later) (x ∷ []) before)
 
-pub legal_front : (setup : Setup) (later before : List Entry) → IsLegal setup (onto later before)
-    → IsLegal setup before
+pub legal_front : (setup : Setup) (later before : List Entry) → IsLegal setup (onto later before) → IsLegal setup before
 legal_front setup [] before legal = legal
 legal_front setup (entry ∷ later) before legal = (legal_front setup later (entry ∷ before) legal).1
 
@@ -48,10 +47,9 @@ pub own_later : (actor : ℕ) (entry : Entry) (before whole : List Entry) → Be
 own_later actor entry before whole b own = rw b.1 (own_counts actor b.0 entry before own)
 
 -- two entries of a processor's in one history with as many of its entries before them are one
-same : (actor : ℕ) (more others : List Entry) (left right : Entry) (before other : List Entry)
-    → more ++ left ∷ before ≡ others ++ right ∷ other
-    → left.actor ≡ actor → right.actor ≡ actor → length (entries_by actor before) ≡ length (entries_by actor other)
-    → (left ≡ right) × (before ≡ other)
+same : (actor : ℕ) (more others : List Entry) (left right : Entry) (before other : List Entry) →
+    more ++ left ∷ before ≡ others ++ right ∷ other → left.actor ≡ actor → right.actor ≡ actor →
+    length (entries_by actor before) ≡ length (entries_by actor other) → (left ≡ right) × (before ≡ other)
 same actor [] [] left right before other e l r n = (cc (e), cc (e))
 same actor [] (last ∷ others) left right before other e l r n =
     let tail : before ≡ others ++ right ∷ other = cc (e) in
@@ -64,10 +62,9 @@ same actor (last ∷ more) [] left right before other e l r n =
 same actor (last ∷ more) (last' ∷ others) left right before other e l r n = same actor more others left right before
     other (cc (e)) l r n
 
-pub same_place : (actor : ℕ) (whole : List Entry) (left right : Entry) (before other : List Entry)
-    → Begins (left ∷ before) whole → Begins (right ∷ other) whole
-    → left.actor ≡ actor → right.actor ≡ actor → entries_by actor before ≡ entries_by actor other
-    → (left ≡ right) × (before ≡ other)
+pub same_place : (actor : ℕ) (whole : List Entry) (left right : Entry) (before other : List Entry) →
+    Begins (left ∷ before) whole → Begins (right ∷ other) whole → left.actor ≡ actor → right.actor ≡ actor →
+    entries_by actor before ≡ entries_by actor other → (left ≡ right) × (before ≡ other)
 same_place actor whole left right before other a b l r n = same actor a.0 b.0 left right before other (sym a.1 ∙ b.1) l
     r (ap length n)
 

@@ -1,9 +1,8 @@
 -- The looks of one processor after another.
 use Rattle.std.proofs.Common.{◌≡◌, ℕ, suc, ◌+◌, ◌<◌, ◌≤◌, List, [], ◌∷◌, length, map, take, drop, get_or, set, sym, ◌∙◌}
-use Rattle.std.proofs.Common.{ap, arith}
+use Rattle.std.proofs.Common.{ap, arith, drop-set-lt}
 use Rattle.board_prelude.proofs.Common.{take_more, drop_more, map-append, length-set, length-map, take_all, drop_all}
 use Rattle.board_prelude.proofs.Common.{get_or-map, map-set, Entry}
-use Rattle.std.proofs.lemmas.List.{drop-set-lt}
 use Rattle.std.proofs.Math.Seq.{take-suc-set}
 use Rattle.run_order.specs.declared.done.Done.{Done}
 use Rattle.run_order.specs.Common.{with_looks, left_after, with_all_looks, all_left, looks_in, all_looks_in}

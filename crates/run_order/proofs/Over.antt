@@ -1,7 +1,6 @@
 -- Entries over the bus's history.
-use Rattle.std.proofs.Common.{◌≡◌, ℕ, ◌≤◌, List, [], ◌∷◌, take, All, sym, refl, ap, subst, arith, reverse}
-use Rattle.board_prelude.proofs.Common.{reverse-append, reverse-reverse, get_or-take, All-nil, All-push, All-head}
-use Rattle.board_prelude.proofs.Common.{All-tail, Entry}
+use Rattle.std.proofs.Common.{◌≡◌, ℕ, ◌≤◌, List, [], ◌∷◌, take, All, sym, refl, ap, subst, arith, reverse, get_or-take}
+use Rattle.board_prelude.proofs.Common.{reverse-append, reverse-reverse, All-nil, All-push, All-head, All-tail, Entry}
 use Rattle.run_order.specs.declared.entry.RunEntry.{RunEntry}
 use Rattle.run_order.specs.declared.entry.RunEntry.TheVariants.{Bus, Look}
 use Rattle.run_order.specs.Over.{IsPlacedBelow, entry_of, nowhere, over}

@@ -63,8 +63,7 @@ unfolding drop_one
 drop_size a [] some = absurd (omega (arith, some))
 drop_size a (y ∷ ys) some = grind (arith, nat_tests, some, drop_size a ys)
 
-drop_count : (a c : ℕ) (ys : List Statement) → 0 < count a ys
-    → count c ys ≡ count c (drop_one a ys) + cond (a == c) 1 0
+drop_count : (a c : ℕ) (ys : List Statement) → 0 < count a ys → count c ys ≡ count c (drop_one a ys) + cond (a == c) 1 0
 unfolding drop_one
 drop_count a c [] some = absurd (omega (arith, some))
 drop_count a c (y ∷ ys) some = grind (arith, nat_tests, some, drop_count a c ys)

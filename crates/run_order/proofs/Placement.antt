@@ -151,10 +151,7 @@ module _ (blind : AnswersAreBlind) (setup : Setup) (history : List Entry) where
           have.holds.legal,
         );
         bare = same;
-        places = (
-          call_in_place setup history then entry.actor entry.event entry.reply head.call,
-          have.holds.places,
-        );
+        places = (call_in_place setup history then entry.actor entry.event entry.reply head.call, have.holds.places);
       }) legal
       (rw (count_passed v entry.actor rests) (All-tail (λ (e : Entry). e.actor < length rests) entry later few))
       (pass setup entry before later left here.1)
@@ -167,11 +164,10 @@ module _ (blind : AnswersAreBlind) (setup : Setup) (history : List Entry) where
         own = λ c. rest.own c ∙ (call_own c new looked left within head.events ∙ all_own v rests 0 c final);
       })
 
-  pub has_placed : (later before : List Entry) (rests : List (List Done)) → IsLegal setup history
-      → bare history ≡ bare before → IsLegal setup (onto later before) → All (λ e. e.actor < length rests) later
-      → Each (λ a. Fits setup a before later) 0 rests
-      → HasPlaced setup history (onto later before) rests history
-      (placed (version_of setup before) later rests history)
+  pub has_placed : (later before : List Entry) (rests : List (List Done)) → IsLegal setup history →
+      bare history ≡ bare before → IsLegal setup (onto later before) → All (λ e. e.actor < length rests) later →
+      Each (λ a. Fits setup a before later) 0 rests →
+      HasPlaced setup history (onto later before) rests history (placed (version_of setup before) later rests history)
   has_placed later before rests kept same legal few fit =
       placed_holds later before rests history [] tt (record { is = refl; legal = kept; bare = same; places = tt }) legal
       few fit (λ k a is less. first_all (Direct setup history (version_of setup before) a []) (λ n due. tt)

@@ -43,9 +43,8 @@ settled_left version [] so = refl
 settled_left version (done ∷ rests) so =
     λ t. (not_due version 0 done [] (so 0)).1 t ∷ settled_left version rests (λ k. so (suc k)) t
 
-pub settled_more : (version : ℕ) (done : List Done) (rests : List (List Done)) → IsNotDue version done
-    → IsSettled version rests → (k : ℕ)
-    → IsNotDue version (get_or (done ∷ rests) k [])
+pub settled_more : (version : ℕ) (done : List Done) (rests : List (List Done)) → IsNotDue version done →
+    IsSettled version rests → (k : ℕ) → IsNotDue version (get_or (done ∷ rests) k [])
 settled_more version done rests not so zero = not
 settled_more version done rests not so (suc k) = so k
 

@@ -73,13 +73,11 @@ module _ (setup : Setup) (cards : IsCardList setup.cards) (whole : List Entry) (
       }
 
   -- what a worker did leads on to what it still has to do
-  pub follows_on : (done : List Done) (seen : List Entry) (known : List MapChange) (items : List Done)
-      → IsDone setup actor opened done seen known
-      → Begins seen whole → HasMoreWrites known (map_writes_of setup whole)
-      → Follows setup whole actor seen (length known) items
-      → Follows setup whole actor opened (version_of setup opened) (onto done items)
-  follows_on [] seen known items d b e f =
-      rw (d.1, d.0) at f
+  pub follows_on : (done : List Done) (seen : List Entry) (known : List MapChange) (items : List Done) →
+      IsDone setup actor opened done seen known → Begins seen whole → HasMoreWrites known (map_writes_of setup whole) →
+      Follows setup whole actor seen (length known) items → Follows setup whole actor opened (version_of setup opened)
+      (onto done items)
+  follows_on [] seen known items d b e f = rw (d.1, d.0) at f
   follows_on (Looked kind addr smm look ∷ before) seen known items d b e f =
       let older : List MapChange = d.0 in let one = d.1 in
       let less = extends_length older known one.later in

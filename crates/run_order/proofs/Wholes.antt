@@ -1,8 +1,7 @@
 -- Each processor's events stand in the placed history, in its order.
 use Rattle.std.proofs.Common.{◌≡◌, ◌≢◌, ℕ, ◌+◌, ◌<◌, ◌==◌, false, List, [], ◌∷◌, map, length, get_or, set, refl, arith}
-use Rattle.std.proofs.Common.{ap}
-use Rattle.board_prelude.proofs.Common.{nat_tests, get_or-set_at, get_or-set_other, Event, Saw, Entry, entries_by}
-use Rattle.board_prelude.proofs.Common.{next_entry}
+use Rattle.std.proofs.Common.{ap, get_or-set_other}
+use Rattle.board_prelude.proofs.Common.{nat_tests, get_or-set_at, Event, Saw, Entry, entries_by, next_entry}
 use Rattle.board_spec.specs.declared.event.Event.TheVariants.{Look as LookAt}
 use Rattle.run_order.specs.declared.done.Done.{Done}
 use Rattle.run_order.specs.declared.done.Done.TheVariants.{Looked}
@@ -15,9 +14,8 @@ use Rattle.run_order.proofs.Steps.{from_first}
 abbrev pub own : ℕ → List Entry → List Event
 own actor history = map (λ entry. entry.event) (entries_by actor history)
 
-with_looks_own : (v actor : ℕ) (items : List Done) (final : List Entry)
-    → onto (map event_of (left_after v items)) (own actor (with_looks v actor items final)) ≡ onto (map event_of items)
-    (own actor final)
+with_looks_own : (v actor : ℕ) (items : List Done) (final : List Entry) → onto (map event_of (left_after v items))
+    (own actor (with_looks v actor items final)) ≡ onto (map event_of items) (own actor final)
 unfolding with_looks left_after
 with_looks_own v actor (Looked kind addr smm look ∷ items) final =
     let entry : Entry = next_entry final actor (LookAt kind addr smm) (Saw look) in

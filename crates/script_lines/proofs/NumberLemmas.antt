@@ -28,15 +28,13 @@ step : (base high i : ℕ) (field : List ℕ) → i < length field
 unfolding number_after
 step base high i field lt = rw (drop_more field i 0 lt) refl
 
-pub goes_on : (base high digit i : ℕ) (field : List ℕ) (total : Option ℕ) → i < length field
-    → Some digit ≡ parse_digit base (get_or field i 0)
-    → number_after base high (drop i field) ≡ total
-    → number_after base (high * base + digit) (drop (i + 1) field) ≡ total
+pub goes_on : (base high digit i : ℕ) (field : List ℕ) (total : Option ℕ) → i < length field →
+    Some digit ≡ parse_digit base (get_or field i 0) → number_after base high (drop i field) ≡ total →
+    number_after base (high * base + digit) (drop (i + 1) field) ≡ total
 goes_on base high digit i field total lt is so_far = grind (arith, nat_tests, step)
 
-pub stops : (base high i : ℕ) (field : List ℕ) (total : Option ℕ) → i < length field
-    → None ≡ parse_digit base (get_or field i 0)
-    → number_after base high (drop i field) ≡ total → None ≡ total
+pub stops : (base high i : ℕ) (field : List ℕ) (total : Option ℕ) → i < length field →
+    None ≡ parse_digit base (get_or field i 0) → number_after base high (drop i field) ≡ total → None ≡ total
 stops base high i field total lt is so_far = grind (arith, nat_tests, step)
 
 pub ends : (base high i : ℕ) (field : List ℕ) (total : Option ℕ) → length field ≤ i

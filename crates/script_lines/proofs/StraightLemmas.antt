@@ -60,9 +60,8 @@ last_field : (byte : ℕ) (field : List ℕ) → is_space byte ≡ false → IsF
     → fields_of (byte ∷ 32 ∷ field) ≡ (byte ∷ []) ∷ field ∷ []
 last_field byte field lacks whole = simp (one_byte, slice_split_none, is_space)
 
-last_fields : (byte : ℕ) (text first second : List ℕ) → text ≡ first ++ 32 ∷ second → is_space byte ≡ false
-    → IsField first
-    → IsField second → fields_of (byte ∷ 32 ∷ text) ≡ (byte ∷ []) ∷ first ∷ second ∷ []
+last_fields : (byte : ℕ) (text first second : List ℕ) → text ≡ first ++ 32 ∷ second → is_space byte ≡ false →
+    IsField first → IsField second → fields_of (byte ∷ 32 ∷ text) ≡ (byte ∷ []) ∷ first ∷ second ∷ []
 last_fields byte text first second is lacks one two =
     grind (arith, nat_tests, one_byte, slice_split_at, is_space, slice_split_none)
 
@@ -106,9 +105,8 @@ write_straight version size words text fields addr value (Some event) verb is cu
     ∙ ap (λ (fields : List (List ℕ)). option_map (ask actor) (parse_write version fields)) parts
     ∙ ap (option_map (ask actor)) (sym made)
 
-pub in_straight : (version byte : ℕ) (words text port : List ℕ) (found : Option Event)
-    → words ≡ 105 ∷ 110 ∷ 32 ∷ text → text ≡ byte ∷ 32 ∷ port → found ≡ in_event (byte ∷ []) port
-    → IfSome found (Asks version words)
+pub in_straight : (version byte : ℕ) (words text port : List ℕ) (found : Option Event) → words ≡ 105 ∷ 110 ∷ 32 ∷ text →
+    text ≡ byte ∷ 32 ∷ port → found ≡ in_event (byte ∷ []) port → IfSome found (Asks version words)
 unfolding parse_statement_words parse_by_verb parse_in in_event
 in_straight version byte words text port found verb is made =
     grind (arith, nat_tests, then_said, last_field, width_lacks, hex_lacks)
@@ -151,7 +149,6 @@ unfolding number_after
 decimal_said byte n e = grind (arith, nat_tests)
 
 -- it is neither empty nor a comment
-pub line_said : (digit actor : ℕ) (line words : List ℕ) → line ≡ digit ∷ 32 ∷ words
-    → Some actor ≡ parse_decimal (digit ∷ [])
-    → is_skipped line ≡ false
+pub line_said : (digit actor : ℕ) (line words : List ℕ) → line ≡ digit ∷ 32 ∷ words →
+    Some actor ≡ parse_decimal (digit ∷ []) → is_skipped line ≡ false
 line_said digit actor line words cut said = ap is_skipped cut ∙ decimal_said digit actor (sym said)

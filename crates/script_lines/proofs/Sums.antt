@@ -36,18 +36,16 @@ summand_most byte = most (parse_digit 16 byte) (is_digit byte (parse_digit 16 by
 abbrev longer : Option ℕ → Option ℕ → Option ℕ
 longer high digit = option_and_then (λ h. option_and_then (λ d. Some (h * 16 + d)) digit) high
 
-more :
-    (limit sum : ℕ) (high digit : Option ℕ) → limit * 16 ≤ 2 ^ 32 → IsDigit digit → IsSum limit high sum
-    → IsSum (limit * 16) (longer high digit) (sum * 16 + value_or_more digit)
+more : (limit sum : ℕ) (high digit : Option ℕ) → limit * 16 ≤ 2 ^ 32 → IsDigit digit → IsSum limit high sum →
+    IsSum (limit * 16) (longer high digit) (sum * 16 + value_or_more digit)
 more limit sum high digit few small is = grind (arith, nat_tests)
 
 -- the number that digits make after those of a number, if that is one
 abbrev after : Option ℕ → List ℕ → Option ℕ
 after high field = option_and_then (λ h. number_after 16 h field) high
 
-first_goes :
-    (high digit : Option ℕ) (byte : ℕ) (field : List ℕ) → parse_digit 16 byte ≡ digit
-    → after high (byte ∷ field) ≡ after (longer high digit) field
+first_goes : (high digit : Option ℕ) (byte : ℕ) (field : List ℕ) → parse_digit 16 byte ≡ digit →
+    after high (byte ∷ field) ≡ after (longer high digit) field
 unfolding number_after
 first_goes high digit byte field e = grind (arith, nat_tests)
 
@@ -76,11 +74,9 @@ two a b = sums 1 0 (Some 0) (a ∷ b ∷ []) (grind arith) (refl, omega arith)
 four : (a b c d : ℕ) → IsSum 0x1_0000 (parse_digits 16 (a ∷ b ∷ c ∷ d ∷ [])) (sum_after 0 (a ∷ b ∷ c ∷ d ∷ []))
 four a b c d = sums 1 0 (Some 0) (a ∷ b ∷ c ∷ d ∷ []) (grind arith) (refl, omega arith)
 
-eight :
-    (a b c d e f g h : ℕ) → IsSum 0x1_0000_0000 (parse_digits 16 (a ∷ b ∷ c ∷ d ∷ e ∷ f ∷ g ∷ h ∷ []))
+eight : (a b c d e f g h : ℕ) → IsSum 0x1_0000_0000 (parse_digits 16 (a ∷ b ∷ c ∷ d ∷ e ∷ f ∷ g ∷ h ∷ []))
     (sum_after 0 (a ∷ b ∷ c ∷ d ∷ e ∷ f ∷ g ∷ h ∷ []))
-eight a b c d e f g h =
-    sums 1 0 (Some 0) (a ∷ b ∷ c ∷ d ∷ e ∷ f ∷ g ∷ h ∷ []) (grind arith) (refl, omega arith)
+eight a b c d e f g h = sums 1 0 (Some 0) (a ∷ b ∷ c ∷ d ∷ e ∷ f ∷ g ∷ h ∷ []) (grind arith) (refl, omega arith)
 
 -- ---- as they are added
 
@@ -90,14 +86,12 @@ two_added a b x y is_x is_y =
     let same : sum_after 0 (a ∷ b ∷ []) ≡ x * 16 + y = omega arith in
     subst (IsSum 0x100 (parse_digits 16 (a ∷ b ∷ []))) same (two a b)
 
-pub four_added :
-    (a b c d x y z w : ℕ) → x ≡ summand_of a → y ≡ summand_of b → z ≡ summand_of c → w ≡ summand_of d
-    → (x * 16 + y) * 0x100 + (z * 16 + w) ≡ sum_after 0 (a ∷ b ∷ c ∷ d ∷ [])
+pub four_added : (a b c d x y z w : ℕ) → x ≡ summand_of a → y ≡ summand_of b → z ≡ summand_of c → w ≡ summand_of d →
+    (x * 16 + y) * 0x100 + (z * 16 + w) ≡ sum_after 0 (a ∷ b ∷ c ∷ d ∷ [])
 four_added a b c d x y z w is_x is_y is_z is_w = omega arith
 
-pub four_is :
-    (a b c d sum : ℕ) → sum ≡ sum_after 0 (a ∷ b ∷ c ∷ d ∷ [])
-    → IsSum 0x1_0000 (parse_digits 16 (a ∷ b ∷ c ∷ d ∷ [])) sum
+pub four_is : (a b c d sum : ℕ) → sum ≡ sum_after 0 (a ∷ b ∷ c ∷ d ∷ []) →
+    IsSum 0x1_0000 (parse_digits 16 (a ∷ b ∷ c ∷ d ∷ [])) sum
 four_is a b c d sum is = subst (IsSum 0x1_0000 (parse_digits 16 (a ∷ b ∷ c ∷ d ∷ []))) (sym is) (four a b c d)
 
 pub eight_is :

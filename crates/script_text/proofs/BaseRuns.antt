@@ -18,8 +18,7 @@ module _ (fields : List BaseField) (i : ℕ) (d : BaseField) (inside : i < lengt
   here : get_or (map base_said fields) i (base_said d) ≡ base_said (get_or fields i d)
   here = get_or-map base_said fields i d (base_said d) inside
 
-  pub base_refused :
-      None ≡ in_case (is_base_in_range (base_said (get_or fields i d))) (base_said (get_or fields i d)) →
+  pub base_refused : None ≡ in_case (is_base_in_range (base_said (get_or fields i d))) (base_said (get_or fields i d)) →
       None ≡ in_case (list_all is_base_in_range (map base_said fields)) (map base_said fields)
   base_refused none =
       rw (list_all_at is_base_in_range (map base_said fields) i (base_said d) place

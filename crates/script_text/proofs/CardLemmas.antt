@@ -31,11 +31,9 @@ base_at card bases i d fits view lt =
     subst IsBase (get_or-map base_of bases i d (base_of d) lt)
     (All-get_or IsBase (map base_of bases) i (base_of d) (omega (arith, length-map bases base_of)) each)
 
-pub next_base :
-    (card : FittedCard) (bases : List BaseSpec) (i total size : ℕ) (d : BaseSpec) → map base_of bases ≡ card.bases
-    → i < length bases →
-    total ≡ sum_by memory_size (take i card.bases) → size ≡ memory_size (base_of (get_or bases i d))
-    → total + size ≡ sum_by memory_size (take (i + 1) card.bases)
+pub next_base : (card : FittedCard) (bases : List BaseSpec) (i total size : ℕ) (d : BaseSpec) →
+    map base_of bases ≡ card.bases → i < length bases → total ≡ sum_by memory_size (take i card.bases) →
+    size ≡ memory_size (base_of (get_or bases i d)) → total + size ≡ sum_by memory_size (take (i + 1) card.bases)
 next_base card bases i total size d view lt is here =
     rw (is, here, ← view, ← get_or-map base_of bases i d (base_of d) lt)
     (sym (sum_by_more memory_size (map base_of bases) i (base_of d) (omega (arith, length-map bases base_of))))
@@ -43,8 +41,7 @@ next_base card bases i total size d view lt is here =
 -- ---- places
 
 -- the first place, as a search for it tells it
-pub place_is : (dev : ℕ) (cards : List FittedCard)
-    → unwrap_or (position (λ other. nat_lt dev other.dev) cards) (length cards) ≡ position_or_len
-    (λ other. nat_lt dev other.dev) cards
+pub place_is : (dev : ℕ) (cards : List FittedCard) → unwrap_or (position (λ other. nat_lt dev other.dev) cards)
+    (length cards) ≡ position_or_len (λ other. nat_lt dev other.dev) cards
 place_is dev cards =
     grind (arith, nat_tests, common_steps, position_or_len, nat_lt, prefix_len-le-length, cases_Bool, ltb-false)

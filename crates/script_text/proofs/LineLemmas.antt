@@ -69,8 +69,7 @@ uncut (x ∷ xs) some none =
     (not_so (is_feed (get_or (x ∷ xs) k 0)) (none k (omega arith) lt)))
 
 -- with a line feed at once the first line is empty
-pub begun_empty :
-    (bytes : List ℕ) → false ≡ eqb (length bytes) 0 → get_or bytes 0 0 ≡ 10 →
+pub begun_empty : (bytes : List ℕ) → false ≡ eqb (length bytes) 0 → get_or bytes 0 0 ≡ 10 →
     lines_of bytes ≡ [] ∷ lines_of (take (length bytes - 1) (drop 1 bytes))
 unfolding lines_of
 begun_empty [] some feed = absurd cc

@@ -51,9 +51,8 @@ neither : (phase statement : Bool) → not (phase || statement) ≡ true → (ph
 neither phase statement setup = grind (arith, nat_tests)
 
 -- a line of the setup stands before the first phase
-pub setup_place :
-    (items : List Item) (item : Item) (any : Bool) → is_setup item ≡ true → list_any is_phase items ≡ any →
-    is_misplaced items item ≡ any
+pub setup_place : (items : List Item) (item : Item) (any : Bool) → is_setup item ≡ true →
+    list_any is_phase items ≡ any → is_misplaced items item ≡ any
 setup_place items item any setup e = grind (arith, nat_tests)
 
 pub begun_setup : (items : List Item) (item : Item) → is_setup item ≡ true
@@ -61,9 +60,8 @@ pub begun_setup : (items : List Item) (item : Item) → is_setup item ≡ true
 begun_setup items item setup = rw (neither (is_phase item) (is_statement item) setup).0 refl
 
 -- a statement after it
-pub statement_place :
-    (items : List Item) (item : Item) (any : Bool) → is_setup item ≡ false → is_statement item ≡ true →
-    list_any is_phase items ≡ any → is_misplaced items item ≡ not any
+pub statement_place : (items : List Item) (item : Item) (any : Bool) → is_setup item ≡ false →
+    is_statement item ≡ true → list_any is_phase items ≡ any → is_misplaced items item ≡ not any
 statement_place items item any setup statement e = grind (arith, nat_tests)
 
 pub phase_placed : (items : List Item) → is_misplaced items BeginPhase ≡ false
@@ -112,8 +110,7 @@ module _ (items : List Item) (reading : Reading) (is : IsReadingOf items reading
   setup_kept = rw (cpus_kept, memory_kept, rom_kept) refl
 
   pub card_kept : (dev : ℕ) → has_card items dev ≡ list_any (λ card. card.dev == dev) reading.cards.items
-  card_kept dev =
-      list_any-IsPermutation (λ card. card.dev == dev) (cards_of items) reading.cards.items is.cards
+  card_kept dev = list_any-IsPermutation (λ card. card.dev == dev) (cards_of items) reading.cards.items is.cards
 
 -- ---- statements
 
@@ -203,8 +200,7 @@ module _ (actor : ℕ) (asked : Asked) (event : Event)
   -- the least reason, of those that are left after a `phase`
   pub asked_reason : (items : List Item) (reading : Reading) → IsReadingOf items reading →
       list_any is_phase items ≡ true →
-      least_reason items (asked_said actor asked)
-      ≡ first_of false false false false (not (is_event_placed event))
+      least_reason items (asked_said actor asked) ≡ first_of false false false false (not (is_event_placed event))
       (not (is_below actor reading.cpus && is_card_there items event))
       (nat_lt 250_000 (reading.statements + 1) || nat_lt 100_000_000 (pulses_of_event event + reading.pulses))
   asked_reason items reading is begun =
@@ -225,9 +221,8 @@ setup_within items reading item is setup pulses little =
 
 -- a reason that is handed on
 pub refused : {X : Type 0} (said : X → Item) (items : List Item) (item : Item) (result : Result X Reason)
-    (least : Reason) →
-    IsErr result × IsErrAnd result (λ handed. handed ≡ least) → least_reason items item ≡ Some (number_of least) →
-    Judges said items item result
+    (least : Reason) → IsErr result × IsErrAnd result (λ handed. handed ≡ least) →
+    least_reason items item ≡ Some (number_of least) → Judges said items item result
 refused said items item (Ok x) least e is = absurd (false≢true e.0)
 refused said items item (Err handed) least e is = is ∙ ap (λ (r : Reason). Some (number_of r)) (sym e.1)
 

@@ -55,8 +55,7 @@ read_then : (version : ℕ) (good : List (List ℕ)) (line : List ℕ) (items mo
     AreRead version [] good items → AreRead version items (line ∷ []) more → AreRead version [] (good ++ line ∷ []) more
 read_then version good line items more read (inl skipped) =
     rw skipped.1 (skip_more version good line [] items read skipped.0)
-read_then version good line items more read (inr one) =
-    rw one.2 (read_more version good line [] items one.0 read one.1)
+read_then version good line items more read (inr one) = rw one.2 (read_more version good line [] items one.0 read one.1)
 
 pub run_more : (version : ℕ) (lines rest later : List (List ℕ)) (line : List ℕ) (number : ℕ) (old new : Reading) →
     rest ≡ line ∷ later → IsRun version lines rest number old → Reads version line old new →

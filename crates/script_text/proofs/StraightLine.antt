@@ -25,9 +25,8 @@ spelled_line (c ∷ cs) (t ∷ ts) spells lack =
     All-cons (λ byte. is_feed byte ≡ false) c cs (stands_lacks c t spells.0 (lacks-first 10 t ts lack))
     (spelled_line cs ts spells.1 (lacks-later 10 t ts lack))
 
-asked_line :
-    (version actor : ℕ) (line : List ℕ) (event : Event) → HasForm version line (ask actor event)
-    → All (λ byte. is_feed byte ≡ false) line
+asked_line : (version actor : ℕ) (line : List ℕ) (event : Event) → HasForm version line (ask actor event) →
+    All (λ byte. is_feed byte ≡ false) line
 unfolding item_text
 asked_line version actor line event has =
     spelled_line line (item_text (ask actor event)) has.says
@@ -36,9 +35,8 @@ asked_line version actor line event has =
     (lacks-plain 10 (event_text event) refl (event_plain event)))
 
 -- so a text that goes on with a line feed has it as its first line
-pub line_cut :
-    (version actor : ℕ) (text line rest : List ℕ) (event : Event) → text ≡ line ++ 10 ∷ rest
-    → HasForm version line (ask actor event) → lines_of text ≡ line ∷ lines_of rest
+pub line_cut : (version actor : ℕ) (text line rest : List ℕ) (event : Event) → text ≡ line ++ 10 ∷ rest →
+    HasForm version line (ask actor event) → lines_of text ≡ line ∷ lines_of rest
 line_cut version actor text line rest event cut has =
     ap lines_of cut ∙ line_ended line rest (asked_line version actor line event has)
 

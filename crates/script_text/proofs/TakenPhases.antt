@@ -1,10 +1,9 @@
 -- What `phase` and statements add to what is kept.
 use Rattle.script_text.proofs.TakenSetup.{no_pulses}
 use Rattle.board_prelude.proofs.Common.{common_steps, nat_tests, list_any, false≢true, map-append, map-set, get_or-map}
-use Rattle.board_prelude.proofs.Common.{length-map, sum_by-cons, get_or-append_seam, Statement}
-use Rattle.std.proofs.Common.{◌≡◌, ℕ, ◌+◌, ◌-◌, ◌<◌, ◌≤◌, true, false, not, List, [], ◌∷◌, ◌++◌, Vec, Global, vec_len}
-use Rattle.std.proofs.Common.{length, get_or, filter, set, sum_by, refl, sym, ap, ◌∙◌, arith, length-append, reverse}
-use Rattle.std.proofs.Common.{append_assoc}
+use Rattle.board_prelude.proofs.Common.{length-map, sum_by-cons, get_or-append_seam, Statement, Global, length-append}
+use Rattle.std.proofs.Common.{◌≡◌, ℕ, ◌+◌, ◌-◌, ◌<◌, ◌≤◌, true, false, not, List, [], ◌∷◌, ◌++◌, Vec, vec_len, length}
+use Rattle.std.proofs.Common.{get_or, filter, set, sum_by, refl, sym, ap, ◌∙◌, arith, reverse, append_assoc}
 use Rattle.std.proofs.Math.Seq.{set-append_seam}
 use Rattle.script_spec.specs.Common.{Item, BeginPhase, Ask, is_phase, is_statement, is_setup, has_setup, pulses_of}
 use Rattle.script_spec.specs.Common.{pulses_of_event, passes_limits, phase_items, lists_of}
@@ -32,9 +31,8 @@ within items none = grind (arith, nat_tests)
 
 -- ---- `phase`
 
-setup_whole :
-    (items : List Item) → (list_any is_phase items ≡ true → has_setup items ≡ true) → NoReason items BeginPhase →
-    has_setup items ≡ true
+setup_whole : (items : List Item) → (list_any is_phase items ≡ true → has_setup items ≡ true) →
+    NoReason items BeginPhase → has_setup items ≡ true
 setup_whole items whole none = grind (arith, nat_tests)
 
 pub phase_taken :
@@ -65,8 +63,7 @@ phase_taken old phases empty nothing longer items is least =
 -- ---- statements
 
 -- the last of the vectors grows
-pub last_longer :
-    (phases : Vec (Vec Statement Global) Global) (front : List (List Statement)) (last : List Statement)
+pub last_longer : (phases : Vec (Vec Statement Global) Global) (front : List (List Statement)) (last : List Statement)
     (old new : Vec Statement Global) (statement : Statement) → lists_of phases.items ≡ front ++ last ∷ [] →
     old ≡ get_or phases.items (vec_len phases - 1) old → new.items ≡ old.items ++ statement ∷ [] →
     lists_of (set phases.items (vec_len phases - 1) new) ≡ front ++ (last ++ statement ∷ []) ∷ []

@@ -77,8 +77,7 @@ all_put : (P : FittedCard → Type 0) (card : FittedCard) (cards : List FittedCa
 all_put P card cards one all =
     All-permutation P (card ∷ cards) (put card cards) (put_same card cards) (All-cons P card cards one all)
 
-put_rises :
-    (card : FittedCard) (cards : List FittedCard) → Rises cards → All (λ other. other.dev ≢ card.dev) cards →
+put_rises : (card : FittedCard) (cards : List FittedCard) → Rises cards → All (λ other. other.dev ≢ card.dev) cards →
     Rises (put card cards)
 put_rises card [] rises apart = (All-nil (λ other. card.dev < other.dev), tt)
 put_rises card (first ∷ later) rises apart =
@@ -102,8 +101,7 @@ put_rises card (first ∷ later) rises apart =
     ]
 
 -- no card of a list is of the device of a new one
-apart_from :
-    (items : List Item) (cards : List FittedCard) (card : FittedCard) → IsPermutation (cards_of items) cards →
+apart_from : (items : List Item) (cards : List FittedCard) (card : FittedCard) → IsPermutation (cards_of items) cards →
     has_card items card.dev ≡ false → All (λ other. other.dev ≢ card.dev) cards
 apart_from items cards card same none k d inside =
     let apart : All (λ other. (other.dev == card.dev) ≡ false) cards =

@@ -64,13 +64,11 @@ module _ (kept : List ℕ) (is_zero : Bool) (within : length kept ≤ memory_pag
 -- what follows the bytes that are kept
 pub rest_zeros : (kept zeros : List ℕ) → zeros ≡ replicate memory_page 0 →
     take (length zeros - length kept) (drop (length kept) zeros) ≡ replicate (memory_page - length kept) 0
-rest_zeros kept zeros is =
-    take_rest zeros (length kept) ∙ rw is (drop-replicate {X = ℕ} (length kept) memory_page 0)
+rest_zeros kept zeros is = take_rest zeros (length kept) ∙ rw is (drop-replicate {X = ℕ} (length kept) memory_page 0)
 
 pub rest_length : (kept zeros : List ℕ) → zeros ≡ replicate memory_page 0 →
     length (take (length zeros - length kept) (drop (length kept) zeros)) ≡ memory_page - length kept
-rest_length kept zeros is =
-    rw (rest_zeros kept zeros is) (length-replicate {A = ℕ} (memory_page - length kept) 0)
+rest_length kept zeros is = rw (rest_zeros kept zeros is) (length-replicate {A = ℕ} (memory_page - length kept) 0)
 
 -- ---- page after page
 

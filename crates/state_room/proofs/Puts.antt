@@ -1,8 +1,7 @@
 -- Bytes that are put behind others, and those of a room before and after.
 use Rattle.std.proofs.Common.{◌≡◌, ℕ, ◌+◌, ◌≤◌, List, [], ◌∷◌, ◌++◌, length, take, drop, refl, sym, ap, ◌∙◌}
-use Rattle.std.proofs.Common.{append_assoc, arith}
-use Rattle.board_prelude.proofs.Common.{length-append, length-take, length-drop, take_at, drop_at, drop-drop}
-use Rattle.board_prelude.proofs.Common.{take-append-drop}
+use Rattle.std.proofs.Common.{append_assoc, arith, length-append, length-take, length-drop, take_at, drop_at, drop-drop}
+use Rattle.std.proofs.Common.{take-append-drop}
 use Rattle.state_room.specs.Room.{IsPutAt}
 
 pub put_length : (at : ℕ) (bytes before after : List ℕ) → IsPutAt at bytes before after → length after ≡ length before
@@ -17,9 +16,8 @@ put_none at room within = record {
 }
 
 -- some, and then others
-pub put_then :
-    (at mid : ℕ) (xs ys all before between after : List ℕ) → IsPutAt at xs before between → mid ≡ at + length xs →
-    IsPutAt mid ys between after → all ≡ xs ++ ys → IsPutAt at all before after
+pub put_then : (at mid : ℕ) (xs ys all before between after : List ℕ) → IsPutAt at xs before between →
+    mid ≡ at + length xs → IsPutAt mid ys between after → all ≡ xs ++ ys → IsPutAt at all before after
 put_then at mid xs ys all before between after one is two whole =
     let rest : List ℕ = drop (at + length xs) before in
     let front : List ℕ = take at before ++ xs in
@@ -44,10 +42,9 @@ put_then at mid xs ys all before between after one is two whole =
     }
 
 -- a byte, then some, and then others
-pub put_three :
-    (at start end byte : ℕ) (xs ys all room one two three : List ℕ) → IsPutAt at (byte ∷ []) room one → start ≡ at + 1 →
-    IsPutAt start xs one two → end ≡ start + length xs → IsPutAt end ys two three → all ≡ byte ∷ (xs ++ ys) →
-    IsPutAt at all room three
+pub put_three : (at start end byte : ℕ) (xs ys all room one two three : List ℕ) → IsPutAt at (byte ∷ []) room one →
+    start ≡ at + 1 → IsPutAt start xs one two → end ≡ start + length xs → IsPutAt end ys two three →
+    all ≡ byte ∷ (xs ++ ys) → IsPutAt at all room three
 put_three at start end byte xs ys all room one two three first starts second ends third whole =
     put_then at end (byte ∷ xs) ys all room two three
     (put_then at start (byte ∷ []) xs (byte ∷ xs) room one two first starts second refl) (omega (arith, starts, ends))

@@ -28,8 +28,7 @@ pub record IsWriting (later : List Entry → List Entry → List Entry) (Write :
   pub line : (entries history : List Entry) → Write entries history →
       irq_of (later entries history) com1_irq ≡ irq_of history com1_irq
   pub own : (entries history : List Entry) → AreOwn entries → AreOwn history → AreOwn (later entries history)
-  pub some : (history : List Entry) → AreOwn history →
-      (entries : List Entry) × Write entries history × AreOwn entries
+  pub some : (history : List Entry) → AreOwn history → (entries : List Entry) × Write entries history × AreOwn entries
 
 module _ {later : List Entry → List Entry → List Entry} {Write : List Entry → List Entry → Type 0}
     (writing : IsWriting later Write) (old new : Serial Running) (same : old.com1 ≡ new.com1) where

@@ -15,10 +15,9 @@ use Rattle.uart_16550.specs.SerialState.{IsSerial, LoadsSerial, IsBadSerialAt, s
 use Rattle.uart_16550.proofs.StateFormat.{com1_format}
 
 -- where one was read, the bytes of one alone are its, and nothing is behind them
-pub alone_is :
-    {setup : Setup} {before mid : List ℕ} {serial : Serial Running} → LoadsSerial setup before mid (Ok serial) →
-    (other : Serial Running) → other.board.setup ≡ setup → IsSerial other → before ≡ serial_bytes other →
-    (serial ≡ other) × (mid ≡ [])
+pub alone_is : {setup : Setup} {before mid : List ℕ} {serial : Serial Running} →
+    LoadsSerial setup before mid (Ok serial) → (other : Serial Running) → other.board.setup ≡ setup → IsSerial other →
+    before ≡ serial_bytes other → (serial ≡ other) × (mid ≡ [])
 alone_is loads other same is begins =
     elim (loads.exact other [] same is (begins ∙ sym (append-nil (serial_bytes other)))) [
       | inl none ↦ absurd cc
@@ -27,9 +26,8 @@ alone_is loads other same is begins =
 
 -- ---- the place of what is bad
 
-serial_format : (setup : Setup) → IsSetup setup →
-    IsFormat (most_chipset setup + 31) (serial_fields setup) serial_bytes
-    (λ serial. IsBareChipset setup serial.board × IsCom1 serial.com1)
+serial_format : (setup : Setup) → IsSetup setup → IsFormat (most_chipset setup + 31)
+    (serial_fields setup) serial_bytes (λ serial. IsBareChipset setup serial.board × IsCom1 serial.com1)
 unfolding serial_fields
 serial_format setup fits =
     fields_format
@@ -38,8 +36,7 @@ serial_format setup fits =
     (λ s is. ((s.board, is.0) & (s.com1, is.1), refl))
     (λ t. ((t.1, t.2.1), refl))
 
-pub bad_within :
-    {setup : Setup} {bytes all : List ℕ} (after : List ℕ) → IsSetup setup → AreBytes bytes → all ≡ bytes →
+pub bad_within : {setup : Setup} {bytes all : List ℕ} (after : List ℕ) → IsSetup setup → AreBytes bytes → all ≡ bytes →
     alone (serial_fields setup) all ≡ Err (length after) →
     (length after ≤ length bytes) × ((at : ℕ) → at + length after ≡ length bytes → IsBadSerialAt setup bytes at)
 bad_within {setup} {bytes} after fits are same is =

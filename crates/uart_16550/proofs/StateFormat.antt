@@ -45,10 +45,7 @@ causes_format =
     flag_format then λ ddsr any.
     flag_format then λ teri any.
     last_field _ flag_format)
-    (λ c any. (
-      (c.overrun, tt) & (c.emptied, tt) & (c.dcts, tt) & (c.ddsr, tt) & (c.teri, tt) & (c.ddcd, tt),
-      refl,
-    ))
+    (λ c any. ((c.overrun, tt) & (c.emptied, tt) & (c.dcts, tt) & (c.ddsr, tt) & (c.teri, tt) & (c.ddcd, tt), refl))
     (λ t. (tt, refl))
 
 -- ---- the receiver

@@ -45,8 +45,7 @@ returns-in-Register-clause-board c = λ setup history entry kept.
     (decoded (goal.at.returns-in-Register-clause-board c).After-find_port c.in-Register.is setup history kept)
 
 pub at_card-requires-clause-reaching : goal.at_card-requires-clause-reaching
-at_card-requires-clause-reaching c =
-    reaching (goal.at.at_card-requires-clause-reaching c).After-find_port c.in-Card.is
+at_card-requires-clause-reaching c = reaching (goal.at.at_card-requires-clause-reaching c).After-find_port c.in-Card.is
 
 pub returns-in-Card-clause-board : goal.returns-in-Card-clause-board
 returns-in-Card-clause-board c = λ setup history entry kept.

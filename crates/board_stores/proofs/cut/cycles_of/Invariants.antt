@@ -10,7 +10,6 @@ invariant-loop l = record {
   inside : l.done ≤ l.access.bytes;
   few : length l.cycles.items ≤ l.counter;
   parts : GoesOn l.access (accesses l.cycles.items) l.counter l.done;
-  decoded :
-      (setup : Setup) (bytes : Bytes) → StandsFor setup bytes (map_bytes l.regs) → setup.rom ≡ l.rom →
+  decoded : (setup : Setup) (bytes : Bytes) → StandsFor setup bytes (map_bytes l.regs) → setup.rom ≡ l.rom →
       answers l.cycles.items ≡ map (part_in setup bytes) (accesses l.cycles.items);
 }

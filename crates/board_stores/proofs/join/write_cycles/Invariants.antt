@@ -7,7 +7,6 @@ use Rattle.board_stores.proofs.join.write_cycles.Given as goal
 abbrev pub invariant-loop-cycle : goal.invariant-loop-cycle
 invariant-loop-cycle l = record {
   ready : (rom : List ℕ) × AreReady rom l.stores.contents l.cycles;
-  put :
-      (last : Stores) → ArePut (cycles_put (drop l.cycle-index l.cycles)) l.stores last →
+  put : (last : Stores) → ArePut (cycles_put (drop l.cycle-index l.cycles)) l.stores last →
       ArePut (cycles_put l.cycles) l.fn.stores last;
 }

@@ -57,8 +57,7 @@ returns-clause-cycles c =
     (omega arith) c.loop.invariant.on
 
 pub returns-clause-covers : goal.returns-clause-covers
-returns-clause-covers c =
-    are_cycles_as c.args.access.now (port_accesses c.loop.cycles.items) (returns-clause-cycles c)
+returns-clause-covers c = are_cycles_as c.args.access.now (port_accesses c.loop.cycles.items) (returns-clause-cycles c)
 
 pub returns-clause-bus : goal.returns-clause-bus
 returns-clause-bus c = λ fits.

@@ -5,9 +5,8 @@ use Rattle.fitted_bytes.specs.Setups.{disk_unless_left, setup_bytes}
 use Rattle.fitted_bytes.specs.Fitted.{fitting_bytes, magic, version}
 use Rattle.fitted_bytes.proofs.fitted.push_fitted.Goals as goal
 
-joined : {T E : Type 0} (result : Result T E) (old a b c new w x y z : List ℕ) → a ≡ old ++ w →
-    b ≡ a ++ x → c ≡ b ++ y →
-    OnOk result (new ≡ c ++ z) → OnOk result (new ≡ old ++ (w ++ (x ++ (y ++ z))))
+joined : {T E : Type 0} (result : Result T E) (old a b c new w x y z : List ℕ) → a ≡ old ++ w → b ≡ a ++ x →
+    c ≡ b ++ y → OnOk result (new ≡ c ++ z) → OnOk result (new ≡ old ++ (w ++ (x ++ (y ++ z))))
 joined (Ok value) old a b c new w x y z one two three added = rw (added, three, two, one) (simp append_assoc)
 joined (Err fault) old a b c new w x y z one two three added = tt
 

@@ -1,6 +1,5 @@
 use Rattle.std.proofs.Common.{◌≡◌, inl, inr, subst, arith}
-use Rattle.std.proofs.lemmas.List.{get_or_default}
-use Rattle.board_prelude.proofs.Common.{cases_lt}
+use Rattle.board_prelude.proofs.Common.{get_or_default, cases_lt}
 use Rattle.fitted_bytes.specs.Identities.{IsIdentity}
 use Rattle.fitted_bytes.proofs.identities.are_identities.Goals as goal
 

@@ -5,5 +5,4 @@ use Rattle.fitted_bytes.specs.Identities.{IsIdentity}
 use Rattle.fitted_bytes.proofs.identities.are_identities.Given as goal
 
 abbrev pub invariant-loop-card : goal.invariant-loop-card
-invariant-loop-card l =
-    (k : ℕ) (d : FittedIdentity) → k < l.card-index → IsIdentity (slice_index_or l.cards k d)
+invariant-loop-card l = (k : ℕ) (d : FittedIdentity) → k < l.card-index → IsIdentity (slice_index_or l.cards k d)

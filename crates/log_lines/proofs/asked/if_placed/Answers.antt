@@ -1,5 +1,4 @@
-use Rattle.std.proofs.Common.{sym}
-use Rattle.std.proofs.lemmas.Bool.{true≢false}
+use Rattle.std.proofs.Common.{sym, true≢false}
 use Rattle.log_lines.proofs.AskedReading.{placed_is}
 use Rattle.log_lines.proofs.asked.if_placed.Goals as goal
 

@@ -1,11 +1,10 @@
 use Rattle.std.proofs.Common.{◌≡◌, ◌+◌, arith, lit<}
-use Rattle.std.proofs.lemmas.List.{length-map, length-append}
+use Rattle.board_prelude.proofs.Common.{length-map, length-append, common_steps, nat_tests}
 use Rattle.map_builder.specs.Common.{range_of}
 use Rattle.map_ranges.proofs.FindLemmas.{placed}
 use Rattle.map_builder.proofs.RebuildLemmas.{begins_later, begins_next, holds_begins}
 use Rattle.map_builder.proofs.KeepLemmas.{kept_first, kept_later}
 use Rattle.map_builder.proofs.build.keep.Goals as goal
-use Rattle.board_prelude.proofs.Common.{common_steps, nat_tests}
 
 pub returns-then-after-until : goal.returns-then-after-until
 returns-then-after-until c =

@@ -1,8 +1,7 @@
 use Rattle.std.proofs.Common.{◌≡◌, List, [], ◌∷◌, arith, refl, length, map}
 use Rattle.std.proofs.lemmas.Bool.Decides.{nat_tests}
 use Rattle.addr_decode.specs.MapRegs.{map_bytes}
-use Rattle.map_ranges.specs.declared.range.Changed.{Changed}
-use Rattle.map_builder.specs.Common.{range_of}
+use Rattle.map_builder.specs.Common.{Changed, range_of}
 use Rattle.map_builder.proofs.RebuildLemmas.{all_right}
 use Rattle.map_builder.proofs.build.rebuild.Goals as goal
 

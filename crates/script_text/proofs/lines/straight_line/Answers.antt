@@ -1,6 +1,5 @@
-use Rattle.board_prelude.proofs.Common.{common_steps, nat_tests}
+use Rattle.board_prelude.proofs.Common.{common_steps, nat_tests, length-append}
 use Rattle.std.proofs.Common.{arith}
-use Rattle.std.proofs.lemmas.List.{length-append}
 use Rattle.script_text.proofs.StraightLine.{line_cut}
 use Rattle.script_text.proofs.lines.straight_line.Goals as goal
 

@@ -1,7 +1,6 @@
 use Rattle.std.proofs.Common.{◌≡◌, take, length, map, true}
-use Rattle.std.specs.List.{list_all}
+use Rattle.board_prelude.specs.Common.{list_all, is_base_in_range}
 use Rattle.pci_bars.specs.Bases.{base_of}
-use Rattle.board_prelude.specs.Common.{is_base_in_range}
 use Rattle.script_lines.specs.Items.{base_said}
 use Rattle.script_text.proofs.valid.valid_bases.Given as goal
 

@@ -1,5 +1,4 @@
-use Rattle.std.proofs.Common.{◌+◌, ◌*◌, ap, sym, take, length, arith}
-use Rattle.board_prelude.proofs.Common.{length-take}
+use Rattle.std.proofs.Common.{◌+◌, ◌*◌, ap, sym, take, length, arith, length-take}
 use Rattle.byte_fields.specs.Pages.{memory_page}
 use Rattle.state_room.proofs.Pages.{memory_few, no_memory, size_on}
 use Rattle.state_room.proofs.dram.dram_size.Goals as goal

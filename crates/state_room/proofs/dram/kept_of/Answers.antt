@@ -1,5 +1,4 @@
-use Rattle.std.proofs.Common.{◌%◌, ◌*◌, arith, refl}
-use Rattle.board_prelude.proofs.Common.{length-take}
+use Rattle.std.proofs.Common.{◌%◌, ◌*◌, arith, refl, length-take}
 use Rattle.state_room.proofs.Pages.{kept_page}
 use Rattle.byte_fields.specs.Pages.{memory_page}
 use Rattle.state_room.proofs.dram.kept_of.Goals as goal

@@ -3,6 +3,4 @@ use Rattle.state_room.proofs.Pages.{zero_page}
 use Rattle.state_room.proofs.page.is_zero.Goals as goal
 
 pub returns : goal.returns
-returns c = record {
-  zero = c.eq.ensures ∙ rw c.requires.zeros (zero_page c.args.kept.now c.requires.within);
-}
+returns c = record { zero = c.eq.ensures ∙ rw c.requires.zeros (zero_page c.args.kept.now c.requires.within) }

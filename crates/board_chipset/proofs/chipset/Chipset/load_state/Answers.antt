@@ -1,5 +1,4 @@
-use Rattle.std.proofs.Common.{◌∙◌, sym}
-use Rattle.board_prelude.proofs.Common.{true≢false}
+use Rattle.std.proofs.Common.{◌∙◌, sym, true≢false}
 use Rattle.board_chipset.proofs.ChipsetLoads.{own_version}
 use Rattle.board_chipset.proofs.chipset.Chipset.load_state.Goals as goal
 

@@ -4,9 +4,7 @@ use Rattle.board_chipset.proofs.Exact.{exactly}
 use Rattle.board_chipset.proofs.chipset.Chipset.step.Goals as goal
 
 pub step-requires : goal.step-requires
-step-requires c = record {
-  can = can_do c.self.view_is (sym c.rom.ensures.bytes) c.self.invariant c.requires.in_range;
-}
+step-requires c = record { can = can_do c.self.view_is (sym c.rom.ensures.bytes) c.self.invariant c.requires.in_range }
 
 pub invariant_of-self : goal.invariant_of-self
 invariant_of-self c = c.step.ensures.sound c.self.inside.setup c.self.invariant

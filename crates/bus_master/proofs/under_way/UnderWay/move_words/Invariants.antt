@@ -10,8 +10,7 @@ invariant-loop-self l = record {
   most : l.self.moved ≤ l.bytes;
   whole : l.self.moved % 2 ≡ 0;
   sector : HasSector l.lba l.store l.self;
-  stands :
-      (setup : Setup) (bytes : Bytes) (moving : Moving) → IsStoreOf setup bytes l.fn.store →
+  stands : (setup : Setup) (bytes : Bytes) (moving : Moving) → IsStoreOf setup bytes l.fn.store →
       StandsAt moving l.fn.store l.fn.self None →
       StandsAt (words_moved setup bytes l.direction l.lba (l.self.moved / 2) moving) l.store l.self None;
 }

@@ -2,8 +2,7 @@ use Rattle.std.proofs.Common.{◌≡◌, true, ap, arith, Option, unwrap_or, ref
 use Rattle.board_prelude.proofs.Common.{length-map, Setup, Bytes, MapChange}
 use Rattle.pci_bars.specs.Cards.{cards_of}
 use Rattle.addr_decode.specs.Common.{names_of, StandsFor, map_bytes}
-use Rattle.map_ranges.specs.declared.range.Changed.{Changed}
-use Rattle.map_builder.specs.Common.{range_of, after, from_to, stores_rows}
+use Rattle.map_builder.specs.Common.{Changed, range_of, after, from_to, stores_rows}
 use Rattle.map_builder.proofs.BuildLemmas.{are_map_of}
 use Rattle.map_builder.proofs.ChangeLemmas.{board_after, where_kept, are_changed, keeps_byte, kept_same, pushed_found}
 use Rattle.map_builder.proofs.ChangeLemmas.{AreFound, KeepsByte, Chosen, chosen}
@@ -50,8 +49,7 @@ choice g c =
     (keeps g c) c.choose_windows.ensures.none c.choose_windows.ensures.others c.choose_windows.ensures.rows
 
 pub rebuild-requires-clause-board : goal.rebuild-requires-clause-board
-rebuild-requires-clause-board g c =
-    board_after c.args.change.now c.apply_named.ensures.stands c.self.invariant.board
+rebuild-requires-clause-board g c = board_after c.args.change.now c.apply_named.ensures.stands c.self.invariant.board
 
 pub rebuild-requires-clause-rise : goal.rebuild-requires-clause-rise
 rebuild-requires-clause-rise g c =

@@ -6,8 +6,7 @@ use Rattle.map_builder.proofs.flat_map.FlatMap.store_named.Goals.{After-touch_ma
 use Rattle.map_builder.proofs.flat_map.FlatMap.store_named.Goals as goal
 
 -- a store of a setup with these cards touches the map where it was found so
-found :
-    (c : After-touch_map) (setup : Setup) → setup.cards ≡ cards_of c.args.self.now.regs.cards →
+found : (c : After-touch_map) (setup : Setup) → setup.cards ≡ cards_of c.args.self.now.regs.cards →
     c.touch_map.result ≡ touches_map setup (Store c.args.reg c.args.width c.args.value)
 found c setup same =
     c.touch_map.ensures.touched

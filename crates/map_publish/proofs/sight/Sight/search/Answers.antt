@@ -16,5 +16,4 @@ invariant_of-self c =
     }
 
 pub returns-clause-span : goal.returns-clause-span
-returns-clause-span c setup bytes flat =
-    c.span_in-span.ensures.span setup bytes (rw (← c.self.view_is) at flat)
+returns-clause-span c setup bytes flat = c.span_in-span.ensures.span setup bytes (rw (← c.self.view_is) at flat)

@@ -1,8 +1,7 @@
 use Rattle.std.proofs.Common.{◌≡◌, ◌<◌, List, [], length, get_or, map, drop, refl, sym, ◌∙◌, ap, arith}
 use Rattle.board_prelude.proofs.Common.{get_or-drop, Entry}
 use Rattle.run_order.specs.declared.done.Done.{Done}
-use Rattle.run_order.specs.Over.{nowhere}
-use Rattle.run_order.specs.Common.{over, placed, Order}
+use Rattle.run_order.specs.Common.{nowhere, over, placed, Order}
 use Rattle.run_order.proofs.Steps.{no_more_looks}
 use Rattle.run_order.proofs.Settled.{left_is_settled, looked_again, next_placed, placed_last, but_one}
 use Rattle.run_order.proofs.order.RunOrder.place_all.Goals as goal

@@ -7,14 +7,12 @@ use Rattle.uart_16550.proofs.SerialSteps.{IsPlain, is_plain, plain_step}
 use Rattle.uart_16550.proofs.over_chipset.SerialBoard+Chipset.outside.Goals as goal
 
 -- an event for the devices alone is for the board alone, and no look
-plain_outside : (event : Event) → IsForDevices event → ((irq : ℕ) (on : Bool) → event ≡ Line irq on → ⊥) →
-    IsPlain event
+plain_outside : (event : Event) → IsForDevices event → ((irq : ℕ) (on : Bool) → event ≡ Line irq on → ⊥) → IsPlain event
 plain_outside event is no_line = is_plain event (λ access same. rw same at is) no_line
 
 answer_outside : (setup : Setup) (history : List Entry) (event : Event) (reply : Reply) → IsForDevices event →
     IsAnswer setup history event reply → IsAnswerModulo setup history event reply
-answer_outside setup history event reply is =
-    modulo setup history event reply (λ kind addr smm same. rw same at is)
+answer_outside setup history event reply is = modulo setup history event reply (λ kind addr smm same. rw same at is)
 
 pub returns-clause-other : goal.returns-clause-other
 returns-clause-other c = (plain_outside c.args.event.now c.requires.devices c.requires.no_line).access
