@@ -38,9 +38,9 @@ counted_after history counts entry within number below counted who below' =
 
 -- a processor has no more entries than the history
 pub count_fits :
-    (replay : Playing) (history : List Entry) (actor at : ℕ) → at ≡ actor → actor < 256 → HasPlayed replay history →
+    {replay : Playing} {history : List Entry} {actor at : ℕ} → at ≡ actor → actor < 256 → HasPlayed replay history →
     slice_index replay.counts at + 1 < 2 ^ 32
-count_fits replay history actor at same below played =
+count_fits {history = history} {actor} same below played =
     let own : Entry → Bool = λ entry. entry.actor == actor in
     let parts = length-filter_both own (λ entry. not (own entry)) (λ entry. refl) history in
     rw same (omega (arith, played.counted actor below, parts, played.few))
@@ -53,7 +53,7 @@ pub few_versions : {replay : Playing} {history : List Entry} → HasPlayed repla
 few_versions {replay} {history} played = few_entries replay.chipset.setup history (omega (arith, played.few))
 
 pub stepped :
-    (replay : Playing) (history : List Entry) (entry : Entry) (new : Running) →
+    {replay : Playing} {history : List Entry} {entry : Entry} {new : Running} →
     length replay.counts ≡ 256 → entry.actor < 256 → replay.count + 1 < entry_limit →
     entry.seq ≡ slice_index replay.counts entry.actor + 1 → HasPlayed replay history →
     new.setup ≡ replay.chipset.setup → IsAnswer replay.chipset.setup history entry.event entry.reply →
@@ -64,7 +64,7 @@ pub stepped :
       counts = slice_set replay.counts entry.actor entry.seq;
     })
     (entry ∷ history)
-stepped replay history entry new all below few number played same answer left =
+stepped {replay} {history} {entry} all below few number played same answer left =
     let is_number = number ∙ ap (λ (n : ℕ). n + 1) (played.counted entry.actor below) in
     record {
       few = omega (arith, few, played.count);

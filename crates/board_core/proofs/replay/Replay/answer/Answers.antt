@@ -1,17 +1,13 @@
 use Rattle.std.proofs.Common.{◌+◌, ◌∷◌, List, refl, arith, get_or-set_same, slice_index, slice_set}
 use Rattle.board_prelude.proofs.Common.{Entry}
-use Rattle.board_core.specs.Kept.{Playing, HasPlayed}
+use Rattle.board_core.specs.Kept.{HasPlayed}
 use Rattle.board_core.proofs.Boards.{few_versions, count_fits, stepped}
 use Rattle.board_core.proofs.replay.Replay.answer.Goals.{After-from-2}
 use Rattle.board_core.proofs.replay.Replay.answer.Goals as goal
 
 pub overflow_add-seq : goal.overflow_add-seq
 overflow_add-seq c =
-    let old = c.self.inside in
-    let replay : Playing = record { chipset = old.chipset; count = old.count; counts = old.counts } in
-    let fits = count_fits replay c.self.invariant.0 c.args.actor c.from.result c.from.ensures (omega arith)
-    c.self.invariant.1 in
-    omega (arith, fits)
+    let fits = count_fits c.from.ensures (omega arith) c.self.invariant.1 in omega (arith, fits)
 
 -- the entry that is new, and the replay that has played it
 abbrev entry : After-from-2 → Entry
@@ -31,11 +27,9 @@ played : (c : After-from-2) (history : List Entry) →
       counts = slice_set c.self.inside.counts c.args.actor (slice_index c.self.inside.counts c.from.result + 1);
     }) (entry c ∷ history)
 played c history was =
-    let old = c.self.inside in
-    let replay : Playing = record { chipset = old.chipset; count = old.count; counts = old.counts } in
     let few = rw (← c.self.view_is) at c.requires.few in
-    stepped replay history (entry c) c.step-reply.new.self c.self.told (omega arith) few (rw (c.from.ensures) refl)
-    was c.step-reply.ensures.setup (c.step-reply.ensures.exact history was.left (few_versions was))
+    stepped c.self.told (omega arith) few (rw (c.from.ensures) refl) was c.step-reply.ensures.setup
+    (c.step-reply.ensures.exact history was.left (few_versions was))
     (c.step-reply.ensures.left history (entry c) was.left refl refl)
 
 pub invariant_of-self : goal.invariant_of-self
