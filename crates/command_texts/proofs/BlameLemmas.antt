@@ -2,21 +2,13 @@
 use Rattle.std.proofs.Common.{◌≡◌, ℕ, ◌-◌, ◌≤◌, true, List, length, get_or, sym, subst, arith, refl, All, ◌==◌, ◌++◌}
 use Rattle.std.proofs.Common.{flat_map, Result, Ok, Err, IfOk}
 use Rattle.board_prelude.proofs.Common.{eq-eqb, length-map, list_any_at, MapChange, Setup, Entry, IsReplayOf}
-use Rattle.board_prelude.proofs.Common.{map_writes_of, registers_after, MapRange, IsRight}
+use Rattle.board_prelude.proofs.Common.{map_writes_of, registers_after, IsRight}
 use Rattle.std.proofs.Math.ListN.{get_or-map}
 use Rattle.map_blame.specs.declared.blamed.Blamed.{Blamed}
-use Rattle.map_blame.specs.Common.{IsSince, is_among, IsKeep, map_range_of, AreBlamed, IsBlame}
+use Rattle.map_blame.specs.Common.{is_among, IsKeep, map_range_of, AreBlamed, IsBlame}
 use Rattle.script_spec.specs.Common.{Script as Said, statements_in}
 use Rattle.command_texts.specs.Blame.{blamed_text, keep_text, IsBlameText}
 use Rattle.map_blame.proofs.KeptLemmas.{kept_number}
-
-since_most :
-    (setup : Setup) (changes : List MapChange) (range : MapRange) (since : ℕ)
-    → IsRight setup (registers_after setup changes) range →
-    IsSince setup changes range since → since ≤ length changes
-since_most setup changes range since right is =
-    is.least (length changes)
-    (λ count low high. let all : length changes - count ≡ 0 = omega (arith, low, high) in rw all right)
 
 pub all_since :
     (setup : Setup) (changes : List MapChange) (ranges : List Blamed) (count : ℕ) → length changes ≡ count →
@@ -25,8 +17,8 @@ all_since setup changes ranges count all are = λ k d below.
     let right : IsRight setup (registers_after setup changes) (map_range_of (get_or ranges k d)) =
     subst (IsRight setup (registers_after setup changes)) (get_or-map map_range_of ranges k d)
     (are.map.right k (map_range_of d) (omega (arith, below, length-map ranges map_range_of))) in
-    let most = since_most setup changes (map_range_of (get_or ranges k d)) (get_or ranges k d).since right
-    (are.since k d below) in
+    let most = (are.since k d below).least (length changes)
+    (λ since low high. let none : length changes - since ≡ 0 = omega (arith, low, high) in rw none right) in
     omega (arith, most, all)
 
 pub all_kept :

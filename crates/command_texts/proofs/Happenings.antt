@@ -54,14 +54,12 @@ IsAfterHere board level before steps =
     IsLeftAfter IsAnswer (λ (b : Standing). b.setup) (λ (b : Standing) (h : List Entry). b.entries ≡ h) board level
     before steps
 
-now_standing : (new : Serial Standing) (before : List Entry) (steps : List Statement) →
-    IsAfterHere new.board (level_of new.com1) before steps → IsStanding new
-now_standing new before steps after =
-    subst (IsLeftHere new.board (level_of new.com1)) (sym after.left_at.left) after.left_at
-
-now_goes_on : (new : Serial Standing) (before : List Entry) (steps : List Statement) →
-    IsAfterHere new.board (level_of new.com1) before steps → GoesOnBy before steps new.board.entries
-now_goes_on new before steps after = subst (GoesOnBy before steps) (sym after.left_at.left) after.goes_on
+now_at : (new : Serial Standing) (before : List Entry) (steps : List Statement) →
+    IsAfterHere new.board (level_of new.com1) before steps → IsStanding new × GoesOnBy before steps new.board.entries
+now_at new before steps after = (
+  subst (IsLeftHere new.board (level_of new.com1)) (sym after.left_at.left) after.left_at,
+  subst (GoesOnBy before steps) (sym after.left_at.left) after.goes_on,
+)
 
 steps_added : (before after : List Entry) (steps : List Statement) → GoesOnBy before steps after →
     statements_of after ≡ statements_of before ++ steps
@@ -98,15 +96,15 @@ pub byte_came : (actor byte : ℕ) (old new : Serial Standing) →
     Happened actor old (Comes byte ∷ []) new
 byte_came actor byte old new setup com1 after =
     let steps = change_steps old.com1 new.com1 in
-    let goes_on = now_goes_on new old.board.entries steps after in
+    let now = now_at new old.board.entries steps after in
     record {
       setup = setup;
-      standing = now_standing new old.board.entries steps after;
+      standing = now.0;
       port =
           port_is new.com1 (record old.com1 { uart = received old.com1.uart byte }) _ _ com1
-          (line_leaves old.board.entries new.board.entries (level_of old.com1) (level_of new.com1) goes_on);
+          (line_leaves old.board.entries new.board.entries (level_of old.com1) (level_of new.com1) now.1);
       steps =
-          rw append-nil (rw com1 at (steps_added old.board.entries new.board.entries steps goes_on));
+          rw append-nil (rw com1 at (steps_added old.board.entries new.board.entries steps now.1));
     }
 
 pub event_done : (actor : ℕ) (event : Event) (old new : Serial Standing) →
@@ -117,14 +115,14 @@ pub event_done : (actor : ℕ) (event : Event) (old new : Serial Standing) →
     Happened actor old (Happens event ∷ []) new
 event_done actor event old new setup com1 after =
     let steps = board_steps actor (is_hard_reset old.board.entries event) event old.com1 in
-    let goes_on = now_goes_on new old.board.entries steps after in
+    let now = now_at new old.board.entries steps after in
     record {
       setup = setup;
-      standing = now_standing new old.board.entries steps after;
+      standing = now.0;
       port =
           port_is new.com1 (com1_after (is_hard_reset old.board.entries event) event old.com1) _ _ com1
-          (control_follows old.board.entries new.board.entries actor event old.com1 goes_on);
-      steps = rw append-nil (steps_added old.board.entries new.board.entries steps goes_on);
+          (control_follows old.board.entries new.board.entries actor event old.com1 now.1);
+      steps = rw append-nil (steps_added old.board.entries new.board.entries steps now.1);
     }
 
 -- ---- and then more

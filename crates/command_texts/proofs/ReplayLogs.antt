@@ -2,8 +2,7 @@
 use Rattle.std.proofs.Common.{ℕ, ◌≡◌, ◌+◌, ◌<◌, List, [], ◌∷◌, ◌++◌, length, take, get_or, refl, sym, ap, ◌∙◌}
 use Rattle.std.proofs.Common.{append_assoc, append-nil, add-one, slice_index}
 use Rattle.std.proofs.lemmas.List.{take_more}
-use Rattle.board_prelude.proofs.Common.{Entry, Statement, line_feed, line_text, log_text, statement_of}
-use Rattle.board_prelude.proofs.Common.{statements-newest}
+use Rattle.board_prelude.proofs.Common.{Entry, Statement, line_feed, line_text, log_text, statements-newest}
 use Rattle.board_spec.specs.declared.event.Reply.{Reply}
 use Rattle.board_core.specs.Kept.{Playing, HasPlayed, entry_of}
 use Rattle.logs_and_maps.specs.LinesFrom.{entry_with}
@@ -19,41 +18,7 @@ log-newest version entry history n is =
     ∙ newest_line version entry history []
     ∙ ap (λ (k : ℕ). log_text version history ++ (line_text k entry ++ line_feed ∷ [])) (sym is)
 
-statement_is : (entry : Entry) (statement : Statement) → entry.actor ≡ statement.actor → entry.event ≡ statement.event →
-    statement_of entry ≡ statement
-statement_is entry statement actor event = rw (actor, event) refl
-
-pub log_with :
-    (version : ℕ) (old new : Playing) (said : List Statement) (statement : Statement) (entry : Entry) (n : ℕ)
-    (text after : List ℕ) → entry.actor ≡ statement.actor → entry.event ≡ statement.event → n ≡ new.count →
-    ((history : List Entry) → HasPlayed old history → HasPlayed new (entry ∷ history)) →
-    after ≡ text ++ (line_text n entry ++ line_feed ∷ []) → HasLog version old said text →
-    HasLog version new (said ++ statement ∷ []) after
-log_with version old new said statement entry n text after actor event number played more so_far =
-    let history = so_far.history in
-    let now : HasPlayed new (entry ∷ history) = played history so_far.played in
-    let is : n ≡ length history + 1 = number ∙ now.count ∙ sym (add-one (length history)) in
-    record {
-      history = entry ∷ history;
-      played = now;
-      same = rw (statements-newest entry history, so_far.same, statement_is entry statement actor event) refl;
-      log = rw (more, so_far.log, log-newest version entry history n is) refl;
-    }
-
--- and of a phase, one statement further
-pub log_step :
-    (version : ℕ) (now new : Playing) (said phase : List Statement) (i : ℕ) (d : Statement) (entry : Entry) (n : ℕ)
-    (text after : List ℕ) → i < length phase →
-    (entry.actor ≡ (get_or phase i d).actor) × (entry.event ≡ (get_or phase i d).event) → n ≡ new.count →
-    ((history : List Entry) → HasPlayed now history → HasPlayed new (entry ∷ history)) →
-    after ≡ text ++ (line_text n entry ++ line_feed ∷ []) → HasLog version now (said ++ take i phase) text →
-    HasLog version new (said ++ take (i + 1) phase) after
-log_step version now new said phase i d entry n text after within asked number played more so_far =
-    let here : Statement = get_or phase i d in
-    rw (take_more phase i d within, ← append_assoc said (take i phase) (here ∷ []))
-    (log_with version now new (said ++ take i phase) here entry n text after asked.0 asked.1 number played more so_far)
-
--- and from a reply
+-- a statement of a phase that got this reply has the next line
 pub log_answered :
     (version : ℕ) (now new : Playing) (said phase : List Statement) (i : ℕ) (d : Statement) (reply : Reply) (n seq : ℕ)
     (text after : List ℕ) → i < length phase → n ≡ new.count →
@@ -64,6 +29,16 @@ pub log_answered :
     ++ (line_text n (entry_with (get_or phase i d).actor seq (get_or phase i d).event reply) ++ line_feed ∷ []) →
     HasLog version now (said ++ take i phase) text → HasLog version new (said ++ take (i + 1) phase) after
 log_answered version now new said phase i d reply n seq text after within number played last more so_far =
-    let entry : Entry = entry_of new (get_or phase i d).actor (get_or phase i d).event reply in
-    log_step version now new said phase i d entry n text after within (refl, refl) number played
-    (more ∙ ap (λ (at : ℕ). text ++ (line_text n (record entry { seq = at }) ++ line_feed ∷ [])) last) so_far
+    let here : Statement = get_or phase i d in
+    let entry : Entry = entry_of new here.actor here.event reply in
+    let history = so_far.history in
+    let goes_on : HasPlayed new (entry ∷ history) = played history so_far.played in
+    let is : n ≡ length history + 1 = number ∙ goes_on.count ∙ sym (add-one (length history)) in
+    record {
+      history = entry ∷ history;
+      played = goes_on;
+      same =
+          rw (statements-newest entry history, so_far.same, take_more phase i d within)
+          (append_assoc said (take i phase) (here ∷ []));
+      log = rw (more, last, so_far.log, log-newest version entry history n is) refl;
+    }

@@ -3,10 +3,9 @@ use Rattle.command_texts.proofs.Sums.{part_added, cut_byte, cut_length}
 use Rattle.command_texts.proofs.transfers.sector_sum.Goals as goal
 
 pub sum_of-sum-requires : goal.sum_of-sum-requires
-sum_of-sum-requires c =
-    let few : length c.sector.result.now ≤ 512 =
-    omega (arith, ap length c.sector.ensures.bytes, cut_length 512 c.loop-lba.lba c.args.disk.now.medium.bytes) in
-    record { few = omega (arith, few) }
+sum_of-sum-requires c = record {
+  few = omega (arith, ap length c.sector.ensures.bytes, cut_length 512 c.loop-lba.lba c.args.disk.now.medium.bytes);
+}
 
 pub loop-lba-preserved : goal.loop-lba-preserved
 loop-lba-preserved c =
