@@ -79,34 +79,40 @@ module _ (setup : Setup) (range : Range) (is : IsInterval range) (bounds : Chang
   same_before : RightNow setup (range_of range) (change ∷ before) → RightNow setup (range_of range) before
   same_before right = record { at_each = λ addr low high. sym (same addr low high) ∙ right.at_each addr low high }
 
-  pub watched_beside : (since : ℕ) (stands : Bool) →
-      IsWatched setup before (record { blamed = record { range = range; since = since }; stands = stands }) →
-      IsWatched setup (change ∷ before) (record { blamed = record { range = range; since = since }; stands = stands })
-  watched_beside since stands watched = record {
-    standing = λ is_true.
-        let earlier = watched.standing is_true in
-        stands_on setup (range_of range) change before since (omega (arith, watched.most)) earlier
-        (same_after (right_now setup (range_of range) before (earlier (length before) watched.most (omega arith))));
-    fallen = λ is_false right.
-        watched.fallen is_false
-        (now_right setup (range_of range) before (length before) refl
-        (same_before (right_now setup (range_of range) (change ∷ before) right)));
-    before = λ some right.
-        watched.before some (right_before setup (range_of range) change before (since - 1) (omega (arith, watched.most))
-        right);
-    most = omega (arith, watched.most);
-  }
+-- ---- a range before and after a change
 
--- ---- a range before and after a change, by the map after it
+-- it goes on to stand, or does not stand
+watched_same : (setup : Setup) (change : MapChange) (before : List MapChange) (self : Watched) (stands : Bool) →
+    (stands ≡ true → self.stands ≡ true) →
+    (stands ≡ true → RightNow setup (range_of self.blamed.range) (change ∷ before)) →
+    (stands ≡ false → RightNow setup (range_of self.blamed.range) (change ∷ before) → ⊥) →
+    IsWatched setup before self → IsWatched setup (change ∷ before) (record { blamed = self.blamed; stands = stands })
+watched_same setup change before self stands stood right other watched =
+    let range : MapRange = range_of self.blamed.range in
+    record {
+      standing = λ is_true.
+          stands_on setup range change before self.blamed.since (omega (arith, watched.most))
+          (watched.standing (stood is_true)) (right is_true);
+      fallen = λ is_false now. other is_false (right_now setup range (change ∷ before) now);
+      before = λ some right.
+          watched.before some
+          (right_before setup range change before (self.blamed.since - 1) (omega (arith, watched.most)) right);
+      most = omega (arith, watched.most);
+    }
 
+-- by the map after it
 module _ (map : Mapped) (bounds : Changed) (number : ℕ) (self : Watched) (is : IsInterval self.blamed.range) where
   pub next_beside : (self.blamed.range.hi < bounds.lo) ⊎ (bounds.hi < self.blamed.range.lo) →
       IsWatchedOn map bounds number self self
   next_beside beside = record {
     range = refl;
     watched = λ setup before change count after hold watched.
-        watched_beside setup self.blamed.range is bounds change before hold beside self.blamed.since self.stands
-        watched;
+        let range : Range = self.blamed.range in
+        watched_same setup change before self self.stands (λ stood. stood)
+        (λ stood. same_after setup range is bounds change before hold beside
+        (right_now setup (range_of range) before (watched.standing stood (length before) watched.most (omega arith))))
+        (λ fell now. watched.fallen fell (now_right setup (range_of range) before (length before) refl
+        (same_before setup range is bounds change before hold beside now))) watched;
   }
 
   module _ (stands : Bool)
@@ -143,19 +149,9 @@ module _ (map : Mapped) (bounds : Changed) (number : ℕ) (self : Watched) (is :
         IsWatchedOn map bounds number self (record { blamed = self.blamed; stands = stands })
     next_same stood = record {
       range = refl;
-      watched =
-          λ setup before change count after hold watched.
-          let range : MapRange = range_of self.blamed.range in
-          record {
-            standing = λ is_true.
-                stands_on setup range change before self.blamed.since (omega (arith, watched.most))
-                (watched.standing (stood is_true)) (right is_true setup _ after);
-            fallen = λ is_false now. other is_false setup _ after (right_now setup range (change ∷ before) now);
-            before = λ some right.
-                watched.before some
-                (right_before setup range change before (self.blamed.since - 1) (omega (arith, watched.most)) right);
-            most = omega (arith, watched.most);
-          };
+      watched = λ setup before change count after hold watched.
+          watched_same setup change before self stands stood (λ is_true. right is_true setup _ after)
+          (λ is_false. other is_false setup _ after) watched;
     }
 
 -- ---- at reset, and at the end
