@@ -73,8 +73,7 @@ found_below (card ∷ later) dev each is = elim (cases_Bool (card.dev == dev)) [
 ]
 
 rom_fitted : (card : Option FittedCard) → has_rom card ≡ true → is_some card ≡ true
-rom_fitted None is = is
-rom_fitted (Some card) is = refl
+rom_fitted card is = grind (arith, nat_tests)
 
 pub map_byte_placed : (setup : Setup) (reg : Reg) → IsCardList setup.cards → is_map_byte setup reg ≡ true →
     is_placed reg ≡ true

@@ -1,6 +1,6 @@
 -- There is only one report of a list of changes.
-use Rattle.board_prelude.proofs.Common.{nat_tests, AllPairs, AllByRecursion, eq-eqb, eqb-true, false≢true}
-use Rattle.board_prelude.proofs.Common.{recursion_from_All, MapChange, Setup, registers_after, MapRange, OneFlatMap}
+use Rattle.board_prelude.proofs.Common.{nat_tests, AllPairs, AllByRecursion, eqb-true, recursion_from_All, MapChange}
+use Rattle.board_prelude.proofs.Common.{Setup, registers_after, OneFlatMap}
 use Rattle.std.proofs.Common.{◌≡◌, ℕ, suc, ◌<◌, true, List, [], ◌∷◌, map, refl, arith, ◌==◌}
 use Rattle.std.proofs.lemmas.List.Folds.{Any-from_list_any}
 use Rattle.map_blame.specs.declared.blamed.Blamed.{Blamed}
@@ -13,10 +13,6 @@ abbrev Rise : List ℕ → Type 0
 Rise [] = Unit {0}
 Rise (number ∷ later) = ((other : ℕ) → is_among other later ≡ true → number < other) × Rise later
 
-rise_later : (number : ℕ) (later : List ℕ) → AllPairs (λ one other. one < other) (number ∷ later) →
-    AllPairs (λ one other. one < other) later
-rise_later number later rises i j d order below = rises (suc i) (suc j) d (omega (arith, order)) (omega (arith, below))
-
 rise_is : (numbers : List ℕ) → AllPairs (λ one other. one < other) numbers → Rise numbers
 rise_is [] rises = tt
 rise_is (number ∷ later) rises = (
@@ -24,11 +20,8 @@ rise_is (number ∷ later) rises = (
       let place = Any-from_list_any (λ it. it == other) later among in
       let below = rises 0 (suc place.0) place.1 (omega arith) (omega (arith, place.2)) in
       omega (arith, below, place.3, eqb-true place.1 other place.4)),
-  rise_is later (rise_later number later rises),
+  rise_is later (λ i j d order below. rises (suc i) (suc j) d (omega (arith, order)) (omega (arith, below))),
 )
-
-among_first : (number : ℕ) (later : List ℕ) → is_among number (number ∷ later) ≡ true
-among_first number later = let same : (number == number) ≡ true = eq-eqb number number refl in rw same refl
 
 -- the numbers of one are among those of the other
 abbrev Within : (numbers other : List ℕ) → Type 0
@@ -37,8 +30,8 @@ Within numbers other = (number : ℕ) → is_among number numbers ≡ true → i
 same_numbers : (numbers other : List ℕ) → Rise numbers → Rise other → Within numbers other → Within other numbers →
     numbers ≡ other
 same_numbers [] [] rise rise' to from = refl
-same_numbers [] (first ∷ later) rise rise' to from = absurd (false≢true (from first (among_first first later)))
-same_numbers (first ∷ later) [] rise rise' to from = absurd (false≢true (to first (among_first first later)))
+same_numbers [] (first ∷ later) rise rise' to from = grind (arith, nat_tests, from first)
+same_numbers (first ∷ later) [] rise rise' to from = grind (arith, nat_tests, to first)
 same_numbers (first ∷ later) (first' ∷ later') rise rise' to from =
     let same : first ≡ first' = grind (arith, nat_tests, to first, from first', rise.0 first', rise'.0 first) in
     rw (
@@ -56,10 +49,6 @@ one_keep setup changes keep other is is' =
 
 -- ---- since when
 
-same_since : (setup : Setup) (changes : List MapChange) (range : MapRange) (since other : ℕ) →
-    IsSince setup changes range since → IsSince setup changes range other → since ≡ other
-same_since setup changes range since other is is' = omega (arith, is.least other is'.stands, is'.least since is.stands)
-
 one_since : (setup : Setup) (changes : List MapChange) (blamed other : List Blamed) →
     AllByRecursion (λ one. IsSince setup changes (map_range_of one) one.since) blamed →
     AllByRecursion (λ one. IsSince setup changes (map_range_of one) one.since) other →
@@ -70,10 +59,10 @@ one_since setup changes (one ∷ later) [] each each' same = cc
 one_since setup changes (one ∷ later) (one' ∷ later') each each' same =
     let range : map_range_of one ≡ map_range_of one' = cc in
     let rest : map map_range_of later ≡ map map_range_of later' = cc in
-    rw (
-      same_since setup changes (map_range_of one') one.since one'.since (rw range at each.0) each'.0,
-      one_since setup changes later later' each.1 each'.1 rest,
-    ) refl
+    let is = rw range at each.0 in
+    let is_same : one.since ≡ one'.since =
+    omega (arith, is.least one'.since each'.0.stands, each'.0.least one.since is.stands) in
+    rw (is_same, one_since setup changes later later' each.1 each'.1 rest) refl
 
 pub one_report : OneFlatMap → OneReport
 one_report one_map setup changes blamed blamed' kept kept' is is' =
