@@ -1,11 +1,11 @@
 -- The last covers of a store, register by register.
-use Rattle.std.proofs.Common.{◌≡◌, ℕ, zero, suc, ◌+◌, ◌<◌, ◌≤◌, inl, inr, Bool, true, false, ◌||◌, ◌&&◌, List, [], ◌∷◌}
-use Rattle.std.proofs.Common.{length, take, refl, arith, ◌==◌, nat_le, nat_lt, Option, Some, None, is_some, find}
+use Rattle.std.proofs.Common.{◌≡◌, ℕ, zero, suc, ◌+◌, ◌<◌, ◌≤◌, Bool, true, false, ◌||◌, ◌&&◌, List, [], ◌∷◌, length}
+use Rattle.std.proofs.Common.{take, refl, arith, ◌==◌, nat_le, nat_lt, Option, Some, None, is_some, find}
 use Rattle.std.proofs.Common.{slice_index_or, replicate, option_and_then, if◌then◌else◌}
-use Rattle.board_prelude.proofs.Common.{option_or, AllByRecursion, list_any, cases_Bool, eqb-true, false≢true, or-false}
-use Rattle.board_prelude.proofs.Common.{nat_tests, get_or-take, length-take, recursion_from_All, list_any_at, Width}
-use Rattle.board_prelude.proofs.Common.{One, Reg, MapChange, Store, Reset, FittedCard, Setup, IsCard, IsCardList}
-use Rattle.board_prelude.proofs.Common.{card_at, is_within, covers, has_rom, is_map_byte, touches_map}
+use Rattle.board_prelude.proofs.Common.{option_or, AllByRecursion, list_any, false≢true, or-false, nat_tests}
+use Rattle.board_prelude.proofs.Common.{get_or-take, length-take, recursion_from_All, list_any_at, Width, One, Reg}
+use Rattle.board_prelude.proofs.Common.{MapChange, Store, Reset, FittedCard, Setup, IsCard, IsCardList, card_at}
+use Rattle.board_prelude.proofs.Common.{is_within, covers, has_rom, is_map_byte, touches_map}
 use Rattle.std.specs.Bool.{then_some}
 use Rattle.std.proofs.lemmas.List.Folds.{list_any_more}
 use Rattle.addr_decode.proofs.NameLemmas.{offsets, offset_at}
@@ -67,10 +67,7 @@ placed_by dev fun off false false device fitted is = grind (arith, nat_tests)
 found_below : (cards : List FittedCard) (dev : ℕ) → AllByRecursion IsCard cards →
     is_some (find (λ card. card.dev == dev) cards) ≡ true → dev < 10
 found_below [] dev each is = absurd (false≢true is)
-found_below (card ∷ later) dev each is = elim (cases_Bool (card.dev == dev)) [
-  | inl here ↦ let same : card.dev ≡ dev = eqb-true card.dev dev here in omega (arith, same, each.0.last)
-  | inr other ↦ found_below later dev each.1 (rw other at is)
-]
+found_below (card ∷ later) dev each is = grind (arith, nat_tests, found_below later dev each.1, each.0.last)
 
 rom_fitted : (card : Option FittedCard) → has_rom card ≡ true → is_some card ≡ true
 rom_fitted card is = grind (arith, nat_tests)

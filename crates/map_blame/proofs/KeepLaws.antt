@@ -281,10 +281,6 @@ module _ (setup : Setup) (keep : List ℕ) where
 
 -- ---- both
 
-smram_is : (reg : Reg) → is_same reg smram ≡ true → reg ≡ smram
-smram_is reg is =
-    same_register reg smram (grind (arith, nat_tests)) (grind (arith, nat_tests)) (grind (arith, nat_tests))
-
 pub kept_suffice : KeptSuffice
 kept_suffice setup changes keep is reg map_byte =
     let since : Since setup keep changes = λ number among. elim (is.only number among) [
@@ -295,7 +291,8 @@ kept_suffice setup changes keep is reg map_byte =
     λ reg map_byte number found. is.each number (inl (record { reg = reg; map_byte = map_byte; last = found })) in
     elim (cases_Bool (is_same reg smram)) [
       | inl same ↦
-          let e : reg ≡ smram = smram_is reg same in
+          let e : reg ≡ smram =
+          same_register reg smram (grind (arith, nat_tests)) (grind (arith, nat_tests)) (grind (arith, nat_tests)) in
           rw e
           (smram_same setup keep changes since (last smram (rw e at map_byte))
           (λ number found. is.each number (inr found)))

@@ -157,10 +157,7 @@ among_pushed number next keep =
 
 among_either : (number next : ℕ) (keep : List ℕ) → is_among number (keep ++ next ∷ []) ≡ true →
     (is_among number keep ≡ true) ⊎ (next ≡ number)
-among_either number next keep is = elim (cases_Bool (is_among number keep)) [
-  | inl among ↦ inl among
-  | inr other ↦ inr (eqb-true next number (rw other at (sym (among_pushed number next keep) ∙ is)))
-]
+among_either number next keep is = grind (arith, nat_tests, among_pushed)
 
 pub kept_on : (setup : Setup) (changes : List MapChange) (count : ℕ) (keep : List ℕ) →
     (RestsOn setup changes (count + 1) → ⊥) → AreKept setup changes count keep → AreKept setup changes (count + 1) keep
