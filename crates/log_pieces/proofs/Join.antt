@@ -33,9 +33,11 @@ lines_more n size entries =
       lines_after n size entries,
     ) refl
 
-pub no_lines : (text : List ℕ) (size : ℕ) (entries : List Entry) → text ≡ text ++ lines_from 1 (take (0 * size) entries)
+-- of no entries there are no lines
+pub no_lines : (first n : ℕ) (entries : List Entry) (text : List ℕ) → n ≡ 0
+    → text ≡ text ++ lines_from first (take n entries)
 unfolding lines_from
-no_lines text size entries = let none : 0 * size ≡ 0 = omega arith in rw (none, append-nil text) refl
+no_lines first n entries text none = rw (none, append-nil text) refl
 
 piece_at :
     (size : ℕ) (entries : List Entry) (done rest : List Piece) (lines : String Global) (piece : Piece)
@@ -79,12 +81,6 @@ pub whole_of_lines :
 whole_of_lines version entries before heading text (Ok whole) none first lines is =
     is ∙ log_of_lines version entries before heading text none first lines
 whole_of_lines version entries before heading text (Err fault) none first lines is = tt
-
--- from a place to itself there are no lines
-pub no_lines_between : (start : ℕ) (entries : List Entry) (text : List ℕ) →
-    text ≡ text ++ lines_from (start + 1) (take (start - start) (drop start entries))
-unfolding lines_from
-no_lines_between start entries text = let none : start - start ≡ 0 = omega arith in rw (none, append-nil text) refl
 
 -- the line of the entry at i makes the lines from a place on one entry longer
 pub line_added : (start i : ℕ) (entries : List Entry) (line : Entry) → start ≤ i → i < length entries

@@ -1,12 +1,13 @@
 use Rattle.std.proofs.Common.{◌≡◌, ◌+◌, ◌-◌, ℕ, take, drop, subst, arith}
 use Rattle.logs_and_maps.specs.Common.{AddsWords, lines_from}
-use Rattle.log_pieces.proofs.Join.{no_lines_between, line_added}
+use Rattle.log_pieces.proofs.Join.{no_lines, line_added}
 use Rattle.log_pieces.proofs.listed.push_lines.Goals as goal
 
 pub loop-i-init : goal.loop-i-init
 loop-i-init g c = record {
   later = omega arith;
-  lines = no_lines_between c.args.start (g.L.Listed.entries c.args.list.now) _;
+  lines = no_lines (c.args.start + 1) (c.args.start - c.args.start)
+      (drop c.args.start (g.L.Listed.entries c.args.list.now)) _ (omega arith);
 }
 
 pub loop-i-preserved : goal.loop-i-preserved

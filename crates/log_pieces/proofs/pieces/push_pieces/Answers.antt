@@ -1,4 +1,4 @@
-use Rattle.std.proofs.Common.{rules, ◌≡◌, ◌∷◌, ◌++◌, [], List, sym, ap, subst, ◌∙◌, append_assoc, length, arith}
+use Rattle.std.proofs.Common.{rules, ◌≡◌, ◌*◌, ◌∷◌, ◌++◌, [], List, sym, ap, subst, ◌∙◌, append_assoc, length, arith}
 use Rattle.std.specs.Vec.Iter.{into_iter_items}
 use Rattle.log_pieces.specs.Pieces.{ArePieces, Piece}
 use Rattle.log_pieces.proofs.Join.{no_lines, piece_added}
@@ -9,7 +9,7 @@ loop-piece-init c =
     record {
       left = c.into_iter-piece-iterator.ensures.into_iter_gives.0;
       len = search rules;
-      added = λ size entries are. no_lines c.args.text.now size entries;
+      added = λ size entries are. no_lines 1 (0 * size) entries c.args.text.now (omega arith);
     }
 
 pub loop-piece-preserved : goal.loop-piece-preserved
