@@ -17,25 +17,10 @@ count-below : (test : Entry → Bool) (history : List Entry) → count_where tes
 count-below test [] = omega arith
 count-below test (entry ∷ before) = grind (arith, nat_tests, count-below test before)
 
-has-room : (test : Entry → Bool) (history : List Entry) (n : ℕ) → n ≡ count_where test history
-    → length history < most_counted → n < most_counted
-has-room test history n is few = omega (arith, is, few, count-below test history)
-
 -- the counts of a history can take one more, where the history can
 pub counts-room : (history : List Entry) (counts : Counts) → AreCounts history counts
     → length history < most_counted → HasRoomForOne counts
-counts-room history counts are few = record {
-  dram = has-room _ history counts.dram are.dram few;
-  shadow = has-room _ history counts.shadow are.shadow few;
-  smram = has-room _ history counts.smram are.smram few;
-  rom = has-room _ history counts.rom are.rom few;
-  card = has-room _ history counts.card are.card few;
-  config = has-room _ history counts.config are.config few;
-  device = has-room _ history counts.device are.device few;
-  abort = has-room _ history counts.abort are.abort few;
-  denied = has-room _ history counts.denied are.denied few;
-  looks = has-room _ history counts.looks are.looks few;
-}
+counts-room history counts are few = grind (arith, count-below)
 
 -- ---- an entry counts once
 
@@ -64,13 +49,5 @@ kinds-add-up (entry ∷ before) all =
       arith,
       one-kind entry.actor entry.seq entry.event entry.reply (All-head (λ e. IsCycleReply e.reply) entry before all),
       kinds-add-up before (All-tail (λ e. IsCycleReply e.reply) entry before all),
-      count-one (answers is_dram) entry before,
-      count-one (answers is_shadow) entry before,
-      count-one (answers is_smram) entry before,
-      count-one (answers is_rom) entry before,
-      count-one (answers is_card) entry before,
-      count-one (answers is_config) entry before,
-      count-one (answers is_device) entry before,
-      count-one (answers is_abort) entry before,
-      count-one is_look entry before,
+      count-one,
     )
