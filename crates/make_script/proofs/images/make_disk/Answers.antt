@@ -1,14 +1,11 @@
-use Rattle.std.proofs.Common.{◌≡◌, ◌*◌, ◌/◌, ◌∷◌, ◌++◌, [], map, ℕ, sym, ap, ◌∙◌, arith}
+use Rattle.std.proofs.Common.{◌≡◌, ◌*◌, ◌/◌, map, ℕ, ap, ◌∙◌, arith}
 use Rattle.std.specs.List.{range_with_len}
 use Rattle.std.proofs.lemmas.List.FromFn.{map-range_with_len_more}
 use Rattle.make_script.specs.Images.{disk_image}
 use Rattle.make_script.proofs.images.make_disk.Goals as goal
 
 pub loop-offset-preserved : goal.loop-offset-preserved
-loop-offset-preserved c =
-    c.in_ok-push.ensures.items
-    ∙ ap (λ items. items ++ c.loop-offset.offset / 512 ∷ []) c.loop-offset.invariant
-    ∙ sym (map-range_with_len_more (λ offset. offset / 512) 0 c.loop-offset.offset c.loop-offset.offset (omega arith))
+loop-offset-preserved c = grind (arith, map-range_with_len_more (λ offset. offset / 512) 0)
 
 pub returns : goal.returns
 unfolding disk_image
