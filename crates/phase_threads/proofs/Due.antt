@@ -26,12 +26,8 @@ count_in phase actor = length (events_by actor phase)
 
 pub few_by : (actor : ℕ) (phase : List Statement) → length (events_by actor phase) ≤ length phase
 few_by actor phase =
-    omega (
-      arith,
-      length-map (filter (is_by actor) phase) event_in,
-      length-filter (is_by actor) phase,
-      count_by-le-length (is_by actor) phase,
-    )
+    let counted = length-map (filter (is_by actor) phase) event_in in
+    omega (arith, counted, length-filter (is_by actor) phase, count_by-le-length (is_by actor) phase)
 
 -- one statement more
 pub counts_more : (counts : List ℕ) (phase : List Statement) (i : ℕ) (d : Statement) (actor other : ℕ)
@@ -44,19 +40,9 @@ counts_more counts phase i d actor other many small less own was =
     let before = length-map (filter (is_by other) (take i phase)) event_in in
     let after = length-map (filter (is_by other) (take (i + 1) phase)) event_in in
     let next : ℕ = get_or counts actor 0 + 1 in
-    grind (
-      arith,
-      nat_tests,
-      more,
-      before,
-      after,
-      many,
-      small,
-      own,
-      was,
-      get_or-set_at counts actor other next 0,
-      get_or-set_other counts actor other next 0,
-    )
+    let own_place = get_or-set_at counts actor other next 0 in
+    let place = get_or-set_other counts actor other next 0 in
+    grind (arith, nat_tests, more, before, after, many, small, own, was, own_place, place)
 
 -- one processor more
 pub due_more : (works : List Work) (work : Work) (phase : List Statement) (actor : ℕ) (next : List Work)

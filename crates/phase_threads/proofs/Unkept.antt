@@ -76,11 +76,8 @@ own_more : (number : ℕ) (more opened : List Entry) → All (λ entry. entry.ac
     → length (entries_by number (more ++ opened)) ≡ length more + length (entries_by number opened)
 own_more number more opened own =
     let its : Entry → Bool = λ entry. entry.actor == number in
-    rw (
-      filter-append its more opened,
-      filter_all its more
-          (λ k d less. eq-eqb (get_or more k d).actor number (own k d less)),
-    ) (length-append more (entries_by number opened))
+    let all = filter_all its more (λ k d less. eq-eqb (get_or more k d).actor number (own k d less)) in
+    rw (filter-append its more opened, all) (length-append more (entries_by number opened))
 
 added_count : (number : ℕ) (phase : List Statement) (before now : Standing) (a : HasAdded number phase before now)
     → length a.more ≡ length phase
@@ -128,12 +125,9 @@ plain_has_run number before now phase old new can only stepped =
     let lists : List (List Done) = set (done_in old) number done in
     let count : length lists ≡ length (done_in old) = length-set (done_in old) number done in
     let none : all_looks_in (done_in old) ≡ 0 = nobody_looked did old (λ k d less. rw (can.empty k d less) refl) in
-    let plain : all_looks_in lists ≡ 0 = omega (
-      arith,
-      count_set (done_in old) number done within,
-      none,
-      no_looks before.setup before.entries a.more,
-    ) in
+    let counted = count_set (done_in old) number done within in
+    let plain : all_looks_in lists ≡ 0 =
+    omega (arith, counted, none, no_looks before.setup before.entries a.more) in
     one_acted number before now phase old new lists done _ stepped.grown only
     (has_done number phase before now a only) refl (omega (arith, count, size, stepped.grown.count))
     (get_or-set_at (done_in old) number number done [] refl within)
