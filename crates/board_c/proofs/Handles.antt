@@ -1,5 +1,5 @@
 -- The machine value of a handle. Assumes `Logic`.
-use Rattle.std.proofs.Common.{◌≡◌, List, [], ◌∷◌, ◌++◌, refl, subst}
+use Rattle.std.proofs.Common.{◌≡◌, List, [], ◌∷◌, ◌++◌, refl, subst, Global}
 use mathlib.Core.Bool.{Bool, true, false}
 use lib.Dec.{T}
 use seplogic.Ra.Ura.{Ura}
@@ -20,13 +20,12 @@ use Rattle.core.proofs.cell.Inside.{Good}
 use Rattle.core.proofs.atomic.Steps.{Ptr-Good}
 use Rattle.std_alloc.specs.Box.Ownership.{box_owns}
 use Rattle.std_alloc.proofs.ResultValues.{and_tt}
-use Rattle.std_heap.specs.declared.Global.{Global}
+use Rattle.std_heap.specs.contracts.GlobalAllocator.TheImpl.{ghosts}
+use Rattle.board_c.specs.Owned.{owned_if}
 use Rattle.std_heap.specs.contracts.Global as heap
 use Rattle.std_heap.proofs.Global.TheLaws as heap_laws
-use Rattle.std_heap.specs.contracts.GlobalAllocator.TheImpl.{ghosts}
 use Rattle.board_records.specs.contracts.door.Door as door_row
 use Rattle.board_c.specs.contracts.handle.Handle as handle
-use Rattle.board_c.specs.Owned.{owned_if}
 
 abbrev pub R : RattleType
 R = door_row.the_row

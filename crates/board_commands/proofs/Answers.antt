@@ -17,10 +17,9 @@ use Rattle.command_files.specs.Common.{CompareBoards, IsRefused}
 use Rattle.command_files.proofs.Refusals.{of_files, at_files}
 use Rattle.board_commands.specs.Common.{IsTextFor, IsCommandText, HasNoText, IsAnswered}
 
-pub refused_answer :
-    (command : Command) (shelf : ShelfCall) (result : Result (List ℕ) Status) (status : Status) → result ≡ Err status →
-    IsRefused command shelf status
-    → (((which : Which) → status ≢ ReadFault which) → shelf.faults_now ≡ shelf.faults_before) →
+pub refused_answer : (command : Command) (shelf : ShelfCall) (result : Result (List ℕ) Status) (status : Status) →
+    result ≡ Err status → IsRefused command shelf status →
+    (((which : Which) → status ≢ ReadFault which) → shelf.faults_now ≡ shelf.faults_before) →
     IsAnswered command shelf result
 refused_answer command shelf result status is refused quiet =
     rw is (record { text = tt; refused = refused; quiet = tt; no_fault_hidden = quiet })
@@ -64,11 +63,9 @@ module _ (command : Command) (shelf : ShelfCall) (known : Known)
   stopped NoMemory is = tt
 
   -- what a command answers whose files were read
-  pub read_answer :
-      (result : Result (List ℕ) Status) → shelf.faults_now ≡ shelf.faults_before →
-      IfOk result (IsTextFor command known) → IfOk result (λ _. CanBeDone command known)
-      → IfErr result (HasNoText command known) →
-      IsAnswered command shelf result
+  pub read_answer : (result : Result (List ℕ) Status) → shelf.faults_now ≡ shelf.faults_before →
+      IfOk result (IsTextFor command known) → IfOk result (λ _. CanBeDone command known) →
+      IfErr result (HasNoText command known) → IsAnswered command shelf result
   read_answer (Ok text) quiet says done stops = record {
     text =
         asked_at_end (λ files. IsCommandText command files text)
@@ -81,9 +78,8 @@ module _ (command : Command) (shelf : ShelfCall) (known : Known)
       refused_answer command shelf (Err status) status refl (stopped status stops) (λ _. quiet)
 
 -- a log was not that of the script, or memory ran out
-pub check_stopped :
-    (known : Known) (said : Said) (setup : Setup) (bytes script log : List ℕ) → known.script ≡ Some said →
-    setup ≡ board_of known said → bytes ≡ known.log → (fault : CheckFault) →
+pub check_stopped : (known : Known) (said : Said) (setup : Setup) (bytes script log : List ℕ) →
+    known.script ≡ Some said → setup ≡ board_of known said → bytes ≡ known.log → (fault : CheckFault) →
     ((line : ℕ) → fault ≡ DiffersAtLine line → DiffersAt setup said.version said.phases bytes line) →
     HasNoText (Check script log) known (status_of_check_fault fault)
 check_stopped known said setup bytes script log is fits same (DiffersAtLine line) differs =

@@ -33,10 +33,9 @@ module _ (command : Command) (shelf : ShelfCall) (sink : SinkCall) where
   refusal_says _ refused keeps = (refused.1, refused.0, keeps)
 
   -- a command was refused before it had its text, and nothing was put
-  pub caused_refusal :
-      (status : Status) → IsRefused command shelf status → HidesNoFault shelf status
-      → sink.faults_now ≡ sink.faults_before →
-      Keeps sink.taken_before sink.taken_now → IsCaused status (Some command) shelf sink
+  pub caused_refusal : (status : Status) → IsRefused command shelf status → HidesNoFault shelf status →
+      sink.faults_now ≡ sink.faults_before → Keeps sink.taken_before sink.taken_now →
+      IsCaused status (Some command) shelf sink
   caused_refusal status refused quiet calm keeps =
       let says = refusal_says status refused keeps in
       record {

@@ -57,10 +57,8 @@ module _ (one_status : OneStatus) (command : Command) (files : Files) (shelf : S
   left OtherBoard is = same OtherBoard (told_of (λ files'. AsksFor command files' OtherBoard) is.cause)
   left NoMemory is = inr refl
 
-pub exact :
-    OneStatus → (command : Option Command) (told : Option Files) (shelf : ShelfCall) (sink : SinkCall) (status : Status)
-    → shelf.files ≡ told →
-    IsCaused status command shelf sink →
+pub exact : OneStatus → (command : Option Command) (told : Option Files) (shelf : ShelfCall) (sink : SinkCall)
+    (status : Status) → shelf.files ≡ told → IsCaused status command shelf sink →
     IsExact status command told (¬ Rose shelf.faults_before shelf.faults_now)
     (¬ Rose sink.faults_before sink.faults_now)
 exact one None told shelf sink status told_is is = λ wanted has quiet. absurd has
@@ -76,8 +74,6 @@ always_quiet Done quiet = (none_rose, none_rose)
 always_quiet _ quiet = none_rose
 
 -- where the outside cannot fail, it is quiet
-pub always_exact :
-    (status : Status) (command : Option Command) (told : Option Files)
-    → IsExact status command told (¬ Rose 0 0) (¬ Rose 0 0) →
-    IsExact status command told (Unit {0}) (Unit {0})
+pub always_exact : (status : Status) (command : Option Command) (told : Option Files) →
+    IsExact status command told (¬ Rose 0 0) (¬ Rose 0 0) → IsExact status command told (Unit {0}) (Unit {0})
 always_exact status command told is = λ wanted has quiet. is wanted has (always_quiet wanted quiet)

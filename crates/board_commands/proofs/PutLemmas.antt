@@ -27,10 +27,8 @@ module _ (before between now : Option (List Put)) (so_far : OfCalls before betwe
       call_more before between now (record { took = None }) AllTook LatestRefused (λ puts took. (refl, took)) so_far
       made
 
-pub puts_failed :
-    {T E : Type 0} (before now : Option (List Put)) (result : Result T E) → IsErr result
-    → OfCalls before now LatestRefused →
-    OfCalls before now (PutsBy result)
+pub puts_failed : {T E : Type 0} (before now : Option (List Put)) (result : Result T E) → IsErr result →
+    OfCalls before now LatestRefused → OfCalls before now (PutsBy result)
 puts_failed before now (Ok value) is refused = absurd cc
 puts_failed before now (Err error) is refused = refused
 
@@ -43,17 +41,15 @@ latest_refused [] before one two = absurd one
 latest_refused (latest ∷ later) before one two = (one.0, all_took later before one.1 two)
 
 -- the puts of a piece, after those of the pieces before it
-pub piece_put :
-    (before between now : Option (List Put)) → OfCalls before between AllTook → OfCalls between now AllTook →
-    OfCalls before now AllTook
+pub piece_put : (before between now : Option (List Put)) → OfCalls before between AllTook →
+    OfCalls between now AllTook → OfCalls before now AllTook
 piece_put before between now so_far made =
     calls_hold before now (Both AllTook AllTook) AllTook
     (λ puts both. subst AllTook (sym both.parts) (all_took both.second both.first both.two both.one))
     (calls_both before between now AllTook AllTook so_far made)
 
-pub piece_not_put :
-    (before between now : Option (List Put)) → OfCalls before between AllTook → OfCalls between now LatestRefused →
-    OfCalls before now LatestRefused
+pub piece_not_put : (before between now : Option (List Put)) → OfCalls before between AllTook →
+    OfCalls between now LatestRefused → OfCalls before now LatestRefused
 piece_not_put before between now so_far made =
     calls_hold before now (Both AllTook LatestRefused) LatestRefused
     (λ puts both. subst LatestRefused (sym both.parts) (latest_refused both.second both.first both.two both.one))

@@ -6,17 +6,15 @@ use Rattle.std.proofs.lemmas.List.{at_drop_more}
 use Rattle.log_pieces.specs.Text.{bytes_in, joined}
 use Rattle.board_commands.specs.Output.{Sent, AppendsFront}
 
-pub more_taken :
-    (before now later : Option (List ℕ)) (front piece : List ℕ) →
-    Appends before now front → Appends now later piece → Appends before later (front ++ piece)
+pub more_taken : (before now later : Option (List ℕ)) (front piece : List ℕ) → Appends before now front →
+    Appends now later piece → Appends before later (front ++ piece)
 more_taken None now later front piece sent more = tt
 more_taken (Some xs) None later front piece sent more = absurd sent
 more_taken (Some xs) (Some ys) None front piece sent more = absurd more
 more_taken (Some xs) (Some ys) (Some zs) front piece sent more = rw (more, sent) (append_assoc xs front piece)
 
 -- with all of the next piece
-piece_sent :
-    (before now later : Option (List ℕ)) (text piece more : List ℕ) → Sent before now text (piece ++ more) →
+piece_sent : (before now later : Option (List ℕ)) (text piece more : List ℕ) → Sent before now text (piece ++ more) →
     Appends now later piece → Sent before later text more
 piece_sent before now later text piece more sent taken = record {
   front = sent.front ++ piece;
@@ -25,10 +23,8 @@ piece_sent before now later text piece more sent taken = record {
 }
 
 -- so it is with what is left after the piece
-pub then_sent :
-    (before now later : Option (List ℕ)) (text rest left : List ℕ) (k : ℕ) → left ≡ drop k rest
-    → Sent before now text rest →
-    Appends now later (take k rest) → Sent before later text left
+pub then_sent : (before now later : Option (List ℕ)) (text rest left : List ℕ) (k : ℕ) → left ≡ drop k rest →
+    Sent before now text rest → Appends now later (take k rest) → Sent before later text left
 then_sent before now later text rest left k is sent more =
     rw is
     (piece_sent before now later text (take k rest) (drop k rest) (rw (take-append-drop k rest) sent) more)
@@ -41,8 +37,7 @@ pub nothing_sent : (known : Option (List ℕ)) (text : List ℕ) → Sent known 
 nothing_sent known text = record { front = []; whole = refl; taken = nothing_taken known }
 
 -- with a front of it
-piece_refused :
-    (before now later : Option (List ℕ)) (text piece more : List ℕ) → Sent before now text (piece ++ more) →
+piece_refused : (before now later : Option (List ℕ)) (text piece more : List ℕ) → Sent before now text (piece ++ more) →
     AppendsFront now later piece → AppendsFront before later text
 piece_refused before now later text piece more sent refused = record {
   rest = refused.rest ++ more;

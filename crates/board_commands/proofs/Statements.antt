@@ -6,9 +6,8 @@ use Rattle.script_spec.specs.Phases.{lists_of}
 use Rattle.log_check.proofs.PhaseLists.{phases_cut, all_of_phase}
 
 -- the statements of each phase are in range
-pub phases_in_range :
-    (setup : Setup) (version cpus : ℕ) (phases : List (Vec Statement Global))
-    → All (IsScripted setup version cpus) (in_file_order (lists_of phases)) →
+pub phases_in_range : (setup : Setup) (version cpus : ℕ) (phases : List (Vec Statement Global)) →
+    All (IsScripted setup version cpus) (in_file_order (lists_of phases)) →
     All (λ phase. All (IsStatement setup cpus) phase.items) phases
 phases_in_range setup version cpus phases all i d within =
     let phase : Vec Statement Global = get_or phases i d in

@@ -26,20 +26,17 @@ fitted played = (state_of refl played.left).fits
 
 -- ---- the numbers of entries
 
-counted_after :
-    (history : List Entry) (counts : List ℕ) (entry : Entry) → entry.actor < length counts →
+counted_after : (history : List Entry) (counts : List ℕ) (entry : Entry) → entry.actor < length counts →
     entry.seq ≡ slice_index counts entry.actor + 1 → entry.actor < 256 →
-    ((who : ℕ) → who < 256 → slice_index counts who ≡ length (entries_by who history)) →
-    (who : ℕ) → who < 256 → slice_index (slice_set counts entry.actor entry.seq) who ≡ length
-    (entries_by who (entry ∷ history))
+    ((who : ℕ) → who < 256 → slice_index counts who ≡ length (entries_by who history)) → (who : ℕ) → who < 256 →
+    slice_index (slice_set counts entry.actor entry.seq) who ≡ length (entries_by who (entry ∷ history))
 counted_after history counts entry within number below counted who below' =
     let before = counted who below' in
     grind (arith, nat_tests, elements)
 
 -- a processor has no more entries than the history
-pub count_fits :
-    {replay : Playing} {history : List Entry} {actor at : ℕ} → at ≡ actor → actor < 256 → HasPlayed replay history →
-    slice_index replay.counts at + 1 < 2 ^ 32
+pub count_fits : {replay : Playing} {history : List Entry} {actor at : ℕ} → at ≡ actor → actor < 256 →
+    HasPlayed replay history → slice_index replay.counts at + 1 < 2 ^ 32
 count_fits {history = history} {actor} same below played =
     let own : Entry → Bool = λ entry. entry.actor == actor in
     let parts = length-filter_both own (λ entry. not (own entry)) (λ entry. refl) history in

@@ -1,12 +1,11 @@
 -- The histories of memory and ports without looks are computed from the definitions.
 use Rattle.std.proofs.Common.{ℕ, ◌≡◌, ◌%◌, ◌<◌, length, slice_index, arith, ◌/◌}
-use Rattle.board_prelude.proofs.Common.{length-map-range_with_len, get_or-map-range_with_len, reset_byte, writable_bits}
-use Rattle.board_prelude.proofs.Common.{host_bridge, isa_bridge, ide_function, card_function, byte_of, config_address}
-use Rattle.board_prelude.proofs.Common.{reset_control, row_of, area_of, denial_of, memory_claim, memory_shut}
-use Rattle.board_prelude.proofs.Common.{rom_unselected, io_claim, io_shut, port_target_of, stored_of, port_answer}
-use Rattle.board_prelude.proofs.Common.{memory_answer, reset as timer_reset, programmed, out_of, plain_of, timer_of}
-use Rattle.board_prelude.proofs.Common.{clock_of, device_value, disk_with, parts_put, parts_from, part_answer}
-use Rattle.board_prelude.proofs.Common.{wide_value}
+use Rattle.board_prelude.proofs.Common.{length-map-range_with_len, get_or-map-range_with_len, reset as timer_reset}
+use Rattle.board_prelude.specs.Common.{reset_byte, writable_bits, host_bridge, isa_bridge, ide_function, card_function}
+use Rattle.board_prelude.specs.Common.{byte_of, config_address, reset_control, row_of, area_of, denial_of, memory_claim}
+use Rattle.board_prelude.specs.Common.{memory_shut, rom_unselected, io_claim, io_shut, port_target_of, stored_of}
+use Rattle.board_prelude.specs.Common.{port_answer, memory_answer, programmed, out_of, plain_of, timer_of, clock_of}
+use Rattle.board_prelude.specs.Common.{device_value, disk_with, parts_put, parts_from, part_answer, wide_value}
 use Rattle.board_examples.specs.Basics.{counting_rom, ShadowingTheBios, OneWindowForWrites, MemoryAfterReset}
 use Rattle.board_examples.specs.Basics.{ConfigurationPorts, SmramLockedUntilReset, VgaBesideSmram, NoRowOfDram}
 use Rattle.board_examples.specs.Basics.{CardInTheHole, HoleAt512Kib, XbcsOverASoftReset, RomAfterReset}

@@ -49,16 +49,14 @@ past statements phases pulses =
     nat_lt most_statements statements || nat_lt most_phases phases || nat_lt most_pulses pulses
     || nat_lt most_card_memory 0
 
-statements : (count : ℕ) →
-    after_statements count ≡ first_of false false false false false false (past (suc count) 1 0)
+statements : (count : ℕ) → after_statements count ≡ first_of false false false false false false (past (suc count) 1 0)
 unfolding after_statements least_reason
 statements count =
     let has = acks count in
     let more = acks (suc count) in
     simp (has.open_phase, has.cpus, has.asked, has.phased, more.pulsed, has.bare)
 
-phases : (count : ℕ) →
-    after_phases count ≡ first_of false false false false false false (past 0 (suc (count + 1)) 0)
+phases : (count : ℕ) → after_phases count ≡ first_of false false false false false false (past 0 (suc (count + 1)) 0)
 unfolding after_phases least_reason
 phases count =
     let has = all_phases count in

@@ -16,8 +16,7 @@ use Rattle.board_examples.specs.Basics.{TwoCardsAtOneAddress, CardMovedUnderTheR
 abbrev window : (dev base inside bits : ℕ) → Window
 window dev base inside bits = record { dev = dev; base = base; inside = inside; bits = bits }
 
-pub looks :
-    TwoCardsAtOneAddress × CardMovedUnderTheRom × ExpansionRom × OutsideBaseRead × LookInSmm
+pub looks : TwoCardsAtOneAddress × CardMovedUnderTheRom × ExpansionRom × OutsideBaseRead × LookInSmm
 unfolding TwoCardsAtOneAddress CardMovedUnderTheRom ExpansionRom OutsideBaseRead LookInSmm byte_of config_address
     reset_control reset_byte writable_bits host_bridge isa_bridge ide_function card_function row_of area_of denial_of
     memory_claim memory_shut rom_unselected io_claim io_shut stored_of memory_answer port_answer port_target_of

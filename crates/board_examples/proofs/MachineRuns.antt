@@ -9,11 +9,10 @@ use Rattle.board_examples.specs.Common.{AnAlarmStays, AHardReset, AMoment, HourF
 use Rattle.board_examples.specs.Common.{passed, filled, PastTheEnd, BadInTheMiddle, ReadToItsEnd, BadIsWritten}
 use Rattle.board_examples.specs.Common.{WrittenIsGood, WordsOfSector3, LowByteFirst, CommandEnds, WordsTheWrongWay}
 use Rattle.board_examples.specs.Common.{Writes, Resets, Commands, Addresses, Identify, Lengths, DiskPorts}
-use Rattle.board_prelude.proofs.Common.{levels_where, byte_of_levels, pending, first_selectable, request}
-use Rattle.board_prelude.proofs.Common.{chip_after_write, byte_read, chip_after_read, first_blocking, answer_of}
-use Rattle.board_prelude.proofs.Common.{pair_after_acknowledge, begin_read, sector_read, begin_write, sector_written}
-use Rattle.board_prelude.proofs.Common.{verified, obeyed, commanded, after_word, word_written, register_written}
-use Rattle.board_prelude.proofs.Common.{identify_word}
+use Rattle.board_spec.specs.Common.{levels_where, byte_of_levels, pending, first_selectable, request, chip_after_write}
+use Rattle.board_spec.specs.Common.{byte_read, chip_after_read, first_blocking, answer_of, pair_after_acknowledge}
+use Rattle.board_spec.specs.Common.{begin_read, sector_read, begin_write, sector_written, verified, obeyed, commanded}
+use Rattle.board_spec.specs.Common.{after_word, word_written, register_written, identify_word, is_line_driven}
 use Rattle.device_spec.specs.Pit.{mode_numbered, access_numbered, programmed, count_of_number, low_byte, high_byte}
 use Rattle.device_spec.specs.Pit.{element_bytes, status_byte, latch_count, latch_status, control, read_back, read_live}
 use Rattle.device_spec.specs.Pit.{read, asks_for_load, complete, take_low, take_byte, write, gate_rises, gate_falls}
@@ -21,7 +20,6 @@ use Rattle.device_spec.specs.Pit.{load, count_down, count_to_end, count_to_reloa
 use Rattle.device_spec.specs.Pit.{pulse_by_mode, pulse, reset, port_read, read_back_chosen, write_control, port_write}
 use Rattle.device_spec.specs.Pit.{set_gate2, out_of, pulse_all, pulses, rises}
 use Rattle.device_spec.specs.Clock.{power_on}
-use Rattle.device_spec.specs.Routing.{is_line_driven}
 use Rattle.board_examples.specs.Machines.Routing.{RouteBytes, LinesDriven, TriggerBytes}
 use Rattle.device_spec.specs.Ata.Steps.{control_written}
 
@@ -44,13 +42,11 @@ unfolding AfterReset ReadBackOf0 Counters1And2 given told after_lines mode_numbe
     port_write set_gate2 out_of pulse_all pulses rises
 timer = search (rules, arith)
 
-pub clock :
-    AnAlarmStays × AHardReset × AMoment × HourForms × Alarms × Interrupts × EachByte
+pub clock : AnAlarmStays × AHardReset × AMoment × HourForms × Alarms × Interrupts × EachByte
 unfolding AnAlarmStays AHardReset given told power_on
 clock = search rules
 
-pub routing :
-    RouteBytes × LinesDriven × TriggerBytes
+pub routing : RouteBytes × LinesDriven × TriggerBytes
 unfolding is_line_driven
 routing = search rules
 

@@ -42,8 +42,7 @@ module _ (bytes : Bytes) (plain : IsPlain bytes) where
   pub area_is : (x : ℕ) (kind : Kind) (smm : Bool) →
       area_of small_board bytes x kind smm ≡ plain_area (is_smram_open bytes kind smm) x
   unfolding area_of row_of memory_claim
-  area_is x kind smm =
-      rw (plain.last, plain.first, plain.hole, plain.rom, no_shadow x kind) (grind (arith, nat_tests))
+  area_is x kind smm = rw (plain.last, plain.first, plain.hole, plain.rom, no_shadow x kind) (grind (arith, nat_tests))
 
   -- the six areas of an address that go by whether SMRAM is open
   abbrev by_smram : (Bool → Area) → List Area

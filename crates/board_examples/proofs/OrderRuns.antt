@@ -36,8 +36,7 @@ second_alone : (first second : Statement) (actor : ℕ) → first.actor ≡ 0 �
 second_alone first second actor zeroth one =
     record { rest = events_by actor (first ∷ []); whole = grind (arith, nat_tests) }
 
-pub orders :
-    LookLast × LookFirst × LookAlone × LookTooEarly
+pub orders : LookLast × LookFirst × LookAlone × LookTooEarly
 unfolding LookLast LookFirst LookAlone LookTooEarly byte_of config_address reset_control reset_byte writable_bits
     host_bridge isa_bridge ide_function card_function row_of area_of denial_of memory_claim memory_shut rom_unselected
     io_claim io_shut stored_of memory_answer port_answer port_target_of map_change_of map_writes_of

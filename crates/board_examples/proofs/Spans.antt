@@ -55,14 +55,13 @@ far_span {setup = setup} {bytes = bytes} {addr = addr} {lo = lo} {hi = hi} far s
 }
 
 -- in a window that is enabled and the first of all
-pub first_span : {setup : Setup} {bytes : Bytes} {addr lo hi : ℕ} {kind : Kind} {smm : Bool}
-    (window : Window) (later : List Window) → flat_map (memory_windows bytes) setup.cards ≡ window ∷ later →
+pub first_span : {setup : Setup} {bytes : Bytes} {addr lo hi : ℕ} {kind : Kind} {smm : Bool} (window : Window)
+    (later : List Window) → flat_map (memory_windows bytes) setup.cards ≡ window ∷ later →
     is_enabled_for 1 bytes window.dev ≡ true → IsFar bytes addr lo hi →
     window.inside / 2 ^ window.bits * 2 ^ window.bits ≤ lo →
     hi < (window.inside / 2 ^ window.bits + 1) * 2 ^ window.bits →
     area_of setup bytes (lo - 1) kind smm ≢ card_area window →
-    area_of setup bytes (hi + 1) kind smm ≢ card_area window →
-    IsSpan setup bytes addr kind smm lo hi (card_area window)
+    area_of setup bytes (hi + 1) kind smm ≢ card_area window → IsSpan setup bytes addr kind smm lo hi (card_area window)
 unfolding memory_claim
 first_span window later windows on far first last before after =
     far_span far (λ x from to. rw (

@@ -4,8 +4,7 @@ use Rattle.board_prelude.proofs.Common.{config_address, reset_control, map_chang
 use Rattle.board_examples.specs.Versions.{UnseenWrites, SeenWrites, AccessBreaksLock, PartBreaksLock, LookBreaksLock}
 use Rattle.board_examples.specs.Versions.{WordBreaksLock}
 
-pub versions :
-    UnseenWrites × SeenWrites × AccessBreaksLock × PartBreaksLock × LookBreaksLock × WordBreaksLock
+pub versions : UnseenWrites × SeenWrites × AccessBreaksLock × PartBreaksLock × LookBreaksLock × WordBreaksLock
 unfolding UnseenWrites SeenWrites AccessBreaksLock PartBreaksLock LookBreaksLock WordBreaksLock map_change_of
     map_writes_of config_address reset_control
 versions = (

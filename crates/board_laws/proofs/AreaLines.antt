@@ -13,15 +13,13 @@ use Rattle.board_laws.proofs.AreaProofs.{row-is, row_below_top, is_some-row}
 -- ---- the lines of the map that are of DRAM
 
 abbrev smram_line : Bytes → ℕ → Kind → Bool → Bool
-smram_line bytes addr kind smm =
-    is_smram_range addr && is_some (row_of bytes addr) && is_smram_open bytes kind smm
+smram_line bytes addr kind smm = is_smram_range addr && is_some (row_of bytes addr) && is_smram_open bytes kind smm
 
 abbrev shadow_line : Bytes → ℕ → Kind → Bool
 shadow_line bytes addr kind = is_some (row_of bytes addr) && is_shadowed bytes addr kind
 
 abbrev dram_line : Bytes → ℕ → Bool
-dram_line bytes addr =
-    not (lies_in upper_memory addr) && is_some (row_of bytes addr) && not (is_in_hole bytes addr)
+dram_line bytes addr = not (lies_in upper_memory addr) && is_some (row_of bytes addr) && not (is_in_hole bytes addr)
 
 module _ (bytes : Bytes) (addr : ℕ) where
   below_some : addr < top_of bytes → is_some (row_of bytes addr) ≡ true
@@ -51,9 +49,8 @@ module _ (bytes : Bytes) (addr : ℕ) where
 
 -- ---- the cards
 
-find-first :
-    (test : Window → Bool) (earlier later : List Window) (window : Window) → All (λ it. test it ≡ false) earlier →
-    test window ≡ true → find test (earlier ++ window ∷ later) ≡ Some window
+find-first : (test : Window → Bool) (earlier later : List Window) (window : Window) →
+    All (λ it. test it ≡ false) earlier → test window ≡ true → find test (earlier ++ window ∷ later) ≡ Some window
 find-first test [] later window fail here = rw here refl
 find-first test (other ∷ earlier) later window fail here =
     rw (All-head (λ it. test it ≡ false) other earlier fail)
@@ -66,15 +63,13 @@ find-none test (other ∷ later) fail =
     rw (All-head (λ it. test it ≡ false) other later fail)
     (find-none test later (All-tail (λ it. test it ≡ false) other later fail))
 
-claim-first :
-    (setup : Setup) (bytes : Bytes) (addr : ℕ) (earlier later : List Window) (window : Window) →
+claim-first : (setup : Setup) (bytes : Bytes) (addr : ℕ) (earlier later : List Window) (window : Window) →
     memory_windows_of setup bytes ≡ earlier ++ window ∷ later → NoneClaims bytes addr earlier →
     claims bytes addr window ≡ true → memory_claim setup bytes addr ≡ Some window
 unfolding memory_claim
 claim-first setup bytes addr earlier later window are none here = grind (arith, nat_tests, find, find-first)
 
-claim-none :
-    (setup : Setup) (bytes : Bytes) (addr : ℕ) → NoneClaims bytes addr (memory_windows_of setup bytes) →
+claim-none : (setup : Setup) (bytes : Bytes) (addr : ℕ) → NoneClaims bytes addr (memory_windows_of setup bytes) →
     memory_claim setup bytes addr ≡ None
 unfolding memory_claim
 claim-none setup bytes addr none = find-none (claims bytes addr) _ none

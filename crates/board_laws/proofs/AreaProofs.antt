@@ -1,7 +1,6 @@
 -- Who answers at an address of memory.
-use Rattle.std.proofs.Common.{◌≡◌, ℕ, zero, suc, ◌+◌, ◌≤◌, ◌<◌, true, Some, is_some, refl, inl, inr, arith}
+use Rattle.std.proofs.Common.{◌≡◌, ℕ, zero, suc, ◌+◌, ◌≤◌, ◌<◌, true, Some, is_some, refl, inl, inr, arith, below_more}
 use Rattle.board_prelude.proofs.Common.{cases_lt, nat_tests, Bytes, boundary, top_of, row_of}
-use borrow.Author.Count.{below_more}
 use Rattle.board_laws.proofs.Numbers.{numbers_from}
 use Rattle.board_laws.specs.AreaLaws.{IsRow, HasRow, RowBelowTop}
 
@@ -11,15 +10,11 @@ pub row-is : (bytes : Bytes) (addr row : ℕ) → IsRow bytes addr row → row_o
 unfolding row_of numbers_from
 row-is bytes addr row is = grind (arith, nat_tests)
 
-row_above :
-    (bytes : Bytes) (addr row left : ℕ) → addr < top_of bytes → row + left ≡ 7 →
+row_above : (bytes : Bytes) (addr row left : ℕ) → addr < top_of bytes → row + left ≡ 7 →
     ((before : ℕ) → before < row → boundary bytes before ≤ addr) → HasRow bytes addr
 row_above bytes addr row zero below here before =
     let last : row ≡ 7 = omega arith in
-    record {
-      row = row;
-      is = record { below_top = below; last = omega arith; ends = rw last below; first = before };
-    }
+    record { row = row; is = record { below_top = below; last = omega arith; ends = rw last below; first = before } }
 row_above bytes addr row (suc left) below here before =
     elim (cases_lt addr (boundary bytes row)) [
       | inl ends ↦

@@ -4,8 +4,7 @@ use Rattle.std.proofs.Common.{get_or, set, refl, ◌∙◌, arith, get_or-set_ot
 use Rattle.board_prelude.proofs.Common.{cases_eq, nat_tests, get_or-set_at, length-set, CivilTime, Clock, number_byte}
 use Rattle.board_prelude.proofs.Common.{hour_byte, control_of, holds_time, time_bytes, put, tell, byte_at, alarm_fits}
 use Rattle.board_prelude.proofs.Common.{alarm_rings, control_reset, written, data_byte, update_interrupts, after_write}
-use Rattle.board_prelude.proofs.Common.{after_reset}
-use Rattle.board_base.specs.Bits.{is_bit}
+use Rattle.board_prelude.proofs.Common.{after_reset, is_bit}
 use Rattle.device_spec.specs.Clock.{control_written, power_on}
 use Rattle.board_laws.specs.ClockLaws.{number_read, hour_read, Shows, IsShowable, ShowsTheMoment, HasAlarm}
 use Rattle.board_laws.specs.ClockLaws.{same_time_of_day, RingsAtItsTime, ReadingQuiets, ResetKeepsTheTime, MemoryKeeps}

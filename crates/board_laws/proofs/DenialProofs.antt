@@ -13,14 +13,12 @@ use Rattle.board_laws.specs.DenialLaws.{IsDeniedExactly, DeniedOnBus, DeniedInPa
 
 -- ---- memory
 
-denied_area :
-    (setup : Setup) (area : Area) (addr : ℕ) (kind : Kind) (abort rom : Denial) →
+denied_area : (setup : Setup) (area : Area) (addr : ℕ) (kind : Kind) (abort rom : Denial) →
     IsDeniedExactly (is_write kind) (target_at setup area addr) (denial_in area kind abort rom)
 denied_area setup x1 addr kind abort rom = grind (arith, nat_tests)
 
-denied_memory :
-    (setup : Setup) (before : List Entry) (access : Access) →
-    IsDeniedExactly (is_write access.kind) (memory_target setup before access) (memory_denial setup before access)
+denied_memory : (setup : Setup) (before : List Entry) (access : Access) → IsDeniedExactly (is_write access.kind)
+    (memory_target setup before access) (memory_denial setup before access)
 unfolding denial_of
 denied_memory setup before access = denied_area setup _ access.addr access.kind _ _
 
@@ -35,13 +33,11 @@ right_choice x0 a b is other = grind (arith, nat_tests)
 right_config : (address : ℕ) (reg : Option Reg) → IsRight (config_port address reg)
 right_config address x1 = grind (arith, nat_tests)
 
-right_port :
-    (found : Option Dev) (disk : Bool) (setup : Setup) (bytes : Bytes) (port : ℕ) →
+right_port : (found : Option Dev) (disk : Bool) (setup : Setup) (bytes : Bytes) (port : ℕ) →
     IsRight (device_port found disk setup bytes port)
 right_port x0 disk setup bytes port = grind (arith, nat_tests)
 
-denied_port :
-    (setup : Setup) (bytes : Bytes) (address : ℕ) (disk : Bool) (port : ℕ) (width : Width) →
+denied_port : (setup : Setup) (bytes : Bytes) (address : ℕ) (disk : Bool) (port : ℕ) (width : Width) →
     IsRight (port_target_of setup bytes address disk port width)
 unfolding port_target_of
 denied_port setup bytes address disk port width =
@@ -53,8 +49,7 @@ abbrev OfBus : (Target → Option Denial → Type 0) → Reply → Type 0
 OfBus P (Bus value target denial) = P target denial
 OfBus P _ = Unit {0}
 
-outside_right :
-    (writes : Bool) (dev : Dev) (reply : Reply) (value : Option ℕ) → reply ≡ Bus value (Device dev) None →
+outside_right : (writes : Bool) (dev : Dev) (reply : Reply) (value : Option ℕ) → reply ≡ Bus value (Device dev) None →
     OfBus (IsDeniedExactly writes) reply
 outside_right writes dev reply value is = grind (arith, nat_tests)
 
@@ -72,8 +67,7 @@ denied_on_bus setup before _ value target denial answer = outside_right false _ 
 abbrev IsRightPart : Bool → Part → Type 0
 IsRightPart writes part = IsDeniedExactly writes part.target part.denial
 
-denied_from :
-    (setup : Setup) (before : List Entry) (access : WideAccess) (most addr left : ℕ) →
+denied_from : (setup : Setup) (before : List Entry) (access : WideAccess) (most addr left : ℕ) →
     All (IsRightPart (is_write access.kind)) (map (part_answer setup before) (parts_from access most addr left))
 unfolding parts_from part_answer
 denied_from setup before access zero addr left = All-nil (IsRightPart (is_write access.kind))

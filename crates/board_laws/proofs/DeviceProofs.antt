@@ -9,8 +9,7 @@ pub others_stay : OthersStay
 unfolding timer_of plain_of triggers_of clock_of disk_with wire_of irq_of
 others_stay setup before entry next soft = grind (arith, nat_tests)
 
-out-stays :
-    (before : List Entry) (entry : Entry) → is_hard_reset before entry.event ≡ false →
+out-stays : (before : List Entry) (entry : Entry) → is_hard_reset before entry.event ≡ false →
     out_of 0 (timer_after entry.event entry.reply (timer_of before)) ≡ out_of 0 (timer_of before) →
     out_of 0 (timer_of (entry ∷ before)) ≡ out_of 0 (timer_of before)
 unfolding timer_of

@@ -9,8 +9,7 @@ numbers_from from zero = []
 numbers_from from (suc count) = from ∷ numbers_from (from + 1) count
 
 -- what a function gives at a place
-pub map-number :
-    {X : Type 0} (f : ℕ → X) (from count place n : ℕ) (otherwise : X) → place < count → n ≡ from + place →
+pub map-number : {X : Type 0} (f : ℕ → X) (from count place n : ℕ) (otherwise : X) → place < count → n ≡ from + place →
     get_or (map f (numbers_from from count)) place otherwise ≡ f n
 unfolding numbers_from
 map-number f from zero place n otherwise below is = absurd (omega arith)
@@ -19,8 +18,7 @@ map-number f from (suc count) (suc place) n otherwise below is =
     map-number f (from + 1) count place n otherwise (omega arith) (omega arith)
 
 -- some number passes
-pub any-number :
-    (test : ℕ → Bool) (from count n : ℕ) → from ≤ n → n < from + count → test n ≡ true →
+pub any-number : (test : ℕ → Bool) (from count n : ℕ) → from ≤ n → n < from + count → test n ≡ true →
     list_any test (numbers_from from count) ≡ true
 unfolding numbers_from
 any-number test from zero n above below here = absurd (omega arith)

@@ -6,9 +6,8 @@ use Rattle.board_prelude.proofs.Common.{false≢true, Levels, has, levels_where,
 use Rattle.board_prelude.proofs.Common.{priority_order, is_blocking, blocks_itself, is_requested, request, interrupt}
 use Rattle.board_prelude.proofs.Common.{acknowledged, acknowledged_if, chip_after_write, Pair, answer_of}
 use Rattle.board_prelude.proofs.Common.{pair_after_acknowledge, settled, pair_written, pair_read, pair_acknowledged}
-use Rattle.board_prelude.proofs.Common.{answer_at, pair_acknowledged_at, has-levels_where, scan, request-is}
+use Rattle.board_prelude.proofs.Common.{answer_at, pair_acknowledged_at, has-levels_where, scan, request-is, is_bit}
 use Rattle.std.proofs.lemmas.Bool.{agree_below}
-use Rattle.board_base.specs.Bits.{is_bit}
 use Rattle.board_laws.specs.PicLaws.{IsFirstInOrder, EndsOne, IsSpuriousAt, SlaveIsLatched, StaysLatched}
 
 -- ---- the order

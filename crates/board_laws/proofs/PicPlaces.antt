@@ -1,14 +1,12 @@
 -- What INT stands for, and what a non-specific end of interrupt ends, by places in the order of priorities.
 use Rattle.std.proofs.Common.{◌≡◌, ℕ, zero, suc, ◌+◌, ◌/◌, ◌<◌, ◌≤◌, Bool, true, false, not, cond, eqb, ◌&&◌, Some}
 use Rattle.std.proofs.Common.{None, List, [], ◌∷◌, length, get_or, drop, refl, sym, ap, ◌∙◌, inl, inr, arith, is_some}
-use Rattle.std.proofs.Common.{length-append}
-use Rattle.board_prelude.proofs.Common.{find, list_all, cases_Bool, cases_lt, agree_below_at, eqb-true, nat_tests}
-use Rattle.board_prelude.proofs.Common.{and_parts, false≢true, drop_of_length-le, get_or-append_seam}
-use Rattle.board_prelude.proofs.Common.{get_or_append_left, Chip, priority_order, is_blocking, blocks_itself}
-use Rattle.board_prelude.proofs.Common.{is_requested, request, first_blocking, chip_after_write, scan, request-is}
-use Rattle.board_prelude.proofs.Common.{scan-found, scan-past, find-past, find-here, first_blocking-is}
-use Rattle.board_prelude.proofs.Common.{priority_order-small}
-use Rattle.board_base.specs.Bits.{is_bit}
+use Rattle.std.proofs.Common.{length-append, eqb-true}
+use Rattle.board_prelude.proofs.Common.{find, list_all, cases_Bool, cases_lt, agree_below_at, nat_tests, and_parts}
+use Rattle.board_prelude.proofs.Common.{false≢true, drop_of_length-le, get_or-append_seam, get_or_append_left, Chip}
+use Rattle.board_prelude.proofs.Common.{priority_order, is_blocking, blocks_itself, is_requested, request}
+use Rattle.board_prelude.proofs.Common.{first_blocking, chip_after_write, scan, request-is, scan-found, scan-past}
+use Rattle.board_prelude.proofs.Common.{find-past, find-here, first_blocking-is, priority_order-small, is_bit}
 use Rattle.device_spec.specs.Pic.{ended}
 use Rattle.board_laws.specs.PicLaws.{place_of, CanBeSelected, InterruptIsSelected, SelectedInterrupts, IsServedFirst}
 use Rattle.board_laws.specs.PicLaws.{NonSpecificEndEndsFirst, NonSpecificEndOfNone, IsFirstInOrder}
@@ -42,8 +40,7 @@ can-asks chip level can = grind (arith, nat_tests, can.asks, can.unmasked, can.f
 
 -- the search from a place on finds a level, where one that can be selected is still to come
 found : (d i : ℕ) (chip : Chip) (level : ℕ) → chip.lowest < 8 → CanBeSelected chip level →
-    i + d ≡ place_of chip.lowest level
-    → is_some (scan chip (drop i (priority_order chip.lowest))) ≡ true
+    i + d ≡ place_of chip.lowest level → is_some (scan chip (drop i (priority_order chip.lowest))) ≡ true
 found zero i chip level h can at_place =
     let here : i ≡ place_of chip.lowest level = omega arith in
     let is : get_or (priority_order chip.lowest) i 0 ≡ level = rw here (level_at chip.lowest level h can.inside) in
@@ -135,8 +132,7 @@ interrupt_selected chip level h e =
 
 -- the search from a place on finds the level that is served first
 served : (d i : ℕ) (chip : Chip) (level : ℕ) → chip.lowest < 8 → IsServedFirst chip level →
-    i + d ≡ place_of chip.lowest level
-    → find (is_blocking chip) (drop i (priority_order chip.lowest)) ≡ Some level
+    i + d ≡ place_of chip.lowest level → find (is_blocking chip) (drop i (priority_order chip.lowest)) ≡ Some level
 served zero i chip level h first at_place =
     let order = priority_order chip.lowest in
     let here : i ≡ place_of chip.lowest level = omega arith in
@@ -169,8 +165,7 @@ non_specific_first chip byte level h b4 b3 command first =
     rw (non-specific chip byte b4 b3 command, is) (without-one chip level first.inside)
 
 none-served : (d i : ℕ) (chip : Chip) → chip.lowest < 8 → ((level : ℕ) → level < 8 → is_blocking chip level ≡ false) →
-    i + d ≡ 8
-    → find (is_blocking chip) (drop i (priority_order chip.lowest)) ≡ None
+    i + d ≡ 8 → find (is_blocking chip) (drop i (priority_order chip.lowest)) ≡ None
 none-served zero i chip h none at_place =
     let past : length (priority_order chip.lowest) ≤ i = rw (eight chip.lowest h) (omega arith) in
     ap (find (is_blocking chip)) (drop_of_length-le (priority_order chip.lowest) past)

@@ -26,8 +26,7 @@ IsOn SoftwareStrobe gate c = gate ≡ true
 IsOn _ gate c = Unit {0}
 
 counts : (mode : Mode) (gate : Bool) (n e : ℕ) (c : CounterState) → is_periodic mode ≡ false → IsOn mode gate c →
-    IsAtLoad mode n (level_of mode) c → 2 ≤ e →
-    pulse gate (phase c e (level_of mode)) ≡ phase c (e - 1) (level_of mode)
+    IsAtLoad mode n (level_of mode) c → 2 ≤ e → pulse gate (phase c e (level_of mode)) ≡ phase c (e - 1) (level_of mode)
 unfolding pulse pulse_by_mode count_to_end count_to_strobe count_down
 counts mode gate n e c p on s h = grind (arith, nat_tests)
 

@@ -1,8 +1,7 @@
 -- A read-back is one latch after another.
 use Rattle.std.proofs.Common.{◌≡◌, ℕ, true, List, Option, refl, arith}
-use Rattle.board_prelude.proofs.Common.{nat_tests}
-use Rattle.device_spec.specs.Pit.{CounterState, access_numbered, element_bytes, status_byte, latch_count, latch_status}
-use Rattle.device_spec.specs.Pit.{control, read_back, read_back_chosen, write_control}
+use Rattle.board_prelude.proofs.Common.{nat_tests, CounterState, access_numbered, element_bytes, status_byte}
+use Rattle.board_prelude.proofs.Common.{latch_count, latch_status, control, read_back, read_back_chosen, write_control}
 use Rattle.board_laws.specs.PitLaws.{ReadBackIsOneByOne, ReadBackIsLatch, ReadBackOfBoth}
 
 pub one_by_one : ReadBackIsOneByOne

@@ -1,9 +1,8 @@
 -- In modes 2 and 3 a count that is written waits for the next load.
 use Rattle.std.proofs.Common.{◌≡◌, ℕ, zero, suc, Bool, true, false, ◌⊎◌, inl, inr, Option, Some, unwrap_or, refl, arith}
-use Rattle.board_prelude.proofs.Common.{nat_tests, Mode, RateGenerator, Access, CounterState, is_periodic}
-use Rattle.board_prelude.proofs.Common.{is_terminal_count, asks_for_load, complete, take_low, take_byte, write, load}
-use Rattle.board_prelude.proofs.Common.{count_down, count_to_reload, half_end, count_half, pulse_by_mode, pulse}
-use Rattle.board_prelude.proofs.Common.{pulses_of}
+use Rattle.device_spec.proofs.Common.{nat_tests, Mode, RateGenerator, CounterState, is_periodic, load, count_down}
+use Rattle.device_spec.proofs.Common.{count_to_reload, half_end, count_half, pulse_by_mode, pulse, pulses_of}
+use Rattle.board_prelude.proofs.Common.{Access, is_terminal_count, asks_for_load, complete, take_low, take_byte, write}
 use Rattle.board_laws.specs.PitCounts.{CountWaits, CountIsTaken}
 
 -- the same counter where another count waits

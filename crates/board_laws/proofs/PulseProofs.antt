@@ -6,9 +6,8 @@ use Rattle.board_laws.specs.DeviceLaws.{PulsesAdd}
 
 -- ---- pulses
 
-pulsed-on :
-    (add : PulsesAddUp) (setup : Setup) (before : List Entry) (first : Entry) (n m : ℕ) (pair : Pair) → first.event
-    ≡ Pulses n →
+pulsed-on : (add : PulsesAddUp) (setup : Setup) (before : List Entry) (first : Entry) (n m : ℕ) (pair : Pair) →
+    first.event ≡ Pulses n →
     pair_pulsed setup (first ∷ before) m (pair_pulsed setup before n pair) ≡ pair_pulsed setup before (n + m) pair
 unfolding pair_pulsed
 pulsed-on add setup before first n zero pair is = rw (add-zero n) refl

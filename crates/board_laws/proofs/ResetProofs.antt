@@ -24,8 +24,7 @@ reset_value control x1 hard = grind (arith, nat_tests)
 no_latches : (inputs : Levels) → latches_after no_levels inputs inputs ≡ no_levels
 no_latches inputs = levels_where-same _ (λ level. false) (λ level small. grind (arith, nat_tests, has-levels_where))
 
-chip-reset :
-    (has_slave : Bool) (inputs : Levels) →
+chip-reset : (has_slave : Bool) (inputs : Levels) →
     chip_after_inputs (chip_at_reset has_slave inputs) inputs no_levels ≡ chip_at_reset has_slave inputs
 chip-reset has_slave inputs = grind (arith, nat_tests, chip_at_reset, no_levels, no_latches)
 
@@ -35,22 +34,18 @@ unfolding levels_where
 pair-reset levels = rw (chip-reset true (master_inputs (take 8 levels)), chip-reset false (drop 8 levels)) refl
 
 -- a hard reset is no event of pulses
-stepped-hard :
-    (setup : Setup) (before : List Entry) (entry : Entry) (event : Event) (pair : Pair) →
+stepped-hard : (setup : Setup) (before : List Entry) (entry : Entry) (event : Event) (pair : Pair) →
     is_hard_reset before event ≡ true →
-    pair_stepped setup entry before event pair
-    ≡ pair_after_lines (pair_reset_or_after setup entry before pair) (levels_of setup (entry ∷ before))
-    (elcr_of (entry ∷ before))
+    pair_stepped setup entry before event pair ≡ pair_after_lines (pair_reset_or_after setup entry before pair)
+    (levels_of setup (entry ∷ before)) (elcr_of (entry ∷ before))
 stepped-hard setup before entry event pair hard = grind (arith, nat_tests)
 
-triggers-reset :
-    (before : List Entry) (entry : Entry) → is_hard_reset before entry.event ≡ true →
+triggers-reset : (before : List Entry) (entry : Entry) → is_hard_reset before entry.event ≡ true →
     triggers_of (entry ∷ before) ≡ triggers_at_reset
 unfolding triggers_of
 triggers-reset before entry hard = cond-true (is_hard_reset before entry.event) triggers_at_reset _ hard
 
-pair-hard :
-    (setup : Setup) (before : List Entry) (entry : Entry) → is_hard_reset before entry.event ≡ true →
+pair-hard : (setup : Setup) (before : List Entry) (entry : Entry) → is_hard_reset before entry.event ≡ true →
     pair_of setup (entry ∷ before) ≡ pair_at_reset (levels_of setup (entry ∷ before))
 unfolding pair_of
 pair-hard setup before entry hard =
@@ -65,9 +60,8 @@ hard_reset_resets setup before entry hard =
 -- ---- what stays
 
 -- such an event writes the reset control register
-decoded-reset :
-    (setup : Setup) (before : List Entry) (access : PortAccess) (bytes : Bytes) (address : ℕ) (disk : Bool) →
-    is_hard_reset before (Port access) ≡ true →
+decoded-reset : (setup : Setup) (before : List Entry) (access : PortAccess) (bytes : Bytes) (address : ℕ)
+    (disk : Bool) → is_hard_reset before (Port access) ≡ true →
     port_target_of setup bytes address disk access.port access.width ≡ device ResetPort
 unfolding port_target_of
 decoded-reset setup before access bytes address disk hard =
@@ -78,10 +72,8 @@ decoded-reset setup before access bytes address disk hard =
 no_put : (access : PortAccess) (cell : Cell) → port_put access (Device ResetPort) cell ≡ None
 no_put access cell = grind (arith, nat_tests)
 
-nothing_put :
-    (setup : Setup) (before : List Entry) (event : Event) (reply : Reply) (cell : Cell) →
-    IsAnswer setup before event reply →
-    is_hard_reset before event ≡ true → entry_put event reply cell ≡ None
+nothing_put : (setup : Setup) (before : List Entry) (event : Event) (reply : Reply) (cell : Cell) →
+    IsAnswer setup before event reply → is_hard_reset before event ≡ true → entry_put event reply cell ≡ None
 unfolding port_answer
 nothing_put setup before (Port access) reply cell answer hard =
     rw (answer, decoded-reset setup before access (byte_of setup before) (config_address before) _ hard)

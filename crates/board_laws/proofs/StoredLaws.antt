@@ -4,14 +4,12 @@ use Rattle.std.proofs.Common.{◌≡◌, ℕ, List, [], ◌∷◌, ◌++◌, Som
 use Rattle.board_laws.specs.StoreLaws.{put_by, LastStays, NothingStored, OutsideGivesOnes}
 
 -- an entry that puts a byte in a cell, and one that does not
-pub stored-put :
-    (entry : Entry) (before : List Entry) (cell : Cell) (written : ℕ) → put_by cell entry ≡ Some written →
+pub stored-put : (entry : Entry) (before : List Entry) (cell : Cell) (written : ℕ) → put_by cell entry ≡ Some written →
     stored_of (entry ∷ before) cell ≡ written
 unfolding stored_of
 stored-put entry before cell written put = ap (λ it. unwrap_or it (stored_of before cell)) put
 
-pub stored-left :
-    (entry : Entry) (before : List Entry) (cell : Cell) → put_by cell entry ≡ None →
+pub stored-left : (entry : Entry) (before : List Entry) (cell : Cell) → put_by cell entry ≡ None →
     stored_of (entry ∷ before) cell ≡ stored_of before cell
 unfolding stored_of
 stored-left entry before cell left = ap (λ it. unwrap_or it (stored_of before cell)) left

@@ -30,12 +30,10 @@ low-part byte_at from Four count = simp (unary_clauses) (grind (arith))
 abbrev Lands : Setup → List Entry → Access → Type 0
 Lands setup before part = first_cell (memory_target setup before part) part.addr ≡ Some (DramCell part.addr)
 
-joined-wide :
-    (setup : Setup) (before : List Entry) (access : WideAccess) (from : ℕ) (widths : List Width) →
+joined-wide : (setup : Setup) (before : List Entry) (access : WideAccess) (from : ℕ) (widths : List Width) →
     All (Lands setup before) (made access from widths) →
     joined (λ part. value_at setup before (memory_target setup before part) part.addr part.width)
-    (made access from widths)
-    ≡ low_first (dram_byte setup before) from (total widths)
+    (made access from widths) ≡ low_first (dram_byte setup before) from (total widths)
 unfolding made
 joined-wide setup before access from [] lands = refl
 joined-wide setup before access from (width ∷ later) lands =
@@ -58,8 +56,7 @@ abbrev IsApart : (from to : ℕ) → Cell → Type 0
 IsApart from to (DramCell addr) = (addr < from) ⊎ (to ≤ addr)
 IsApart from to _ = Unit {0}
 
-apart-parts :
-    (cell : Cell) (from near far : ℕ) → IsApart from (from + (near + far)) cell →
+apart-parts : (cell : Cell) (from near far : ℕ) → IsApart from (from + (near + far)) cell →
     IsApart from (from + near) cell × IsApart (from + near) (from + near + far) cell
 apart-parts x0 from near far apart = grind (arith, nat_tests)
 
@@ -81,8 +78,7 @@ byte-low Four n (suc (suc (suc (suc k)))) below = absurd (omega arith)
 byte-low _ n _ below = omega arith
 
 -- the byte that a part puts in a cell is that of the whole
-byte-part :
-    (access : WideAccess) (from addr : ℕ) (width : Width) → access.addr ≤ from → from ≤ addr →
+byte-part : (access : WideAccess) (from addr : ℕ) (width : Width) → access.addr ≤ from → from ≤ addr →
     addr < from + bytes_of width →
     byte (part_at access from width).value (addr - from) ≡ byte access.value (addr - access.addr)
 byte-part access from addr width start above below =
@@ -108,9 +104,8 @@ module _ (setup : Setup) (before : List Entry) (access : WideAccess) where
       (memory_put-apart part (memory_target setup before part) writes (All-head (Lands setup before) part _ lands) cell
       both.0)
 
-  put-within : (from addr : ℕ) (widths : List Width) → is_write access.kind ≡ true →
-      All (Lands setup before) (made access from widths) → access.addr ≤ from → from ≤ addr →
-      addr < from + total widths →
+  put-within : (from addr : ℕ) (widths : List Width) → is_write access.kind ≡ true → All (Lands setup before)
+      (made access from widths) → access.addr ≤ from → from ≤ addr → addr < from + total widths →
       put_by_parts (made access from widths) (DramCell addr) ≡ Some (byte access.value (addr - access.addr))
   unfolding made parts_put part_answer
   put-within from addr [] writes lands start above below = absurd (omega arith)

@@ -9,22 +9,19 @@ use Rattle.board_laws.specs.DeviceLaws.{SomeWire, WireReachesLine, LineHasDriver
 use Rattle.board_laws.proofs.Numbers.{numbers_from, map-number, any-number, Passes, passing}
 
 -- a line of the sixteen
-level-at :
-    (setup : Setup) (history : List Entry) (line : ℕ) → line < 16 →
+level-at : (setup : Setup) (history : List Entry) (line : ℕ) → line < 16 →
     get_or (levels_of setup history) line false ≡ level_with setup history (timer_of history) line
 unfolding levels_with numbers_from
 level-at setup history line below = grind (arith, nat_tests)
 
 -- ---- a card's wire and its PIRQ
 
-wire-pirq :
-    (history : List Entry) (dev : ℕ) → 2 ≤ dev → dev ≤ 9 → wire_of history dev ≡ true →
+wire-pirq : (history : List Entry) (dev : ℕ) → 2 ≤ dev → dev ≤ 9 → wire_of history dev ≡ true →
     pirq_level history (pirq_of_card dev) ≡ true
 unfolding numbers_from
 wire-pirq history dev first last high = grind (arith, nat_tests)
 
-pirq-wire :
-    (history : List Entry) (pin : ℕ) → pirq_level history pin ≡ true →
+pirq-wire : (history : List Entry) (pin : ℕ) → pirq_level history pin ≡ true →
     Passes (λ dev. pirq_of_card dev == pin && wire_of history dev) 2 8
 unfolding numbers_from
 pirq-wire history pin high = passing (λ dev. pirq_of_card dev == pin && wire_of history dev) 2 8 high
@@ -35,10 +32,9 @@ abbrev pin_drives : Setup → List Entry → ℕ → ℕ → Bool
 pin_drives setup history line pin =
     drives (line_of_route (get_or (routes_of setup history) pin 0)) (get_or (pirq_levels history) pin false) line
 
-pin-is :
-    (setup : Setup) (history : List Entry) (line pin : ℕ) → pin < 4 →
-    pin_drives setup history line pin
-    ≡ drives (line_of_route (byte_of setup history (pirq pin))) (pirq_level history pin) line
+pin-is : (setup : Setup) (history : List Entry) (line pin : ℕ) → pin < 4 →
+    pin_drives setup history line pin ≡ drives (line_of_route (byte_of setup history (pirq pin)))
+    (pirq_level history pin) line
 unfolding numbers_from
 pin-is setup history line pin below =
     rw (
@@ -65,9 +61,8 @@ wire_reaches_line setup history line dev below wire =
     level-at setup history line below ∙ or_right (own_level setup history (timer_of history) line) _
     (any-number (pin_drives setup history line) 0 4 pin (omega arith) (omega arith) here)
 
-some_wire :
-    (setup : Setup) (history : List Entry) (line : ℕ) →
-    is_line_driven (routes_of setup history) (pirq_levels history) line ≡ true → SomeWire setup history line
+some_wire : (setup : Setup) (history : List Entry) (line : ℕ) → is_line_driven (routes_of setup history)
+    (pirq_levels history) line ≡ true → SomeWire setup history line
 unfolding is_line_driven numbers_from
 some_wire setup history line driven =
     let pin = passing (pin_drives setup history line) 0 4 driven in

@@ -43,9 +43,8 @@ module _ {X : Type 0} where
 -- ---- joined passes
 
 -- what a pass has of a caller stays, when another is joined into it
-pub joined_more :
-    (before now : SharedPass) (more : List (ℕ × List Entry)) (cpu : Cpu) → IsPrefix (seen_in before) (seen_in now) →
-    joined_of now ≡ joined_of before ++ more → IsJoined before cpu → IsJoined now cpu
+pub joined_more : (before now : SharedPass) (more : List (ℕ × List Entry)) (cpu : Cpu) → IsPrefix (seen_in before)
+    (seen_in now) → joined_of now ≡ joined_of before ++ more → IsJoined before cpu → IsJoined now cpu
 joined_more before now more cpu later joined has =
     let grown : Extends (reverse (seen_in before)) (reverse (seen_in now)) =
     extends_prefix (seen_in before) (seen_in now) later in
@@ -66,12 +65,9 @@ own_back number one other same =
     ∙ (ap reverse turned ∙ reverse-reverse (own_by by_actor number other))
 
 -- what a pass has of a caller that knew all that was published, where it has seen as much
-pub caught_up :
-    (pass : SharedPass) (cpu now : Cpu) → IsSameCaller cpu now → AddsNone cpu now →
-    IsPrefix (seen_in now.pass) (seen_in pass) →
-    Extends (seen_of cpu) (reverse (seen_in pass))
-    × Extends (known_of cpu) (map_writes_of (setup_of cpu) (reverse (seen_in pass)))
-    × HasOwn cpu (number_of now.pass, mine_in now.pass)
+pub caught_up : (pass : SharedPass) (cpu now : Cpu) → IsSameCaller cpu now → AddsNone cpu now →
+    IsPrefix (seen_in now.pass) (seen_in pass) → Extends (seen_of cpu) (reverse (seen_in pass)) × Extends (known_of cpu)
+    (map_writes_of (setup_of cpu) (reverse (seen_in pass))) × HasOwn cpu (number_of now.pass, mine_in now.pass)
 caught_up pass cpu now same none later =
     let grown : Extends (seen_of now) (reverse (seen_in pass)) =
     extends_prefix (seen_in now.pass) (seen_in pass) later in
@@ -90,8 +86,7 @@ caught_up pass cpu now same none later =
     )
 
 -- the caller whose pass was joined, after it knew all that was published
-pub joined_new :
-    (before pass : SharedPass) (cpu now : Cpu) → IsSameCaller cpu now → AddsNone cpu now →
+pub joined_new : (before pass : SharedPass) (cpu now : Cpu) → IsSameCaller cpu now → AddsNone cpu now →
     IsPrefix (seen_in now.pass) (seen_in pass) →
     joined_of pass ≡ joined_of before ++ (number_of now.pass, mine_in now.pass) ∷ joined_of now.pass → IsJoined pass cpu
 joined_new before pass cpu now same none later joined =

@@ -47,11 +47,10 @@ numbers_more cpus all cpu is number before =
 
 -- ---- what a board is opened with
 
-pub opened_viewer :
-    (pass : SharedPass) (shared : Shared) (viewer : Viewer) → part_of pass ≡ Some (opened_with shared) →
-    opened_by pass ≡ reverse shared.board.value.entries →
-    shared.opened ≡ length shared.board.value.entries → viewer.front ≡ shared.publisher.value.front →
-    changes_of shared.publisher.value.front.seen.log ≡ [] → IsViewerFor pass viewer
+pub opened_viewer : (pass : SharedPass) (shared : Shared) (viewer : Viewer) → part_of pass ≡ Some (opened_with shared) →
+    opened_by pass ≡ reverse shared.board.value.entries → shared.opened ≡ length shared.board.value.entries →
+    viewer.front ≡ shared.publisher.value.front → changes_of shared.publisher.value.front.seen.log ≡ [] →
+    IsViewerFor pass viewer
 opened_viewer pass shared viewer part opened count front none =
     let setup : shared.board.value.setup ≡ setup_in pass = sym (ap (λ (o : Option Origin). (origin_in o).setup) part) in
     let callers : shared.callers ≡ callers_in pass = sym (ap (λ (o : Option Origin). (origin_in o).callers) part) in

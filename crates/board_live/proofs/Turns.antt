@@ -57,8 +57,7 @@ own_same number one other same = entries_reversed number one ∙ (ap reverse sam
 
 -- ---- the pass of the same caller
 
-pub passed_again :
-    (cpu : Cpu) (book : Book) (now : SharedPass) → IsSamePass cpu.pass now → HasSameJoined cpu.pass now →
+pub passed_again : (cpu : Cpu) (book : Book) (now : SharedPass) → IsSamePass cpu.pass now → HasSameJoined cpu.pass now →
     book ≡ cpu.viewer.front.seen.book →
     own_by by_actor cpu.number (seen_in now) ≡ own_by by_actor cpu.number (opened_by cpu.pass) ++ mine_in now →
     IsPassOf cpu.number book now
@@ -76,11 +75,9 @@ passed_again cpu book now same joins copies mine = record {
   joined = joins.1 ∙ cpu.passed.joined;
 }
 
-pub opens_again :
-    (cpu : Cpu) (now : SharedPass) (map : Mapped) → IsSamePass cpu.pass now →
+pub opens_again : (cpu : Cpu) (now : SharedPass) (map : Mapped) → IsSamePass cpu.pass now →
     map ≡ opened_of cpu.viewer.front.seen.log → IsMapOpened (setup_in now) (opened_in now) map
-opens_again cpu now map same maps =
-    rw (same.2, same.1, maps) cpu.opens
+opens_again cpu now map same maps = rw (same.2, same.1, maps) cpu.opens
 
 -- ---- what a caller finds
 
@@ -95,23 +92,18 @@ pub record Finds (cpu : Cpu) (held : Shared) : Type 0 where
   pub meets : Extends (known_of cpu) (map_writes_of (setup_of cpu) held.board.value.entries)
 
 -- what is known of the published list is all map writes of the history
-known_all :
-    (pass : SharedPass) (held : Shared) → setup_in pass ≡ held.board.value.setup →
-    opened_in pass ≡ oldest held.opened held.board.value.entries →
-    known_after (setup_in pass) (opened_in pass) held.publisher.value.front.seen.log
-    ≡ map_writes_of (setup_in pass) held.board.value.entries
+known_all : (pass : SharedPass) (held : Shared) → setup_in pass ≡ held.board.value.setup →
+    opened_in pass ≡ oldest held.opened held.board.value.entries → known_after (setup_in pass)
+    (opened_in pass) held.publisher.value.front.seen.log ≡ map_writes_of (setup_in pass) held.board.value.entries
 known_all pass held setup opened =
     (λ k. known_after (setup k) (opened k) held.publisher.value.front.seen.log)
     ∙ (sym held.published ∙ ap (λ (s : Setup). map_writes_of s held.board.value.entries) (sym setup))
 
-pub finds :
-    (cpu : Cpu) (held : Shared) → IsPrefix (seen_in cpu.pass) (reverse held.board.value.entries) →
-    IsPrefix (opened_by cpu.pass) (reverse held.board.value.entries) →
-    own_by by_actor (number_of cpu.pass) (drop (length (opened_by cpu.pass)) (reverse held.board.value.entries))
-    ≡ mine_in cpu.pass →
-    part_of cpu.pass ≡ Some (opened_with held) → IsPrefix cpu.viewer.front.seen.log held.publisher.value.front.seen.log
-    →
-    Finds cpu held
+pub finds : (cpu : Cpu) (held : Shared) → IsPrefix (seen_in cpu.pass) (reverse held.board.value.entries) →
+    IsPrefix (opened_by cpu.pass) (reverse held.board.value.entries) → own_by by_actor (number_of cpu.pass)
+    (drop (length (opened_by cpu.pass)) (reverse held.board.value.entries)) ≡ mine_in cpu.pass →
+    part_of cpu.pass ≡ Some (opened_with held) →
+    IsPrefix cpu.viewer.front.seen.log held.publisher.value.front.seen.log → Finds cpu held
 finds cpu held begins opens own part meets =
     let actor = cpu.number in
     let pass = cpu.pass in
@@ -139,19 +131,17 @@ finds cpu held begins opens own part meets =
     }
 
 -- and the same of the caller's pass after it has learnt that list
-pub known_left :
-    (before now : SharedPass) (held : Shared) (log : List Mark) → IsSamePass before now →
-    log ≡ held.publisher.value.front.seen.log →
-    setup_in before ≡ held.board.value.setup → opened_in before ≡ oldest held.opened held.board.value.entries →
-    known_after (setup_in now) (opened_in now) log ≡ map_writes_of (setup_in before) held.board.value.entries
+pub known_left : (before now : SharedPass) (held : Shared) (log : List Mark) → IsSamePass before now →
+    log ≡ held.publisher.value.front.seen.log → setup_in before ≡ held.board.value.setup →
+    opened_in before ≡ oldest held.opened held.board.value.entries → known_after (setup_in now)
+    (opened_in now) log ≡ map_writes_of (setup_in before) held.board.value.entries
 known_left before now held log same learnt setup opened =
     (λ k. known_after (origin_in (same.2 k)).setup (reverse (same.1 k)) (learnt k)) ∙ known_all before held setup opened
 
 -- ---- a turn in which a caller adds nothing
 
-pub passed_idly :
-    (cpu : Cpu) (held : Shared) (book : Book) (now : SharedPass) → Finds cpu held → IsSamePass cpu.pass now →
-    HasSameJoined cpu.pass now → book ≡ cpu.viewer.front.seen.book →
+pub passed_idly : (cpu : Cpu) (held : Shared) (book : Book) (now : SharedPass) → Finds cpu held →
+    IsSamePass cpu.pass now → HasSameJoined cpu.pass now → book ≡ cpu.viewer.front.seen.book →
     seen_in now ≡ reverse held.board.value.entries → mine_in now ≡ mine_in cpu.pass → IsPassOf cpu.number book now
 passed_idly cpu held book now found same joins copies seen mine =
     passed_again cpu book now same joins copies

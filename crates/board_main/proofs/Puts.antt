@@ -8,8 +8,7 @@ use Rattle.board_commands.proofs.SentLemmas.{more_taken}
 use Rattle.board_main.specs.Common.{TookAll, TookFront, IsPut, out_call}
 
 -- a text was taken, and a front of another one
-front_more :
-    (before between now : Option (List ℕ)) (first second : List ℕ) → Appends before between first →
+front_more : (before between now : Option (List ℕ)) (first second : List ℕ) → Appends before between first →
     AppendsFront between now second → AppendsFront before now (first ++ second)
 front_more before between now first second taken then = record {
   rest = then.rest;
@@ -21,8 +20,7 @@ front_more before between now first second taken then = record {
 }
 
 -- a front of a text is one of a longer text
-front_of_more :
-    (before now : Option (List ℕ)) (first second : List ℕ) → AppendsFront before now first →
+front_of_more : (before now : Option (List ℕ)) (first second : List ℕ) → AppendsFront before now first →
     AppendsFront before now (first ++ second)
 front_of_more before now first second is = record {
   rest = is.rest ++ second;
@@ -35,10 +33,9 @@ front_of_more before now first second is = record {
 
 module _ {W T E : Type 0} (contents : W → Option (List ℕ)) (first second : List ℕ) where
   -- a text was put whole, and then another one with this result
-  pub put_more :
-      (result : Result T E) (before between now : OutSink W) → TookAll (out_call contents before between) first →
-      IsPut result second (out_call contents between now)
-      → IsPut result (first ++ second) (out_call contents before now)
+  pub put_more : (result : Result T E) (before between now : OutSink W) →
+      TookAll (out_call contents before between) first → IsPut result second (out_call contents between now) →
+      IsPut result (first ++ second) (out_call contents before now)
   put_more (Ok done) before between now taken then = record {
     taken = more_taken (contents before.out) (contents between.out) (contents now.out) first second taken.taken
         then.taken;
@@ -51,9 +48,8 @@ module _ {W T E : Type 0} (contents : W → Option (List ℕ)) (first second : L
   }
 
   -- the first of two texts was not put whole
-  pub put_stopped :
-      (result : Result T E) (before now : OutSink W) → IsErr result → TookFront (out_call contents before now) first →
-      IsPut result (first ++ second) (out_call contents before now)
+  pub put_stopped : (result : Result T E) (before now : OutSink W) → IsErr result →
+      TookFront (out_call contents before now) first → IsPut result (first ++ second) (out_call contents before now)
   put_stopped (Ok done) before now failed then = absurd cc
   put_stopped (Err fault) before now failed then = record {
     taken = front_of_more (contents before.out) (contents now.out) first second then.taken;

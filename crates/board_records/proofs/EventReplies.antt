@@ -24,8 +24,7 @@ IsAfterThese serial history steps = IsAfter IsAnswerModulo (λ (chipset : Runnin
 
 -- the same under another name of the steps
 abbrev pub after_as : (serial : Serial Running) (history : List Entry) (steps others : List Statement) →
-    steps ≡ others →
-    IsAfterThese serial history steps → IsAfterThese serial history others
+    steps ≡ others → IsAfterThese serial history steps → IsAfterThese serial history others
 after_as serial history steps others is gone = record {
   after = gone.after;
   left_at = gone.left_at;

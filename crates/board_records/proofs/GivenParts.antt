@@ -13,23 +13,19 @@ Puts given loaded result =
     IfOk result (λ it. (it ≡ on_board (with_given given) loaded) × AreAsMany given loaded.serial.board.setup)
     × IfErr result (λ status. (status ≡ bad_length) × ¬ AreAsMany given loaded.serial.board.setup)
 
-pub given_loaded :
-    (result : Result Behind ℕ) (given : Given) (loaded : Behind) (bytes : List ℕ) → Puts given loaded result →
-    IsBehind loaded → bytes ≡ image_bytes loaded → IfOk result (IsGivenBoard bytes given)
+pub given_loaded : (result : Result Behind ℕ) (given : Given) (loaded : Behind) (bytes : List ℕ) →
+    Puts given loaded result → IsBehind loaded → bytes ≡ image_bytes loaded → IfOk result (IsGivenBoard bytes given)
 given_loaded (Ok it) given loaded bytes puts sound image = grind (arith, nat_tests)
 given_loaded (Err status) given loaded bytes puts sound image = tt
 
 -- and steps can go on from it
-pub given_sound :
-    (result : Result Behind ℕ) (given : Given) (loaded : Behind) → Puts given loaded result → IsBehind loaded →
-    IfOk result IsBehind
-given_sound (Ok it) given loaded puts sound =
-    rw puts.0.0 (sound_with given loaded puts.0.1 sound)
+pub given_sound : (result : Result Behind ℕ) (given : Given) (loaded : Behind) → Puts given loaded result →
+    IsBehind loaded → IfOk result IsBehind
+given_sound (Ok it) given loaded puts sound = rw puts.0.0 (sound_with given loaded puts.0.1 sound)
 given_sound (Err status) given loaded puts sound = tt
 
-pub given_refused :
-    (result : Result Behind ℕ) (given : Given) (loaded : Behind) (bytes : List ℕ) → Puts given loaded result →
-    IsBehind loaded → bytes ≡ image_bytes loaded → IfErr result (IsGivenRefusal bytes given)
+pub given_refused : (result : Result Behind ℕ) (given : Given) (loaded : Behind) (bytes : List ℕ) →
+    Puts given loaded result → IsBehind loaded → bytes ≡ image_bytes loaded → IfErr result (IsGivenRefusal bytes given)
 given_refused (Ok it) given loaded bytes puts sound image = tt
 given_refused (Err status) given loaded bytes puts sound image =
     inr (puts.1.0, record { behind = loaded; sound = sound; image = image; other = puts.1.1 })

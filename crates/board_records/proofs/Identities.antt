@@ -1,9 +1,7 @@
 -- What cards say that they are, one after another; and steps of a door over those of its chipset.
-use Rattle.board_prelude.proofs.Common.{nat_tests}
+use Rattle.board_prelude.proofs.Common.{nat_tests, drop_more, FittedCard, Setup}
 use Rattle.std.proofs.Common.{◌≡◌, ℕ, ◌+◌, ◌<◌, ◌≤◌, if◌then◌else◌, List, ◌∷◌, length, get_or, drop, IsSomeAnd, Option}
 use Rattle.std.proofs.Common.{Some, None, option_map, refl, ap, arith}
-use Rattle.std.proofs.lemmas.List.{drop_more}
-use Rattle.board_spec.specs.Setup.{FittedCard, Setup}
 use Rattle.board_chipset.specs.Common.{Running}
 use Rattle.uart_16550.specs.declared.com1.Happening.{Happening}
 use Rattle.uart_16550.specs.Common.{Serial}
@@ -33,8 +31,7 @@ pub some_few : (count : ℕ) (mib : ℕ) (rom disk : List ℕ) (serial : Serial 
     setup) said)
     (IsOpenedWith serial) → count ≤ 8
 some_few count mib rom disk serial None each opened = absurd opened
-some_few count mib rom disk serial (Some cards) each opened =
-    omega (arith, each cards refl, opened.fits.cards.count)
+some_few count mib rom disk serial (Some cards) each opened = omega (arith, each cards refl, opened.fits.cards.count)
 
 pub few_opened : (mib : ℕ) (records : List CardRecord) (rom disk : List ℕ) (serial : Serial Running) →
     IsSomeAnd (setup_said mib records rom disk) (IsOpenedWith serial) → length records ≤ 8

@@ -1,11 +1,10 @@
 -- A board is read from its bytes: what it is fitted with, and then its state.
 use Rattle.std.proofs.Common.{arith, ◌≡◌, ◌⊎◌, ℕ, inl, inr, List, [], ◌++◌, Result, Ok, Err, IfOk, refl, ap}
-use Rattle.board_prelude.proofs.Common.{nat_tests, append-nil}
+use Rattle.board_prelude.proofs.Common.{nat_tests, append-nil, Setup}
 use Rattle.byte_fields.specs.declared.fault.Fault.{Fault}
 use Rattle.byte_fields.specs.declared.fault.Fault.TheVariants.{NoMemory}
 use Rattle.byte_fields.specs.Fields.{ended}
 use Rattle.byte_fields.specs.Loads.{LoadsWith}
-use Rattle.board_prelude.specs.Common.{Setup}
 use Rattle.board_chipset.specs.Common.{Running}
 use Rattle.uart_16550.specs.Common.{Serial}
 use Rattle.uart_16550.specs.SerialState.{LoadsSerial, serial_bytes}
@@ -51,8 +50,7 @@ state_refused before after fault loads behind rest is same begins =
 
 -- ---- the state, after which nothing follows
 
-pub last_loaded :
-    (result : Result Behind Fault) (behind : Behind) (fitted : Fitting) (before mid : List ℕ) →
+pub last_loaded : (result : Result Behind Fault) (behind : Behind) (fitted : Fitting) (before mid : List ℕ) →
     IfOk result (λ given. (given ≡ behind) × (mid ≡ [])) →
     IsBehind behind × (fitting_of behind ≡ fitted) × (before ≡ serial_bytes behind.serial ++ mid) →
     IfOk result (λ given. IsBehind given × (fitting_of given ≡ fitted) × (before ≡ serial_bytes given.serial))
@@ -64,9 +62,8 @@ last_loaded (Err fault) behind fitted before mid told is = tt
 abbrev GivesThen : Result Behind Fault → (after : List ℕ) → Behind → Type 0
 GivesThen result after behind = (result ≡ Err NoMemory) ⊎ ((result ≡ Ok behind) × (after ≡ []))
 
-pub last_exact :
-    (result : Result Behind Fault) (read behind : Behind) (after : List ℕ) → (after ≡ [] → result ≡ Ok read) →
-    GivesThen (Ok read) after behind → Gives result behind
+pub last_exact : (result : Result Behind Fault) (read behind : Behind) (after : List ℕ) →
+    (after ≡ [] → result ≡ Ok read) → GivesThen (Ok read) after behind → Gives result behind
 last_exact result read behind after last given = grind (arith, nat_tests)
 
 pub last_refused : (fault : Fault) (behind : Behind) (after : List ℕ) → GivesThen (Err fault) after behind →

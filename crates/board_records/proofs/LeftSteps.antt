@@ -1,7 +1,7 @@
 -- A board that is saved without bytes of its own, and loaded with them.
 use Rattle.std.proofs.Common.{◌≡◌, ◌≢◌, ℕ, ◌/◌, true, false, Bool, if◌then◌else◌, List, [], ◌∷◌, length, option_map}
 use Rattle.std.proofs.Common.{unwrap_or, Option, Some, None, Result, Ok, Err, ◌⊎◌, refl, sym, ap, arith, subst, ◌∙◌}
-use Rattle.board_prelude.specs.Common.{Disk, IsDisk, IsDiskSize}
+use Rattle.board_prelude.proofs.Common.{Disk, IsDisk, IsDiskSize, installed, nat_tests}
 use Rattle.ata_pio.specs.State.{IsDisk as IsDiskOver}
 use Rattle.board_devices.specs.Common.{holding, sectors_in}
 use Rattle.board_devices.specs.State.{IsFittedDisk}
@@ -10,12 +10,10 @@ use Rattle.board_chipset.specs.Common.{Running}
 use Rattle.board_chipset.specs.Given.{dram_left, dram_on, disk_left, fitted_on, sectors_on, unless_left, with_dram}
 use Rattle.board_chipset.specs.Given.{with_fitted, with_sectors}
 use Rattle.board_chipset.proofs.LeftBytes.{left_length, left_on}
-use Rattle.board_spec.specs.Setup.{installed}
 use Rattle.board_records.specs.declared.left.LeftOut.{LeftOut}
 use Rattle.board_records.specs.Doors.{Behind}
 use Rattle.board_records.specs.Given.{AreAsMany, Given, IsAsMany, given_or, left_of, on_board, with_given, without}
 use Rattle.board_records.specs.Images.{IsBehind, image_bytes}
-use Rattle.board_prelude.proofs.Common.{nat_tests}
 use Rattle.board_records.specs.Statuses.{no_memory}
 
 -- ---- other bytes, as many, in the place of a board's own
@@ -38,8 +36,7 @@ over_other fitted sectors own disk fits same is = record {
 
 disk_over_other : (fitted sectors : List ℕ) (own : Option (List ℕ)) (disk : Option Disk) →
     length fitted ≡ length (unwrap_or own []) → length sectors ≡ length (unwrap_or (sectors_in disk) []) →
-    IsFittedDisk own disk →
-    IsFittedDisk (option_map {T = List ℕ} (λ _. fitted) own) (option_map (holding sectors) disk)
+    IsFittedDisk own disk → IsFittedDisk (option_map {T = List ℕ} (λ _. fitted) own) (option_map (holding sectors) disk)
 disk_over_other fitted sectors (Some own) (Some disk) fits same is = over_other fitted sectors own disk fits same is
 disk_over_other fitted sectors (Some own) None fits same is = is
 disk_over_other fitted sectors None None fits same is = is

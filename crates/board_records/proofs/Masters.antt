@@ -35,5 +35,4 @@ outside_target _ addr outside is = absurd (no_memory _ (omega arith) is)
 
 pub outside_said : (target : Target) (denial : Option Denial) (addr : ℕ) → IsOutsideSmram target addr →
     IsMemory (part_said target denial).target → is_smram_range addr ≡ false
-outside_said target denial addr outside is =
-    outside_target target addr outside (rw (said_target target denial) at is)
+outside_said target denial addr outside is = outside_target target addr outside (rw (said_target target denial) at is)

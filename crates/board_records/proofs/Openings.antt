@@ -1,9 +1,7 @@
 -- What an open looks at before it copies: the cards that records say are as many as the records.
-use Rattle.board_prelude.proofs.Common.{common_steps, nat_tests}
+use Rattle.board_prelude.proofs.Common.{common_steps, nat_tests, drop_more, FittedCard, IsCardList, IsSetup, Setup}
 use Rattle.std.proofs.Common.{◌≡◌, ℕ, suc, ◌+◌, ◌<◌, ◌&&◌, true, arith, IsSomeAnd, List, [], ◌∷◌, length, get_or, drop}
 use Rattle.std.proofs.Common.{is_some, Option, Some, None, option_map, option_and_then, refl, ap}
-use Rattle.std.proofs.lemmas.List.{drop_more}
-use Rattle.board_spec.specs.Setup.{FittedCard, IsCardList, IsSetup, Setup}
 use Rattle.board_chipset.specs.Setups.{IsMemory}
 use Rattle.board_records.specs.Doors.{IsSetupRefusal, disk_of, setup_said}
 use Rattle.board_records.specs.Statuses.{bad_cards}

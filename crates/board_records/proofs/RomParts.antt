@@ -1,8 +1,7 @@
 -- Which part moved a byte, and the cards one after another; and replies where no ROM was given bytes.
 use Rattle.std.proofs.Common.{arith, ◌≡◌, ℕ, ◌+◌, ◌-◌, ◌<◌, ◌≤◌, ◌==◌, nat_lt, if◌then◌else◌, List, [], length, drop}
 use Rattle.std.proofs.Common.{get_or, find, Some, None, refl, sym, ◌∙◌}
-use Rattle.board_prelude.proofs.Common.{nat_tests, drop_all, le-ltb, lt-ltb, bytes_of, longest_at}
-use Rattle.std.proofs.lemmas.List.{drop_more}
+use Rattle.board_prelude.proofs.Common.{nat_tests, drop_all, le-ltb, lt-ltb, bytes_of, longest_at, drop_more}
 use Rattle.board_spec.specs.Setup.{FittedCard}
 use Rattle.board_records.specs.declared.event.EventRecord.{EventRecord}
 use Rattle.board_records.specs.declared.reply.PartRecord.{PartRecord}

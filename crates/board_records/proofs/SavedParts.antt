@@ -1,7 +1,7 @@
 -- The bytes of a board in three: those before the DRAM's, these, and those after them.
 use Rattle.std.proofs.Common.{◌≡◌, ℕ, ◌+◌, Bool, List, [], ◌∷◌, ◌++◌, length, take, drop, replicate, Result, Ok, Err}
 use Rattle.std.proofs.Common.{OnOk, true, ◌*◌, refl, sym, ap, ◌∙◌, append_assoc, arith}
-use Rattle.board_prelude.proofs.Common.{take_at, drop_at}
+use Rattle.board_prelude.proofs.Common.{take_at, drop_at, Setup}
 use Rattle.pit_8254.proofs.Saved.{joined}
 use Rattle.byte_fields.specs.Fields.{flag_byte}
 use Rattle.byte_fields.specs.Pages.{memory_page}
@@ -9,7 +9,6 @@ use Rattle.byte_fields.proofs.PageFormats.{memory_zeros}
 use Rattle.dram_store.specs.State.{HasMib, dram_bytes}
 use Rattle.fitted_bytes.specs.Fitted.{fitting_bytes}
 use Rattle.fitted_bytes.specs.Setups.{disk_unless_left}
-use Rattle.board_prelude.specs.Common.{Setup}
 use Rattle.board_chipset.specs.Given.{disk_left, zeros}
 use Rattle.board_chipset.proofs.LeftBytes.{left_head}
 use Rattle.board_records.specs.Given.{on_board, without}
@@ -36,8 +35,7 @@ image_with behind bytes at is whole =
 
 -- the bytes in three
 pub image_split : (behind : Behind) →
-    image_bytes behind
-    ≡ before_bytes behind ++ (dram_bytes behind.serial.board.state.stores.dram ++ after_bytes behind)
+    image_bytes behind ≡ before_bytes behind ++ (dram_bytes behind.serial.board.state.stores.dram ++ after_bytes behind)
 image_split behind =
     let front : List ℕ = before_bytes behind in
     let rest : List ℕ = after_bytes behind in
@@ -53,11 +51,10 @@ image_around behind none front bytes at empty first is second =
     image_with behind bytes at (is ∙ ap length begins) (rw begins at second)
 
 -- what was added after the DRAM
-pub after_added :
-    {T E : Type 0} (result : Result T E) (serial : Serial Running) (board : Running) (level : Bool) (uart : Uart)
-    (left : Bool) (old one two new : List ℕ) → board ≡ serial.board → one ≡ old ++ after_dram (disk_left left board) →
-    level ≡ serial.com1.script_level → two ≡ one ++ flag_byte level ∷ [] → uart ≡ serial.com1.uart →
-    OnOk result (new ≡ two ++ uart_bytes uart) →
+pub after_added : {T E : Type 0} (result : Result T E) (serial : Serial Running) (board : Running) (level : Bool)
+    (uart : Uart) (left : Bool) (old one two new : List ℕ) → board ≡ serial.board →
+    one ≡ old ++ after_dram (disk_left left board) → level ≡ serial.com1.script_level →
+    two ≡ one ++ flag_byte level ∷ [] → uart ≡ serial.com1.uart → OnOk result (new ≡ two ++ uart_bytes uart) →
     OnOk result (new ≡ old ++ (after_dram (disk_left left serial.board) ++ com1_bytes serial.com1))
 after_added result serial board level uart left old one two new of_board first of_level second of_uart third =
     joined result old one new (after_dram (disk_left left serial.board)) (com1_bytes serial.com1)
@@ -95,18 +92,14 @@ blank_image disk behind none one two three mib empty first second third =
     (append_assoc (before_bytes all) (replicate pages 0) (after_bytes all))
 
 -- those before, the DRAM's, and those after, one behind another from the front of the room on
-pub written_in_three :
-    (bytes dram last room one two three : List ℕ) (at start end : ℕ) → IsPutAt 0 (take at bytes) room one →
-    start ≡ length (take at bytes) → IsPutAt start (dram_bytes dram) one two →
-    end ≡ start + length (dram_bytes dram) → IsPutAt end last two three →
-    last ≡ drop at bytes → IsWritten (with_dram bytes at dram) room three
+pub written_in_three : (bytes dram last room one two three : List ℕ) (at start end : ℕ) →
+    IsPutAt 0 (take at bytes) room one → start ≡ length (take at bytes) → IsPutAt start (dram_bytes dram) one two →
+    end ≡ start + length (dram_bytes dram) → IsPutAt end last two three → last ≡ drop at bytes →
+    IsWritten (with_dram bytes at dram) room three
 written_in_three bytes dram last room one two three at start end first starts second ends third is =
     let all : List ℕ = with_dram bytes at dram in
     let put : IsPutAt 0 all room three =
     put_then 0 start (take at bytes) (dram_bytes dram ++ drop at bytes) all room one three first (omega (arith, starts))
     (put_then start end (dram_bytes dram) last (dram_bytes dram ++ drop at bytes) one two three second ends third
     (rw is refl)) refl in
-    record {
-      fits = omega (arith, put.fits);
-      written = put.put ∙ ap (λ (n : ℕ). all ++ drop n room) (omega arith);
-    }
+    record { fits = omega (arith, put.fits); written = put.put ∙ ap (λ (n : ℕ). all ++ drop n room) (omega arith) }

@@ -12,10 +12,8 @@ pub none_made : {Call : Type 0} (told : Option (List Call)) (P : List Call → T
 none_made None P none = tt
 none_made (Some before) P none = record { made = []; told = refl; holds = none }
 
-pub calls_hold :
-    {Call : Type 0} (before now : Option (List Call)) (P Q : List Call → Type 0)
-    → ((made : List Call) → P made → Q made) →
-    OfCalls before now P → OfCalls before now Q
+pub calls_hold : {Call : Type 0} (before now : Option (List Call)) (P Q : List Call → Type 0) →
+    ((made : List Call) → P made → Q made) → OfCalls before now P → OfCalls before now Q
 calls_hold None now P Q each is = tt
 calls_hold (Some before) now P Q each is = record { made = is.made; told = is.told; holds = each is.made is.holds }
 
@@ -23,10 +21,9 @@ pub none_told : {A : Type 0} (x : A) → None ≡ Some x → ⊥
 none_told x is = absurd cc
 
 -- one call more
-pub call_more :
-    {Call : Type 0} (before between now : Option (List Call)) (call : Call) (P Q : List Call → Type 0) →
-    ((made : List Call) → P made → Q (call ∷ made)) → OfCalls before between P → Made between now call
-    → OfCalls before now Q
+pub call_more : {Call : Type 0} (before between now : Option (List Call)) (call : Call) (P Q : List Call → Type 0) →
+    ((made : List Call) → P made → Q (call ∷ made)) → OfCalls before between P → Made between now call →
+    OfCalls before now Q
 call_more None between now call P Q each is made = tt
 call_more (Some before) None now call P Q each is made = absurd (none_told (is.made ++ before) is.told)
 call_more (Some before) (Some between) now call P Q each is made = record {
@@ -43,8 +40,7 @@ pub record Both {Call : Type 0} (P Q : List Call → Type 0) (made : List Call) 
   pub one : P first
   pub two : Q second
 
-pub calls_both :
-    {Call : Type 0} (before between now : Option (List Call)) (P Q : List Call → Type 0) →
+pub calls_both : {Call : Type 0} (before between now : Option (List Call)) (P Q : List Call → Type 0) →
     OfCalls before between P → OfCalls between now Q → OfCalls before now (Both P Q)
 calls_both None between now P Q one two = tt
 calls_both (Some before) None now P Q one two = absurd (none_told (one.made ++ before) one.told)
@@ -68,26 +64,19 @@ module _ (before between now : Option (List Fetch)) (name : List ℕ) (limit pla
       (came : Option ℕ) (made : List Fetch) → ReadTo name limit place made →
       IsReading name limit (record { name = name; at = place; came = came } ∷ made)
   next_fetch came made is = (
-    record {
-      named = refl;
-      place = sym is.reached;
-      within = omega (arith, is.reached);
-      goes_on = is.goes_on;
-    },
+    record { named = refl; place = sym is.reached; within = omega (arith, is.reached); goes_on = is.goes_on },
     is.reading,
   )
 
   -- a fetch was made, and failed or not
-  pub read_once :
-      {E : Type 0} (result : Result ℕ E) → FetchesOnce between now name place result
-      → OfCalls before now (IsReading name limit)
+  pub read_once : {E : Type 0} (result : Result ℕ E) → FetchesOnce between now name place result →
+      OfCalls before now (IsReading name limit)
   read_once result is =
       call_more before between now (record { name = name; at = place; came = is.came }) (ReadTo name limit place)
       (IsReading name limit) (next_fetch is.came) so_far is.made
 
   -- it found the end
-  pub read_end :
-      {E : Type 0} (count : ℕ) → count ≡ 0 → FetchesOnce {E = E} between now name place (Ok count) →
+  pub read_end : {E : Type 0} (count : ℕ) → count ≡ 0 → FetchesOnce {E = E} between now name place (Ok count) →
       OfCalls before now (λ made. IsReading name limit made × FoundEnd made)
   read_end count none is =
       call_more before between now (record { name = name; at = place; came = is.came }) (ReadTo name limit place)
@@ -95,8 +84,7 @@ module _ (before between now : Option (List Fetch)) (name : List ℕ) (limit pla
       (λ made so. (next_fetch is.came made so, is.count ∙ ap Some none)) so_far is.made
 
   -- it brought bytes
-  pub read_piece :
-      {E : Type 0} (count : ℕ) → count ≢ 0 → FetchesOnce {E = E} between now name place (Ok count) →
+  pub read_piece : {E : Type 0} (count : ℕ) → count ≢ 0 → FetchesOnce {E = E} between now name place (Ok count) →
       OfCalls before now (ReadTo name limit (place + count))
   read_piece count some is =
       let came : count_come is.came ≡ count = ap count_come is.count in
@@ -111,10 +99,9 @@ module _ (before between now : Option (List Fetch)) (name : List ℕ) (limit pla
       }) so_far is.made
 
 -- the file was not taken
-pub reading_failed :
-    {T E : Type 0} (before now : Option (List Fetch)) (result : Result T E) (error : E) (name : List ℕ) (limit : ℕ)
-    → result ≡ Err error →
-    OfCalls before now (IsReading name limit) → OfCalls before now (ReadsBy result name limit)
+pub reading_failed : {T E : Type 0} (before now : Option (List Fetch)) (result : Result T E) (error : E) (name : List ℕ)
+    (limit : ℕ) → result ≡ Err error → OfCalls before now (IsReading name limit) →
+    OfCalls before now (ReadsBy result name limit)
 reading_failed {T = T} {E = E} before now result error name limit is read =
     rw is
     (calls_hold before now (IsReading name limit) (ReadsBy {T = T} (Err error) name limit) (λ made so. (so, tt)) read)

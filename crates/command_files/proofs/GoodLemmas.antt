@@ -26,8 +26,7 @@ module _ (told : Option Files) where
     no_disk = ap (λ (k : Known). k.disk) is.learns.2 ∙ none;
   }
 
-  rom_read :
-      (before now : Known) (script : Option Said) → before.script ≡ script → HasScript before →
+  rom_read : (before now : Known) (script : Option Said) → before.script ≡ script → HasScript before →
       IsPassed told before Rom (rom_name script) now → HasRom now
   rom_read before now None none has is =
       let same : None ≡ Some has.script.0 = sym none ∙ has.script.1 in absurd cc
@@ -43,8 +42,7 @@ module _ (told : Option Files) where
       rw is.learns.1
       (record { script = has.before.script; rom = has.rom; disk = is.learns.0 })
 
-  board_read :
-      (command : Command) (name : List ℕ) → script_name command ≡ Some name → (known : Known) →
+  board_read : (command : Command) (name : List ℕ) → script_name command ≡ Some name → (known : Known) →
       AreTaken command told (Disk ∷ Rom ∷ Script ∷ []) known → HasBoard known
   board_read command name named known (with_rom, (with_script, (nothing, none, script), rom), disk) =
       let first =
@@ -60,15 +58,13 @@ module _ (told : Option Files) where
   board_kept before now log input has is = rw is (record { script = has.script; rom = has.rom; disk = has.disk })
 
   -- an image was read, and a script
-  image_read :
-      (before between now : Known) (name other : List ℕ) → IsTaken told before Image name between →
+  image_read : (before between now : Known) (name other : List ℕ) → IsTaken told before Image name between →
       IsTaken told between Script other now → HasImage now
   image_read before between now name other image script =
       let found = image.learns in
       record {
         script = script.range;
-        image =
-            (found.0, ap (λ (k : Known). k.image) script.learns.2 ∙ ap (λ (k : Known). k.image) found.3, found.1);
+        image = (found.0, ap (λ (k : Known). k.image) script.learns.2 ∙ ap (λ (k : Known). k.image) found.3, found.1);
       }
 
   pub has_read : (command : Command) (known : Known) → AreTaken command told (reverse (files_of command)) known

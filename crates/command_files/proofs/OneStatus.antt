@@ -40,8 +40,7 @@ one_refused Script bytes status other one two =
 one_refused _ bytes status other one two = one.1 ∙ sym two.1
 
 -- a file is not both good and refused
-apart :
-    (known : Known) (which : Which) (bytes : List ℕ) (status : Status) (now : Known) →
+apart : (known : Known) (which : Which) (bytes : List ℕ) (status : Status) (now : Known) →
     IsRefusedAs which bytes status → Learns known which bytes now → ⊥
 apart known Script bytes status now refused good = not_both bytes good.0 refused.0 refused.1 good.1 refused.2
 apart known Rom bytes status now refused good = refused.0 good.0
@@ -54,9 +53,8 @@ same_image : (image other : Saved) → image.setup ≡ other.setup → image.ste
 same_image image other setup steps = λ k. record { setup = setup k; steps = steps k }
 
 -- what a file says is determined
-one_learned :
-    OneSpelling → (known : Known) (which : Which) (bytes : List ℕ) (now other : Known) → Learns known which bytes now →
-    Learns known which bytes other → now ≡ other
+one_learned : OneSpelling → (known : Known) (which : Which) (bytes : List ℕ) (now other : Known) →
+    Learns known which bytes now → Learns known which bytes other → now ≡ other
 one_learned spelling known Script bytes now other one two =
     one.2 ∙ rw (one_script bytes one.0 two.0 one.1 two.1) (sym two.2)
 one_learned spelling known Rom bytes now other one two = one.1 ∙ sym two.1
@@ -135,14 +133,12 @@ module _ (spelling : OneSpelling) (files : Files) (known : Known) (which : Which
       later two.1.0 status other
       (rw (one_learned spelling known which (files name) one.1.0 two.1.0 one.1.1 two.1.1) at one.1.2) two.1.2
 
-one_stage :
-    OneSpelling → (files : Files) (known : Known) (which : Which) (name : Option (List ℕ))
+one_stage : OneSpelling → (files : Files) (known : Known) (which : Which) (name : Option (List ℕ))
     (Later : Known → Status → Type 0) → ((now : Known) → IsOne (Later now)) → IsOne (Stage files known which name Later)
 one_stage spelling files known which None Later later = later known
 one_stage spelling files known which (Some name) Later later = one_named spelling files known which name Later later
 
-one_end :
-    OneSpelling → (command : Command) (files : Files) (known : Known) (later : List Which) →
+one_end : OneSpelling → (command : Command) (files : Files) (known : Known) (later : List Which) →
     IsOne (EndsAt command files known later)
 one_end spelling command files known [] = one_with command known
 one_end spelling command files known (which ∷ later) =
@@ -151,10 +147,9 @@ one_end spelling command files known (which ∷ later) =
 
 -- ---- from what was read before a file to all files
 
-passed :
-    (files : Files) (before now : Known) (which : Which) (name : Option (List ℕ)) (Later : Known → Status → Type 0)
-    (status : Status) → Passes files before which name now → Later now status
-    → Stage files before which name Later status
+passed : (files : Files) (before now : Known) (which : Which) (name : Option (List ℕ)) (Later : Known → Status → Type 0)
+    (status : Status) → Passes files before which name now → Later now status →
+    Stage files before which name Later status
 passed files before now which None Later status passes ends = rw passes at ends
 passed files before now which (Some name) Later status passes ends = inr (inr (passes.0, (now, passes.1, ends)))
 
@@ -164,12 +159,10 @@ reverse_on before later which =
     rw (reverse-append (which ∷ []) before) (sym (append_assoc (reverse before) (which ∷ []) later))
 
 -- where these files were read first, and the later ones end so, all end so
-from_start :
-    (command : Command) (files : Files) (before later : List Which) (known : Known) (status : Status) →
+from_start : (command : Command) (files : Files) (before later : List Which) (known : Known) (status : Status) →
     AreReadAs command files before known → EndsAt command files known later status →
     EndsAt command files nothing_known (reverse before ++ later) status
-from_start command files [] later known status read ends =
-    rw read at ends
+from_start command files [] later known status read ends = rw read at ends
 from_start command files (which ∷ before) later known status read ends =
     rw (← reverse_on before later which)
     (from_start command files before (which ∷ later) read.0 status read.1
@@ -177,17 +170,15 @@ from_start command files (which ∷ before) later known status read ends =
     (λ now status'. EndsAt command files now later status') status read.2 ends))
 
 -- a command that comes to a file, where it ends so
-at_file :
-    (command : Command) (files : Files) (which : Which) (known : Known) (name : List ℕ) (status : Status)
-    (comes : ComesTo command files which known name) →
-    Stage files known which (Some name) (λ now status'. EndsAt command files now comes.later status') status →
+at_file : (command : Command) (files : Files) (which : Which) (known : Known) (name : List ℕ) (status : Status)
+    (comes : ComesTo command files which known name) → Stage files known which (Some name)
+    (λ now status'. EndsAt command files now comes.later status') status →
     EndsAt command files nothing_known (files_of command) status
 at_file command files which known name status comes ends =
     rw comes.place
     (from_start command files comes.before (which ∷ comes.later) known status comes.read (rw comes.named ends))
 
-at_end :
-    (command : Command) (files : Files) (status : Status) →
+at_end : (command : Command) (files : Files) (status : Status) →
     (known : Known) × AllRead command files known × EndsWith command known status →
     EndsAt command files nothing_known (files_of command) status
 at_end command files status ends =
@@ -195,8 +186,7 @@ at_end command files status ends =
     (append-nil (reverse (reverse (files_of command))) ∙ reverse-reverse (files_of command))
     (from_start command files (reverse (files_of command)) [] ends.0 status ends.1 ends.2)
 
-at_some :
-    (command : Command) (files : Files) (status : Status) → AsksFor command files status →
+at_some : (command : Command) (files : Files) (status : Status) → AsksFor command files status →
     EndsAt command files nothing_known (files_of command) status
 at_some command files (TooLong which) asks =
     at_file command files which asks.known asks.name (TooLong which) asks.comes (inl (asks.holds, refl))

@@ -28,17 +28,13 @@ AreTaken command told (which ∷ before) known =
     (earlier : Known) × AreTaken command told before earlier
     × IsPassed told earlier which (file_name command earlier which) known
 
-passed_as :
-    (files : Files) (before : Known) (which : Which) (name : Option (List ℕ)) (now : Known) →
+passed_as : (files : Files) (before : Known) (which : Which) (name : Option (List ℕ)) (now : Known) →
     IsPassed (Some files) before which name now → Passes files before which name now
 passed_as files before which None now is = is
-passed_as files before which (Some name) now is =
-    rw (← is.whole) (is.fits, is.learns)
+passed_as files before which (Some name) now is = rw (← is.whole) (is.fits, is.learns)
 
-taken_as :
-    (command : Command) (files : Files) (whiches : List Which) (known : Known)
-    → AreTaken command (Some files) whiches known →
-    AreReadAs command files whiches known
+taken_as : (command : Command) (files : Files) (whiches : List Which) (known : Known) →
+    AreTaken command (Some files) whiches known → AreReadAs command files whiches known
 taken_as command files [] known is = is
 taken_as command files (which ∷ before) known (earlier, are, passed) = (
   earlier,
@@ -46,20 +42,16 @@ taken_as command files (which ∷ before) known (earlier, are, passed) = (
   passed_as files earlier which (file_name command earlier which) known passed,
 )
 
-pub are_read :
-    (command : Command) (told : Option Files) (whiches : List Which) (known : Known)
-    → AreTaken command told whiches known →
-    OfFiles told (λ files. AreReadAs command files whiches known)
+pub are_read : (command : Command) (told : Option Files) (whiches : List Which) (known : Known) →
+    AreTaken command told whiches known → OfFiles told (λ files. AreReadAs command files whiches known)
 are_read command None whiches known is = tt
 are_read command (Some files) whiches known is = taken_as command files whiches known is
 
 -- ---- the file at a place
 
 -- a name in the words is the name
-in_words :
-    (command : Command) (known : Known) (which : Which) (name other : List ℕ)
-    → file_name command known which ≡ Some name →
-    name_in_words command which ≡ Some other → other ≡ name
+in_words : (command : Command) (known : Known) (which : Which) (name other : List ℕ) →
+    file_name command known which ≡ Some name → name_in_words command which ≡ Some other → other ≡ name
 in_words command known Script name other named is = cc
 in_words command known _ name other named is = cc
 
@@ -68,8 +60,7 @@ abbrev pub WholeBefore : Command → Option Files → List Which → List Fetch 
 WholeBefore command told whiches made = (more : List Fetch) → ReadEach command told whiches more made
 
 -- files that were not read
-not_read :
-    (command : Command) (told : Option Files) (others whiches : List Which) (more made : List Fetch) →
+not_read : (command : Command) (told : Option Files) (others whiches : List Which) (more made : List Fetch) →
     ReadEach command told whiches more made → ReadEach command told (others ++ whiches) more made
 not_read command told [] whiches more made is = is
 not_read command told (other ∷ others) whiches more made is = (
@@ -97,8 +88,7 @@ module _ (command : Command) (told : Option Files) (files : List Which) (index :
   place = rw (← table, reverse-reverse (take index files)) (split_at files index d inside)
 
   -- the file at the index was read or passed over
-  pub taken_next :
-      (now : Known) → IsPassed told known which (file_name command known which) now →
+  pub taken_next : (now : Known) → IsPassed told known which (file_name command known which) now →
       AreTaken command told (reverse (take (index + 1) files)) now
   taken_next now passed = rw (reverse-take_more files index d inside) (known, are, passed)
 
@@ -133,12 +123,7 @@ module _ (command : Command) (told : Option Files) (files : List Which) (index :
         (λ files is.
         let comes = at_files told files (λ files'. (known' : Known) × ComesTo command files' which known' name) is
         (reaches name named).comes in
-        record {
-          known = comes.0;
-          name = name;
-          comes = comes.1;
-          holds = at_file told files name (P name) is holds;
-        })
+        record { known = comes.0; name = name; comes = comes.1; holds = at_file told files name (P name) is holds })
 
     fails : Rose start now → kept ≡ take 255 name → FailsAt which Call command
     fails rose names = record {
@@ -149,8 +134,7 @@ module _ (command : Command) (told : Option Files) (files : List Which) (index :
     }
 
     not_taken : (status : Status) → IsNotTaken which name Call status → IsRefused command Call status
-    not_taken (ReadFault other) (same, rose, names) =
-        rw same (fails rose names)
+    not_taken (ReadFault other) (same, rose, names) = rw same (fails rose names)
     not_taken (TooLong other) (same, holds) =
         rw same
         ((reaches name named).can_read, reads (λ name' bytes. limit_of which < length bytes) holds)
@@ -179,8 +163,7 @@ module _ (command : Command) (told : Option Files) (files : List Which) (index :
 
   -- ---- the fetches
 
-  own_read :
-      {T E : Type 0} (result : Result T E) (name : Option (List ℕ)) → file_name command known which ≡ name →
+  own_read : {T E : Type 0} (result : Result T E) (name : Option (List ℕ)) → file_name command known which ≡ name →
       (more made : List Fetch) → ReadsNamed result name (limit_of which) made →
       (more ≢ [] → OnOk result (FoundEnd made) → FoundEnd made) → (made ≡ []) ⊎ Reads command told which more made
   own_read result None named more made is whole = inl is
@@ -188,10 +171,8 @@ module _ (command : Command) (told : Option Files) (files : List Which) (index :
       inr (record { name = name; reaches = reaches name named; reading = is.0; whole = λ some. whole some is.1 })
 
   -- the file at this place was read to its end
-  own_whole :
-      {T : Type 0} (E : Type 0) (value : T) (made : List Fetch) →
-      Both (WholeBefore command told before) (ReadsNamed {E = E} (Ok value) (file_name command known which)
-      (limit_of which)) made →
+  own_whole : {T : Type 0} (E : Type 0) (value : T) (made : List Fetch) → Both (WholeBefore command told before)
+      (ReadsNamed {E = E} (Ok value) (file_name command known which) (limit_of which)) made →
       WholeBefore command told (which ∷ before) made
   own_whole E value made is = λ more. (
     is.second,
@@ -201,8 +182,7 @@ module _ (command : Command) (told : Option Files) (files : List Which) (index :
     is.one (more ++ is.second),
   )
 
-  pub fetches_next :
-      {T : Type 0} (E : Type 0) (value : T) (start between now : Option (List Fetch)) →
+  pub fetches_next : {T : Type 0} (E : Type 0) (value : T) (start between now : Option (List Fetch)) →
       OfCalls start between (WholeBefore command told before) →
       OfCalls between now (ReadsNamed {E = E} (Ok value) (file_name command known which) (limit_of which)) →
       OfCalls start now (WholeBefore command told (reverse (take (index + 1) files)))
@@ -220,10 +200,8 @@ module _ (command : Command) (told : Option Files) (files : List Which) (index :
         reverse-reverse before,
       ) (append_assoc (reverse later) (which ∷ []) before)
 
-  last_read :
-      {T E : Type 0} (result : Result T E) (made : List Fetch) →
-      Both (WholeBefore command told before) (ReadsNamed result (file_name command known which) (limit_of which)) made →
-      FetchesOf command told made
+  last_read : {T E : Type 0} (result : Result T E) (made : List Fetch) → Both (WholeBefore command told before)
+      (ReadsNamed result (file_name command known which) (limit_of which)) made → FetchesOf command told made
   last_read result made is =
       rw mirrored
       (not_read command told (reverse later) (which ∷ before) [] made (
@@ -235,8 +213,7 @@ module _ (command : Command) (told : Option Files) (files : List Which) (index :
       ))
 
   -- the command read the file at this place, and none later
-  pub fetches_last :
-      {T E : Type 0} (result : Result T E) (start between now : Option (List Fetch)) →
+  pub fetches_last : {T E : Type 0} (result : Result T E) (start between now : Option (List Fetch)) →
       OfCalls start between (WholeBefore command told before) →
       OfCalls between now (ReadsNamed result (file_name command known which) (limit_of which)) →
       OfCalls start now (FetchesOf command told)
@@ -244,10 +221,9 @@ module _ (command : Command) (told : Option Files) (files : List Which) (index :
       calls_hold start now _ _ (last_read result) (calls_both start between now _ _ one two)
 
 -- the command read all files
-pub fetches_all :
-    (command : Command) (told : Option Files) (start now : Option (List Fetch)) →
-    OfCalls start now (WholeBefore command told (reverse (files_of command)))
-    → OfCalls start now (FetchesOf command told)
+pub fetches_all : (command : Command) (told : Option Files) (start now : Option (List Fetch)) →
+    OfCalls start now (WholeBefore command told (reverse (files_of command))) →
+    OfCalls start now (FetchesOf command told)
 fetches_all command told start now is =
     calls_hold start now (WholeBefore command told (reverse (files_of command))) (FetchesOf command told)
     (λ made whole. whole []) is

@@ -11,8 +11,7 @@ of_files (Some files) P each = each files refl
 pub at_files : (told : Option Files) (files : Files) (P : Files → Type 0) → told ≡ Some files → OfFiles told P → P files
 at_files told files P is holds = rw is at holds
 
-pub at_file :
-    (told : Option Files) (files : Files) (name : List ℕ) (P : List ℕ → Type 0) → told ≡ Some files →
+pub at_file : (told : Option Files) (files : Files) (name : List ℕ) (P : List ℕ → Type 0) → told ≡ Some files →
     OfFile told name P → P (files name)
 at_file told files name P is holds = rw is at holds
 

@@ -10,8 +10,7 @@ use Rattle.script_spec.specs.Common.{Script as Said, statements_in}
 use Rattle.command_texts.specs.Blame.{blamed_text, keep_text, IsBlameText}
 use Rattle.map_blame.proofs.KeptLemmas.{kept_number}
 
-pub all_since :
-    (setup : Setup) (changes : List MapChange) (ranges : List Blamed) (count : ℕ) → length changes ≡ count →
+pub all_since : (setup : Setup) (changes : List MapChange) (ranges : List Blamed) (count : ℕ) → length changes ≡ count →
     AreBlamed setup changes ranges → All (λ blamed. blamed.since ≤ count) ranges
 all_since setup changes ranges count all are = λ k d below.
     let right : IsRight setup (registers_after setup changes) (map_range_of (get_or ranges k d)) =
@@ -21,8 +20,7 @@ all_since setup changes ranges count all are = λ k d below.
     (λ since low high. let none : length changes - since ≡ 0 = omega (arith, low, high) in rw none right) in
     omega (arith, most, all)
 
-pub all_kept :
-    (setup : Setup) (changes : List MapChange) (keep : List ℕ) (count : ℕ) → length changes ≡ count →
+pub all_kept : (setup : Setup) (changes : List MapChange) (keep : List ℕ) (count : ℕ) → length changes ≡ count →
     IsKeep setup changes keep → All (λ version. version ≤ count) keep
 all_kept setup changes keep count all is = λ k d below.
     let number : ℕ = get_or keep k d in
@@ -30,11 +28,10 @@ all_kept setup changes keep count all is = λ k d below.
     list_any_at (λ other. other == number) keep k d below (eq-eqb number number refl) in
     omega (arith, (kept_number setup changes number (is.only number among)).most, all)
 
-pub blame_text :
-    {E : Type 0} (result : Result (List ℕ) E) (old new : Setup) (script : Said) (history : List Entry)
-    (changes : List MapChange)
-    (ranges : List Blamed) (keep : List ℕ) → new ≡ old → changes ≡ map_writes_of new history →
-    IsReplayOf old (statements_in script) history → IsBlame new changes ranges keep →
+pub blame_text : {E : Type 0} (result : Result (List ℕ) E) (old new : Setup) (script : Said) (history : List Entry)
+    (changes : List MapChange) (ranges : List Blamed) (keep : List ℕ) → new ≡ old →
+    changes ≡ map_writes_of new history → IsReplayOf old (statements_in script) history →
+    IsBlame new changes ranges keep →
     IfOk result (λ text. text ≡ flat_map (blamed_text new history) ranges ++ flat_map (keep_text new history) keep) →
     IfOk result (λ text. IsBlameText old script text)
 blame_text (Ok text) old new script history changes ranges keep same writes replay is lines =

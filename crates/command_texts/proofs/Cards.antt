@@ -45,10 +45,8 @@ bases_eq r xs ys is =
     (λ (same : map base_of xs ≡ map base_of ys). sym (back xs) ∙ ap (map spec_of) same ∙ back ys)
     (slice_eq-Decides base_eq xs ys r is)
 
-pub card_same :
-    (one other : FittedCard) → one.dev ≡ other.dev → one.vga ≡ other.vga → one.rom ≡ other.rom → one.bases ≡ other.bases
-    →
-    one ≡ other
+pub card_same : (one other : FittedCard) → one.dev ≡ other.dev → one.vga ≡ other.vga → one.rom ≡ other.rom →
+    one.bases ≡ other.bases → one ≡ other
 card_same one other dev vga rom bases = λ k. record { dev = dev k; vga = vga k; bases = bases k; rom = rom k }
 
 pub rom_same : (one other : Option ℕ) → false ≡ not (option_eq nat_eq one other) → one ≡ other

@@ -13,10 +13,8 @@ done_none old new setup entries = record {
   legal = λ legal. rw (setup, entries) legal;
 }
 
-pub done_more :
-    (old between new : Standing) (first later : List Statement) → DidStatements old first between
-    → DidStatements between later new →
-    DidStatements old (first ++ later) new
+pub done_more : (old between new : Standing) (first later : List Statement) → DidStatements old first between →
+    DidStatements between later new → DidStatements old (first ++ later) new
 done_more old between new first later one two = record {
   setup = two.setup ∙ one.setup;
   same = rw (two.same, one.same) (append_assoc (statements_of old.entries) first later);
@@ -26,19 +24,17 @@ done_more old between new first later one two = record {
 -- ---- replays
 
 -- a board that goes on after a replay
-pub replay_goes_on :
-    (setup : Setup) (old new : Standing) (steps statements : List Statement) → old.setup ≡ setup →
-    IsReplayOf setup steps old.entries → DidStatements old statements new
-    → IsReplayOf setup (steps ++ statements) new.entries
+pub replay_goes_on : (setup : Setup) (old new : Standing) (steps statements : List Statement) → old.setup ≡ setup →
+    IsReplayOf setup steps old.entries → DidStatements old statements new →
+    IsReplayOf setup (steps ++ statements) new.entries
 replay_goes_on setup old new steps statements is replay done = record {
   legal = rw (done.setup ∙ is) at (done.legal (rw is replay.legal));
   same = rw (done.same, replay.same) refl;
 }
 
 -- what a fresh board did is the replay
-pub done_is_replay :
-    (old new : Standing) (statements : List Statement) → old.entries ≡ [] → DidStatements old statements new →
-    IsReplayOf old.setup statements new.entries
+pub done_is_replay : (old new : Standing) (statements : List Statement) → old.entries ≡ [] →
+    DidStatements old statements new → IsReplayOf old.setup statements new.entries
 done_is_replay old new statements fresh done =
     replay_goes_on old.setup old new [] statements refl (record { legal = rw fresh tt; same = rw fresh refl }) done
 
@@ -48,14 +44,12 @@ pub replay_result :
 replay_result (Ok value) old new statements fresh done = done_is_replay old new statements fresh done
 replay_result (Err fault) old new statements fresh done = tt
 
-pub same_setup :
-    {T E : Type 0} (result : Result T E) (old new : Standing) (statements : List Statement) →
+pub same_setup : {T E : Type 0} (result : Result T E) (old new : Standing) (statements : List Statement) →
     OnOk result (DidStatements old statements new) → OnErr result (new ≡ old) → new.setup ≡ old.setup
 same_setup (Ok value) old new statements done same = done.setup
 same_setup (Err fault) old new statements done same = rw same refl
 
-pub length_of_replay :
-    (setup : Setup) (statements : List Statement) (history : List Entry) → IsReplayOf setup statements history →
-    length history ≡ length statements
+pub length_of_replay : (setup : Setup) (statements : List Statement) (history : List Entry) →
+    IsReplayOf setup statements history → length history ≡ length statements
 length_of_replay setup statements history replay =
     sym (length-map (reverse history) statement_of ∙ length-reverse history) ∙ ap length replay.same

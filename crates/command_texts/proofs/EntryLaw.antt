@@ -51,10 +51,7 @@ entry_within setup (entry ∷ before) version = grind (arith, nat_tests, entry_w
 
 pub entry_is_first : EntryOfVersionIsFirst
 unfolding map_writes_of entry_of_version
-entry_is_first setup [] version most = record {
-  had = omega (arith, most);
-  least = λ other has. omega arith;
-}
+entry_is_first setup [] version most = record { had = omega (arith, most); least = λ other has. omega arith }
 entry_is_first setup (entry ∷ before) version most = elim (cases_lt (version_of setup before) version) [
   | inl above ↦
       let rise = (rises_by_one setup entry before).1 in

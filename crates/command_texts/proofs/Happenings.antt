@@ -46,8 +46,7 @@ none_sent port (byte ∷ bytes) = none_sent (sending_after port (Comes byte)) by
 -- ---- the steps of the board
 
 abbrev IsLeftHere : Standing → Bool → List Entry → Type 0
-IsLeftHere board level history =
-    IsLeftAt (λ (b : Standing) (h : List Entry). b.entries ≡ h) board level history
+IsLeftHere board level history = IsLeftAt (λ (b : Standing) (h : List Entry). b.entries ≡ h) board level history
 
 abbrev IsAfterHere : Standing → Bool → List Entry → List Statement → Type 0
 IsAfterHere board level before steps =
@@ -63,8 +62,7 @@ now_at new before steps after = (
 
 steps_added : (before after : List Entry) (steps : List Statement) → GoesOnBy before steps after →
     statements_of after ≡ statements_of before ++ steps
-steps_added before after steps goes_on =
-    rw (goes_on.grows, statements-append goes_on.more before, goes_on.same) refl
+steps_added before after steps goes_on = rw (goes_on.grows, statements-append goes_on.more before, goes_on.same) refl
 
 -- ---- the reset control register
 
@@ -76,8 +74,7 @@ no_more more none =
 line_leaves : (before after : List Entry) (old new : Bool) →
     GoesOnBy before (line_steps old new) after → reset_control after ≡ reset_control before
 line_leaves before after old new goes_on = elim (cases_Bool (differ old new)) [
-  | inl moves ↦
-      control_follows before after com1_actor (Line com1_irq new) com1_at_reset (rw moves at goes_on)
+  | inl moves ↦ control_follows before after com1_actor (Line com1_irq new) com1_at_reset (rw moves at goes_on)
   | inr stays ↦
       let still : GoesOnBy before [] after = rw stays at goes_on in
       rw (still.grows, no_more still.more still.same) refl
@@ -103,8 +100,7 @@ byte_came actor byte old new setup com1 after =
       port =
           port_is new.com1 (record old.com1 { uart = received old.com1.uart byte }) _ _ com1
           (line_leaves old.board.entries new.board.entries (level_of old.com1) (level_of new.com1) now.1);
-      steps =
-          rw append-nil (rw com1 at (steps_added old.board.entries new.board.entries steps now.1));
+      steps = rw append-nil (rw com1 at (steps_added old.board.entries new.board.entries steps now.1));
     }
 
 pub event_done : (actor : ℕ) (event : Event) (old new : Serial Standing) →

@@ -37,8 +37,7 @@ fixed_totals = (refl, refl, λ i. refl)
 rounds_total : (n : ℕ) → total (lines_of_rounds n) ≡ 180 * n
 unfolding lines_of_rounds
 rounds_total zero = refl
-rounds_total (suc i) =
-    omega (arith, rounds_total i, fixed_totals.2 i, total_append (lines_of_rounds i) (round_lines i))
+rounds_total (suc i) = omega (arith, rounds_total i, fixed_totals.2 i, total_append (lines_of_rounds i) (round_lines i))
 
 pub text_is_short : (n : ℕ) → n ≤ 20_000 → length (make_text n) < 4294967295
 unfolding make_text setup_lines lines_of_rounds opening_lines
@@ -62,19 +61,16 @@ rom_fits rom fits is = rw is fits.rom
 pub rom_opens : (disk : List ℕ) (fault : BoardOpen) → IsNotOpened (Some disk) fault → fault ≡ BadRom → ⊥
 rom_opens disk fault refused is = subst (IsNotOpened (Some disk)) is refused
 
-pub disk_opens :
-    (disk : List ℕ) (fault : BoardOpen) → IsSetup made_setup → disk ≡ disk_image → IsNotOpened (Some disk) fault
-    → fault ≡ BadDisk → ⊥
-disk_opens disk fault fits same refused is =
-    subst (IsNotOpened (Some disk)) is refused (rw same fits.disk)
+pub disk_opens : (disk : List ℕ) (fault : BoardOpen) → IsSetup made_setup → disk ≡ disk_image →
+    IsNotOpened (Some disk) fault → fault ≡ BadDisk → ⊥
+disk_opens disk fault fits same refused is = subst (IsNotOpened (Some disk)) is refused (rw same fits.disk)
 
 -- ---- the summary
 
-pub made_result :
-    {E : Type 0} (rounds : ℕ) (script : Said) (setup : Setup) (history : List Entry) (result : Result (List ℕ) E) →
-    IsScriptText (make_text rounds) script → setup ≡ made_setup_of script
-    → IsReplayOf setup (statements_in script) history →
-    IfOk result (λ text. HasSummary setup history text) → IfOk result (λ text. IsMakeText rounds text)
+pub made_result : {E : Type 0} (rounds : ℕ) (script : Said) (setup : Setup) (history : List Entry)
+    (result : Result (List ℕ) E) → IsScriptText (make_text rounds) script → setup ≡ made_setup_of script →
+    IsReplayOf setup (statements_in script) history → IfOk result (λ text. HasSummary setup history text) →
+    IfOk result (λ text. IsMakeText rounds text)
 made_result rounds script setup history (Ok text) says same replay summary =
     record { script = script; history = history; says = says; replay = rw same at replay; summary = rw same at summary }
 made_result rounds script setup history (Err fault) says same replay summary = tt

@@ -8,9 +8,8 @@ use Rattle.board_core.specs.Kept.{Standing}
 use Rattle.command_texts.specs.declared.writes.MapWrites.{MapWrites}
 use Rattle.command_texts.specs.Common.{entry_of_version, AreWritesOf}
 
-pub no_writes :
-    (setup : Setup) (writes : MapWrites) → writes.changes.items ≡ [] → writes.entries.items ≡ []
-    → AreWritesOf setup [] writes
+pub no_writes : (setup : Setup) (writes : MapWrites) → writes.changes.items ≡ [] → writes.entries.items ≡ [] →
+    AreWritesOf setup [] writes
 unfolding map_writes_of
 no_writes setup writes changes entries = record {
   changes = ap reverse changes;
@@ -19,8 +18,7 @@ no_writes setup writes changes entries = record {
       absurd (omega (arith, below, none));
 }
 
-pub version_is :
-    (setup : Setup) (history : List Entry) (writes : MapWrites) → AreWritesOf setup history writes →
+pub version_is : (setup : Setup) (history : List Entry) (writes : MapWrites) → AreWritesOf setup history writes →
     version_of setup history ≡ length writes.changes.items
 version_is setup history writes are = sym (ap length are.changes) ∙ length-reverse writes.changes.items
 
@@ -37,15 +35,13 @@ pub entry_before :
 unfolding entry_of_version
 entry_before setup entry before version most = grind (arith, nat_tests)
 
-pub entry_now :
-    (setup : Setup) (entry : Entry) (before : List Entry) (version : ℕ) → version_of setup before < version →
-    entry_of_version setup (entry ∷ before) version ≡ length before + 1
+pub entry_now : (setup : Setup) (entry : Entry) (before : List Entry) (version : ℕ) →
+    version_of setup before < version → entry_of_version setup (entry ∷ before) version ≡ length before + 1
 unfolding entry_of_version
 entry_now setup entry before version above = grind (arith, nat_tests)
 
-pub entry_at :
-    (setup : Setup) (history : List Entry) (writes : MapWrites) (version : ℕ) → AreWritesOf setup history writes →
-    0 < version → version ≤ length writes.entries.items →
+pub entry_at : (setup : Setup) (history : List Entry) (writes : MapWrites) (version : ℕ) →
+    AreWritesOf setup history writes → 0 < version → version ≤ length writes.entries.items →
     slice_index writes.entries.items (version - 1) ≡ entry_of_version setup history version
 entry_at setup history writes version are some most =
     let index : version - 1 + 1 ≡ version = omega (arith, some) in
@@ -53,10 +49,9 @@ entry_at setup history writes version are some most =
 
 -- ---- one entry more
 
-pub writes_same :
-    (setup : Setup) (entry : Entry) (before : List Entry) (writes : MapWrites) →
-    map_change_of setup before entry.event ≡ None → AreWritesOf setup before writes
-    → AreWritesOf setup (entry ∷ before) writes
+pub writes_same : (setup : Setup) (entry : Entry) (before : List Entry) (writes : MapWrites) →
+    map_change_of setup before entry.event ≡ None → AreWritesOf setup before writes →
+    AreWritesOf setup (entry ∷ before) writes
 unfolding map_writes_of
 writes_same setup entry before writes none are = record {
   changes = rw none are.changes;
@@ -66,12 +61,10 @@ writes_same setup entry before writes none are = record {
       ∙ sym (entry_before setup entry before (index + 1) (omega (arith, below, version_is setup before writes are)));
 }
 
-pub writes_more :
-    (setup : Setup) (entry : Entry) (before : List Entry) (change : MapChange) (old new : MapWrites) →
-    map_change_of setup before entry.event ≡ Some change →
-    new.changes.items ≡ old.changes.items ++ change ∷ [] →
-    new.entries.items ≡ old.entries.items ++ (length before + 1) ∷ [] →
-    AreWritesOf setup before old → AreWritesOf setup (entry ∷ before) new
+pub writes_more : (setup : Setup) (entry : Entry) (before : List Entry) (change : MapChange) (old new : MapWrites) →
+    map_change_of setup before entry.event ≡ Some change → new.changes.items ≡ old.changes.items ++ change ∷ [] →
+    new.entries.items ≡ old.entries.items ++ (length before + 1) ∷ [] → AreWritesOf setup before old →
+    AreWritesOf setup (entry ∷ before) new
 unfolding map_writes_of
 writes_more setup entry before change old new some changes entries are =
     let more : length new.changes.items ≡ length old.changes.items + 1 =

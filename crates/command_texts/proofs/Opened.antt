@@ -5,8 +5,7 @@ use Rattle.board_chipset.specs.declared.setup.BoardOpen.{BoardOpen}
 use Rattle.board_chipset.specs.declared.setup.BoardOpen.TheVariants.{BadDisk}
 use Rattle.board_chipset.proofs.Openings.{disk_opened}
 
-pub opened_disk :
-    {T : Type 0} (result : Result T BoardOpen) (Fits : Type 0) (disk : Option (List ℕ)) → Fits →
+pub opened_disk : {T : Type 0} (result : Result T BoardOpen) (Fits : Type 0) (disk : Option (List ℕ)) → Fits →
     (result ≡ Err BadDisk) ↔ (Fits × ¬ IsDisk disk) → OnOk result (IsDisk disk)
 opened_disk (Ok board) Fits disk fits bad =
     disk_opened disk disk (Ok board) board

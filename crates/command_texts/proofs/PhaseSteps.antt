@@ -34,8 +34,7 @@ phase_adds phases i phase statements within is same =
     }
 
 -- what holds of all statements holds of those of a phase
-pub of_phase :
-    (P : Statement → Type 0) (phases : List (Vec Statement Global)) (i : ℕ) (phase : Vec Statement Global)
+pub of_phase : (P : Statement → Type 0) (phases : List (Vec Statement Global)) (i : ℕ) (phase : Vec Statement Global)
     (statements : List Statement) → i < length phases → phase ≡ get_or phases i phase → statements ≡ phase.items →
     All P (in_file_order (lists_of phases)) → All P statements
 of_phase P phases i phase statements within is same all =

@@ -1,8 +1,7 @@
 -- One entry more in the log of a replay.
 use Rattle.std.proofs.Common.{ℕ, ◌≡◌, ◌+◌, ◌<◌, List, [], ◌∷◌, ◌++◌, length, take, get_or, refl, sym, ap, ◌∙◌}
 use Rattle.std.proofs.Common.{append_assoc, append-nil, add-one, slice_index}
-use Rattle.std.proofs.lemmas.List.{take_more}
-use Rattle.board_prelude.proofs.Common.{Entry, Statement, line_feed, line_text, log_text, statements-newest}
+use Rattle.board_prelude.proofs.Common.{take_more, Entry, Statement, line_feed, line_text, log_text, statements-newest}
 use Rattle.board_spec.specs.declared.event.Reply.{Reply}
 use Rattle.board_core.specs.Kept.{Playing, HasPlayed, entry_of}
 use Rattle.logs_and_maps.specs.LinesFrom.{entry_with}
@@ -10,8 +9,7 @@ use Rattle.log_check.proofs.LogLines.{log-newest as newest_line}
 use Rattle.command_texts.specs.ReplayLog.{HasLog}
 
 -- the newest entry has the last line
-log-newest :
-    (version : ℕ) (entry : Entry) (history : List Entry) (n : ℕ) → n ≡ length history + 1 →
+log-newest : (version : ℕ) (entry : Entry) (history : List Entry) (n : ℕ) → n ≡ length history + 1 →
     log_text version (entry ∷ history) ≡ log_text version history ++ (line_text n entry ++ line_feed ∷ [])
 log-newest version entry history n is =
     sym (append-nil (log_text version (entry ∷ history)))

@@ -1,7 +1,6 @@
 -- What a board with a serial port sent in a whole replay.
-use Rattle.std.proofs.Common.{◌≡◌, ℕ, ◌≤◌, true, List, [], ◌∷◌, length, All, refl, ap, ◌∙◌, append-nil, arith, sym}
-use Rattle.std.proofs.Common.{slice_index}
-use Rattle.board_prelude.proofs.Common.{Setup, reset_control, IsLegal, LegalKeepsLock, statements_of}
+use Rattle.std.proofs.Common.{◌≡◌, ℕ, ◌≤◌, true, List, [], ◌∷◌, length, All, refl, ap, ◌∙◌, arith, sym, slice_index}
+use Rattle.board_prelude.proofs.Common.{append-nil, Setup, reset_control, IsLegal, LegalKeepsLock, statements_of}
 use Rattle.board_core.specs.Kept.{Standing}
 use Rattle.script_spec.specs.Common.{Script as Said, IsInRangeScript, statements_in}
 use Rattle.uart_16550.specs.Common.{Uart, has_room, com1_at_reset, Serial, Sending, sending_at_reset}

@@ -4,7 +4,6 @@ use Rattle.board_spec.specs.Setup.{Setup}
 use Rattle.board_core.specs.Steps.{AreInRange}
 use Rattle.script_spec.specs.Common.{Script as Said, IsInRangeScript, statements_in}
 
-pub in_range :
-    (setup : Setup) (script : Said) → IsInRangeScript script → setup.cards ≡ script.cards →
+pub in_range : (setup : Setup) (script : Said) → IsInRangeScript script → setup.cards ≡ script.cards →
     AreInRange setup (statements_in script)
 in_range setup script range same i d within = (range.each setup same i d within).event

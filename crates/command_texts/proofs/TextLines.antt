@@ -5,19 +5,16 @@ use Rattle.board_prelude.proofs.Common.{take-append_seam, get_or-append_seam, ta
 use Rattle.std.proofs.lemmas.List.{flat_map_more}
 
 -- the line of the element at i makes the text one line longer
-pub lines_more :
-    {A : Type 0} (line_of : A → List ℕ) (elements : List A) (i : ℕ) (default : A) → i < length elements
-    → (old text new : List ℕ) →
-    text ≡ old ++ flat_map line_of (take i elements) → new ≡ text ++ line_of (get_or elements i default) →
-    new ≡ old ++ flat_map line_of (take (i + 1) elements)
+pub lines_more : {A : Type 0} (line_of : A → List ℕ) (elements : List A) (i : ℕ) (default : A) → i < length elements →
+    (old text new : List ℕ) → text ≡ old ++ flat_map line_of (take i elements) →
+    new ≡ text ++ line_of (get_or elements i default) → new ≡ old ++ flat_map line_of (take (i + 1) elements)
 lines_more line_of elements i default inside old text new so_far added =
     rw (added, so_far, take_more elements i default inside)
     (flat_map_more line_of old (take i elements) (get_or elements i default))
 
 -- the text of a line without its last character
-pub last_gone :
-    (old text new line : List ℕ) (size last : ℕ) → text ≡ old ++ (line ++ last ∷ []) → last < 128 → size ≡ length text →
-    (0 < size → slice_index text (size - 1) < 128 → new ≡ take (size - 1) text) → new ≡ old ++ line
+pub last_gone : (old text new line : List ℕ) (size last : ℕ) → text ≡ old ++ (line ++ last ∷ []) → last < 128 →
+    size ≡ length text → (0 < size → slice_index text (size - 1) < 128 → new ≡ take (size - 1) text) → new ≡ old ++ line
 last_gone old text new line size last said ascii whole cut =
     let is : text ≡ (old ++ line) ++ last ∷ [] = rw said (simp append_assoc) in
     let long : length text ≡ length (old ++ line) + 1 = ap length is ∙ length-append (old ++ line) (last ∷ []) in

@@ -40,14 +40,13 @@ dram_told setup store moving size cells =
     (λ addr below. dram_here store.dram addr below ∙ cells (DramCell addr) tt))
 
 pub transfer_told : (setup : Setup) (history : List Entry) (transfer : Transfer) (old new : Store)
-    (master after : Master)
-    (done : Done) (status dram disk : ℕ) (text : List ℕ) (moving : Moving) →
+    (master after : Master) (done : Done) (status dram disk : ℕ) (text : List ℕ) (moving : Moving) →
     moving ≡ transfer_of setup (byte_of setup history) master transfer.lba transfer.count old →
     master ≡ started transfer → old.disk ≡ disk_of setup history → AreCellsAfter setup history (cells_of old) →
     length new.dram ≡ installed setup → done ≡ done_of moving → after ≡ master_after master moving →
     new.disk ≡ with_medium old.disk moving.medium →
-    ((cell : Cell) → IsCell cell → cells_of new cell ≡ moving.cells cell) →
-    status ≡ after.status → dram ≡ sum_below (length new.dram) (slice_index new.dram) → disk ≡ disk_sum new.disk →
+    ((cell : Cell) → IsCell cell → cells_of new cell ≡ moving.cells cell) → status ≡ after.status →
+    dram ≡ sum_below (length new.dram) (slice_index new.dram) → disk ≡ disk_sum new.disk →
     text ≡ ended_line done status ++ sums_line dram disk → HasTransferText setup history transfer text
 transfer_told setup history transfer old new master after done status dram disk text moving moved begun left stored size
     done_told registers disk_left cells status_told dram_told' disk_told lines = record {
@@ -71,6 +70,5 @@ status_read master = refl
 pub abort_added : {T E : Type 0} (result : Result T E) (old one two three new first second last : List ℕ) →
     one ≡ old ++ first → two ≡ one ++ second → three ≡ two ++ space ∷ [] → OnOk result (new ≡ three ++ last) →
     OnOk result (new ≡ old ++ (first ++ second ++ space ∷ last))
-abort_added (Ok done) old one two three new first second last a b c d =
-    rw (d, c, b, a) (simp append_assoc)
+abort_added (Ok done) old one two three new first second last a b c d = rw (d, c, b, a) (simp append_assoc)
 abort_added (Err fault) old one two three new first second last a b c d = tt

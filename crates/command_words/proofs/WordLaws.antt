@@ -17,18 +17,16 @@ Asks words command = IsCommand command × AreWordsOf words command
 -- ---- the words of a verb
 
 -- with the name of one file, and with those of two
-one_read :
-    (verb : List ℕ) (named : List ℕ → Command) → ((name : List ℕ) → Asks (verb ∷ name ∷ []) (named name)) →
+one_read : (verb : List ℕ) (named : List ℕ → Command) → ((name : List ℕ) → Asks (verb ∷ name ∷ []) (named name)) →
     (words : List (List ℕ)) (command : Command) → with_name named words ≡ Some command → Asks (verb ∷ words) command
 one_read verb named each [] command e = absurd (cc e)
 one_read verb named each (name ∷ []) command e =
     subst (Asks (verb ∷ name ∷ [])) (some_is (named name) command e) (each name)
 one_read verb named each (name ∷ other ∷ rest) command e = absurd (cc e)
 
-two_read :
-    (verb : List ℕ) (named : List ℕ → List ℕ → Command) →
-    ((name other : List ℕ) → Asks (verb ∷ name ∷ other ∷ []) (named name other)) →
-    (words : List (List ℕ)) (command : Command) → with_names named words ≡ Some command → Asks (verb ∷ words) command
+two_read : (verb : List ℕ) (named : List ℕ → List ℕ → Command) →
+    ((name other : List ℕ) → Asks (verb ∷ name ∷ other ∷ []) (named name other)) → (words : List (List ℕ))
+    (command : Command) → with_names named words ≡ Some command → Asks (verb ∷ words) command
 two_read verb named each [] command e = absurd (cc e)
 two_read verb named each (name ∷ []) command e = absurd (cc e)
 two_read verb named each (name ∷ other ∷ []) command e =
@@ -66,8 +64,7 @@ direction_read : (word : List ℕ) (to_memory : Bool) → direction_of word ≡ 
     → word ≡ direction_word to_memory
 unfolding direction_of
 direction_read word to_memory e = elim (cases_Bool (bytes_eq word (codes "in"))) [
-  | inl one ↦
-      word_is word (codes "in") one ∙ ap direction_word (some_is true to_memory (rw (one) at e))
+  | inl one ↦ word_is word (codes "in") one ∙ ap direction_word (some_is true to_memory (rw (one) at e))
   | inr one ↦
       let out = guarded (bytes_eq word (codes "out")) (Some false) to_memory (rw (one) at e) in
       word_is word (codes "out") out.0 ∙ ap direction_word (some_is false to_memory out.1)
@@ -109,13 +106,11 @@ dma_read (_ ∷ _ ∷ _ ∷ _ ∷ _ ∷ _ ∷ _) command e = absurd (cc e)
 -- ---- the verbs
 
 -- the command of one verb, or that of the verbs that come after it
-verb_read :
-    (verb text : List ℕ) (words : List (List ℕ)) (command : Command) {own others : Option Command} →
+verb_read : (verb text : List ℕ) (words : List (List ℕ)) (command : Command) {own others : Option Command} →
     (own ≡ Some command → Asks (text ∷ words) command) → (others ≡ Some command → Asks (verb ∷ words) command) →
     cond (bytes_eq verb text) own others ≡ Some command → Asks (verb ∷ words) command
 verb_read verb text words command own others e = elim (cases_Bool (bytes_eq verb text)) [
-  | inl is ↦
-      subst (λ (first : List ℕ). Asks (first ∷ words) command) (sym (word_is verb text is)) (own (rw (is) at e))
+  | inl is ↦ subst (λ (first : List ℕ). Asks (first ∷ words) command) (sym (word_is verb text is)) (own (rw (is) at e))
   | inr is ↦ others (rw (is) at e)
 ]
 
@@ -174,14 +169,12 @@ dma_back script digits transfer there address =
       transfer_back transfer there,
     ) refl
 
-as_words :
-    (words written : List (List ℕ)) (command : Command) → words ≡ written → command_of written ≡ Some command →
+as_words : (words written : List (List ℕ)) (command : Command) → words ≡ written → command_of written ≡ Some command →
     command_of words ≡ Some command
 as_words words written command is asks =
     subst (λ (words' : List (List ℕ)). command_of words' ≡ Some command) (sym is) asks
 
-asked_back :
-    (words : List (List ℕ)) (command : Command) → IsCommand command → AreWordsOf words command →
+asked_back : (words : List (List ℕ)) (command : Command) → IsCommand command → AreWordsOf words command →
     command_of words ≡ Some command
 unfolding command_of
 asked_back words (Make rounds) there is = as_words words _ (Make rounds) is (made_back rounds there)

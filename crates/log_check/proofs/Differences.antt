@@ -22,8 +22,7 @@ pub record Known (setup : Setup) (phases : List (List Statement)) : Type 0 where
 
 module _ (setup : Setup) (version : ℕ) (phases : List (List Statement)) where
   -- lines that are the log of a begun history begin a log
-  lines_begin :
-      (history : List Entry) (lines : List (List ℕ)) → Known setup phases → IsLegal setup history →
+  lines_begin : (history : List Entry) (lines : List (List ℕ)) → Known setup phases → IsLegal setup history →
       IsBegunFor phases history → (rest : List ℕ) → text_of_lines lines ++ rest ≡ log_text version history →
       AreBegun (IsLogOf setup version phases) lines
   lines_begin history lines known legal begun rest text =
@@ -42,18 +41,16 @@ module _ (setup : Setup) (version : ℕ) (phases : List (List Statement)) where
       }
 
   -- an entry after a history, where a longer history goes on with it
-  entry_may_come :
-      (history whole later : List Entry) (next : Entry) → IsLegal setup whole → IsCompleteFor phases whole →
-      whole ≡ reverse (next ∷ later) ++ history →
+  entry_may_come : (history whole later : List Entry) (next : Entry) → IsLegal setup whole →
+      IsCompleteFor phases whole → whole ≡ reverse (next ∷ later) ++ history →
       IsNext setup history next × IsBegunFor phases (next ∷ history)
   entry_may_come history whole later next legal complete is =
       grind (arith, nat_tests, common_steps, reverse, newest_last, legal_before, begun_front, complete_is_begun)
 
   -- with none of the entries that may come next can a whole history have a longer log
-  no_more :
-      (history whole : List Entry) (rest this after : List ℕ) (more : List Entry) →
-      GoesOnWithNone setup phases history (this ++ line_feed ∷ after) → IsOneLine this →
-      IsLegal setup whole → IsCompleteFor phases whole → whole ≡ reverse more ++ history →
+  no_more : (history whole : List Entry) (rest this after : List ℕ) (more : List Entry) →
+      GoesOnWithNone setup phases history (this ++ line_feed ∷ after) → IsOneLine this → IsLegal setup whole →
+      IsCompleteFor phases whole → whole ≡ reverse more ++ history →
       this ++ line_feed ∷ rest ≡ lines_from (length history) more → ⊥
   no_more history whole rest this after [] none single legal complete is text =
       absurd (omega (arith, ap length text, length-append this (line_feed ∷ rest)))
@@ -61,16 +58,14 @@ module _ (setup : Setup) (version : ℕ) (phases : List (List Statement)) where
       grind (arith, nat_tests, common_steps, entry_may_come, cut_line, line_text, lines_from, line_whole, line_feed)
 
   -- and no whole history has this log
-  no_log :
-      (history whole : List Entry) (rest : List ℕ) (more : List Entry) → GoesOnWithNone setup phases history rest →
+  no_log : (history whole : List Entry) (rest : List ℕ) (more : List Entry) → GoesOnWithNone setup phases history rest →
       (rest ≡ [] → ¬ IsCompleteFor phases history) → IsLegal setup whole → IsCompleteFor phases whole →
       whole ≡ reverse more ++ history → rest ≡ lines_from (length history) more → ⊥
   no_log history whole rest [] none unfinished legal complete is text = unfinished text (rw is at complete)
   no_log history whole rest (next ∷ later) none unfinished legal complete is text =
       grind (arith, nat_tests, common_steps, entry_may_come, lines_from)
 
-  pub differs :
-      (bytes : List ℕ) (entries : List Entry) (line : ℕ) → Known setup phases →
+  pub differs : (bytes : List ℕ) (entries : List Entry) (line : ℕ) → Known setup phases →
       StopsAt setup version phases bytes entries line → DiffersAt setup version phases bytes line
   differs bytes entries line known stops =
       let history : List Entry = stops.at_line.before in
@@ -111,9 +106,8 @@ module _ (setup : Setup) (version : ℕ) (phases : List (List Statement)) where
       }
 
   -- bytes that do not begin with the heading leave the logs of the script at once
-  pub differs_at_once :
-      (bytes : List ℕ) → Known setup phases → ((after : List ℕ) → bytes ≢ log_text version [] ++ after) →
-      DiffersAt setup version phases bytes 1
+  pub differs_at_once : (bytes : List ℕ) → Known setup phases →
+      ((after : List ℕ) → bytes ≢ log_text version [] ++ after) → DiffersAt setup version phases bytes 1
   differs_at_once bytes known none = record {
     before = [];
     each = All-nil IsOneLine;

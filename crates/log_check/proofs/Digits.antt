@@ -1,15 +1,13 @@
 -- How many digits a number has.
-use Rattle.std.proofs.Common.{ℕ, ◌≡◌, ◌+◌, ◌/◌, ◌%◌, ◌^◌, ◌<◌, ◌≤◌, [], ◌∷◌, length, ap, ◌∙◌, length-append, arith}
-use Rattle.std.proofs.Common.{decimal}
-use Rattle.board_prelude.proofs.Common.{common_steps, nat_tests}
+use Rattle.std.proofs.Common.{ℕ, ◌≡◌, ◌+◌, ◌/◌, ◌%◌, ◌^◌, ◌<◌, ◌≤◌, [], ◌∷◌, length, ap, ◌∙◌, arith, decimal}
+use Rattle.board_prelude.proofs.Common.{length-append, common_steps, nat_tests}
 use Rattle.std.proofs.lemmas.Fmt.{decimal_digit, decimal_step, length-decimal-le_succ}
 
 pub one_digit : (n : ℕ) → n < 10 → length (decimal n) ≡ 1
 one_digit n below = ap length (decimal_digit n below)
 
 one_more : (n : ℕ) → 10 ≤ n → n < 2 ^ 64 → length (decimal n) ≡ length (decimal (n / 10)) + 1
-one_more n large fits =
-    ap length (decimal_step n large fits) ∙ length-append (decimal (n / 10)) ((48 + n % 10) ∷ [])
+one_more n large fits = ap length (decimal_step n large fits) ∙ length-append (decimal (n / 10)) ((48 + n % 10) ∷ [])
 
 pub two_digits : (n : ℕ) → 10 ≤ n → n < 100 → length (decimal n) ≡ 2
 two_digits n large below = omega (arith, one_more n large (omega arith), one_digit (n / 10) (omega arith))

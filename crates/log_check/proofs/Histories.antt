@@ -31,15 +31,13 @@ actor_read n entry small =
           (lacks-decimal 0x2E entry.actor (inl (omega arith)) (omega (arith, small))),
     ) (value_of_decimal entry.actor (omega (arith, small)))
 
-same_actor :
-    (n : ℕ) (left right : Entry) → left.actor < 256 → right.actor < 256 → line_text n left ≡ line_text n right →
-    left.actor ≡ right.actor
+same_actor : (n : ℕ) (left right : Entry) → left.actor < 256 → right.actor < 256 →
+    line_text n left ≡ line_text n right → left.actor ≡ right.actor
 same_actor n left right l r same = sym (actor_read n left l) ∙ ap actor_of same ∙ actor_read n right r
 
 -- ---- fronts
 
-pub begun_front :
-    (phases : List (List Statement)) (more history : List Entry) → IsBegunFor phases (more ++ history) →
+pub begun_front : (phases : List (List Statement)) (more history : List Entry) → IsBegunFor phases (more ++ history) →
     IsBegunFor phases history
 begun_front phases [] history begun = begun
 begun_front phases (entry ∷ more) history begun =
@@ -51,8 +49,7 @@ pub record Extends (history whole : List Entry) (rest : List ℕ) : Type 0 where
   pub is : whole ≡ reverse more ++ history
   pub text : rest ≡ lines_from (length history) more
 
-extends_step :
-    OneReplay → (setup : Setup) (phases : List (List Statement)) (entry : Entry) (before whole : List Entry)
+extends_step : OneReplay → (setup : Setup) (phases : List (List Statement)) (entry : Entry) (before whole : List Entry)
     (rest : List ℕ) (more : List Entry) → All IsTyped (in_file_order phases) → IsLegal setup (entry ∷ before) →
     IsBegunFor phases (entry ∷ before) → IsLegal setup whole → IsBegunFor phases whole →
     whole ≡ reverse more ++ before →
@@ -103,8 +100,7 @@ pub record Completed (setup : Setup) (phases : List (List Statement)) (history :
   pub legal : IsLegal setup (reverse more ++ history)
   pub complete : IsCompleteFor phases (reverse more ++ history)
 
-completed_in :
-    (left : ℕ) (setup : Setup) (phases : List (List Statement)) (history : List Entry) →
+completed_in : (left : ℕ) (setup : Setup) (phases : List (List Statement)) (history : List Entry) →
     All (λ statement. IsAddressed statement.event) (in_file_order phases) → IsLegal setup history →
     IsBegunFor phases history → length history + left ≡ length (in_file_order phases) → Completed setup phases history
 completed_in zero setup phases history addressed legal begun count =
@@ -120,8 +116,7 @@ completed_in (suc left) setup phases history addressed legal begun count =
       complete = rw (newest_last next.entry rest.more history) rest.complete;
     }
 
-pub completed :
-    (setup : Setup) (phases : List (List Statement)) (history : List Entry) →
+pub completed : (setup : Setup) (phases : List (List Statement)) (history : List Entry) →
     All (λ statement. IsAddressed statement.event) (in_file_order phases) → IsLegal setup history →
     IsBegunFor phases history → Completed setup phases history
 completed setup phases history addressed legal begun =

@@ -50,8 +50,7 @@ module _ {setup : Setup} {phase : List Statement} {left : ℕ → List Event} {h
   begun = within_begun place phase left history within (omega (arith, short))
 
   -- an entry that may come next has the processor that is named
-  is_named :
-      (processor : Option ℕ) → Names (lines + 2 - 1) rest processor → (entry : Entry) (after : List ℕ) →
+  is_named : (processor : Option ℕ) → Names (lines + 2 - 1) rest processor → (entry : Entry) (after : List ℕ) →
       IsBegunFor (phases_of place phase) (entry ∷ history) →
       rest ≡ line_text (length history + 1) entry ++ line_feed ∷ after → processor ≡ Some entry.actor
   is_named processor named entry after more text =
@@ -59,8 +58,7 @@ module _ {setup : Setup} {phase : List Statement} {left : ℕ → List Event} {h
       named entry (line_feed ∷ after) (small_actor place phase left history within entry short walk.typed more)
       (rw number text)
 
-  stopped :
-      (entries : List Entry) → GoesOnWithNone setup (phases_of place phase) history rest →
+  stopped : (entries : List Entry) → GoesOnWithNone setup (phases_of place phase) history rest →
       IsAtMostNext history entries → IsLegal setup entries → IsBegunFor (phases_of place phase) entries →
       Stops entries (Differs (lines + 2))
   stopped entries none stepped legal after = record {
@@ -82,8 +80,7 @@ module _ {setup : Setup} {phase : List Statement} {left : ℕ → List Event} {h
   }
 
   -- no processor is named
-  pub stops_unnamed :
-      (processor : Option ℕ) → Names (lines + 2 - 1) rest processor → processor ≡ None →
+  pub stops_unnamed : (processor : Option ℕ) → Names (lines + 2 - 1) rest processor → processor ≡ None →
       Stops history (Differs (lines + 2))
   stops_unnamed processor named lost =
       stopped history
@@ -151,8 +148,7 @@ module _ {setup : Setup} {phase : List Statement} {left : ℕ → List Event} {h
         (inr (entry, refl)) (made.next, walk.legal) begun_made)
 
 -- a fault is handed on
-pub handed_on :
-    {T : Type 0} (result : Result T CheckFault) (fault : CheckFault) (P : T → Type 0) (Q : CheckFault → Type 0) →
-    IsErrAnd result (λ given. given ≡ fault) → Q fault → MatchResult result P Q
+pub handed_on : {T : Type 0} (result : Result T CheckFault) (fault : CheckFault) (P : T → Type 0)
+    (Q : CheckFault → Type 0) → IsErrAnd result (λ given. given ≡ fault) → Q fault → MatchResult result P Q
 handed_on (Ok value) fault P Q is holds = absurd is
 handed_on (Err given) fault P Q is holds = rw is holds

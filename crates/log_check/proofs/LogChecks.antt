@@ -20,8 +20,7 @@ addressed setup (Wide access) fits range = range
 addressed setup (LookAt kind addr smm) fits range = fits
 addressed setup _ fits range = tt
 
-all_addressed :
-    (setup : Setup) (statements : List Statement) → All IsTyped statements → AreInRange setup statements →
+all_addressed : (setup : Setup) (statements : List Statement) → All IsTyped statements → AreInRange setup statements →
     All (λ statement. IsAddressed statement.event) statements
 all_addressed setup [] typed range = All-nil (λ (statement : Statement). IsAddressed statement.event)
 all_addressed setup (first ∷ later) typed range =
@@ -30,8 +29,7 @@ all_addressed setup (first ∷ later) typed range =
     (addressed setup first.event (All-head IsTyped first later typed).look (All-head InRange first later range))
     (all_addressed setup later (All-tail IsTyped first later typed) (All-tail InRange first later range))
 
-pub known :
-    (setup : Setup) (phases : List (List Statement)) → OneReplay → All IsTyped (in_file_order phases) →
+pub known : (setup : Setup) (phases : List (List Statement)) → OneReplay → All IsTyped (in_file_order phases) →
     AreInRange setup (in_file_order phases) → Known setup phases
 known setup phases one typed range =
     record { one = one; typed = typed; addressed = all_addressed setup (in_file_order phases) typed range }
@@ -48,8 +46,7 @@ module _ (setup : Setup) (version : ℕ) (phases : List (List Statement)) (bytes
   pub failed_first : (entries : List Entry) → entries ≡ [] → FailedCheck setup version phases bytes entries NoMemory
   failed_first entries fresh = grind (arith, nat_tests, common_steps, nothing_legal, nothing_begun)
 
-  pub failed_heading :
-      (entries : List Entry) → Known setup phases → entries ≡ [] →
+  pub failed_heading : (entries : List Entry) → Known setup phases → entries ≡ [] →
       ((after : List ℕ) → bytes ≢ log_text version [] ++ after) →
       FailedCheck setup version phases bytes entries (Differs 1)
   failed_heading entries known fresh none =
@@ -57,8 +54,7 @@ module _ (setup : Setup) (version : ℕ) (phases : List (List Statement)) (bytes
 
   -- ---- at a line
 
-  pub failed_within :
-      (entries : List Entry) (fault : CheckFault) → Known setup phases →
+  pub failed_within : (entries : List Entry) (fault : CheckFault) → Known setup phases →
       StoppedCheck setup version phases bytes entries fault → FailedCheck setup version phases bytes entries fault
   failed_within entries (Differs line) known stopped = record {
     refused = differs setup version phases bytes entries line known stopped.by;
@@ -70,9 +66,8 @@ module _ (setup : Setup) (version : ℕ) (phases : List (List Statement)) (bytes
 
   -- ---- after all lines
 
-  pub passed :
-      (history : List Entry) (rest : List ℕ) (count : ℕ) → IsLegal setup history → IsCompleteFor phases history →
-      bytes ≡ log_text version history ++ rest → rest ≡ [] → count ≡ length history →
+  pub passed : (history : List Entry) (rest : List ℕ) (count : ℕ) → IsLegal setup history →
+      IsCompleteFor phases history → bytes ≡ log_text version history ++ rest → rest ≡ [] → count ≡ length history →
       IsCheckedLog setup version phases bytes history count
   passed history rest count legal complete text nothing is = record {
     log = record {
@@ -85,29 +80,18 @@ module _ (setup : Setup) (version : ℕ) (phases : List (List Statement)) (bytes
     count_is = is;
   }
 
-  pub failed_end :
-      (history : List Entry) (rest : List ℕ) (count : ℕ) → Known setup phases → IsLegal setup history →
+  pub failed_end : (history : List Entry) (rest : List ℕ) (count : ℕ) → Known setup phases → IsLegal setup history →
       IsCompleteFor phases history → bytes ≡ log_text version history ++ rest → rest ≢ [] → count ≡ length history →
       FailedCheck setup version phases bytes history (Differs (count + 2))
   failed_end history rest count known legal complete text some is =
       let begun : IsBegunFor phases history = complete_is_begun phases history complete in
       failed_within history (Differs (count + 2)) known (record {
         by = record {
-          at_line = record {
-            before = history;
-            rest = rest;
-            text = text;
-            place = omega arith;
-            stepped = inl refl;
-          };
+          at_line = record { before = history; rest = rest; text = text; place = omega arith; stepped = inl refl };
           legal = legal;
           begun = begun;
           none = λ entry after next more same.
-              omega (
-                arith,
-                complete_is_whole phases history complete,
-                begun_is_bounded phases (entry ∷ history) more,
-              );
+              omega (arith, complete_is_whole phases history complete, begun_is_bounded phases (entry ∷ history) more);
           unfinished = λ nothing whole. some nothing;
         };
         legal = legal;
@@ -116,19 +100,16 @@ module _ (setup : Setup) (version : ℕ) (phases : List (List Statement)) (bytes
 
   -- ---- what a caller hears
 
-  pub begun_after :
-      (entries : List Entry) (result : Result ℕ CheckFault) →
+  pub begun_after : (entries : List Entry) (result : Result ℕ CheckFault) →
       MatchResult result (IsCheckedLog setup version phases bytes entries)
       (FailedCheck setup version phases bytes entries) → IsBegunFor phases entries
-  begun_after entries (Ok count) checked =
-      complete_is_begun phases entries (rw checked.same at checked.log.complete)
+  begun_after entries (Ok count) checked = complete_is_begun phases entries (rw checked.same at checked.log.complete)
   begun_after entries (Err fault) checked = checked.begun
 
-  pub exactly :
-      (entries : List Entry) (result : Result ℕ CheckFault) →
+  pub exactly : (entries : List Entry) (result : Result ℕ CheckFault) →
       MatchResult result (IsCheckedLog setup version phases bytes entries)
-      (FailedCheck setup version phases bytes entries) →
-      (log : IsLogOf setup version phases bytes) → (result ≡ Ok (length log.history)) ⊎ (result ≡ Err NoMemory)
+      (FailedCheck setup version phases bytes entries) → (log : IsLogOf setup version phases bytes) →
+      (result ≡ Ok (length log.history)) ⊎ (result ≡ Err NoMemory)
   exactly entries (Ok count) checked log = grind (arith, nat_tests, common_steps, complete_is_whole)
   exactly entries (Err (Differs line)) checked log = absurd (checked.refused.other log)
   exactly entries (Err NoMemory) checked log = inr refl

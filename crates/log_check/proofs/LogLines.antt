@@ -28,8 +28,7 @@ abbrev pub lines_from : ℕ → List Entry → List ℕ
 lines_from n [] = []
 lines_from n (entry ∷ later) = line_text (n + 1) entry ++ line_feed ∷ lines_from (n + 1) later
 
-pub newest_last :
-    (entry : Entry) (later history : List Entry) →
+pub newest_last : (entry : Entry) (later history : List Entry) →
     reverse (entry ∷ later) ++ history ≡ reverse later ++ (entry ∷ history)
 newest_last entry later history =
     rw (reverse-append (entry ∷ []) later) (append_assoc (reverse later) (entry ∷ []) history)
@@ -41,8 +40,7 @@ pub lines-newest :
 unfolding lines_text
 lines-newest entry history rest = grind (arith, nat_tests, common_steps, line_text, append_assoc, lines_text, line_feed)
 
-lines-joined :
-    (more history : List Entry) →
+lines-joined : (more history : List Entry) →
     lines_text (reverse more ++ history) ≡ lines_text history ++ lines_from (length history) more
 lines-joined [] history = sym (append-nil (lines_text history))
 lines-joined (entry ∷ later) history =
@@ -58,14 +56,12 @@ lines-all history =
     ∙ lines-joined (reverse history) []
 
 -- where a log goes on after that of a history, so do the lines
-pub lines_left :
-    (version : ℕ) (whole history : List Entry) (rest : List ℕ) →
+pub lines_left : (version : ℕ) (whole history : List Entry) (rest : List ℕ) →
     log_text version whole ≡ log_text version history ++ rest → lines_text whole ≡ lines_text history ++ rest
 lines_left version whole history rest same =
     grind (arith, nat_tests, common_steps, append_cancel_left, log_text, lines_text, log_parts, append_assoc)
 
-pub log_joined :
-    (version : ℕ) (more history : List Entry) →
+pub log_joined : (version : ℕ) (more history : List Entry) →
     log_text version (reverse more ++ history) ≡ log_text version history ++ lines_from (length history) more
 log_joined version more history =
     grind (arith, nat_tests, common_steps, log_parts, reverse, lines-joined, append_assoc, log_text, lines_text)
@@ -92,8 +88,7 @@ pub record Lined (version : ℕ) (history : List Entry) : Type 0 where
   pub count : length lines ≡ length history + 1
   pub text : text_of_lines lines ≡ log_text version history
 
-pub one_line_more :
-    (lines : List (List ℕ)) (line : List ℕ) →
+pub one_line_more : (lines : List (List ℕ)) (line : List ℕ) →
     text_of_lines (lines ++ line ∷ []) ≡ text_of_lines lines ++ (line ++ line_feed ∷ [])
 one_line_more lines line =
     flat_map-append (λ l. l ++ line_feed ∷ []) lines (line ∷ [])

@@ -13,19 +13,15 @@ use Rattle.log_check.proofs.PhaseCuts.{in_first_phase, past_first_phase}
 
 -- ---- the events of a processor
 
-pub events-own :
-    (actor : ℕ) (first : Statement) (later : List Statement) → first.actor ≡ actor →
+pub events-own : (actor : ℕ) (first : Statement) (later : List Statement) → first.actor ≡ actor →
     events_by actor (first ∷ later) ≡ first.event ∷ events_by actor later
 events-own actor first later own = rw (eq-eqb first.actor actor own) refl
 
-pub events-last :
-    (actor : ℕ) (part : List Statement) (last : Statement) → last.actor ≡ actor →
+pub events-last : (actor : ℕ) (part : List Statement) (last : Statement) → last.actor ≡ actor →
     events_by actor (part ++ last ∷ []) ≡ events_by actor part ++ last.event ∷ []
-events-last actor part last own =
-    rw (events-append actor part (last ∷ []), events-own actor last [] own) refl
+events-last actor part last own = rw (events-append actor part (last ∷ []), events-own actor last [] own) refl
 
-pub events-last_other :
-    (actor : ℕ) (part : List Statement) (last : Statement) → last.actor ≢ actor →
+pub events-last_other : (actor : ℕ) (part : List Statement) (last : Statement) → last.actor ≢ actor →
     events_by actor (part ++ last ∷ []) ≡ events_by actor part
 events-last_other actor part last other =
     rw (events-append actor part (last ∷ []), ne_eqb last.actor actor other) (append-nil (events_by actor part))
@@ -37,8 +33,7 @@ pub record GoesFirst (phase part : List Statement) (last : Statement) : Type 0 w
   pub rest : List Event
   pub whole : events_by last.actor phase ≡ events_by last.actor part ++ (last.event ∷ rest)
 
-pub goes_first :
-    (phase part : List Statement) (last : Statement) → IsFrontOfPhase phase (part ++ last ∷ []) →
+pub goes_first : (phase part : List Statement) (last : Statement) → IsFrontOfPhase phase (part ++ last ∷ []) →
     GoesFirst phase part last
 goes_first phase part last front =
     let begins = front.each last.actor in
@@ -49,9 +44,8 @@ goes_first phase part last front =
           (append_assoc (events_by last.actor part) (last.event ∷ []) begins.rest);
     }
 
-same_first :
-    (phase part : List Statement) (left right : Statement) → GoesFirst phase part left → GoesFirst phase part right →
-    left.actor ≡ right.actor → left.event ≡ right.event
+same_first : (phase part : List Statement) (left right : Statement) → GoesFirst phase part left →
+    GoesFirst phase part right → left.actor ≡ right.actor → left.event ≡ right.event
 same_first phase part left right l r same =
     let mine = rw same at l.whole in
     let firsts : left.event ∷ l.rest ≡ right.event ∷ r.rest =
@@ -61,12 +55,10 @@ same_first phase part left right l r same =
 
 longer : (statements : List Statement) (last : Statement) (n : ℕ) → length statements < n →
     length (statements ++ last ∷ []) ≤ n
-longer statements last n short =
-    omega (arith, length-append statements (last ∷ []))
+longer statements last n short = omega (arith, length-append statements (last ∷ []))
 
 -- after the same statements a processor has one statement
-same_event :
-    (phases : List (List Statement)) (statements : List Statement) (left right : Statement) →
+same_event : (phases : List (List Statement)) (statements : List Statement) (left right : Statement) →
     HasPhasesSoFar phases (statements ++ left ∷ []) → HasPhasesSoFar phases (statements ++ right ∷ []) →
     left.actor ≡ right.actor → left.event ≡ right.event
 same_event [] statements left right l r same = absurd (omega (arith, ap length l, length-append statements (left ∷ [])))
@@ -86,9 +78,8 @@ same_event (phase ∷ later) statements left right l r same =
     ]
 
 -- two entries of a processor that may come next are one
-pub same_next :
-    OneReplay → (setup : Setup) (phases : List (List Statement)) (history : List Entry) (left right : Entry) →
-    IsLegal setup history → IsNext setup history left → IsNext setup history right →
+pub same_next : OneReplay → (setup : Setup) (phases : List (List Statement)) (history : List Entry)
+    (left right : Entry) → IsLegal setup history → IsNext setup history left → IsNext setup history right →
     IsBegunFor phases (left ∷ history) → IsBegunFor phases (right ∷ history) → left.actor ≡ right.actor → left ≡ right
 same_next one setup phases history left right legal l r begun others same =
     let event : left.event ≡ right.event =
@@ -105,21 +96,18 @@ same_next one setup phases history left right legal l r begun others same =
 -- ---- processors
 
 -- a processor's entries are one more with its next
-pub last_number :
-    (history : List Entry) (entry : Entry) →
+pub last_number : (history : List Entry) (entry : Entry) →
     length (entries_by entry.actor (entry ∷ history)) ≡ length (entries_by entry.actor history) + 1
 last_number history entry = grind (arith, nat_tests, common_steps, cond-true, eq-eqb, add-one, entries_by)
 
-no_events :
-    (actor : ℕ) (phase : List Statement) → All IsTyped phase → 256 ≤ actor → events_by actor phase ≡ []
+no_events : (actor : ℕ) (phase : List Statement) → All IsTyped phase → 256 ≤ actor → events_by actor phase ≡ []
 no_events actor [] typed large = refl
 no_events actor (first ∷ later) typed large =
     let small : first.actor < 256 = (All-head IsTyped first later typed).actor in
     rw (ne_eqb first.actor actor (λ same. omega (arith, same)))
     (no_events actor later (All-tail IsTyped first later typed) large)
 
-pub known_first :
-    (phase part : List Statement) (last : Statement) → All IsTyped phase → GoesFirst phase part last →
+pub known_first : (phase part : List Statement) (last : Statement) → All IsTyped phase → GoesFirst phase part last →
     last.actor < 256
 known_first phase part last typed first =
     elim (cases_lt last.actor 256) [
@@ -137,8 +125,7 @@ all_parts P first later all = (
 )
 
 -- the processor of a statement that may come next is one of the script's
-known_statement :
-    (phases : List (List Statement)) (statements : List Statement) (last : Statement) →
+known_statement : (phases : List (List Statement)) (statements : List Statement) (last : Statement) →
     All IsTyped (in_file_order phases) → HasPhasesSoFar phases (statements ++ last ∷ []) → last.actor < 256
 known_statement [] statements last typed begun =
     absurd (omega (arith, ap length begun, length-append statements (last ∷ [])))
@@ -155,8 +142,7 @@ known_statement (phase ∷ later) statements last typed begun =
           (past_first_phase phase later statements last long begun)
     ]
 
-pub known_actor :
-    (phases : List (List Statement)) (history : List Entry) (entry : Entry) → All IsTyped (in_file_order phases) →
-    IsBegunFor phases (entry ∷ history) → entry.actor < 256
+pub known_actor : (phases : List (List Statement)) (history : List Entry) (entry : Entry) →
+    All IsTyped (in_file_order phases) → IsBegunFor phases (entry ∷ history) → entry.actor < 256
 known_actor phases history entry typed begun =
     grind (arith, nat_tests, common_steps, known_statement, statements_of, statement_of, statements-newest)

@@ -4,8 +4,7 @@ use Rattle.board_prelude.proofs.Common.{take-append-le, drop-append-le, length-t
 use Rattle.board_prelude.proofs.Common.{IsFrontOfPhase, HasPhases, HasPhasesSoFar, whole_front, nothing_left}
 use Rattle.board_prelude.proofs.Common.{whole_is_front}
 
-pub phase_fits :
-    (phase statements : List Statement) → IsWholePhase phase (take (length phase) statements) →
+pub phase_fits : (phase statements : List Statement) → IsWholePhase phase (take (length phase) statements) →
     length phase ≤ length statements
 phase_fits phase statements whole = omega (arith, whole.size, length-take (length phase) statements)
 
@@ -18,8 +17,7 @@ module _ (phase before tail : List Statement) (whole : IsWholePhase phase (take 
   left_again = drop-append-le (length phase) before tail (phase_fits phase before whole)
 
 -- phases that follow those that are done
-pub begun_joined :
-    (done later : List (List Statement)) (before tail : List Statement) → HasPhases done before →
+pub begun_joined : (done later : List (List Statement)) (before tail : List Statement) → HasPhases done before →
     HasPhasesSoFar later tail → HasPhasesSoFar (done ++ later) (before ++ tail)
 begun_joined [] later before tail whole begun = rw whole begun
 begun_joined (phase ∷ done) later before tail whole begun =
@@ -29,8 +27,7 @@ begun_joined (phase ∷ done) later before tail whole begun =
           (begun_joined done later (drop (length phase) before) tail whole.1 begun),
     )
 
-pub whole_joined :
-    (done later : List (List Statement)) (before tail : List Statement) → HasPhases done before →
+pub whole_joined : (done later : List (List Statement)) (before tail : List Statement) → HasPhases done before →
     HasPhases later tail → HasPhases (done ++ later) (before ++ tail)
 whole_joined [] later before tail whole more = rw whole more
 whole_joined (phase ∷ done) later before tail whole more = (
@@ -39,17 +36,15 @@ whole_joined (phase ∷ done) later before tail whole more = (
 )
 
 -- what stands after the phases that are done has the phases that follow
-pub whole_left :
-    (done later : List (List Statement)) (before tail : List Statement) → HasPhases done before →
+pub whole_left : (done later : List (List Statement)) (before tail : List Statement) → HasPhases done before →
     HasPhases (done ++ later) (before ++ tail) → HasPhases later tail
 whole_left [] later before tail whole more = rw whole at more
 whole_left (phase ∷ done) later before tail whole more =
     whole_left done later (drop (length phase) before) tail whole.1
     (rw (left_again phase before tail whole.0) at more.1)
 
-pub begun_left :
-    (done later : List (List Statement)) (before tail : List Statement) → HasPhases done before → 0 < length tail →
-    HasPhasesSoFar (done ++ later) (before ++ tail) → HasPhasesSoFar later tail
+pub begun_left : (done later : List (List Statement)) (before tail : List Statement) → HasPhases done before →
+    0 < length tail → HasPhasesSoFar (done ++ later) (before ++ tail) → HasPhasesSoFar later tail
 begun_left [] later before tail whole some begun = rw whole at begun
 begun_left (phase ∷ done) later before tail whole some (inl front) =
     absurd (omega (arith, phase_fits phase before whole.0, front.size, length-append before tail))
@@ -60,17 +55,15 @@ begun_left (phase ∷ done) later before tail whole some (inr more) =
 -- ---- one phase
 
 -- statements that do not go past the first phase are a front of it
-pub in_first_phase :
-    (phase : List Statement) (later : List (List Statement)) (statements : List Statement) →
+pub in_first_phase : (phase : List Statement) (later : List (List Statement)) (statements : List Statement) →
     length statements ≤ length phase → HasPhasesSoFar (phase ∷ later) statements → IsFrontOfPhase phase statements
 in_first_phase phase later statements short (inl front) = front
 in_first_phase phase later statements short (inr whole) =
     whole_is_front phase statements (rw (take_all (length phase) statements short) at whole.0)
 
 -- and those that do go past it have all of it
-pub past_first_phase :
-    (phase : List Statement) (later : List (List Statement)) (statements : List Statement) (last : Statement) →
-    length phase ≤ length statements → HasPhasesSoFar (phase ∷ later) (statements ++ last ∷ []) →
+pub past_first_phase : (phase : List Statement) (later : List (List Statement)) (statements : List Statement)
+    (last : Statement) → length phase ≤ length statements → HasPhasesSoFar (phase ∷ later) (statements ++ last ∷ []) →
     HasPhasesSoFar later (drop (length phase) statements ++ last ∷ [])
 past_first_phase phase later statements last long (inl front) =
     absurd (omega (arith, front.size, length-append statements (last ∷ [])))

@@ -7,8 +7,7 @@ use Rattle.script_spec.specs.Phases.{lists_of}
 use Rattle.log_check.proofs.NextStatements.{all_parts}
 
 -- the statements of the phases before one, those of this one, and those after it
-pub statements_cut :
-    (before : List (List Statement)) (phase : List Statement) (later : List (List Statement)) →
+pub statements_cut : (before : List (List Statement)) (phase : List Statement) (later : List (List Statement)) →
     in_file_order (before ++ phase ∷ later) ≡ in_file_order before ++ (phase ++ in_file_order later)
 statements_cut before phase later = flat_map-append (λ (p : List Statement). p) before (phase ∷ later)
 
@@ -18,8 +17,7 @@ length_cut :
     ≡ length (in_file_order before) + (length phase + length (in_file_order later))
 length_cut before phase later = grind (arith, nat_tests, common_steps, statements_cut, length-append, in_file_order)
 
-pub all_of_phase :
-    (P : Statement → Type 0) (before : List (List Statement)) (phase : List Statement)
+pub all_of_phase : (P : Statement → Type 0) (before : List (List Statement)) (phase : List Statement)
     (later : List (List Statement)) → All P (in_file_order (before ++ phase ∷ later)) → All P phase
 all_of_phase P before phase later all =
     (all_parts P phase (in_file_order later)

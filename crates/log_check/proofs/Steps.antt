@@ -10,8 +10,7 @@ use Rattle.log_check.proofs.PhaseCuts.{phase_fits}
 use Rattle.log_check.proofs.NextStatements.{events-last, events-last_other, GoesFirst, goes_first, known_first}
 
 -- at the start of a phase all of it is left
-pub within_start :
-    (place : WalkPlace) (phase : List Statement) (left : ℕ → List Event) (history : List Entry) →
+pub within_start : (place : WalkPlace) (phase : List Statement) (left : ℕ → List Event) (history : List Entry) →
     IsCompleteFor place.done history → place.count ≡ 0 → ((actor : ℕ) → left actor ≡ events_by actor phase) →
     IsWithin place phase left history
 within_start place phase left history complete none all =
@@ -39,8 +38,7 @@ module _ (place : WalkPlace) (phase : List Statement) (left : ℕ → List Event
     last = statement_of entry
 
     said : statements_of (entry ∷ history) ≡ within.before ++ (within.part ++ last ∷ [])
-    said =
-        statements-newest entry history ∙ rw within.statements (append_assoc within.before within.part (last ∷ []))
+    said = statements-newest entry history ∙ rw within.statements (append_assoc within.before within.part (last ∷ []))
 
     -- an entry that may come next is of its processor's next statement
     next_first :
@@ -78,9 +76,6 @@ module _ (place : WalkPlace) (phase : List Statement) (left : ℕ → List Event
           (sym (append_assoc (events_by entry.actor within.part) (entry.event ∷ []) (after entry.actor)))
       | inr apart ↦
           within.each actor
-          ∙ rw (
-            others actor apart,
-            events-last_other actor within.part (last entry) (λ same. apart (sym same)),
-          )
+          ∙ rw (others actor apart, events-last_other actor within.part (last entry) (λ same. apart (sym same)))
     ];
   }

@@ -1,12 +1,11 @@
 -- A text is cut at a byte, and a line of a log names its processor.
 use Rattle.std.proofs.Common.{ℕ, ◌≡◌, ◌≢◌, ◌+◌, ◌-◌, ◌<◌, ◌≤◌, IfSome, slice_index_or, true, cond, ltb, List, [], ◌∷◌}
 use Rattle.std.proofs.Common.{◌++◌, length, take, drop, All, Option, Some, None, Result, Ok, Err, refl, sym, ap, ◌∙◌}
-use Rattle.std.proofs.Common.{inl, append_assoc, subst, MatchOption, length-append, length-drop, arith, decimal, codes}
-use Rattle.std.proofs.Common.{MatchResult, ◌==◌}
-use Rattle.board_prelude.proofs.Common.{common_steps, nat_tests, position, position_or_len, result_ok}
-use Rattle.board_prelude.proofs.Common.{IsUtf8-from_ascii, take-append_seam, eq-eqb, ne_eqb, eqb-false, lt-ltb}
-use Rattle.board_prelude.proofs.Common.{cond-true, take_all, All-nil, All-cons, All-head, All-tail, Entry, space}
-use Rattle.board_prelude.proofs.Common.{line_feed, event_text, value_bytes, reply_text, line_text}
+use Rattle.std.proofs.Common.{inl, append_assoc, subst, MatchOption, arith, decimal, codes, MatchResult, ◌==◌}
+use Rattle.board_prelude.proofs.Common.{length-append, length-drop, common_steps, nat_tests, position, position_or_len}
+use Rattle.board_prelude.proofs.Common.{result_ok, IsUtf8-from_ascii, take-append_seam, eq-eqb, ne_eqb, eqb-false}
+use Rattle.board_prelude.proofs.Common.{lt-ltb, cond-true, take_all, All-nil, All-cons, All-head, All-tail, Entry}
+use Rattle.board_prelude.proofs.Common.{space, line_feed, event_text, value_bytes, reply_text, line_text}
 use Rattle.std.specs.Option.{ok_or}
 use Rattle.std.specs.Str.{IsUtf8}
 use Rattle.std.proofs.lemmas.Fmt.{IsAscii-decimal, decimal_injective}
@@ -17,8 +16,7 @@ use Rattle.script_spec.proofs.Common.{lacks-decimal, lacks-line}
 
 -- ---- the first byte of a kind
 
-length_before :
-    (mark : ℕ) (before after : List ℕ) → All (λ byte. byte ≢ mark) before →
+length_before : (mark : ℕ) (before after : List ℕ) → All (λ byte. byte ≢ mark) before →
     position_or_len (λ byte. byte == mark) (before ++ mark ∷ after) ≡ length before
 length_before mark [] after apart = rw (eq-eqb mark mark refl) refl
 length_before mark (c ∷ cs) after apart =
@@ -27,8 +25,7 @@ length_before mark (c ∷ cs) after apart =
       length_before mark cs after (All-tail (λ byte. byte ≢ mark) c cs apart),
     ) (omega arith)
 
-position_of_mark :
-    (mark : ℕ) (before after : List ℕ) → All (λ byte. byte ≢ mark) before →
+position_of_mark : (mark : ℕ) (before after : List ℕ) → All (λ byte. byte ≢ mark) before →
     position (λ byte. byte == mark) (before ++ mark ∷ after) ≡ Some (length before)
 position_of_mark mark before after apart =
     grind (arith, nat_tests, common_steps, position_or_len, length_before, length-append, cond, ltb, cond-true, lt-ltb)
@@ -37,37 +34,32 @@ take_rest : (n : ℕ) (bytes : List ℕ) → take (length bytes - n) (drop n byt
 take_rest n bytes = grind (arith, nat_tests, common_steps, length-drop, take_all)
 
 -- what stands after the mark
-pub past_mark :
-    (mark at : ℕ) (bytes before after : List ℕ) → bytes ≡ before ++ mark ∷ after → at ≡ length before →
+pub past_mark : (mark at : ℕ) (bytes before after : List ℕ) → bytes ≡ before ++ mark ∷ after → at ≡ length before →
     take (length bytes - (at + 1)) (drop (at + 1) bytes) ≡ after
 past_mark mark at bytes before after is place = grind (arith, nat_tests, common_steps, take_rest, is, drop-append-add)
 
 pub ruleset after_marks = (past_mark, length-append)
 
 -- and what stands before it
-pub cut_at_mark :
-    (mark at : ℕ) (bytes before after : List ℕ) → All (λ byte. byte ≢ mark) before → bytes ≡ before ++ mark ∷ after →
-    position (λ byte. byte == mark) bytes ≡ Some at →
+pub cut_at_mark : (mark at : ℕ) (bytes before after : List ℕ) → All (λ byte. byte ≢ mark) before →
+    bytes ≡ before ++ mark ∷ after → position (λ byte. byte == mark) bytes ≡ Some at →
     (take at bytes ≡ before) × (take (length bytes - (at + 1)) (drop (at + 1) bytes) ≡ after)
 cut_at_mark mark at bytes before after apart is found =
     grind (arith, nat_tests, common_steps, position, is, position_of_mark, take-append_seam, past_mark)
 
-pub not_lost :
-    (mark : ℕ) (bytes before after : List ℕ) → All (λ byte. byte ≢ mark) before → bytes ≡ before ++ mark ∷ after →
-    position (λ byte. byte == mark) bytes ≡ None → ⊥
+pub not_lost : (mark : ℕ) (bytes before after : List ℕ) → All (λ byte. byte ≢ mark) before →
+    bytes ≡ before ++ mark ∷ after → position (λ byte. byte == mark) bytes ≡ None → ⊥
 not_lost mark bytes before after apart is lost = grind (arith, nat_tests, common_steps, position, is, position_of_mark)
 
 -- an error where none of the results is read
-pub the_error :
-    {T E : Type 0} (P : T → Type 0) (Q : E → Type 0) (result : Result T E) → MatchResult result P Q →
+pub the_error : {T E : Type 0} (P : T → Type 0) (Q : E → Type 0) (result : Result T E) → MatchResult result P Q →
     result_ok result ≡ None → (fault : E) × Q fault
 the_error P Q (Ok value) holds none = cc
 the_error P Q (Err fault) holds none = (fault, holds)
 
 -- and the value where one is read
-pub the_value :
-    {T E : Type 0} (P : T → Type 0) (Q : E → Type 0) (result : Result T E) (value : T) → MatchResult result P Q →
-    result_ok result ≡ Some value → P value
+pub the_value : {T E : Type 0} (P : T → Type 0) (Q : E → Type 0) (result : Result T E) (value : T) →
+    MatchResult result P Q → result_ok result ≡ Some value → P value
 the_value P Q (Ok other) value holds some = let same : other ≡ value = cc in subst P same holds
 the_value P Q (Err fault) value holds some = cc
 
@@ -77,9 +69,8 @@ digits_utf8 bytes number small is =
     subst IsUtf8 (sym is) (IsUtf8-from_ascii (decimal number) (IsAscii-decimal number (omega (arith, small))))
 
 -- an option as a result
-pub ok_or_cases :
-    {T E : Type 0} (P : Type 0) (Q : T → Type 0) (result : Option T) (fault : E) → MatchOption result P Q →
-    MatchResult (ok_or result fault) Q (λ given. (given ≡ fault) × P)
+pub ok_or_cases : {T E : Type 0} (P : Type 0) (Q : T → Type 0) (result : Option T) (fault : E) →
+    MatchOption result P Q → MatchResult (ok_or result fault) Q (λ given. (given ≡ fault) × P)
 ok_or_cases P Q None fault none = (refl, none)
 ok_or_cases P Q (Some value) fault some = some
 
@@ -92,8 +83,7 @@ apart_from mark (c ∷ cs) lack =
     (apart_from mark cs (lacks-later mark c cs lack))
 
 -- two lines that each end in a line feed
-pub cut_line :
-    (line other after rest : List ℕ) → IsOneLine line → IsOneLine other →
+pub cut_line : (line other after rest : List ℕ) → IsOneLine line → IsOneLine other →
     line ++ line_feed ∷ after ≡ other ++ line_feed ∷ rest → (line ≡ other) × (after ≡ rest)
 cut_line line other after rest one two same = (
   sym (front-field line_feed line after (lacks-line line one)) ∙ ap (front line_feed) same
@@ -107,8 +97,7 @@ pub record Named (n : ℕ) (entry : Entry) (after : List ℕ) : Type 0 where
   pub later : List ℕ
   pub is : line_text n entry ++ after ≡ decimal n ++ space ∷ (decimal entry.actor ++ 0x2E ∷ later)
 
-eight_parts :
-    (a b c d e f g h : List ℕ) →
+eight_parts : (a b c d e f g h : List ℕ) →
     a ++ b ++ c ++ d ++ e ++ f ++ g ++ h ≡ a ++ (b ++ (c ++ (d ++ (e ++ (f ++ (g ++ h))))))
 eight_parts a b c d e f g h = simp append_assoc
 
@@ -125,14 +114,11 @@ named n entry after =
 
 -- no byte of a number is a full stop
 pub decimal_apart : (n : ℕ) → n < 256 → All (λ byte. byte ≢ 0x2E) (decimal n)
-decimal_apart n small =
-    apart_from 0x2E (decimal n) (lacks-decimal 0x2E n (inl (omega arith)) (omega (arith, small)))
+decimal_apart n small = apart_from 0x2E (decimal n) (lacks-decimal 0x2E n (inl (omega arith)) (omega (arith, small)))
 
 -- a digit before a full stop is the number that stands before the first one
-pub single_is :
-    (byte digit : ℕ) (bytes after later : List ℕ) (number : ℕ) → digit < 256 → number < 256
-    → decimal digit ≡ byte ∷ [] →
-    bytes ≡ byte ∷ 0x2E ∷ later → bytes ≡ decimal number ++ 0x2E ∷ after → number ≡ digit
+pub single_is : (byte digit : ℕ) (bytes after later : List ℕ) (number : ℕ) → digit < 256 → number < 256 →
+    decimal digit ≡ byte ∷ [] → bytes ≡ byte ∷ 0x2E ∷ later → bytes ≡ decimal number ++ 0x2E ∷ after → number ≡ digit
 single_is byte digit bytes after later number small less is one other =
     let digits : (n : ℕ) → n < 256 → lacks 0x2E (decimal n) ≡ true =
     λ n few. lacks-decimal 0x2E n (inl (omega arith)) (omega (arith, few)) in

@@ -5,35 +5,30 @@ use Rattle.std.proofs.Common.{◌∷◌, ◌≡◌, ℕ, ◌++◌, List, Result,
 use Rattle.std.proofs.Common.{decimal, OnErr}
 use Rattle.logs_and_maps.specs.Adds.{IsFront}
 
-pub appended_more :
-    (old first middle new second : List ℕ) → middle ≡ old ++ first → new ≡ middle ++ second
-    → new ≡ old ++ (first ++ second)
+pub appended_more : (old first middle new second : List ℕ) → middle ≡ old ++ first → new ≡ middle ++ second →
+    new ≡ old ++ (first ++ second)
 appended_more old first middle new second one two = rw (two, one) (simp append_assoc)
 
-pub appended_twice :
-    {T E : Type 0} (r : Result T E) (old first : List ℕ) (middle new second whole : List ℕ) → middle ≡ old ++ first
-    → OnOk r (new ≡ middle ++ second) → whole ≡ first ++ second → OnOk r (new ≡ old ++ whole)
+pub appended_twice : {T E : Type 0} (r : Result T E) (old first : List ℕ) (middle new second whole : List ℕ) →
+    middle ≡ old ++ first → OnOk r (new ≡ middle ++ second) → whole ≡ first ++ second → OnOk r (new ≡ old ++ whole)
 appended_twice (Ok x) old first middle new second whole one two joined =
     appended_more old first middle new second one two ∙ ap (λ t. old ++ t) (sym joined)
 appended_twice (Err e) old first middle new second whole one two joined = tt
 
 -- after a text that has grown a text that begins with it begins with the old one too
-pub front_more :
-    {T E : Type 0} (r : Result T E) (old first middle new : List ℕ) → middle ≡ old ++ first
-    → OnErr r (IsFront middle new) → OnErr r (IsFront old new)
+pub front_more : {T E : Type 0} (r : Result T E) (old first middle new : List ℕ) → middle ≡ old ++ first →
+    OnErr r (IsFront middle new) → OnErr r (IsFront old new)
 front_more (Ok x) old first middle new one front = tt
 front_more (Err e) old first middle new one front =
     record { rest = first ++ front.rest; joined = appended_more old first middle new front.rest one front.joined }
 
 -- a number is put before three words at the front of an end of a line
-pub number_put :
-    (number version : ℕ) (x y z old middle new : List ℕ) → number ≡ version → middle ≡ x ++ y ++ z ++ old
-    → new ≡ decimal number ++ middle → new ≡ decimal version ++ x ++ y ++ z ++ old
+pub number_put : (number version : ℕ) (x y z old middle new : List ℕ) → number ≡ version → middle ≡ x ++ y ++ z ++ old →
+    new ≡ decimal number ++ middle → new ≡ decimal version ++ x ++ y ++ z ++ old
 number_put number version x y z old middle new same below above = rw (above, below, same) (simp append_assoc)
 
-parts_joined :
-    (h k z a w s e r : List ℕ)
-    → h ++ (k ++ z ++ a ++ w ++ s) ++ e ++ r ≡ h ++ k ++ z ++ a ++ (w ++ s) ++ (e ++ r)
+parts_joined : (h k z a w s e r : List ℕ) →
+    h ++ (k ++ z ++ a ++ w ++ s) ++ e ++ r ≡ h ++ k ++ z ++ a ++ (w ++ s) ++ (e ++ r)
 parts_joined h k z a w s e r = simp append_assoc
 
 -- the line of a wide access: up to its address, its value and its mark, and its reply

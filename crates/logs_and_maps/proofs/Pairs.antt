@@ -10,9 +10,8 @@ are_pairs (suc byte) =
     (eqb (get_or PAIRS (byte * 2) 0) (hex_digit (byte / 16)) && eqb (get_or PAIRS (byte * 2 + 1) 0) (hex_digit byte))
     && are_pairs byte
 
-below :
-    (n byte : ℕ) → are_pairs n ≡ true → byte < n
-    → (get_or PAIRS (byte * 2) 0 ≡ hex_digit (byte / 16)) × (get_or PAIRS (byte * 2 + 1) 0 ≡ hex_digit byte)
+below : (n byte : ℕ) → are_pairs n ≡ true → byte < n →
+    (get_or PAIRS (byte * 2) 0 ≡ hex_digit (byte / 16)) × (get_or PAIRS (byte * 2 + 1) 0 ≡ hex_digit byte)
 below zero byte all lt = absurd (omega (arith, lt))
 below (suc n) byte all lt =
     let parts = and_parts _ (are_pairs n) all in
@@ -22,7 +21,6 @@ below (suc n) byte all lt =
       | inr after ↦ let same : byte ≡ n = omega (arith, lt, after) in rw same (eqb-true _ _ last.0, eqb-true _ _ last.1)
     ]
 
-pub pair_at :
-    (byte : ℕ) → byte < 256
-    → (get_or PAIRS (byte * 2) 0 ≡ hex_digit (byte / 16)) × (get_or PAIRS (byte * 2 + 1) 0 ≡ hex_digit byte)
+pub pair_at : (byte : ℕ) → byte < 256 →
+    (get_or PAIRS (byte * 2) 0 ≡ hex_digit (byte / 16)) × (get_or PAIRS (byte * 2 + 1) 0 ≡ hex_digit byte)
 pair_at byte fits = below 256 byte refl fits

@@ -24,9 +24,8 @@ ascii_marked n mark rest fits small after =
     (IsAscii-append (mark ∷ []) rest (ascii_one mark small) after)
 
 -- the words that were put last, one character further to the front
-pub one_more :
-    (xs old : List ℕ) (i left : ℕ) → i + 1 ≡ left → i < length xs
-    → get_or xs i 0 ∷ (drop left xs ++ old) ≡ drop i xs ++ old
+pub one_more : (xs old : List ℕ) (i left : ℕ) → i + 1 ≡ left → i < length xs →
+    get_or xs i 0 ∷ (drop left xs ++ old) ≡ drop i xs ++ old
 one_more xs old i left same within =
     ap (λ (n : ℕ). get_or xs i 0 ∷ (drop n xs ++ old)) (sym same)
     ∙ ap (λ (t : List ℕ). t ++ old) (sym (drop_more xs i 0 within))

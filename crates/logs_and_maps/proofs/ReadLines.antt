@@ -37,9 +37,8 @@ has_entry version n rest line after read entry parts exact is =
       line = cut_joined line_feed rest line after (sym parts) ∙ ap (λ (text : List ℕ). text ++ line_feed ∷ after) e.1;
     }
 
-pub no_entry : (version n : ℕ) (rest line after : List ℕ) (read : Option Entry)
-    → Some (line, after) ≡ cut line_feed rest
-    → IsRead version n line read → read ≡ None → HasNoEntry version n rest
+pub no_entry : (version n : ℕ) (rest line after : List ℕ) (read : Option Entry) →
+    Some (line, after) ≡ cut line_feed rest → IsRead version n line read → read ≡ None → HasNoEntry version n rest
 no_entry version n rest line after read parts exact is entry later has =
     let e = subst (IsRead version n line) is exact in
     let same = some_is (line, after) (line_text n entry, later) (parts ∙ entry_cut version n rest entry later has) in
@@ -47,10 +46,9 @@ no_entry version n rest line after read parts exact is entry later has =
 
 -- ---- the entries so far
 
-pub lines_more : (version n : ℕ) (lines rest after : List ℕ) (entries : List Entry) (entry : Entry)
-    → n ≡ length entries + 1
-    → lines ≡ lines_text (reverse entries) ++ rest → HasEntry version n rest entry after
-    → lines ≡ lines_text (reverse (entries ++ entry ∷ [])) ++ after
+pub lines_more : (version n : ℕ) (lines rest after : List ℕ) (entries : List Entry) (entry : Entry) →
+    n ≡ length entries + 1 → lines ≡ lines_text (reverse entries) ++ rest → HasEntry version n rest entry after →
+    lines ≡ lines_text (reverse (entries ++ entry ∷ [])) ++ after
 lines_more version n lines rest after entries entry place cut has =
     rw (
       cut,

@@ -202,8 +202,7 @@ module _ (bytes heading_line lines : List ℕ) (version : ℕ) (parts : Some (he
         ∙ append-nil (log_text version (reverse entries));
   }
 
-pub passed_on : {T : Type 0} (result : Result T LogFault) (fault : LogFault) (Named : LogFault → Type 0)
-    → IsErrAnd result (λ given. given ≡ fault)
-    → Named fault → IfErr result Named
+pub passed_on : {T : Type 0} (result : Result T LogFault) (fault : LogFault) (Named : LogFault → Type 0) →
+    IsErrAnd result (λ given. given ≡ fault) → Named fault → IfErr result Named
 passed_on (Ok value) fault Named is named = tt
 passed_on (Err given) fault Named is named = subst Named (sym is) named

@@ -7,10 +7,9 @@ use Rattle.make_script.specs.Common.{answers, is_look, count_where, IsCycleReply
 use Rattle.make_script.specs.Common.{most_counted}
 use Rattle.make_script.specs.declared.counts.Counts.{Counts}
 
-pub count-more :
-    (test : Entry → Bool) (entry : Entry) (history : List Entry) (mark : Bool) (n more : ℕ) → mark ≡ test entry
-    → n ≡ count_where test history → more ≡ bool_byte mark
-    → n + more ≡ count_where test (entry ∷ history)
+pub count-more : (test : Entry → Bool) (entry : Entry) (history : List Entry) (mark : Bool) (n more : ℕ) →
+    mark ≡ test entry → n ≡ count_where test history → more ≡ bool_byte mark →
+    n + more ≡ count_where test (entry ∷ history)
 count-more test entry history mark n more marked before one = grind (arith, nat_tests)
 
 count-below : (test : Entry → Bool) (history : List Entry) → count_where test history ≤ length history

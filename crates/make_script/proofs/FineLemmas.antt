@@ -75,9 +75,8 @@ read-fine : (actor addr : ℕ) → is_line (asks actor (reads Four addr false)) 
     → IsFine (asks actor (reads Four addr false))
 read-fine actor addr line aligned small = grind (arith, nat_tests)
 
-write-fine : (actor addr value : ℕ) → is_line (asks actor (writes Four addr value false)) ≡ true → addr % 4 ≡ 0
-    → addr < 2 ^ 32 → value < 2 ^ 32
-    → IsFine (asks actor (writes Four addr value false))
+write-fine : (actor addr value : ℕ) → is_line (asks actor (writes Four addr value false)) ≡ true → addr % 4 ≡ 0 →
+    addr < 2 ^ 32 → value < 2 ^ 32 → IsFine (asks actor (writes Four addr value false))
 write-fine actor addr value line aligned small fits = grind (arith, nat_tests)
 
 -- the last eight statements do not depend on the round

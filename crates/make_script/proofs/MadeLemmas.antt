@@ -101,11 +101,7 @@ setup-read later items read =
                       (All-cons IsBaseForm (IoBase 4) [] (omega arith) (All-nil IsBaseForm));
                   rom = tt;
                 }) refl refl,
-                inr (
-                  BeginPhase,
-                  good _ (codes "phase") BeginPhase (omega arith) refl tt refl refl,
-                  read,
-                ),
+                inr (BeginPhase, good _ (codes "phase") BeginPhase (omega arith) refl tt refl refl, read),
               ),
             ),
           ),
@@ -181,8 +177,7 @@ rom-fits = inl (length-map-range_with_len (λ offset. offset % 256) 0 0x1_0000)
 
 disk-fits : IsDisk (Some disk_image)
 unfolding disk_image
-disk-fits =
-    (64, omega arith, omega arith, length-map-range_with_len (λ offset. offset / 512) 0 (64 * 512))
+disk-fits = (64, omega arith, omega arith, length-map-range_with_len (λ offset. offset / 512) 0 (64 * 512))
 
 made-cards : IsCardList made_cards
 unfolding made_script

@@ -1,7 +1,6 @@
 -- The lines of one round more.
-use Rattle.board_prelude.proofs.Common.{nat_tests, flat_map-append, line_feed}
-use Rattle.std.proofs.Common.{ℕ, suc, ◌≡◌, ◌+◌, List, [], ◌∷◌, ◌++◌, append-nil, sym, ap, ◌∙◌, append_assoc, arith}
-use Rattle.std.proofs.Common.{Result, OnOk}
+use Rattle.board_prelude.proofs.Common.{nat_tests, flat_map-append, line_feed, append-nil}
+use Rattle.std.proofs.Common.{ℕ, suc, ◌≡◌, ◌+◌, List, [], ◌∷◌, ◌++◌, sym, ap, ◌∙◌, append_assoc, arith, Result, OnOk}
 use Rattle.logs_and_maps.proofs.Joined.{appended_more, appended_twice}
 use Rattle.script_spec.specs.Lines.{text_of_lines}
 use Rattle.make_script.specs.MakeText.{setup_lines, opening_lines, round_lines, lines_of_rounds, make_lines}

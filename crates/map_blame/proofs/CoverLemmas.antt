@@ -31,10 +31,7 @@ none_found count (Some place) = none_at count place
 
 pub covers_of_none : (count : ℕ) → AreCoversOf [] (record { last = replicate count None; lock = None })
 unfolding last_cover first_lock
-covers_of_none count = record {
-  last = λ reg placed. none_found count (place_of reg);
-  lock = refl;
-}
+covers_of_none count = record { last = λ reg placed. none_found count (place_of reg); lock = refl }
 
 -- ---- of one change more
 

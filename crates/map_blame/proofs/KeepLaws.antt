@@ -68,10 +68,7 @@ pub record IsNumber (changes : List MapChange) (number : ℕ) : Type 0 where
 
 last_number : (at : Reg) (width : Width) (value : ℕ) (before : List MapChange) (number : ℕ) →
     length before + 1 ≡ number → IsNumber (Store at width value ∷ before) number
-last_number at width value before number last = record {
-  after = omega (arith, reset_among before);
-  most = omega arith;
-}
+last_number at width value before number last = record { after = omega (arith, reset_among before); most = omega arith }
 
 earlier_number : (at : Reg) (width : Width) (value : ℕ) {before : List MapChange} {number : ℕ} →
     IsNumber before number → IsNumber (Store at width value ∷ before) number
@@ -103,8 +100,7 @@ lock_number [] number is = cc
 lock_number (Reset ∷ before) number is = cc
 lock_number (Store at width value ∷ before) number is = elim (or_cases (first_lock before) _ number is) [
   | inl earlier ↦ earlier_number at width value (lock_number before number earlier)
-  | inr here ↦
-      last_number at width value before number (where_true (locks (Store at width value)) _ number here.1).1
+  | inr here ↦ last_number at width value before number (where_true (locks (Store at width value)) _ number here.1).1
 ]
 
 -- ---- numbers that choose changes
@@ -247,8 +243,7 @@ module _ (setup : Setup) (keep : List ℕ) where
       is_some (first_lock (chosen keep changes)) ≡ is_some (first_lock changes)
   unfolding first_lock chosen
   lock_same [] since has = refl
-  lock_same (Reset ∷ before) since has =
-      ap (λ changes. is_some (first_lock changes)) (none_of_reset before since)
+  lock_same (Reset ∷ before) since has = ap (λ changes. is_some (first_lock changes)) (none_of_reset before since)
   lock_same (Store at width value ∷ before) since has =
       let sets : Bool = locks (Store at width value) in
       let number : ℕ = length before + 1 in

@@ -1,9 +1,8 @@
 -- Lists of ranges that are watched.
 use Rattle.std.proofs.Common.{◌≡◌, ℕ, ◌+◌, ◌<◌, ◌≤◌, inl, inr, false, List, [], ◌∷◌, length, get_or, set, map, sym, ◌∙◌}
-use Rattle.std.proofs.Common.{arith, All, refl}
-use Rattle.board_prelude.proofs.Common.{cases_lt, get_or-set_same, get_or-set_other, get_or_default, get_or-map}
-use Rattle.board_prelude.proofs.Common.{length-map, ext_get_or, All-nil, All-cons, MapChange, Setup, registers_after}
-use Rattle.board_prelude.proofs.Common.{Tiles, IsFlatMapOf}
+use Rattle.std.proofs.Common.{arith, All, refl, get_or-set_same, get_or-set_other, ext_get_or}
+use Rattle.board_prelude.proofs.Common.{cases_lt, get_or_default, get_or-map, length-map, All-nil, All-cons, MapChange}
+use Rattle.board_prelude.proofs.Common.{Setup, registers_after, Tiles, IsFlatMapOf}
 use Rattle.std.proofs.lemmas.Simd.{map-map}
 use Rattle.board_spec.proofs.FlatMapLaws.{tiles_below}
 use Rattle.map_builder.specs.Common.{Range, range_of, no_range}
@@ -49,8 +48,7 @@ abbrev pub watched_range : Watched → Range
 watched_range watched = watched.blamed.range
 
 pub are_watchable : (watched : List Watched) (ranges : List Range) → map watched_range watched ≡ ranges →
-    All IsInterval ranges →
-    All IsWatchable watched
+    All IsInterval ranges → All IsWatchable watched
 are_watchable watched ranges same are k d within =
     let all = rw (← same) at are in
     rw (get_or-map watched_range watched k d no_range within)
@@ -100,7 +98,4 @@ module _ (setup : Setup) (changes : List MapChange) (old new : List Watched) (ra
       rw is (since_is setup changes one (watched k no_watched below) right)
 
   pub are_blamed : AreBlamed setup changes blamed
-  are_blamed = record {
-    map = rw all_ranges is_map;
-    since = range_since;
-  }
+  are_blamed = record { map = rw all_ranges is_map; since = range_since }

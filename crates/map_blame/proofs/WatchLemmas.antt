@@ -176,8 +176,7 @@ top_after_changes setup (change ∷ before) =
     top_after setup (registers_after setup before) change (top_after_changes setup before)
 
 pub holds_change : (setup : Setup) (before : List MapChange) (change : MapChange) (bounds : Changed) →
-    IsCardList setup.cards →
-    bounds ≡ bounds_or_zero (changed_windows setup (registers_after setup before) change) →
+    IsCardList setup.cards → bounds ≡ bounds_or_zero (changed_windows setup (registers_after setup before) change) →
     HoldChange bounds setup before change
 unfolding registers_after
 holds_change setup before change bounds cards is addr address outside =

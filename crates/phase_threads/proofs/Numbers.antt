@@ -64,11 +64,10 @@ same_numbers f xs ys a e any =
     (any.0, y, less, get_or_default ys any.0 y any.1 less, number)
 
 -- what holds of each job's processor and work holds by processor
-pub by_number : (W : ℕ → List Done → Type 0) (jobs : List Job) (first : ℕ)
-    → All (λ job. W job.cpu.number job.work.done.items) jobs
-    → map (λ (job : Job). job.cpu.number) jobs ≡ range_with_len first (length jobs) → (actor : ℕ) → first ≤ actor
-    → actor < first + length jobs
-    → W actor (done_by first actor (done_in (map (λ (job : Job). job.work) jobs)))
+pub by_number : (W : ℕ → List Done → Type 0) (jobs : List Job) (first : ℕ) →
+    All (λ job. W job.cpu.number job.work.done.items) jobs →
+    map (λ (job : Job). job.cpu.number) jobs ≡ range_with_len first (length jobs) → (actor : ℕ) → first ≤ actor →
+    actor < first + length jobs → W actor (done_by first actor (done_in (map (λ (job : Job). job.work) jobs)))
 unfolding done_by
 by_number W [] first all numbers actor low high = absurd (omega (arith, low, high))
 by_number W (job ∷ jobs) first all numbers actor low high =

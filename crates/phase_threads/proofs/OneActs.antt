@@ -38,9 +38,8 @@ pub by_other : (number actor : ℕ) → actor ≢ number → (entries : List Ent
 by_other number actor unlike [] = refl
 by_other number actor unlike (entry ∷ before) = grind (arith, nat_tests, unlike, by_other number actor unlike before)
 
-all_below : (number n : ℕ) → number < n → (entries : List Entry)
-    → All (λ entry. entry.actor < n) (others number entries)
-    → All (λ entry. entry.actor < n) entries
+all_below : (number n : ℕ) → number < n → (entries : List Entry) → All (λ entry. entry.actor < n)
+    (others number entries) → All (λ entry. entry.actor < n) entries
 all_below number n less [] all = all
 all_below number n less (entry ∷ before) all = elim (cases_Bool (entry.actor == number)) [
   | inl own ↦

@@ -58,12 +58,11 @@ module _ {before now opened entries : List Entry} (grew : Grew before now opened
       rw front (all_reverse (λ (entry : Entry). entry.actor < 8) before (λ k d less.
       let one = all k d less in omega (arith, one, few)))
 
-pub phase_is_run : (before now : Standing) (opened entries : List Entry) (phase : List Statement) (works : List Work)
-    → (run : HasRunSo before now phase works) → Grew before.entries now.entries opened entries
-    → IsCardList before.setup.cards
-    → IsLegal now.setup now.entries → All (λ entry. entry.actor < length works) now.entries
-    → All (IsStatement before.setup (length works)) phase
-    → IsPhaseRun before.setup before.entries (gained opened entries) phase run.lists
+pub phase_is_run : (before now : Standing) (opened entries : List Entry) (phase : List Statement) (works : List Work) →
+    (run : HasRunSo before now phase works) → Grew before.entries now.entries opened entries →
+    IsCardList before.setup.cards → IsLegal now.setup now.entries →
+    All (λ entry. entry.actor < length works) now.entries → All (IsStatement before.setup (length works)) phase →
+    IsPhaseRun before.setup before.entries (gained opened entries) phase run.lists
 phase_is_run before now opened entries phase works run grew cards legal callers speakers = record {
   cards = cards;
   legal = rw (whole_is grew, ← run.setup) legal;
@@ -116,10 +115,8 @@ pub newest_first : (done : List Phase) (phase : Phase)
 newest_first done phase = ap reverse (phases_more done phase) ∙ reverse-append (map in_phase done) (phase.items ∷ [])
 
 pub all_in_place : (setup : Setup) (phase : List Statement) (earlier : List (List Statement))
-    (added history all : List Entry)
-    → all ≡ added ++ history → length added ≡ length phase → AreInPlace setup history added
-    → AreAllInPlace setup earlier history
-    → AreAllInPlace setup (phase ∷ earlier) all
+    (added history all : List Entry) → all ≡ added ++ history → length added ≡ length phase →
+    AreInPlace setup history added → AreAllInPlace setup earlier history → AreAllInPlace setup (phase ∷ earlier) all
 all_in_place setup phase earlier added history all is size places before =
     let front : take (length phase) all ≡ added = rw (is, ← size) (take-append_seam added history) in
     let back : drop (length phase) all ≡ history = rw (is, ← size) (drop-append_seam added history) in

@@ -138,9 +138,8 @@ plain_has_run number before now phase old new can only stepped =
 
 -- ---- a step of the loop
 
-kept_in : (old : List Work) (number : ℕ) (was work : Work) → was ≡ slice_index_or old number was
-    → work.done.items ≡ was.done.items
-    → done_in (set old number work) ≡ done_in old
+kept_in : (old : List Work) (number : ℕ) (was work : Work) → was ≡ slice_index_or old number was →
+    work.done.items ≡ was.done.items → done_in (set old number work) ≡ done_in old
 kept_in [] number was work is same = refl
 kept_in (one ∷ old) zero was work is same =
     ap (λ (done : List Done). done ∷ done_in old) (same ∙ ap (λ (w : Work). w.done.items) is)
@@ -164,12 +163,10 @@ has_stepped number before now phase old was work within is a asked same =
     }
 
 -- one statement more
-pub added_more : (number : ℕ) (phase : List Statement) (i : ℕ) (d : Statement) (before board now : Standing) (entry :
-    Entry) → i < length phase
-    → HasAdded number (take i phase) before board → now.setup ≡ board.setup → now.entries ≡ entry ∷ board.entries
-    → entry.actor ≡ number
-    → entry.event ≡ (slice_index_or phase i d).event → is_look (slice_index_or phase i d).event ≡ false
-    → HasAdded number (take (i + 1) phase) before now
+pub added_more : (number : ℕ) (phase : List Statement) (i : ℕ) (d : Statement) (before board now : Standing)
+    (entry : Entry) → i < length phase → HasAdded number (take i phase) before board → now.setup ≡ board.setup →
+    now.entries ≡ entry ∷ board.entries → entry.actor ≡ number → entry.event ≡ (slice_index_or phase i d).event →
+    is_look (slice_index_or phase i d).event ≡ false → HasAdded number (take (i + 1) phase) before now
 added_more number phase i d before board now entry less a setup is own said none =
     let event : Statement → Event = λ statement. statement.event in
     let told : Entry → Event = λ entry. entry.event in

@@ -42,9 +42,8 @@ to_jobs : {X : Type 0} (f : Job → X) (P : X → Type 0) (jobs : List Job) (xs 
     → All (λ job. P (f job)) jobs → All P xs
 to_jobs f P jobs xs e all = rw e at (All-map P f (reverse jobs) (all_reverse (λ job. P (f job)) jobs all))
 
-job_numbers : (cpus1 : List Cpu) (jobs1 : List Job) (n : ℕ) → map cpu_in (reverse jobs1) ≡ cpus1
-    → map number_by cpus1 ≡ range_with_len 0 n
-    → map number_in (reverse jobs1) ≡ range_with_len 0 n
+job_numbers : (cpus1 : List Cpu) (jobs1 : List Job) (n : ℕ) → map cpu_in (reverse jobs1) ≡ cpus1 →
+    map number_by cpus1 ≡ range_with_len 0 n → map number_in (reverse jobs1) ≡ range_with_len 0 n
 job_numbers cpus1 jobs1 n are_cpus1 numbers = sym (map-map number_by cpu_in (reverse jobs1))
     ∙ (ap (map number_by) are_cpus1 ∙ numbers)
 
@@ -58,8 +57,7 @@ numbers_again cpus cpus1 jobs jobs1 are_cpus are_cpus1 same =
     ∙ (sym (map-map number_by cpu_in (reverse jobs)) ∙ ap (map number_by) are_cpus)))))
 
 pub begins_opened : (setup : Setup) (actor : ℕ) (opened : List Entry) (done : List Done) (seen : List Entry)
-    (known : List MapChange)
-    → IsDone setup actor opened done seen known → Begins opened seen
+    (known : List MapChange) → IsDone setup actor opened done seen known → Begins opened seen
 begins_opened setup actor opened [] seen known d = ([], d.0)
 begins_opened setup actor opened (Looked kind addr smm look ∷ before) seen known d =
     begins_opened setup actor opened before seen d.0 d.2
@@ -77,19 +75,14 @@ work_of live board now part phase before job run closes fine =
       seen = seen_of job.cpu;
       known = known_of job.cpu;
       trace = (run.done fine).trace;
-      closed = record {
-        begins = closes.begins;
-        meets = rw same at closes.meets;
-        mine = closes.mine;
-      };
+      closed = record { begins = closes.begins; meets = rw same at closes.meets; mine = closes.mine };
       said = (run.done fine).said;
     }
 
 whole_begins : (live : Live) (board now : Standing) (part : Option Origin) (phase : List Statement) (before : ℕ)
-    (jobs : List Job) → 0 < length jobs
-    → All (IsRun live board part phase before) jobs → All (λ job. ClosesBoard now job.cpu) jobs
-    → All (λ job. job.refused ≡ false) jobs
-    → (now.setup ≡ board.setup) × Begins board.entries now.entries
+    (jobs : List Job) → 0 < length jobs → All (IsRun live board part phase before) jobs →
+    All (λ job. ClosesBoard now job.cpu) jobs → All (λ job. job.refused ≡ false) jobs →
+    (now.setup ≡ board.setup) × Begins board.entries now.entries
 whole_begins live board now part phase before [] some run closes fine = absurd (omega (arith, some))
 whole_begins live board now part phase before (job ∷ jobs) some run closes fine =
     let ran = All-head (IsRun live board part phase before) job jobs run in

@@ -56,9 +56,8 @@ first_word : (addr : ℕ) → addr < 2 ^ 32 → address_after addr (2 * 0) ≡ a
 first_word addr fits = omega (arith, fits)
 
 pub safe_so : (setup : Setup) (bytes : Bytes) (going : Going) (piece : Piece) → going.place.table < 2 ^ 32 →
-    going.place.table % 4 ≡ 0 →
-    IfMove piece (λ stretch. stretch.addr < 2 ^ 32) → IfMove piece (IsInArea setup bytes going) →
-    IfMove piece (IsStretch going) → IfMove piece IsOutsideSmramRange →
+    going.place.table % 4 ≡ 0 → IfMove piece (λ stretch. stretch.addr < 2 ^ 32) →
+    IfMove piece (IsInArea setup bytes going) → IfMove piece (IsStretch going) → IfMove piece IsOutsideSmramRange →
     AreSafe piece (piece_said (master_part setup bytes) going piece)
 safe_so setup bytes going (Descriptor addr) low aligned fits area is outside =
     grind (arith, nat_tests, common_steps, doubleword_safe, next_doubleword)

@@ -7,21 +7,17 @@ use Rattle.board_records.specs.declared.reply.ReplyRecord.{ReplyRecord}
 use Rattle.port_strings.specs.Strings.{AreInTurn, GoesOn, IsNextStep, IsValue, asks_back, reads}
 
 -- the values that were told stay, where another behind them is set
-pub values_kept : (port bytes : ℕ) (values : List ℕ) (index value : ℕ) (old : Option Held)
-    (first : ReplyRecord)
-    (done : ℕ) (new : Option Held) (last : ReplyRecord) → done ≤ index →
-    AreInTurn (reads port bytes) (IsValue values) old first done new last →
-    AreInTurn (reads port bytes) (IsValue (set values index value)) old first done new last
+pub values_kept : (port bytes : ℕ) (values : List ℕ) (index value : ℕ) (old : Option Held) (first : ReplyRecord)
+    (done : ℕ) (new : Option Held) (last : ReplyRecord) → done ≤ index → AreInTurn (reads port bytes)
+    (IsValue values) old first done new last → AreInTurn (reads port bytes)
+    (IsValue (set values index value)) old first done new last
 values_kept port bytes values index value old first zero new last small steps = steps
 values_kept port bytes values index value old first (suc k) new last small steps = (
   steps.0,
   steps.1,
   values_kept port bytes values index value old first k steps.0 steps.1 (omega (arith, small)) steps.2,
   steps.3,
-  record {
-    step = steps.4.step;
-    told = get_or-set_other values index k value 0 (omega (arith, small)) ∙ steps.4.told;
-  },
+  record { step = steps.4.step; told = get_or-set_other values index k value 0 (omega (arith, small)) ∙ steps.4.told },
 )
 
 module _ {asked : ℕ → EventRecord} {Holds : ℕ → ReplyRecord → Type 0} where

@@ -61,9 +61,8 @@ bus_back writes bytes (Bus value target denial) after few fits =
     cycle_back value target denial after (narrow_value writes bytes value few fits.0) (fits.1, fits.2)
 bus_back writes bytes _ after few fits = absurd fits
 
-parted_back : (writes : Bool) (bytes count : ℕ) (reply : Reply) (after : AfterStep)
-    → IsWideReply writes bytes count reply →
-    reply_recorded (record_said reply after) ≡ Some reply
+parted_back : (writes : Bool) (bytes count : ℕ) (reply : Reply) (after : AfterStep) →
+    IsWideReply writes bytes count reply → reply_recorded (record_said reply after) ≡ Some reply
 unfolding record_said
 parted_back writes bytes count (InParts parts value) after fits = wide_back parts value after fits.1
 parted_back writes bytes count _ after fits = absurd fits

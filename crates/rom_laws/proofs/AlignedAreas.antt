@@ -1,14 +1,13 @@
 -- All bytes of an aligned access lie in one area: the edges of the memory map are multiples of 4.
-use Rattle.board_prelude.proofs.Common.{common_steps}
+use Rattle.board_prelude.proofs.Common.{common_steps, All-cons, All-nil, All-append, All-head, All-tail, and_parts}
+use Rattle.board_prelude.proofs.Common.{eqb-true, nat_tests, enumerate_from, Kind, Fetch, Read, Write, Width, One}
+use Rattle.board_prelude.proofs.Common.{bytes_of, Base, MemoryBase, IoBase, OutsideBase, FittedCard, Setup, IsBase}
+use Rattle.board_prelude.proofs.Common.{IsExpansionRom, IsCard, Bytes, Window, boundary, memory_window, rom_window_of}
+use Rattle.board_prelude.proofs.Common.{rom_window, area_of, address_count, six_areas, base_value, rom_value}
 use Rattle.std.proofs.Common.{◌≡◌, ℕ, ◌+◌, ◌-◌, ◌*◌, ◌/◌, ◌%◌, ◌^◌, ◌<◌, ◌≤◌, Bool, true, List, [], ◌∷◌, Option, Some}
 use Rattle.std.proofs.Common.{None, refl, arith, All, flat_map, ◌==◌, ◌&&◌}
 use Rattle.std.proofs.lemmas.List.Elements.{All-contains, All-from_recursion, All-map}
 use Rattle.std.proofs.Math.Nat.{mul_assoc}
-use Rattle.board_prelude.proofs.Common.{All-cons, All-nil, All-append, All-head, All-tail, and_parts, eqb-true}
-use Rattle.board_prelude.proofs.Common.{nat_tests, enumerate_from, Kind, Fetch, Read, Write, Width, One, bytes_of, Base}
-use Rattle.board_prelude.proofs.Common.{MemoryBase, IoBase, OutsideBase, FittedCard, Setup, IsBase, IsExpansionRom}
-use Rattle.board_prelude.proofs.Common.{IsCard, Bytes, Window, boundary, memory_window, rom_window_of, rom_window}
-use Rattle.board_prelude.proofs.Common.{area_of, address_count, six_areas, base_value, rom_value}
 use Rattle.board_base.specs.declared.access.Width.TheVariants.{Two, Four}
 use Rattle.pci_bars.proofs.WindowLemmas.{quarter}
 use Rattle.addr_decode.specs.Edges.{fixed_edges, row_edges, first_address, window_edges, card_edges, edges_of}

@@ -1,12 +1,10 @@
 -- Each byte that an aligned read gives is the one that a read of that byte alone gives.
-use Rattle.board_prelude.proofs.Common.{common_steps}
-use Rattle.board_prelude.proofs.Common.{nat_tests}
+use Rattle.board_prelude.proofs.Common.{common_steps, nat_tests, get_or_past, Width, One, bytes_of, largest_of, Entry}
+use Rattle.board_prelude.proofs.Common.{Setup, IsRomSize, Area, Target, Dram, Shadow, Smram, Rom, Card, Device, Config}
+use Rattle.board_prelude.proofs.Common.{Abort, byte, wide, window_bits, target_at, dram_byte, card_byte, value_at}
 use Rattle.std.proofs.Common.{◌≡◌, ℕ, zero, suc, ◌+◌, ◌-◌, ◌*◌, ◌/◌, ◌%◌, ◌^◌, ◌<◌, ◌≤◌, List, [], length, inl, inr}
 use Rattle.std.proofs.Common.{refl, ap, ◌∙◌, arith, slice_index, lit<}
 use Rattle.std.proofs.lemmas.Nat.{mod-pow-add}
-use Rattle.board_prelude.proofs.Common.{get_or_past, Width, One, bytes_of, largest_of, Entry, Setup, IsRomSize, Area}
-use Rattle.board_prelude.proofs.Common.{Target, Dram, Shadow, Smram, Rom, Card, Device, Config, Abort, byte, wide}
-use Rattle.board_prelude.proofs.Common.{window_bits, target_at, dram_byte, card_byte, value_at}
 use Rattle.board_base.specs.declared.access.Width.TheVariants.{Two, Four}
 use Rattle.board_base.specs.declared.target.Area.TheVariants.{Rom as RomArea, Card as CardArea}
 use Rattle.pci_bars.specs.Common.{IsBaseNumber}

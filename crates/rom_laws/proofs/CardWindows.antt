@@ -51,8 +51,7 @@ window_at setup bytes card k (OutsideBase bits) is below at =
     All-cons (OfCard setup) _ [] (base_window setup card k (OutsideBase bits) is below at) (All-nil (OfCard setup))
 
 base_windows : (setup : Setup) (bytes : Bytes) (card : FittedCard) → IsFound setup card → (k : ℕ) (bases : List Base) →
-    k + length bases ≤ 6 → ((i : ℕ) → slice_get card.bases (k + i) ≡ slice_get bases i) →
-    All (OfCard setup)
+    k + length bases ≤ 6 → ((i : ℕ) → slice_get card.bases (k + i) ≡ slice_get bases i) → All (OfCard setup)
     (flat_map (λ numbered. memory_window bytes card.dev numbered.0 numbered.1) (enumerate_from k bases))
 base_windows setup bytes card is k [] few same = All-nil (OfCard setup)
 base_windows setup bytes card is k (base ∷ later) few same =

@@ -1,10 +1,9 @@
 -- Which part of a read moves a byte of it, and that this byte is one of that part's value.
 use Rattle.board_prelude.proofs.Common.{common_steps, nat_tests, cases_lt, cond-true, cond-false, ne_eqb, lt-ltb}
 use Rattle.board_prelude.proofs.Common.{le-ltb, All-head, All-tail, further, Width, One, WideAccess, bytes_of, byte}
-use Rattle.board_prelude.proofs.Common.{longest_at, part_at, joined, Covers}
+use Rattle.board_prelude.proofs.Common.{longest_at, part_at, joined, Covers, parts_from}
 use Rattle.std.proofs.Common.{◌≡◌, ℕ, zero, suc, ◌+◌, ◌-◌, ◌*◌, ◌/◌, ◌^◌, ◌<◌, ◌≤◌, false, List, [], ◌∷◌, ◌++◌, Some}
 use Rattle.std.proofs.Common.{inl, inr, ap, ◌∙◌, arith, ◌==◌, nat_lt, All, map}
-use Rattle.board_spec.specs.Common.{parts_from}
 use Rattle.board_base.specs.declared.access.Width.TheVariants.{Two, Four}
 use Rattle.board_base.specs.declared.access.Access.{Access}
 use Rattle.board_records.specs.declared.reply.PartRecord.{PartRecord}
@@ -50,10 +49,9 @@ pub record Moves (access : WideAccess) (said : Access → PartRecord) (value : A
 
 module _ (access : WideAccess) (said : Access → PartRecord) (value : Access → ℕ) (rest : List PartRecord) (P : Access →
     Type 0) (fits : (part : Access) → P part → value part < 256 ^ bytes_of part.width) where
-  pub moves : (most before k : ℕ) (parts : List Access) →
-      parts ≡ parts_from access most (access.addr + before) (access.bytes - before) → All P parts →
-      Covers (access.addr + before) (access.addr + access.bytes) parts → before ≤ k → k < access.bytes →
-      Moves access said value rest P parts before k
+  pub moves : (most before k : ℕ) (parts : List Access) → parts ≡ parts_from access most (access.addr + before)
+      (access.bytes - before) → All P parts → Covers (access.addr + before) (access.addr + access.bytes) parts →
+      before ≤ k → k < access.bytes → Moves access said value rest P parts before k
   unfolding parts_from part_of
   moves most before k [] are each covers from below =
       let e : access.addr + before ≡ access.addr + access.bytes = covers in absurd (omega arith)

@@ -1,19 +1,15 @@
 -- Each byte of a read is the one that a read of that byte alone gives.
-use Rattle.board_prelude.proofs.Common.{common_steps, nat_tests, and_right, cases_Bool, cond-false, eq-eqb, Width, One}
-use Rattle.board_prelude.proofs.Common.{WideAccess, bytes_of, Area, Target, Card, Device, Config, Denial, Register}
-use Rattle.board_prelude.proofs.Common.{Entry, Setup, IsSetup, IsInRange, Memory, Wide, Parts, Reply, Bus, Saw, Bytes}
-use Rattle.board_prelude.proofs.Common.{byte, is_write, memory_target, memory_denial, parts_of, parts_list, joined}
-use Rattle.board_prelude.proofs.Common.{value_at, target_at, longest_at, address_count, expansion_byte, IsPart}
-use Rattle.board_prelude.proofs.Common.{AreParts, IsAnswer, IsWideAnswer}
+use Rattle.board_prelude.proofs.Common.{common_steps, nat_tests, cases_Bool, cond-false, Width, One, WideAccess}
+use Rattle.board_prelude.proofs.Common.{bytes_of, Area, Target, Card, Device, Config, Denial, Register, Entry, Setup}
+use Rattle.board_prelude.proofs.Common.{IsSetup, IsInRange, Memory, Wide, Parts, Reply, Bus, Saw, Bytes, byte, is_write}
+use Rattle.board_prelude.proofs.Common.{memory_target, memory_denial, parts_of, parts_list, joined, value_at, target_at}
+use Rattle.board_prelude.proofs.Common.{address_count, expansion_byte, IsPart, AreParts, IsAnswer, IsWideAnswer}
 use Rattle.std.proofs.Common.{◌≡◌, ℕ, ◌+◌, ◌-◌, ◌%◌, ◌^◌, ◌<◌, Bool, true, false, List, [], ◌∷◌, ◌++◌, length, Option}
 use Rattle.std.proofs.Common.{Some, None, inl, inr, refl, sym, ap, ◌∙◌, arith, ◌==◌, map, if◌then◌else◌}
 use Rattle.std.proofs.lemmas.Simd.{map-map}
-use Rattle.board_spec.specs.Common.{area_of, memory_answer, part_answer, wide_value}
+use Rattle.board_spec.specs.Common.{area_of, memory_answer, part_answer, wide_value, Two, Four}
 use Rattle.board_spec.specs.Registers.{byte_of as register_byte}
-use Rattle.board_spec.specs.declared.event.Parts.TheVariants as parts
-use Rattle.board_spec.specs.declared.event.Reply.TheVariants as replies
 use Rattle.board_spec.proofs.PartLawProofs.{cut_into_parts}
-use Rattle.board_base.specs.declared.access.Width.TheVariants.{Two, Four}
 use Rattle.board_base.specs.declared.access.Access.{Access}
 use Rattle.board_base.specs.declared.target.Area.TheVariants.{Card as CardArea}
 use Rattle.expansion_roms.specs.Roms.{given, rom_byte}
@@ -31,6 +27,8 @@ use Rattle.rom_laws.proofs.CardWindows.{IsWindow, card_window}
 use Rattle.rom_laws.proofs.ByteReads.{InMemory, byte_alone, moved, reaches_memory, target_moved, value_fits}
 use Rattle.rom_laws.proofs.PartBytes.{Moves, moves}
 use Rattle.rom_laws.proofs.ToldBytes.{value_told}
+use Rattle.board_spec.specs.declared.event.Parts.TheVariants as parts
+use Rattle.board_spec.specs.declared.event.Reply.TheVariants as replies
 
 -- ---- the byte of a part, by its target
 
@@ -92,14 +90,8 @@ module _ (setup : Setup) (before : List Entry) (roms : List (List ℕ)) (fits : 
 
   -- ---- one cycle
 
-  one_cycle : (width : Width) (addr : ℕ) → addr % bytes_of width ≡ 0 → longest_at addr (bytes_of width) ≡ width
-  one_cycle One addr aligned = rw (and_right (addr % 4 == 0) false refl, and_right (addr % 2 == 0) false refl) refl
-  one_cycle Two addr aligned = rw (and_right (addr % 4 == 0) false refl, eq-eqb (addr % 2) 0 aligned) refl
-  one_cycle Four addr aligned = rw (eq-eqb (addr % 4) 0 aligned) refl
-
   moved_by_one : (addr : ℕ) (width : Width) (rest : List PartRecord) (said : PartRecord) (k : ℕ) →
-      addr % bytes_of width ≡ 0 → k < bytes_of width →
-      part_of (said ∷ rest) addr (bytes_of width) 0 k ≡ Some (said, k)
+      addr % bytes_of width ≡ 0 → k < bytes_of width → part_of (said ∷ rest) addr (bytes_of width) 0 k ≡ Some (said, k)
   unfolding part_of
   moved_by_one addr width rest said k aligned within = grind (arith, nat_tests)
 
@@ -153,8 +145,7 @@ module _ (setup : Setup) (before : List Entry) (roms : List (List ℕ)) (fits : 
   wide_is (parts.Three a b c) value after = (refl, refl, refl)
   wide_is (parts.Four a b c d) value after = (refl, refl, refl)
 
-  map_map : (accesses : List Access) →
-      map of_part (map (part_answer setup before) accesses) ≡ map of_access accesses
+  map_map : (accesses : List Access) → map of_part (map (part_answer setup before) accesses) ≡ map of_access accesses
   unfolding part_said
   map_map accesses = map-map of_part (part_answer setup before) accesses
 
@@ -181,8 +172,7 @@ module _ (setup : Setup) (before : List Entry) (roms : List (List ℕ)) (fits : 
       ∙ rw (by.is.kind, by.is.smm, by.address) refl
 
   moved_by : (access : WideAccess) (rest : List PartRecord) (k : ℕ) → AreParts access (parts_of access) →
-      k < access.bytes →
-      Moves access of_access value_of rest (IsPart access) (parts_of access) 0 k
+      k < access.bytes → Moves access of_access value_of rest (IsPart access) (parts_of access) 0 k
   moved_by access rest k cut within =
       let start : access.addr + 0 ≡ access.addr = omega arith in
       let all : access.bytes - 0 ≡ access.bytes = omega arith in

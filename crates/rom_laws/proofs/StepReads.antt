@@ -52,8 +52,7 @@ of_parts (parts.Four a b c d) None after = refl
 of_parts (parts.Four a b c d) (Some value) after = refl
 
 unidentified : (identities : List FittedIdentity) (said : EventRecord) (told : ReplyRecord) →
-    is_config_read told ≡ false →
-    identified_record identities said told ≡ told
+    is_config_read told ≡ false → identified_record identities said told ≡ told
 unidentified identities said told none = rw none refl
 
 -- ---- the step

@@ -8,8 +8,7 @@ use Rattle.map_publish.specs.Lists.{opened_of, changes_of, version_after}
 use Rattle.shared_board.specs.Known.{oldest, ArePublished}
 use Rattle.shared_board.proofs.Histories.{oldest_added}
 
-pub published_added :
-    (setup : Setup) (opened : ℕ) (history : List Entry) (entry : Entry) (log later : List Mark) →
+pub published_added : (setup : Setup) (opened : ℕ) (history : List Entry) (entry : Entry) (log later : List Mark) →
     opened ≤ length history → ArePublished setup opened history log →
     changes_of later ≡ option_to_list (map_change_of setup history entry.event) ++ changes_of log →
     ArePublished setup opened (entry ∷ history) later

@@ -7,16 +7,14 @@ use Rattle.board_live.specs.Callers.{IsCallerOf, IsSameCaller, AreAllOf}
 use Rattle.board_live.proofs.Opening.{all_again}
 use Rattle.board_example.proofs.live.shared.Goals as goal
 
-at_each :
-    (live : Live) (before now : Cpu) → IsCallerOf live now → IsSameCaller before now → (i : ℕ) (d : Cpu) → i < 1 →
+at_each : (live : Live) (before now : Cpu) → IsCallerOf live now → IsSameCaller before now → (i : ℕ) (d : Cpu) → i < 1 →
     IsCallerOf live (get_or (now ∷ []) i d) × IsSameCaller (get_or (before ∷ []) i d) (get_or (now ∷ []) i d)
 at_each live before now own same zero d below = (own, same)
 at_each live before now own same (suc i) d below = absurd (omega (arith, below))
 
-one_again :
-    (live : Live) (cpus : List Cpu) (before now : Cpu) → map (λ (cpu : Cpu). cpu.number) cpus ≡ range_with_len 0 1 →
-    before ≡ get_or cpus 0 before → IsCallerOf live now → IsSameCaller before now →
-    AreAllOf live cpus → AreAllOf live (set cpus 0 now)
+one_again : (live : Live) (cpus : List Cpu) (before now : Cpu) →
+    map (λ (cpu : Cpu). cpu.number) cpus ≡ range_with_len 0 1 → before ≡ get_or cpus 0 before → IsCallerOf live now →
+    IsSameCaller before now → AreAllOf live cpus → AreAllOf live (set cpus 0 now)
 one_again live [] before now one first own same all =
     let none : 0 ≡ 1 = ap length one in absurd (omega (arith, none))
 one_again live (cpu ∷ []) before now one first own same all =

@@ -1,5 +1,4 @@
-use Rattle.std.proofs.Common.{[], sym, ◌∙◌}
-use Rattle.board_prelude.proofs.Common.{append-nil}
+use Rattle.std.proofs.Common.{[], sym, ◌∙◌, append-nil}
 use Rattle.uart_16550.specs.SerialState.{serial_bytes}
 use Rattle.board_records.proofs.Images.{last_exact, last_loaded}
 use Rattle.board_records.proofs.image.read_last.Goals as goal

@@ -1,6 +1,5 @@
 use Rattle.std.proofs.Common.{arith, ◌∙◌}
-use Rattle.board_prelude.proofs.Common.{common_steps, nat_tests}
-use Rattle.std.proofs.lemmas.List.{length-map}
+use Rattle.board_prelude.proofs.Common.{common_steps, nat_tests, length-map}
 use Rattle.std.proofs.lemmas.Simd.{map-map}
 use Rattle.board_records.proofs.map.tell_map.Goals as goal
 

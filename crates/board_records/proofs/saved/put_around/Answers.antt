@@ -1,6 +1,5 @@
-use Rattle.board_prelude.proofs.Common.{common_steps, nat_tests, length-take, length-drop}
+use Rattle.board_prelude.proofs.Common.{common_steps, nat_tests, length-take, length-drop, take_rest}
 use Rattle.std.proofs.Common.{◌-◌, arith}
-use Rattle.std.proofs.lemmas.List.{take_rest}
 use Rattle.state_room.proofs.Puts.{put_length}
 use Rattle.board_records.proofs.SavedParts.{written_in_three}
 use Rattle.board_records.proofs.saved.put_around.Goals as goal

@@ -1,5 +1,4 @@
-use Rattle.std.proofs.Common.{refl, rules}
-use Rattle.board_prelude.proofs.Common.{take_all}
+use Rattle.std.proofs.Common.{refl, rules, take_all}
 use Rattle.command_words.specs.Commands.{said_by}
 use Rattle.command_files.specs.declared.status.Status.{Status}
 use Rattle.command_files.proofs.CallLemmas.{none_made}

@@ -18,8 +18,8 @@ pub steps-requires-clause-in_range : goal.steps-requires-clause-in_range
 steps-requires-clause-in_range c =
     let all = in_range c.args.board.now.setup (said_of c.args.script.now) c.requires.in_range c.requires.cards in
     of_phase (λ statement. IsInRange c.loop-phase.board.setup statement.event) c.deref-phase-items.result.now
-    c.loop-phase.phase-index c.phase-item.result _ c.loop-phase-test.true c.phase-item.is c.deref-in-loop-phase.ensures.value
-    (rw (c.loop-phase.invariant.done.setup, c.deref-phase-items.ensures.value) all)
+    c.loop-phase.phase-index c.phase-item.result _ c.loop-phase-test.true c.phase-item.is
+    c.deref-in-loop-phase.ensures.value (rw (c.loop-phase.invariant.done.setup, c.deref-phase-items.ensures.value) all)
 
 pub steps-requires-clause-spare : goal.steps-requires-clause-spare
 steps-requires-clause-spare c =

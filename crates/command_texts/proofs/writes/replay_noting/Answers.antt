@@ -25,8 +25,8 @@ steps_noting-requires-clause-in_range c =
     let all = in_range c.args.board.now.setup (said_of c.args.script.now) c.requires.fresh.in_range
     c.requires.fresh.cards in
     of_phase (λ statement. IsInRange c.loop-phase.board.setup statement.event) c.deref-phase-items.result.now
-    c.loop-phase.phase-index c.phase-item.result _ c.loop-phase-test.true c.phase-item.is c.deref-in-loop-phase.ensures.value
-    (rw (c.loop-phase.invariant.done.setup, c.deref-phase-items.ensures.value) all)
+    c.loop-phase.phase-index c.phase-item.result _ c.loop-phase-test.true c.phase-item.is
+    c.deref-in-loop-phase.ensures.value (rw (c.loop-phase.invariant.done.setup, c.deref-phase-items.ensures.value) all)
 
 pub steps_noting-requires-clause-spare : goal.steps_noting-requires-clause-spare
 steps_noting-requires-clause-spare c =

@@ -1,8 +1,5 @@
 use Rattle.std.proofs.Common.{◌≡◌, ◌<◌, ◌+◌, List, [], ◌∷◌, ◌++◌, length, map, take, flat_map, sym, ap, ◌∙◌, arith}
-use Rattle.std.proofs.lemmas.List.{append-nil, map-append, take_more}
-use Rattle.std.proofs.lemmas.Grind.{flat_map-append}
-use Rattle.board_prelude.proofs.Common.{Entry}
-use Rattle.board_spec.specs.Orders.{statement_of}
+use Rattle.board_prelude.proofs.Common.{append-nil, map-append, take_more, flat_map-append, Entry, statement_of}
 use Rattle.image_writer.specs.ImageBytes.{step_bytes}
 use Rattle.image_writer.proofs.event_writer.steps_piece.Goals as goal
 

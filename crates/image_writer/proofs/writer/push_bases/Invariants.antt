@@ -5,5 +5,4 @@ use Rattle.image_writer.specs.ImageBytes.{base_byte}
 use Rattle.image_writer.proofs.writer.push_bases.Given as goal
 
 abbrev pub invariant-loop-base : goal.invariant-loop-base
-invariant-loop-base l =
-    l.out.items ≡ l.fn.out.items ++ map base_byte (map base_of (take l.base-index l.bases))
+invariant-loop-base l = l.out.items ≡ l.fn.out.items ++ map base_byte (map base_of (take l.base-index l.bases))

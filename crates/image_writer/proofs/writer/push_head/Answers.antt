@@ -2,8 +2,7 @@ use Rattle.std.proofs.Common.{◌≡◌, ℕ, List, ◌++◌, ap, ◌∙◌, sub
 use Rattle.image_writer.specs.ImageBytes.{head_bytes, magic}
 use Rattle.image_writer.proofs.writer.push_head.Goals as goal
 
-joined : (out a b c d x y z : List ℕ) → x ≡ out ++ a → y ≡ x ++ b → z ≡ y ++ c →
-    z ++ d ≡ out ++ (a ++ (b ++ (c ++ d)))
+joined : (out a b c d x y z : List ℕ) → x ≡ out ++ a → y ≡ x ++ b → z ≡ y ++ c → z ++ d ≡ out ++ (a ++ (b ++ (c ++ d)))
 joined out a b c d x y z one two three = rw (three, two, one) (simp append_assoc)
 
 pub returns : goal.returns

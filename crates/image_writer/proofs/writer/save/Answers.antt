@@ -3,8 +3,7 @@ use Rattle.board_prelude.proofs.Common.{length-map, length-reverse, Entry, Setup
 use Rattle.image_writer.specs.ImageBytes.{head_bytes, card_bytes, disk_bytes, step_bytes, image_bytes}
 use Rattle.image_writer.proofs.writer.save.Goals as goal
 
-saved :
-    (setup : Setup) (entries : List Entry) (count : ℕ) (front rom disk steps : List ℕ) → count ≡ length entries →
+saved : (setup : Setup) (entries : List Entry) (count : ℕ) (front rom disk steps : List ℕ) → count ≡ length entries →
     front ≡ head_bytes setup count ++ flat_map card_bytes setup.cards → rom ≡ setup.rom → disk ≡ disk_bytes setup →
     steps ≡ flat_map step_bytes (map statement_of (reverse entries)) →
     front ++ (rom ++ (disk ++ steps)) ≡ image_bytes setup (statements_of entries)

@@ -5,12 +5,10 @@ use Rattle.log_check.proofs.Steps.{within_start}
 use Rattle.log_check.proofs.check.check_phase.Goals as goal
 
 pub check_line-requires-clause-spare : goal.check_line-requires-clause-spare
-check_line-requires-clause-spare c =
-    omega (arith, c.loop.invariant.spare, c.requires.spare, c.loop-test.true)
+check_line-requires-clause-spare c = omega (arith, c.loop.invariant.spare, c.requires.spare, c.loop-test.true)
 
 pub check_line-requires-clause-in_range : goal.check_line-requires-clause-in_range
-check_line-requires-clause-in_range c =
-    rw (c.loop.invariant.setup, c.loop.invariant.phase) c.requires.in_range
+check_line-requires-clause-in_range c = rw (c.loop.invariant.setup, c.loop.invariant.phase) c.requires.in_range
 
 pub check_line-requires-clause-typed : goal.check_line-requires-clause-typed
 check_line-requires-clause-typed c = subst (All IsTyped) (sym c.loop.invariant.phase) c.requires.typed

@@ -9,8 +9,7 @@ use Rattle.log_check.proofs.check.check_phases.Goals as goal
 
 -- a place between phases
 abbrev between : (version : ℕ) → List ℕ → (done later : List (List Statement)) → WalkPlace
-between version bytes done later =
-    record { version = version; bytes = bytes; done = done; later = later; count = 0 }
+between version bytes done later = record { version = version; bytes = bytes; done = done; later = later; count = 0 }
 
 pub loop-phase-init : goal.loop-phase-init
 loop-phase-init c = grind (arith, nat_tests, common_steps, statements_of, log_text)

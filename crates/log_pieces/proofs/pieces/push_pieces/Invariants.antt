@@ -10,7 +10,6 @@ abbrev pub invariant-loop-piece : goal.invariant-loop-piece
 invariant-loop-piece l = record {
   left : l.yielded ++ into_iter_items l.piece-iterator ≡ l.fn.pieces.items;
   len : into_iter_len l.piece-iterator ≡ length (into_iter_items l.piece-iterator);
-  added :
-      (size : ℕ) (entries : List Entry) → ArePieces size entries l.fn.pieces.items →
+  added : (size : ℕ) (entries : List Entry) → ArePieces size entries l.fn.pieces.items →
       l.text ≡ l.fn.text ++ lines_from 1 (take (length l.yielded * size) entries);
 }

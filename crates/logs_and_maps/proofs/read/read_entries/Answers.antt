@@ -1,5 +1,4 @@
-use Rattle.std.proofs.Common.{[], ◌∷◌, length, subst, arith, MatchOption}
-use Rattle.std.proofs.lemmas.List.{length-append}
+use Rattle.std.proofs.Common.{[], ◌∷◌, length, subst, arith, MatchOption, length-append}
 use Rattle.logs_and_maps.specs.Reading.{HasEntry, HasNoEntry}
 use Rattle.logs_and_maps.proofs.ReadLines.{no_lines, lines_more, each_more, room_left}
 use Rattle.logs_and_maps.proofs.read.read_entries.Goals as goal

@@ -1,5 +1,4 @@
-use Rattle.std.proofs.Common.{ℕ, ap, arith, length, decimal}
-use Rattle.std.proofs.lemmas.List.{length-append}
+use Rattle.std.proofs.Common.{ℕ, ap, arith, length, decimal, length-append}
 use Rattle.logs_and_maps.proofs.Places.{long_actor}
 use Rattle.logs_and_maps.proofs.words.put_small.Goals as goal
 

@@ -12,6 +12,4 @@ unfolding disk_image
 returns c =
     let all : c.loop-offset.offset ≡ 64 * 512 =
     omega (arith, c.loop-offset-test.false, c.loop-offset.auto.offset-end) in
-    record {
-      bytes = c.loop-offset.invariant ∙ ap (λ (n : ℕ). map (λ offset. offset / 512) (range_with_len 0 n)) all;
-    }
+    record { bytes = c.loop-offset.invariant ∙ ap (λ (n : ℕ). map (λ offset. offset / 512) (range_with_len 0 n)) all }

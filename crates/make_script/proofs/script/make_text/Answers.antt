@@ -11,5 +11,4 @@ loop-round-init c =
     ∙ ap (λ t. t ++ text_of_lines (setup_lines ++ opening_lines)) c.new-text.ensures.bytes)
 
 pub loop-round-preserved : goal.loop-round-preserved
-loop-round-preserved c =
-    text-more c.loop-round.round [] _ _ c.loop-round.invariant c.in_ok-push_round.ensures.appended
+loop-round-preserved c = text-more c.loop-round.round [] _ _ c.loop-round.invariant c.in_ok-push_round.ensures.appended

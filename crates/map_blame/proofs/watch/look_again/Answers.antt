@@ -1,5 +1,4 @@
-use Rattle.std.proofs.Common.{◌∙◌, arith}
-use Rattle.std.proofs.lemmas.List.{length-set}
+use Rattle.std.proofs.Common.{◌∙◌, arith, length-set}
 use Rattle.map_blame.specs.Watch.{IsWatchedOn}
 use Rattle.map_blame.proofs.RangeLemmas.{all_set, rest_set, no_watched}
 use Rattle.map_blame.proofs.watch.look_again.Goals as goal

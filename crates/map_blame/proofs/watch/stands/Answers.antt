@@ -1,6 +1,5 @@
-use Rattle.std.proofs.Common.{sym, ◌∙◌}
+use Rattle.std.proofs.Common.{sym, ◌∙◌, leb-false}
 use Rattle.board_prelude.proofs.Common.{false≢true, leb-true}
-use Rattle.std.proofs.lemmas.Bool.{leb-false}
 use Rattle.map_builder.proofs.Common.{rows_eq}
 use Rattle.map_blame.proofs.StandsLemmas.{all_right, other_row, ends_below}
 use Rattle.map_blame.proofs.watch.stands.Goals as goal

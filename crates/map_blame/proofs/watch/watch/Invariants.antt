@@ -11,6 +11,5 @@ invariant-loop-index l = record {
       (slice_index_or l.watched k d).blamed.range ≡ (slice_index_or l.fn.watched k d).blamed.range;
   after : (setup : Setup) → IsAfter setup [] l.fn.map → IsAfter setup (reverse (take l.index l.changes)) l.map;
   watched : (setup : Setup) → IsCardList setup.cards → IsAfter setup [] l.fn.map →
-      All (IsWatched setup []) l.fn.watched →
-      All (IsWatched setup (reverse (take l.index l.changes))) l.watched;
+      All (IsWatched setup []) l.fn.watched → All (IsWatched setup (reverse (take l.index l.changes))) l.watched;
 }

@@ -1,5 +1,4 @@
-use Rattle.std.proofs.Common.{◌%◌, ◌^◌, ◌∙◌, sym, subst, inl, inr, arith}
-use Rattle.std.proofs.lemmas.List.{get_or-set_same, length-set}
+use Rattle.std.proofs.Common.{◌%◌, ◌^◌, ◌∙◌, sym, subst, inl, inr, arith, get_or-set_same, length-set}
 use Rattle.board_records.specs.declared.event.EventRecord.{EventRecord}
 use Rattle.board_records.proofs.Filled.{rest_more}
 use Rattle.port_strings.specs.Strings.{IsStep, IsValue, reads}

@@ -1,5 +1,5 @@
 -- `empty` makes a handle of nothing.
-use Rattle.std.proofs.Common.{List, [], ◌∷◌, ◌++◌, refl, sym, subst}
+use Rattle.std.proofs.Common.{List, [], ◌∷◌, ◌++◌, refl, sym, subst, None}
 use mathlib.Core.Bool.{false}
 use mir.Val.{Val}
 use base.Logic.{SProp, ent, id⊢}
@@ -18,7 +18,6 @@ use denote.Steps.{nothing}
 use denote.Triple.Walked.{says, Stays, stay_dropped, walk_of, ends_at, Goes-dropped}
 use Rattle.std.proofs.raw_atomic.Walks.{proved_at}
 use Rattle.core.proofs.alloc.Calls.{handle_tells}
-use Rattle.core.specs.declared.option.Option.TheVariants.{None}
 use Rattle.board_c.proofs.Handles.{Z, al, three, handle_good, handle_in}
 use Rattle.board_c.specs.contracts.handle.Handle.empty.{ended, clauses}
 use Rattle.board_c.specs.contracts.handle.Handle.empty.Key.{name as #self}

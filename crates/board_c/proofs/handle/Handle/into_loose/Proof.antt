@@ -1,5 +1,5 @@
 -- `into_loose` moves the pointer and the heap's handle, where the handle is full.
-use Rattle.std.proofs.Common.{◌≡◌, List, [], ◌∷◌, ◌++◌, refl, sym, subst, ◌∙◌, lit<}
+use Rattle.std.proofs.Common.{◌≡◌, List, [], ◌∷◌, ◌++◌, refl, sym, subst, ◌∙◌, lit<, None, Some}
 use mathlib.Core.Bool.{true, false}
 use lib.Dec.{T}
 use mir.Raw.{raw as bare}
@@ -23,7 +23,6 @@ use denote.Param.{layout}
 use denote.RawPtr.{Ptr, block_ptr, null_ptr, ptr_val, in_a_block}
 use denote.Steps.{nothing}
 use denote.Triple.Walked.{Stays, stay_dropped, walk_of, ends_at, Goes-dropped}
-use Rattle.core.specs.declared.option.Option.TheVariants.{None, Some}
 use Rattle.core.proofs.atomic.Steps.{Ptr-Good}
 use Rattle.core.proofs.cell.Inside.{Good}
 use Rattle.core.proofs.mem.Facts.{says_two}
@@ -31,13 +30,13 @@ use Rattle.core.proofs.option.Made.{Some-of, none_of}
 use Rattle.std.proofs.raw_atomic.Walks.{proved_at}
 use Rattle.std_alloc.specs.Box.Ownership.{box_owns}
 use Rattle.std_alloc.proofs.ResultValues.{and_tt}
-use Rattle.std_heap.proofs.Global.TheLaws as heap_laws
 use Rattle.std_heap.specs.contracts.GlobalAllocator.TheImpl.{ghosts}
 use Rattle.box_pointer.proofs.Values.{both, Loose, loose_good, loose_in}
 use Rattle.board_c.proofs.Handles.{R, Z, H as Kept, three, handle_good, handle_cases}
 use Rattle.board_c.specs.contracts.handle.Handle.into_loose.{ended, clauses}
 use Rattle.board_c.specs.contracts.handle.Handle.into_loose.Key.{name as #self}
 use Rattle.board_c.proofs.handle.Handle.into_loose.Statement.{statement}
+use Rattle.std_heap.proofs.Global.TheLaws as heap_laws
 use Rattle.board_c.proofs.handle.Handle.into_loose.Code as code
 
 pub into_loose_spec : {M : Type 1} → statement M

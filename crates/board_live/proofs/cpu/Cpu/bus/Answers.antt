@@ -19,8 +19,7 @@ found g c =
     finds c.args.self.now c.enter-held.result.value e.begins e.opened e.mine e.part e.meets
 
 pub step-requires-clause-few : goal.step-requires-clause-few
-step-requires-clause-few g c =
-    rw (found g (goal.at.step-requires-clause-few g c).After-enter-held).own c.requires.room
+step-requires-clause-few g c = rw (found g (goal.at.step-requires-clause-few g c).After-enter-held).own c.requires.room
 
 pub commit-requires-clause-adds : goal.commit-requires-clause-adds
 commit-requires-clause-adds g c =

@@ -1,7 +1,6 @@
-use Rattle.std.proofs.Common.{ap, arith, ◌∙◌, length, decimal}
+use Rattle.std.proofs.Common.{ap, arith, ◌∙◌, length, decimal, length-append, length-drop}
 use Rattle.std.proofs.lemmas.Fmt.{IsAscii-decimal}
 use Rattle.std.proofs.lemmas.Str.{IsAscii-append}
-use Rattle.std.proofs.lemmas.List.{length-append, length-drop}
 use Rattle.logs_and_maps.proofs.Places.{long_line}
 use Rattle.logs_and_maps.proofs.tail.Tail.put_decimal.Goals as goal
 
