@@ -24,21 +24,16 @@ module _ {X : Type 0} where
   popped whole items rest x front is =
       let later = drop (length items) whole in
       let all : whole ≡ rest ++ x ∷ later =
-      sym (take-append-drop (length items) whole)
-      ∙ (ap (λ (w : List X). w ++ later) (sym front ∙ is) ∙ append_assoc rest (x ∷ []) later) in (
-        sym (take-append_seam rest (x ∷ later)) ∙ ap (take (length rest)) (sym all),
-        ap (drop (length rest)) all ∙ drop_front rest (x ∷ later),
-      )
+      cc (take-append-drop (length items) whole, append_assoc rest (x ∷ []) later) in
+      (cc (all, take-append_seam rest (x ∷ later)), cc (all, drop_front rest (x ∷ later)))
 
   any_left : (P : X → Type 0) (xs ys : List X) → Any P xs → Any P (xs ++ ys)
   any_left P xs ys (k, x, below, at', holds) =
-      let long : length (xs ++ ys) ≡ length xs + length ys = length-append xs ys in
-      (k, x, omega (arith, below, long), get_or_append_left xs ys x k below ∙ at', holds)
+      (k, x, omega (arith, below, length-append xs ys), get_or_append_left xs ys x k below ∙ at', holds)
 
   any_seam : (P : X → Type 0) (xs ys : List X) (x : X) → P x → Any P (xs ++ x ∷ ys)
   any_seam P xs ys x holds =
-      let long : length (xs ++ x ∷ ys) ≡ length xs + length (x ∷ ys) = length-append xs (x ∷ ys) in
-      (length xs, x, omega (arith, long), get_or-append_seam xs x ys x, holds)
+      (length xs, x, omega (arith, length-append xs (x ∷ ys)), get_or-append_seam xs x ys x, holds)
 
 -- ---- joined passes
 
@@ -46,13 +41,10 @@ module _ {X : Type 0} where
 pub joined_more : (before now : SharedPass) (more : List (ℕ × List Entry)) (cpu : Cpu) → IsPrefix (seen_in before)
     (seen_in now) → joined_of now ≡ joined_of before ++ more → IsJoined before cpu → IsJoined now cpu
 joined_more before now more cpu later joined has =
-    let grown : Extends (reverse (seen_in before)) (reverse (seen_in now)) =
-    extends_prefix (seen_in before) (seen_in now) later in
+    let grown = extends_prefix (seen_in before) (seen_in now) later in
     record {
-      begins = extends_trans (seen_of cpu) (reverse (seen_in before)) (reverse (seen_in now)) has.begins grown;
-      meets = extends_trans (known_of cpu) (map_writes_of (setup_of cpu) (reverse (seen_in before)))
-          (map_writes_of (setup_of cpu) (reverse (seen_in now)))
-          has.meets (writes_extend (setup_of cpu) (reverse (seen_in before)) (reverse (seen_in now)) grown);
+      begins = extends_trans _ _ _ has.begins grown;
+      meets = extends_trans _ _ _ has.meets (writes_extend (setup_of cpu) _ _ grown);
       own = rw joined (any_left (HasOwn cpu) (joined_of before) more has.own);
     }
 
@@ -69,19 +61,13 @@ pub caught_up : (pass : SharedPass) (cpu now : Cpu) → IsSameCaller cpu now →
     IsPrefix (seen_in now.pass) (seen_in pass) → Extends (seen_of cpu) (reverse (seen_in pass)) × Extends (known_of cpu)
     (map_writes_of (setup_of cpu) (reverse (seen_in pass))) × HasOwn cpu (number_of now.pass, mine_in now.pass)
 caught_up pass cpu now same none later =
-    let grown : Extends (seen_of now) (reverse (seen_in pass)) =
-    extends_prefix (seen_in now.pass) (seen_in pass) later in
+    let grown = extends_prefix (seen_in now.pass) (seen_in pass) later in
     let writes : Extends (known_of now) (map_writes_of (setup_of cpu) (reverse (seen_in pass))) =
     rw none.known (writes_extend (setup_of cpu) (seen_of now) (reverse (seen_in pass)) grown) in
-    let entries : entries_by cpu.number (reverse (seen_in now.pass))
-    ≡ entries_by cpu.number (reverse (seen_in cpu.pass)) =
-    ap (λ (n : ℕ). entries_by n (reverse (seen_in now.pass))) (sym same.number) ∙ none.mine in
-    let mine : own_by by_actor cpu.number (seen_in now.pass)
-    ≡ own_by by_actor cpu.number (opened_by cpu.pass) ++ mine_in now.pass =
-    rw (same.number, same.opened) at now.passed.mine in (
-      extends_trans (seen_of cpu) (seen_of now) (reverse (seen_in pass)) none.begins grown,
-      extends_trans (known_of cpu) (known_of now)
-          (map_writes_of (setup_of cpu) (reverse (seen_in pass))) none.meets writes,
+    let entries = rw same.number at none.mine in
+    let mine = rw (same.number, same.opened) at now.passed.mine in (
+      extends_trans _ _ _ none.begins grown,
+      extends_trans _ _ _ none.meets writes,
       (now.passed.number ∙ same.number, sym mine ∙ own_back cpu.number (seen_in now.pass) (seen_in cpu.pass) entries),
     )
 
@@ -120,19 +106,14 @@ module _ (pass : SharedPass) (done : Shared) (cpu : Cpu)
       let setup : setup_of cpu ≡ done.board.value.setup = ap (λ (o : Option Origin). (origin_in o).setup) part in
       let grown : Extends (reverse (seen_in pass)) history =
       rw (reverse-reverse history) at (extends_prefix (seen_in pass) (reverse history) later) in
-      let known : Extends (known_of cpu) (map_writes_of (setup_of cpu) history) =
-      extends_trans (known_of cpu) (map_writes_of (setup_of cpu) (reverse (seen_in pass)))
-      (map_writes_of (setup_of cpu) history) meets
-      (writes_extend (setup_of cpu) (reverse (seen_in pass)) history grown) in
-      let mine : own_by by_actor cpu.number (reverse history) ≡ own_by by_actor cpu.number (opened_by pass) ++ own.1 =
-      own_in cpu.number (opened_by pass) (reverse history) own.1 opens (rw has.0 at is) in
+      let known = extends_trans _ _ _ meets (writes_extend (setup_of cpu) (reverse (seen_in pass)) history grown) in
+      let mine = own_in cpu.number (opened_by pass) (reverse history) own.1 opens (rw has.0 at is) in
       let all : own_by by_actor cpu.number (reverse history) ≡ own_by by_actor cpu.number (seen_in cpu.pass) =
-      mine ∙ (ap (λ (w : List Entry). own_by by_actor cpu.number w ++ own.1) (sym same) ∙ has.1) in
+      rw mine (rw same at has.1) in
       record {
         setup = setup;
-        begins = extends_trans (seen_of cpu) (reverse (seen_in pass)) history begins grown;
-        mine = ap (entries_by cpu.number) (sym (reverse-reverse history))
-            ∙ own_same cpu.number (reverse history) (seen_in cpu.pass) all;
+        begins = extends_trans _ _ _ begins grown;
+        mine = rw (reverse-reverse history) at (own_same cpu.number (reverse history) (seen_in cpu.pass) all);
         meets = subst (λ (s : Setup). Extends (known_of cpu) (map_writes_of s history)) setup known;
       }
 

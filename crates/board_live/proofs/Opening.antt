@@ -1,8 +1,7 @@
 -- Callers of a board that was just opened.
 use Rattle.std.proofs.Common.{◌≡◌, ℕ, zero, suc, ◌+◌, ◌<◌, Option, Some, List, [], ◌∷◌, ◌++◌, length, get_or, map, refl}
-use Rattle.std.proofs.Common.{sym, ap, ◌∙◌, arith, Any, reverse}
-use Rattle.board_prelude.proofs.Common.{range_with_len, map-append, reverse-reverse, get_or_default}
-use Rattle.board_prelude.proofs.Common.{map_writes_of}
+use Rattle.std.proofs.Common.{sym, ap, ◌∙◌, arith, add-zero, Any, reverse}
+use Rattle.board_prelude.proofs.Common.{range_with_len, map-append, reverse-reverse, get_or_default, map_writes_of}
 use Rattle.bus_turn.specs.Passes.{opened_of as opened_by, part_of}
 use Rattle.map_publish.specs.declared.viewer.Viewer.{Viewer}
 use Rattle.map_publish.specs.Lists.{changes_of}
@@ -10,8 +9,8 @@ use Rattle.map_publish.specs.declared.front.Front.{Front}
 use Rattle.board_live.specs.declared.cpu.Cpu.{Cpu}
 use Rattle.board_live.specs.declared.live.Live.{Live}
 use Rattle.shared_board.specs.declared.shared.Origin.{Origin}
-use Rattle.board_live.specs.Common.{oldest, origin, origin_in, SharedPass, IsViewerFor, setup_in}
-use Rattle.board_live.specs.Common.{callers_in, opened_in, opened_with, IsCallerOf, IsSameCaller, AreAllOf, IsNewOf}
+use Rattle.board_live.specs.Common.{oldest, origin, origin_in, SharedPass, IsViewerFor, setup_in, callers_in, opened_in}
+use Rattle.board_live.specs.Common.{opened_with, IsCallerOf, IsSameCaller, AreAllOf, IsNewOf}
 use Rattle.shared_board.specs.declared.shared.Shared.{Shared}
 use Rattle.shared_board.proofs.Histories.{oldest_whole}
 
@@ -30,10 +29,10 @@ new_of one other cpu opened part new = record {
 }
 
 range_more : (a n : ℕ) → range_with_len a (suc n) ≡ range_with_len a n ++ (a + n) ∷ []
-range_more a zero = let same : a ≡ a + 0 = omega arith in ap (λ (k : ℕ). k ∷ []) same
+range_more a zero = simp add-zero
 range_more a (suc n) =
     let next : (a + 1) + n ≡ a + suc n = omega arith in
-    ap (λ (w : List ℕ). a ∷ w) (range_more (a + 1) n ∙ ap (λ (k : ℕ). range_with_len (a + 1) n ++ k ∷ []) next)
+    ap (λ (w : List ℕ). a ∷ w) (rw next at (range_more (a + 1) n))
 
 -- a caller more has the next number
 pub numbers_more : (cpus all : List Cpu) (cpu : Cpu) → all ≡ cpus ++ cpu ∷ [] → cpu.number ≡ length cpus + 1 →
@@ -55,12 +54,9 @@ opened_viewer pass shared viewer part opened count front none =
     let setup : shared.board.value.setup ≡ setup_in pass = sym (ap (λ (o : Option Origin). (origin_in o).setup) part) in
     let callers : shared.callers ≡ callers_in pass = sym (ap (λ (o : Option Origin). (origin_in o).callers) part) in
     let whole : oldest shared.opened shared.board.value.entries ≡ opened_in pass =
-    ap (λ (n : ℕ). oldest n shared.board.value.entries) count
-    ∙ (oldest_whole shared.board.value.entries
-    ∙ sym (ap reverse opened ∙ reverse-reverse shared.board.value.entries)) in
-    let back : shared.publisher.value.front ≡ viewer.front = sym front in
+    rw (count, opened, oldest_whole shared.board.value.entries, reverse-reverse shared.board.value.entries) refl in
     record {
-      part = part ∙ λ k. Some (origin (setup k) (callers k) (whole k) (back k).seen.book);
+      part = part ∙ λ k. Some (origin (setup k) (callers k) (whole k) (sym front k).seen.book);
       opens = rw (front, ← setup, ← whole) shared.opens;
       none = ap (λ (f : Front). changes_of f.seen.log) front ∙ none;
     }

@@ -2,8 +2,8 @@
 use Rattle.std.proofs.Common.{◌≡◌, ℕ, ◌+◌, ◌≤◌, true, ◌||◌, List, Option, Some, None, refl, sym, ap, ◌∙◌, arith, ◌==◌}
 use Rattle.std.proofs.Common.{is_some}
 use Rattle.board_prelude.proofs.Common.{nat_tests, Entry, is_within, Setup, card_at, Bytes, SameMapBytes, has_rom}
-use Rattle.board_prelude.proofs.Common.{map_writes_of, registers_after, bridge, card_register}
-use Rattle.board_prelude.proofs.Common.{base_register, expansion_rom, byte_of, map_writes_decide}
+use Rattle.board_prelude.proofs.Common.{map_writes_of, registers_after, bridge, card_register, base_register}
+use Rattle.board_prelude.proofs.Common.{expansion_rom, byte_of, map_writes_decide}
 use Rattle.pci_bars.specs.Cards.{CardBytes, DecodesAs, HoldsRom}
 use Rattle.pci_bars.proofs.CardLemmas.{holds-same}
 use Rattle.addr_decode.specs.MapRegs.{MapBytes, StandsFor}

@@ -1,8 +1,7 @@
 -- A caller's pass, before and after a turn.
-use Rattle.std.proofs.Common.{◌≡◌, ℕ, ◌+◌, ◌==◌, Bool, cond, Option, Some, List, [], ◌∷◌, ◌++◌, length, drop, sym}
-use Rattle.std.proofs.Common.{ap, ◌∙◌, append_assoc, eq-eqb, reverse}
-use Rattle.board_prelude.proofs.Common.{reverse-reverse, filter-append, Entry, Setup, entries_by}
-use Rattle.board_prelude.proofs.Common.{map_writes_of}
+use Rattle.std.proofs.Common.{◌≡◌, ℕ, ◌+◌, ◌==◌, Option, Some, List, [], ◌∷◌, ◌++◌, length, drop, sym, ap, ◌∙◌}
+use Rattle.std.proofs.Common.{append_assoc, eq-eqb, refl, reverse}
+use Rattle.board_prelude.proofs.Common.{reverse-reverse, filter-append, Entry, Setup, entries_by, map_writes_of}
 use mathlib.Core.List.{IsPrefix}
 use Rattle.logbook.specs.Pages.{Book}
 use Rattle.bus_turn.specs.Common.{IsSameCaller as IsSamePass, HasSameJoined, number_of, opened_of as opened_by, part_of}
@@ -15,8 +14,8 @@ use Rattle.board_live.specs.declared.cpu.Cpu.{Cpu}
 use Rattle.shared_board.specs.declared.shared.Shared.{Shared}
 use Rattle.shared_board.specs.declared.shared.Origin.{Origin}
 use Rattle.board_live.specs.Common.{Extends, IsMapOpened, oldest, known_after, origin, origin_in, opened_with}
-use Rattle.board_live.specs.Common.{SharedPass, IsPassOf, setup_in, callers_in, opened_in, setup_of, seen_of, mine_of}
-use Rattle.board_live.specs.Common.{known_of}
+use Rattle.board_live.specs.Common.{SharedPass, IsPassOf, setup_in, opened_in, setup_of, seen_of, mine_of, known_of}
+use Rattle.board_live.specs.Common.{AddsNone}
 use Rattle.shared_board.proofs.Histories.{extends_prefix, entries_reversed, known_extend}
 
 abbrev pub by_actor : Entry → ℕ
@@ -28,28 +27,20 @@ pub own_in : (number : ℕ) (opened list mine : List Entry) → IsPrefix opened 
     own_by by_actor number (drop (length opened) list) ≡ mine →
     own_by by_actor number list ≡ own_by by_actor number opened ++ mine
 own_in number opened list mine (rest, is) own =
-    let test : Entry → Bool = λ e. e.actor == number in
-    let tail : rest ≡ drop (length opened) list =
-    sym (drop_front opened rest) ∙ ap (λ (w : List Entry). drop (length opened) w) is in
-    ap (own_by by_actor number) (sym is)
-    ∙ (filter-append test opened rest
-    ∙ ap (λ (w : List Entry). own_by by_actor number opened ++ w) (ap (own_by by_actor number) tail ∙ own))
+    let later = rw (← is, drop_front opened rest) at own in
+    rw (← is, filter-append (λ (e : Entry). e.actor == number) opened rest, later) refl
 
 pub own_pushed : (number : ℕ) (opened list mine : List Entry) (entry : Entry) → entry.actor ≡ number →
     own_by by_actor number list ≡ own_by by_actor number opened ++ mine →
     own_by by_actor number (list ++ entry ∷ [])
     ≡ own_by by_actor number opened ++ (mine ++ drop (length list) (list ++ entry ∷ []))
 own_pushed number opened list mine entry own before =
-    own_more by_actor number list entry own
-    ∙ (ap (λ (w : List Entry). w ++ entry ∷ []) before
-    ∙ (append_assoc (own_by by_actor number opened) mine (entry ∷ [])
-    ∙ ap (λ (w : List Entry). own_by by_actor number opened ++ (mine ++ w)) (sym (drop_front list (entry ∷ [])))))
+    rw (own_more by_actor number list entry own, before, drop_front list (entry ∷ []))
+    (append_assoc (own_by by_actor number opened) mine (entry ∷ []))
 
 pub own_first : (number : ℕ) (entry : Entry) (history : List Entry) → entry.actor ≡ number →
     entries_by number (entry ∷ history) ≡ entry ∷ entries_by number history
-own_first number entry history own =
-    ap (λ (b : Bool). cond b (entry ∷ entries_by number history) (entries_by number history))
-    (eq-eqb entry.actor number own)
+own_first number entry history own = rw (eq-eqb entry.actor number own) refl
 
 pub own_same : (number : ℕ) (one other : List Entry) → own_by by_actor number one ≡ own_by by_actor number other →
     entries_by number (reverse one) ≡ entries_by number (reverse other)
@@ -105,27 +96,22 @@ pub finds : (cpu : Cpu) (held : Shared) → IsPrefix (seen_in cpu.pass) (reverse
     part_of cpu.pass ≡ Some (opened_with held) →
     IsPrefix cpu.viewer.front.seen.log held.publisher.value.front.seen.log → Finds cpu held
 finds cpu held begins opens own part meets =
-    let actor = cpu.number in
     let pass = cpu.pass in
-    let log = cpu.viewer.front.seen.log in
     let history = held.board.value.entries in
-    let both : Some (origin (setup_in pass) (callers_in pass) (opened_in pass) cpu.viewer.front.seen.book)
-    ≡ Some (opened_with held) =
-    sym cpu.passed.part ∙ part in
+    let both = sym cpu.passed.part ∙ part in
     let setup : setup_in pass ≡ held.board.value.setup = ap (λ (o : Option Origin). (origin_in o).setup) part in
     let opened : opened_in pass ≡ oldest held.opened history = ap (λ (o : Option Origin). (origin_in o).entries) both in
-    let listed : own_by by_actor actor (reverse history) ≡ own_by by_actor actor (opened_by pass) ++ mine_in pass =
-    own_in actor (opened_by pass) (reverse history) (mine_in pass) opens (rw cpu.passed.number at own) in
-    let known : Extends (known_of cpu)
-    (known_after (setup_in pass) (opened_in pass) held.publisher.value.front.seen.log) =
-    known_extend (setup_in pass) (opened_in pass) log held.publisher.value.front.seen.log meets in
+    let listed =
+    own_in cpu.number (opened_by pass) (reverse history) (mine_in pass) opens (rw cpu.passed.number at own) in
+    let known = known_extend (setup_in pass) (opened_in pass) cpu.viewer.front.seen.log
+    held.publisher.value.front.seen.log meets in
     record {
       setup = setup;
       opened = opened;
       begins = rw (reverse-reverse history) at (extends_prefix (seen_in pass) (reverse history) begins);
       own =
-          ap (entries_by actor) (sym (reverse-reverse history))
-          ∙ own_same actor (reverse history) (seen_in pass) (listed ∙ sym cpu.passed.mine);
+          rw (reverse-reverse history) at
+          (own_same cpu.number (reverse history) (seen_in pass) (listed ∙ sym cpu.passed.mine));
       listed = listed;
       meets = rw (known_all pass held setup opened) at known;
     }
@@ -148,25 +134,17 @@ passed_idly cpu held book now found same joins copies seen mine =
     (ap (own_by by_actor cpu.number) seen
     ∙ (found.listed ∙ ap (λ (w : List Entry). own_by by_actor cpu.number (opened_by cpu.pass) ++ w) (sym mine)))
 
--- what the caller has seen, has of its own, and knows after it
-pub record HasLearnt (cpu : Cpu) (now : SharedPass) (log : List Mark) : Type 0 where
-  pub begins : Extends (seen_of cpu) (reverse (seen_in now))
-  pub mine : entries_by cpu.number (reverse (seen_in now)) ≡ mine_of cpu
-  pub meets : Extends (known_of cpu) (known_after (setup_in now) (opened_in now) log)
-  pub known : known_after (setup_in now) (opened_in now) log ≡ map_writes_of (setup_of cpu) (reverse (seen_in now))
-
+-- after it the caller has seen all, and has added nothing
 pub has_learnt :
-    (cpu : Cpu) (held : Shared) (now : SharedPass) (log : List Mark) → Finds cpu held → IsSamePass cpu.pass now →
-    log ≡ held.publisher.value.front.seen.log → seen_in now ≡ reverse held.board.value.entries → HasLearnt cpu now log
-has_learnt cpu held now log found same learnt listed =
-    let seen : reverse (seen_in now) ≡ held.board.value.entries =
-    ap reverse listed ∙ reverse-reverse held.board.value.entries in
-    let known : known_after (setup_in now) (opened_in now) log
-    ≡ map_writes_of (setup_of cpu) held.board.value.entries =
-    known_left cpu.pass now held log same learnt found.setup found.opened in
+    (cpu : Cpu) (held : Shared) (now : Cpu) → Finds cpu held → now.number ≡ cpu.number → IsSamePass cpu.pass now.pass →
+    now.viewer.front.seen.log ≡ held.publisher.value.front.seen.log →
+    seen_in now.pass ≡ reverse held.board.value.entries → AddsNone cpu now
+has_learnt cpu held now found number same learnt listed =
+    let seen : seen_of now ≡ held.board.value.entries = rw listed (reverse-reverse held.board.value.entries) in
+    let known = known_left cpu.pass now.pass held now.viewer.front.seen.log same learnt found.setup found.opened in
     record {
       begins = rw seen found.begins;
-      mine = ap (entries_by cpu.number) seen ∙ found.own;
+      mine = rw (number, seen) found.own;
       meets = rw known found.meets;
-      known = known ∙ ap (map_writes_of (setup_of cpu)) (sym seen);
+      known = rw seen known;
     }

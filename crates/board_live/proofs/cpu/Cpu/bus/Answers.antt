@@ -1,13 +1,12 @@
-use Rattle.std.proofs.Common.{rules, ◌≡◌, ◌∷◌, [], ◌++◌, List, drop, reverse, length, sym, ap, ◌∙◌, refl}
-use Rattle.board_prelude.proofs.Common.{reverse-append, reverse-reverse, Entry, IsAnswer, entries_by, next_entry}
-use Rattle.board_prelude.proofs.Common.{map_writes_of}
+use Rattle.std.proofs.Common.{rules, ◌≡◌, ◌∷◌, [], ◌++◌, drop, reverse, length, sym, ap, ◌∙◌, refl}
+use Rattle.board_prelude.proofs.Common.{reverse-append, reverse-reverse, Entry, next_entry, map_writes_of}
 use Rattle.bus_turn.specs.Common.{opened_of as opened_by, seen_of as seen_in, mine_of as mine_in}
 use Rattle.bus_turn.specs.Common.{IsSameCaller as IsSamePass}
 use Rattle.bus_turn.proofs.Rows.{prefix_trans}
 use Rattle.map_publish.specs.Lists.{opened_of}
-use Rattle.board_live.specs.Common.{known_after, IsSameBoard, setup_in, opened_in}
+use Rattle.board_live.specs.Common.{IsSameBoard, setup_in}
 use Rattle.board_live.proofs.Turns.{Finds, finds, known_left, passed_again, opens_again, own_pushed, own_first}
-use Rattle.board_live.proofs.Turns.{passed_idly, HasLearnt, has_learnt}
+use Rattle.board_live.proofs.Turns.{passed_idly, has_learnt}
 use Rattle.board_live.proofs.cpu.Cpu.bus.Given.{Over}
 use Rattle.board_live.proofs.cpu.Cpu.bus.Goals.{After-enter-held}
 use Rattle.board_live.proofs.cpu.Cpu.bus.Goals as goal
@@ -54,12 +53,11 @@ invariant_of-self g c =
     ap reverse entries ∙ reverse-append (entry ∷ []) held.board.value.entries in
     let seen : seen_in now ≡ list ++ entry ∷ [] = search (rules, whole) in
     let mine : mine_in now ≡ mine_in pass ++ drop (length list) (list ++ entry ∷ []) = search (rules, whole) in
-    let opened : opened_of c.leave.new.viewer.front.seen.log ≡ opened_of cpu.viewer.front.seen.log = search rules in
     record {
       passed = passed_again cpu c.leave.new.viewer.front.seen.book now same (search rules) (search rules)
           (rw (seen, mine) (own_pushed cpu.number (opened_by pass) list (mine_in pass) entry refl found.listed));
       idle = c.leave.ensures.idle;
-      opens = opens_again cpu now (opened_of c.leave.new.viewer.front.seen.log) same opened;
+      opens = opens_again cpu now (opened_of c.leave.new.viewer.front.seen.log) same (search rules);
     }
 
 pub invariant_of-self-in-Err : goal.invariant_of-self-in-Err
@@ -88,29 +86,22 @@ returns-in-Ok-clause-added g c =
     let listed : seen_in now ≡ reverse c.step.new.self.board.value.entries = search rules in
     let seen : reverse (seen_in now) ≡ entry ∷ held.board.value.entries =
     ap reverse listed ∙ (reverse-reverse c.step.new.self.board.value.entries ∙ entries) in
-    let log : c.leave.new.viewer.front.seen.log ≡ c.step.new.self.publisher.value.front.seen.log = search rules in
-    let known : known_after (setup_in now) (opened_in now) c.leave.new.viewer.front.seen.log
-    ≡ map_writes_of (setup_in pass) c.step.new.self.board.value.entries =
-    known_left pass now c.step.new.self c.leave.new.viewer.front.seen.log same log (found.setup ∙ sym stepped.setup)
-    (found.opened ∙ sym stepped.opened) in
-    let answer : IsAnswer held.board.value.setup held.board.value.entries c.args.event.now c.in-Ok.answered.reply =
-    search rules in
+    let known = known_left pass now c.step.new.self c.leave.new.viewer.front.seen.log same (search rules)
+    (found.setup ∙ sym stepped.setup) (found.opened ∙ sym stepped.opened) in
     record {
       list = held.board.value.entries;
       begins = found.begins;
       own = found.own;
       meets = found.meets;
       place = search rules;
-      answer = rw found.setup answer;
+      answer = rw found.setup (search rules);
       seen = seen;
-      mine = ap (entries_by cpu.number) seen
-          ∙ (own_first cpu.number entry held.board.value.entries refl ∙ ap (λ (w : List Entry). entry ∷ w) found.own);
+      mine = rw (seen, own_first cpu.number entry held.board.value.entries refl, found.own) refl;
       known = known ∙ ap (map_writes_of (setup_in pass)) (entries ∙ sym seen);
     }
 
 pub returns-in-Err-clause-refused : goal.returns-in-Err-clause-refused
 returns-in-Err-clause-refused g c =
-    let found = found g (goal.at.returns-in-Err-clause-refused g c).After-enter-held in
-    let learnt : HasLearnt c.args.self.now c.leave-in-Err.new.pass c.leave-in-Err.new.viewer.front.seen.log =
-    has_learnt c.args.self.now c.enter-held.result.value _ _ found (search rules) (search rules) (search rules) in
-    record { begins = learnt.begins; mine = learnt.mine; meets = learnt.meets; known = learnt.known }
+    has_learnt c.args.self.now c.enter-held.result.value _
+    (found g (goal.at.returns-in-Err-clause-refused g c).After-enter-held) refl (search rules) (search rules)
+    (search rules)

@@ -1,7 +1,6 @@
-use Rattle.std.proofs.Common.{rules, ◌≡◌, ℕ, ◌+◌, Some, [], ◌∷◌, ◌++◌, length, sym, ap, ◌∙◌, refl}
-use Rattle.std.proofs.Common.{arith, length-append}
+use Rattle.std.proofs.Common.{rules, ◌≡◌, ℕ, ◌+◌, Some, [], ◌∷◌, ◌++◌, length, sym, ap, ◌∙◌, refl, arith, length-append}
 use Rattle.board_prelude.proofs.Common.{range_with_len, All-nil, All-push}
-use Rattle.std.proofs.lemmas.List.Elements.{All-same, All-pop}
+use Rattle.std.proofs.lemmas.List.Elements.{All-pop}
 use Rattle.board_live.specs.Common.{IsViewerFor, IsCallerOf, IsNewOf}
 use Rattle.board_live.proofs.Opening.{viewer_for, new_of, numbers_more}
 use Rattle.board_live.proofs.live.Live.callers.Goals as goal
@@ -25,19 +24,16 @@ loop-viewer-init c =
       left = omega (arith, no_cpus, long, c.requires.count);
       viewers = viewers.0;
       room = c.requires.room.1;
-      callers = All-same (IsCallerOf c.args.self.now) c.args.cpus.items [] none
-          (All-nil (IsCallerOf c.args.self.now));
-      new = All-same (IsNewOf pass) c.args.cpus.items [] none (All-nil (IsNewOf pass));
+      callers = rw none (All-nil (IsCallerOf c.args.self.now));
+      new = rw none (All-nil (IsNewOf pass));
       numbers = rw none refl;
     }
 
 pub new-requires-clause-viewer : goal.new-requires-clause-viewer
 new-requires-clause-viewer c =
     let i = c.loop-viewer.invariant in
-    let is : c.loop-viewer.viewers.items ≡ c.pop-in-loop-viewer.new.self.items ++ c.in-Some.viewer ∷ [] =
-    search rules in
     let viewers = All-pop (IsViewerFor c.args.pass) c.loop-viewer.viewers.items c.pop-in-loop-viewer.new.self.items
-    (Some c.in-Some.viewer) is i.viewers in
+    (Some c.in-Some.viewer) (search rules) i.viewers in
     let further = c.split-further.ensures.further in
     let same = c.split-further.ensures.same in
     viewer_for c.args.pass c.split-further.result c.in-Some.viewer (further.opened ∙ (same.1 ∙ i.same.1))
@@ -59,11 +55,8 @@ loop-viewer-preserved c =
     ap length is ∙ length-append c.pop-in-loop-viewer.new.self.items (c.in-Some.viewer ∷ []) in
     let further = c.split-further.ensures.further in
     let same = c.split-further.ensures.same in
-    let own : IsCallerOf c.args.self.now cpu = search rules in
-    let new : IsNewOf c.args.pass cpu =
-    new_of c.args.pass c.split-further.result cpu (further.opened ∙ (same.1 ∙ i.same.1))
+    let new = new_of c.args.pass c.split-further.result cpu (further.opened ∙ (same.1 ∙ i.same.1))
     (further.part ∙ (same.2 ∙ i.same.2)) c.new.ensures.new in
-    let number : cpu.number ≡ length cpus + 1 = search rules in
     record {
       own = c.split-further.ensures.own.0;
       idle = c.split-further.ensures.idle.0;
@@ -77,17 +70,14 @@ loop-viewer-preserved c =
       left = omega (arith, i.left, long, fewer);
       viewers = viewers.0;
       room = search rules;
-      callers = All-same (IsCallerOf c.args.self.now) all (cpus ++ cpu ∷ []) added
-          (All-push (IsCallerOf c.args.self.now) cpus cpu i.callers own);
-      new = All-same (IsNewOf c.args.pass) all (cpus ++ cpu ∷ []) added
-          (All-push (IsNewOf c.args.pass) cpus cpu i.new new);
-      numbers = numbers_more cpus all cpu added number i.numbers ∙ ap (range_with_len 1) (sym long);
+      callers = rw added (All-push (IsCallerOf c.args.self.now) cpus cpu i.callers (search rules));
+      new = rw added (All-push (IsNewOf c.args.pass) cpus cpu i.new new);
+      numbers = numbers_more cpus all cpu added (search rules) i.numbers ∙ ap (range_with_len 1) (sym long);
     }
 
 pub new-requires-2-clause-viewer : goal.new-requires-2-clause-viewer
 new-requires-2-clause-viewer c =
     let i = c.loop-viewer.invariant in
-    let is : c.args.viewers.items ≡ c.pop.new.self.items ++ c.unwrap-first.result ∷ [] = search rules in
     let viewers = All-pop (IsViewerFor c.args.pass) c.args.viewers.items c.pop.new.self.items
-    (Some c.unwrap-first.result) is c.requires.viewers in
+    (Some c.unwrap-first.result) (search rules) c.requires.viewers in
     viewer_for c.args.pass c.loop-viewer.pass c.unwrap-first.result i.same.1 i.same.2 viewers.1

@@ -1,9 +1,8 @@
 use Rattle.std.proofs.Common.{rules, ◌≡◌, ◌<◌, ◌∷◌, length, drop, get_or, remove, reverse, All, Some, sym, ◌∙◌}
 use Rattle.board_prelude.proofs.Common.{Any, All-cons, All-get_or, IsPermutation-sym, All-permutation, Entry}
 use Rattle.std.proofs.lemmas.List.Sorted.{IsPermutation-remove}
-use mathlib.Core.List.{IsPrefix}
 use Rattle.bus_turn.specs.Common.{IsSameCaller as IsSamePass, number_of, opened_of as opened_by, part_of}
-use Rattle.bus_turn.specs.Common.{seen_of as seen_in, mine_of as mine_in, own_by}
+use Rattle.bus_turn.specs.Common.{mine_of as mine_in, own_by}
 use Rattle.board_live.specs.declared.cpu.Cpu.{Cpu}
 use Rattle.board_live.specs.Common.{opened_with, ClosesBoard}
 use Rattle.board_live.proofs.Joining.{caught_up, closes, closes_joined, opened_same}
@@ -35,14 +34,12 @@ returns-clause-cpus g c =
     let pass_part : part_of pass ≡ part_of first.pass = search rules in
     let part : Some opened ≡ Some (opened_with done) = sym first_part ∙ (sym pass_part ∙ c.close.ensures.part) in
     let opened_first : opened_by first.pass ≡ opened_by pass = search rules in
-    let seen : IsPrefix (seen_in now.pass) (seen_in pass) = c.join.ensures.seen in
-    let has = caught_up pass first now c.catch_up.ensures.same c.catch_up.ensures.seen seen in
+    let has = caught_up pass first now c.catch_up.ensures.same c.catch_up.ensures.seen c.join.ensures.seen in
     let mines : mine_in pass ≡ mine_in now.pass = search rules in
     let own : own_by (λ (entry : Entry). entry.actor) (number_of now.pass)
     (drop (length (opened_by pass)) (reverse done.board.value.entries)) ≡ mine_in now.pass =
     rw (same.0, mines) at c.close.ensures.mine in
-    let firstly : ClosesBoard done.board.value first =
-    closes pass done first c.close.ensures.begins c.close.ensures.opened opened_first (first_part ∙ part)
+    let firstly = closes pass done first c.close.ensures.begins c.close.ensures.opened opened_first (first_part ∙ part)
     (number_of now.pass, mine_in now.pass) has.0 has.1 has.2 own in
     let others : All (ClosesBoard done.board.value) rest =
     λ k d within.
@@ -51,8 +48,7 @@ returns-clause-cpus g c =
     closes_joined pass done cpu c.close.ensures.begins c.close.ensures.opened
     (opened_same cpu first (its_part ∙ sym first_part) ∙ opened_first) (its_part ∙ part)
     (c.join.ensures.joined k d within) c.close.ensures.joined in
-    let all : All (ClosesBoard done.board.value) items =
-    All-permutation (ClosesBoard done.board.value) (first ∷ remove items place) items
+    rw c.unshared.ensures.board
+    (All-permutation (ClosesBoard done.board.value) (first ∷ remove items place) items
     (IsPermutation-sym items (first ∷ remove items place) (IsPermutation-remove items place first below is))
-    (All-cons (ClosesBoard done.board.value) first (remove items place) firstly (rw left at others)) in
-    rw c.unshared.ensures.board all
+    (All-cons (ClosesBoard done.board.value) first (remove items place) firstly (rw left at others)))

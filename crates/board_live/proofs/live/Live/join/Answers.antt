@@ -1,5 +1,4 @@
-use Rattle.std.proofs.Common.{rules, ◌≡◌, ◌+◌, [], ◌∷◌, ◌++◌, length, drop, All, ap, ◌∙◌, arith}
-use Rattle.std.proofs.Common.{length-append}
+use Rattle.std.proofs.Common.{rules, ◌≡◌, ◌+◌, [], ◌∷◌, ◌++◌, length, drop, ap, ◌∙◌, arith, length-append}
 use Rattle.std.proofs.lemmas.List.Elements.{All-cons, All-weaker}
 use Rattle.bus_turn.specs.Passes.{number_of, mine_of as mine_in, joined_of}
 use Rattle.bus_turn.proofs.Rows.{prefix_trans}
@@ -18,28 +17,22 @@ loop-cpu-preserved g c =
     let pass = c.join.new.pass in
     let is : items ≡ rest ++ cpu ∷ [] = search rules in
     let both = popped whole items rest cpu i.left is in
-    let added : joined_of pass ≡ joined_of c.loop-cpu.pass ++
-    (number_of now.pass, mine_in now.pass) ∷ joined_of now.pass = c.join.ensures.joined in
-    let none : joined_of now.pass ≡ [] = now.passed.joined in
-    let long : length (joined_of pass)
-    ≡ length (joined_of c.loop-cpu.pass) + length ((number_of now.pass, mine_in now.pass) ∷ joined_of now.pass) =
-    ap length added ∙ length-append (joined_of c.loop-cpu.pass)
-    ((number_of now.pass, mine_in now.pass) ∷ joined_of now.pass) in
-    let no_more : length (joined_of now.pass) ≡ 0 = ap length none in
+    let added = c.join.ensures.joined in
+    let more = (number_of now.pass, mine_in now.pass) ∷ joined_of now.pass in
+    let long = ap length added ∙ length-append (joined_of c.loop-cpu.pass) more in
     let fewer : length items ≡ length rest + 1 = ap length is ∙ length-append rest (cpu ∷ []) in
-    let before : All (IsJoined pass) (drop (length items) whole) =
+    let before =
     All-weaker (IsJoined c.loop-cpu.pass) (IsJoined pass)
-    (λ other has. joined_more c.loop-cpu.pass pass
-    ((number_of now.pass, mine_in now.pass) ∷ joined_of now.pass) other c.join.ensures.seen.0 added has)
+    (λ other. joined_more c.loop-cpu.pass pass more other c.join.ensures.seen.0 added)
     (drop (length items) whole) i.joined in
-    let this : IsJoined pass cpu = joined_new c.loop-cpu.pass pass cpu now c.catch_up.ensures.same
-    c.catch_up.ensures.seen c.join.ensures.seen.1 added in
+    let this = joined_new c.loop-cpu.pass pass cpu now c.catch_up.ensures.same c.catch_up.ensures.seen
+    c.join.ensures.seen.1 added in
     record {
       own = c.join.ensures.own;
       idle = c.join.ensures.idle;
       same = search rules;
       left = both.0;
-      count = omega (arith, i.count, long, no_more, fewer);
+      count = omega (arith, i.count, long, ap length now.passed.joined, fewer);
       seen = prefix_trans _ _ _ i.seen c.join.ensures.seen.0;
       joined = rw both.1 (All-cons (IsJoined pass) cpu (drop (length items) whole) this before);
     }

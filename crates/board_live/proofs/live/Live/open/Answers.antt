@@ -1,11 +1,10 @@
-use Rattle.std.proofs.Common.{rules, ◌≡◌, ◌+◌, ◌≤◌, Option, Some, [], length, map, reverse, All, sym, ap, ◌∙◌}
-use Rattle.std.proofs.Common.{arith}
+use Rattle.std.proofs.Common.{rules, ◌≡◌, ◌+◌, Option, Some, length, map, reverse, sym, ap, ◌∙◌, arith}
 use Rattle.board_prelude.proofs.Common.{range_with_len, reverse-reverse, length-map, map_writes_of}
 use Rattle.std.proofs.lemmas.List.FromFn.{length-range_with_len}
 use Rattle.std.proofs.lemmas.List.Elements.{All-weaker}
 use Rattle.bus_turn.specs.Passes.{opened_of as opened_by, part_of}
 use Rattle.map_publish.specs.declared.viewer.Viewer.{Viewer}
-use Rattle.map_publish.specs.Lists.{opened_of, changes_of}
+use Rattle.map_publish.specs.Lists.{opened_of}
 use Rattle.board_live.specs.declared.cpu.Cpu.{Cpu}
 use Rattle.shared_board.specs.declared.shared.Origin.{Origin}
 use Rattle.board_live.specs.Common.{IsMapOpened, origin_in, opened_with, callers_in, opened_in, setup_in, IsViewerFor}
@@ -18,11 +17,10 @@ pub shared-requires-clause-opens : goal.shared-requires-clause-opens
 shared-requires-clause-opens g c =
     let board = c.deref.result.now in
     let map : opened_of c.in-Ok-new.publisher.value.front.seen.log ≡ c.map.result.now = search rules in
-    let version : c.map.result.now.version ≡ length (map_writes_of board.setup board.entries) = c.map.ensures.version in
     let opens : IsMapOpened board.setup board.entries (opened_of c.in-Ok-new.publisher.value.front.seen.log) =
     rw map (record {
       stands = stands_after board.setup board.entries c.map.result.now.regs c.map.ensures.stands;
-      version = version;
+      version = c.map.ensures.version;
     }) in
     rw c.deref.ensures at opens
 
@@ -30,14 +28,10 @@ pub callers-cpus-requires-clause-viewers : goal.callers-cpus-requires-clause-vie
 callers-cpus-requires-clause-viewers g c =
     let pass = c.in-Ok-open-2.pass in
     let shared = c.shared.result in
-    let part : part_of pass ≡ Some (opened_with shared) = search rules in
-    let opened : opened_by pass ≡ reverse shared.board.value.entries = search rules in
-    let count : shared.opened ≡ length shared.board.value.entries = search rules in
-    let none : changes_of shared.publisher.value.front.seen.log ≡ [] = search rules in
-    let fronts : All (λ (viewer : Viewer). viewer.front ≡ shared.publisher.value.front) c.in-Ok-open.viewers.items =
-    search rules in
+    let viewer_of = λ (viewer : Viewer).
+    opened_viewer pass shared viewer (search rules) (search rules) (search rules) in
     All-weaker (λ (viewer : Viewer). viewer.front ≡ shared.publisher.value.front) (IsViewerFor pass)
-    (λ viewer front. opened_viewer pass shared viewer part opened count front none) c.in-Ok-open.viewers.items fronts
+    (λ viewer front. viewer_of viewer front (search rules)) c.in-Ok-open.viewers.items (search rules)
 
 pub returns-in-Ok-open-2-clause-opened : goal.returns-in-Ok-open-2-clause-opened
 returns-in-Ok-open-2-clause-opened g c =
@@ -56,7 +50,6 @@ returns-in-Ok-open-2-clause-opened g c =
     c.callers-cpus.ensures.numbers ∙ ap (range_with_len 0) many in
     let count : length cpus ≡ c.args.n =
     sym (length-map cpus (λ (cpu : Cpu). cpu.number)) ∙ (ap length numbers ∙ length-range_with_len 0 c.args.n) in
-    let one : 1 ≤ c.args.n = c.requires.few.some in
     record {
       all = record {
         opened = opened_with shared;
@@ -64,7 +57,7 @@ returns-in-Ok-open-2-clause-opened g c =
         same = All-weaker (IsNewOf pass) (λ (cpu : Cpu). part_of cpu.pass ≡ Some (opened_with shared))
             (λ cpu new. new.part ∙ part) cpus c.callers-cpus.ensures.new;
         count = count ∙ sym callers;
-        some = omega (arith, count, one);
+        some = omega (arith, count, c.requires.few.some);
         each = λ number below.
             let same : 0 + number ≡ number = omega arith in
             rw same at (any_numbered 0 cpus (numbers ∙ ap (range_with_len 0) (sym count)) number below);
