@@ -135,9 +135,8 @@ passed_idly cpu held book now found same joins copies seen mine =
     ∙ (found.listed ∙ ap (λ (w : List Entry). own_by by_actor cpu.number (opened_by cpu.pass) ++ w) (sym mine)))
 
 -- after it the caller has seen all, and has added nothing
-pub has_learnt :
-    (cpu : Cpu) (held : Shared) (now : Cpu) → Finds cpu held → now.number ≡ cpu.number → IsSamePass cpu.pass now.pass →
-    now.viewer.front.seen.log ≡ held.publisher.value.front.seen.log →
+pub has_learnt : (cpu : Cpu) (held : Shared) (now : Cpu) → Finds cpu held → now.number ≡ cpu.number →
+    IsSamePass cpu.pass now.pass → now.viewer.front.seen.log ≡ held.publisher.value.front.seen.log →
     seen_in now.pass ≡ reverse held.board.value.entries → AddsNone cpu now
 has_learnt cpu held now found number same learnt listed =
     let seen : seen_of now ≡ held.board.value.entries = rw listed (reverse-reverse held.board.value.entries) in
