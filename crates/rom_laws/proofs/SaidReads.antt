@@ -5,7 +5,6 @@ use Rattle.std.proofs.Common.{◌≡◌, ℕ, ◌==◌, Bool, true, false, if◌
 use Rattle.std.proofs.Common.{option_and_then, refl, arith}
 use Rattle.board_spec.specs.declared.event.Event.TheVariants.{Look as LookAt}
 use Rattle.board_spec.specs.declared.stimulus.Stimulus.TheVariants.{Pulses}
-use Rattle.board_base.specs.declared.access.Width.TheVariants.{Two, Four}
 use Rattle.uart_16550.specs.declared.com1.Happening.TheVariants.{Happens}
 use Rattle.board_records.specs.declared.event.EventRecord.{EventRecord}
 use Rattle.board_records.specs.Events.{access_said, applied_said, asked_by, asked_said, byte_said, cycle_said}
@@ -67,8 +66,7 @@ module _ (said : EventRecord) where
   width_is : (bytes : ℕ) (width : Width) → width_said bytes ≡ Some width → bytes_of width ≡ bytes
   unfolding width_said
   width_is bytes One says = grind (arith, nat_tests)
-  width_is bytes Two says = grind (arith, nat_tests)
-  width_is bytes Four says = grind (arith, nat_tests)
+  width_is bytes _ says = grind (arith, nat_tests)
 
   by_width : (kind : Kind) (width : Option Width) → width_said said.bytes ≡ width →
       ReadsSaid said (option_and_then (cycle_said said kind) width)

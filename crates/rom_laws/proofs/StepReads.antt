@@ -1,7 +1,7 @@
 -- Each byte that a step reads of memory is the one that a read of that byte alone gives.
 use Rattle.std.proofs.Common.{◌≡◌, ℕ, ◌+◌, ◌<◌, ◌==◌, false, List, Option, Some, None, refl, sym, ap, subst, ◌∙◌, arith}
 use Rattle.board_prelude.proofs.Common.{WideAccess, Target, Device, Config, Denial, Entry, Setup, IsSetup, IsAnswer}
-use Rattle.board_prelude.proofs.Common.{Event, Memory, Wide, Parts, Reply, Bus, Saw, byte, memory_target, memory_denial}
+use Rattle.board_prelude.proofs.Common.{Event, Memory, Wide, Parts, Reply, byte, memory_target, memory_denial}
 use Rattle.board_base.specs.declared.access.Access.{Access}
 use Rattle.board_spec.specs.Common.{memory_answer}
 use Rattle.board_spec.specs.declared.event.Parts.TheVariants as parts
@@ -75,10 +75,9 @@ module _ (setup : Setup) (before : List Entry) (roms : List (List ℕ)) (fits : 
   by_parts : (access : WideAccess) (reply : Reply) → SaysRead setup said (Wide access) read →
       IsAnswer setup before (Wide access) reply → IsTold (record_said reply after)
   unfolding record_said
-  by_parts access (Bus value target denial) says answer = absurd answer
-  by_parts access (Saw look) says answer = absurd answer
   by_parts access (replies.Parts they value) says answer =
       by_chipset (Wide access) (replies.Parts they value) says answer (of_parts they value after)
+  by_parts access _ says answer = absurd answer
 
   by_cycle : (access : Access) (reply : Reply) → SaysRead setup said (Memory access) read →
       IsAnswer setup before (Memory access) reply → IsTold (record_said reply after)
