@@ -1,7 +1,7 @@
 -- The state of the timer is spelled and read back.
 use Rattle.board_base.proofs.Common.{nat_tests}
-use Rattle.std.proofs.Common.{◌≡◌, ℕ, ◌≤◌, Bool, false, List, [], ◌∷◌, length, take, get_or, Option, is_some, refl}
-use Rattle.std.proofs.Common.{arith, nat_lt}
+use Rattle.std.proofs.Common.{◌≡◌, ℕ, ◌≤◌, Bool, List, [], ◌∷◌, length, take, get_or, Option, is_some, refl, arith}
+use Rattle.std.proofs.Common.{nat_lt}
 use Rattle.device_spec.specs.Pit.{Mode, Access, Notation, mode_number, mode_numbered, access_number, notation_number}
 use Rattle.device_spec.specs.Pit.{notation_of_bit, bcd_bit}
 use Rattle.byte_fields.specs.Fields.{bound_where, flag_byte, IsWithin}
@@ -139,12 +139,6 @@ flags_format has_count =
     (λ t. (record { load_asked = t.2.2.1; started = t.2.2.2.1 }, refl))
 
 -- ---- a counter
-
-flag_few : (flag : Bool) → flag_byte flag ≤ 1
-flag_few flag = grind (arith, nat_tests)
-
-not_asked : (asked : Bool) → flag_byte asked ≤ 0 → asked ≡ false
-not_asked asked few = grind (arith, nat_tests)
 
 counted_to :
     (mode : Mode) (count : Option ℕ) (asked started : Bool) → HasCount mode count asked started → IsFew count →
