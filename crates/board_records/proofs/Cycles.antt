@@ -1,7 +1,6 @@
 -- Accesses of one bus cycle have a place.
 use Rattle.std.proofs.Common.{◌≡◌, List, None}
-use Rattle.board_prelude.proofs.Common.{Event, Memory, Port, Entry}
-use Rattle.board_prelude.proofs.Common.{Setup}
+use Rattle.board_prelude.proofs.Common.{Event, Memory, Port, Entry, Setup}
 use Rattle.board_chipset.specs.Places.{place_of}
 use Rattle.board_records.specs.Places.{IsCycle}
 

@@ -38,8 +38,7 @@ disk_over_other : (fitted sectors : List ℕ) (own : Option (List ℕ)) (disk : 
     length fitted ≡ length (unwrap_or own []) → length sectors ≡ length (unwrap_or (sectors_in disk) []) →
     IsFittedDisk own disk → IsFittedDisk (option_map {T = List ℕ} (λ _. fitted) own) (option_map (holding sectors) disk)
 disk_over_other fitted sectors (Some own) (Some disk) fits same is = over_other fitted sectors own disk fits same is
-disk_over_other fitted sectors (Some own) None fits same is = is
-disk_over_other fitted sectors None None fits same is = is
+disk_over_other fitted sectors _ None fits same is = is
 disk_over_other fitted sectors None (Some disk) fits same is = is
 
 pub whole_with : (dram fitted sectors : List ℕ) (chipset : Running) → length dram ≡ length (dram_on chipset) →
@@ -124,8 +123,7 @@ restored left behind = rw (chipset_restored left behind.serial.board) refl
 
 as_many : (left : Bool) (bytes : List ℕ) (size : ℕ) → length bytes ≡ size → (if left then bytes else []) ≢ [] →
     length (if left then bytes else []) ≡ size
-as_many true bytes size same some = same
-as_many false bytes size same some = absurd (some refl)
+as_many left bytes size same some = grind arith
 
 pub own_as_many : (left : LeftOut) (behind : Behind) → IsBehind behind →
     AreAsMany (left_of left behind.serial.board) (without left behind).serial.board.setup

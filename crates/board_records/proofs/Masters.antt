@@ -1,7 +1,6 @@
 -- What a bus master reaches, as a record: never SMRAM, nor memory in its range.
 use Rattle.std.proofs.Common.{◌≡◌, ◌≢◌, ℕ, ◌≤◌, ◌⊎◌, false, Option, Some, refl, sym, ◌∙◌, arith}
-use Rattle.board_prelude.proofs.Common.{Target, Dram, Shadow, Smram, Denial, Register}
-use Rattle.board_prelude.proofs.Common.{is_smram_range}
+use Rattle.board_prelude.proofs.Common.{Target, Dram, Shadow, Smram, Denial, Register, is_smram_range}
 use Rattle.board_chipset.specs.Common.{IsOutsideSmram}
 use Rattle.board_records.specs.Numbers.{dram_target, shadow_target, smram_target}
 use Rattle.board_records.specs.Replies.{part_said, target_said}

@@ -9,36 +9,33 @@ use Rattle.board_records.specs.declared.reply.ReplyRecord.{ReplyRecord}
 use Rattle.board_records.specs.Replies.{no_part}
 use Rattle.board_records.specs.RomReplies.{part_of, with_roms}
 
-pub part_next : (parts : List PartRecord) (index addr bytes before place : ℕ) (last : PartRecord) →
-    index < length parts →
-    part_of (drop index parts) addr bytes before place
-    ≡ (let after = before + bytes_of (longest_at (addr + before) (bytes - before)) in
-    if nat_lt place after then Some (get_or parts index last, place - before)
-    else part_of (drop (index + 1) parts) addr bytes after place)
-unfolding part_of
-part_next parts index addr bytes before place last within = rw (drop_more parts index last within) refl
+module _ (parts : List PartRecord) (index addr bytes before place : ℕ) where
+  pub part_next : (last : PartRecord) → index < length parts →
+      part_of (drop index parts) addr bytes before place
+      ≡ (let after = before + bytes_of (longest_at (addr + before) (bytes - before)) in
+      if nat_lt place after then Some (get_or parts index last, place - before)
+      else part_of (drop (index + 1) parts) addr bytes after place)
+  unfolding part_of
+  part_next last within = rw (drop_more parts index last within) refl
 
-pub part_here : (parts : List PartRecord) (index addr bytes before place : ℕ) (last : PartRecord) (count left : ℕ) →
-    index < length parts → left ≡ bytes - before → count ≡ bytes_of (longest_at (addr + before) left) →
-    place < before + count →
-    part_of (drop index parts) addr bytes before place ≡ Some (get_or parts index last, place - before)
-part_here parts index addr bytes before place last count left within is_left is_count below =
-    let is : bytes_of (longest_at (addr + before) (bytes - before)) ≡ count = sym (rw is_left at is_count) in
-    part_next parts index addr bytes before place last within ∙ rw (is, lt-ltb place (before + count) below) refl
+  pub part_here : (last : PartRecord) (count left : ℕ) → index < length parts → left ≡ bytes - before →
+      count ≡ bytes_of (longest_at (addr + before) left) → place < before + count →
+      part_of (drop index parts) addr bytes before place ≡ Some (get_or parts index last, place - before)
+  part_here last count left within is_left is_count below =
+      let is : bytes_of (longest_at (addr + before) (bytes - before)) ≡ count = sym (rw is_left at is_count) in
+      part_next last within ∙ rw (is, lt-ltb place (before + count) below) refl
 
-pub part_later : (parts : List PartRecord) (index addr bytes before place : ℕ) (count left : ℕ) →
-    index < length parts → left ≡ bytes - before → count ≡ bytes_of (longest_at (addr + before) left) →
-    before + count ≤ place →
-    part_of (drop index parts) addr bytes before place ≡ part_of (drop (index + 1) parts) addr bytes
-    (before + count) place
-part_later parts index addr bytes before place count left within is_left is_count past =
-    let is : bytes_of (longest_at (addr + before) (bytes - before)) ≡ count = sym (rw is_left at is_count) in
-    part_next parts index addr bytes before place no_part within ∙ rw (is, le-ltb place (before + count) past) refl
+  pub part_later : (count left : ℕ) → index < length parts → left ≡ bytes - before →
+      count ≡ bytes_of (longest_at (addr + before) left) → before + count ≤ place →
+      part_of (drop index parts) addr bytes before place
+      ≡ part_of (drop (index + 1) parts) addr bytes (before + count) place
+  part_later count left within is_left is_count past =
+      let is : bytes_of (longest_at (addr + before) (bytes - before)) ≡ count = sym (rw is_left at is_count) in
+      part_next no_part within ∙ rw (is, le-ltb place (before + count) past) refl
 
-pub no_part_left : (parts : List PartRecord) (index addr bytes before place : ℕ) → length parts ≤ index →
-    part_of (drop index parts) addr bytes before place ≡ None
-unfolding part_of
-no_part_left parts index addr bytes before place past = rw (drop_all index parts past) refl
+  pub no_part_left : length parts ≤ index → part_of (drop index parts) addr bytes before place ≡ None
+  unfolding part_of
+  no_part_left past = rw (drop_all index parts past) refl
 
 pub card_next : (cards : List FittedCard) (index dev : ℕ) (last : FittedCard) → index < length cards →
     find (λ card. card.dev == dev) (drop index cards)

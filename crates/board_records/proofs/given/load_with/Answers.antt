@@ -13,17 +13,17 @@ returns-in-Ok c =
     let result : Result Behind ℕ = c.with_given.result in
     let loaded : Behind = c.in-Ok.behind in
     let puts : Puts given loaded result = (c.with_given.ensures.given, c.with_given.ensures.refused) in
+    let is = c.in-Ok.ensures.loaded in
     let exact : (any : Behind) → IsBehind any → c.args.from.now ≡ image_bytes any →
     AreAsMany given any.serial.board.setup →
     (result ≡ Err no_memory) ⊎ (result ≡ Ok (on_board (with_given given) any)) =
     λ any is same fits. given_exact result given loaded any puts (c.in-Ok.ensures.exact any is same) fits in
     record {
-      loaded = given_loaded result given loaded c.args.from.now puts c.in-Ok.ensures.loaded.0 c.in-Ok.ensures.loaded.1;
-      sound = given_sound result given loaded puts c.in-Ok.ensures.loaded.0;
+      loaded = given_loaded result given loaded c.args.from.now puts is.0 is.1;
+      sound = given_sound result given loaded puts is.0;
       exact = exact;
       saved = λ left behind is same own. loaded_back result c.args.from.now given left behind exact is same own;
-      refused = given_refused result given loaded c.args.from.now puts c.in-Ok.ensures.loaded.0
-          c.in-Ok.ensures.loaded.1;
+      refused = given_refused result given loaded c.args.from.now puts is.0 is.1;
     }
 
 pub returns-in-Err-clause-saved : goal.returns-in-Err-clause-saved
