@@ -1,6 +1,6 @@
 -- The lines of a log, read one by one.
-use Rattle.board_prelude.proofs.Common.{length-reverse, none-some, nat_tests, digits, reverse-append, length-append}
-use Rattle.board_prelude.proofs.Common.{All-cons, Entry, line_feed, line_text, lines_text}
+use Rattle.board_prelude.proofs.Common.{length-reverse, nat_tests, digits, reverse-append, length-append, All-cons}
+use Rattle.board_prelude.proofs.Common.{Entry, line_feed, line_text, lines_text}
 use Rattle.std.proofs.Common.{◌≡◌, ◌≢◌, ℕ, ◌+◌, ◌≤◌, Option, Some, None, List, [], ◌∷◌, ◌++◌, length, reverse, All}
 use Rattle.std.proofs.Common.{refl, sym, ap, subst, ◌∙◌, inl, inr, append_assoc, arith, MatchOption}
 use Rattle.script_spec.specs.Common.{IsVersion, IsWellFormed, cut}
@@ -14,12 +14,10 @@ use Rattle.logs_and_maps.proofs.Lines.{lines_text-newest}
 entry_cut : (version n : ℕ) (rest : List ℕ) (entry : Entry) (after : List ℕ) → HasEntry version n rest entry after
     → cut line_feed rest ≡ Some (line_text n entry, after)
 entry_cut version n rest entry after has =
-    ap (cut line_feed) has.line ∙ cut_field line_feed (line_text n entry) after
-    (lacks-line (line_text n entry) (line_whole n entry))
+    rw has.line (cut_field line_feed (line_text n entry) after (lacks-line (line_text n entry) (line_whole n entry)))
 
 pub none_uncut : (version n : ℕ) (rest : List ℕ) → None ≡ cut line_feed rest → HasNoEntry version n rest
-none_uncut version n rest uncut entry after has =
-    absurd (none-some (line_text n entry, after) (uncut ∙ entry_cut version n rest entry after has))
+none_uncut version n rest uncut entry after has = absurd (cc (uncut, entry_cut version n rest entry after has))
 
 -- what one line says
 abbrev IsRead : (version n : ℕ) → (line : List ℕ) → Option Entry → Type 0
@@ -32,10 +30,7 @@ pub has_entry : (version n : ℕ) (rest line after : List ℕ) (read : Option En
     → IsRead version n line read → read ≡ Some entry → HasEntry version n rest entry after
 has_entry version n rest line after read entry parts exact is =
     let e = subst (IsRead version n line) is exact in
-    record {
-      formed = e.0;
-      line = cut_joined line_feed rest line after (sym parts) ∙ ap (λ (text : List ℕ). text ++ line_feed ∷ after) e.1;
-    }
+    record { formed = e.0; line = rw (← e.1) (cut_joined line_feed rest line after (sym parts)) }
 
 pub no_entry : (version n : ℕ) (rest line after : List ℕ) (read : Option Entry) →
     Some (line, after) ≡ cut line_feed rest → IsRead version n line read → read ≡ None → HasNoEntry version n rest

@@ -26,12 +26,8 @@ loop-rest-preserved c =
           c.loop-rest.invariant.place c.loop-rest.invariant.cut has);
       each = rw c.in_ok-push.ensures.items (each_more version n rest after entries entry has
           c.loop-rest.invariant.each);
-      place = rw c.in_ok-push.ensures.items (omega (
-        arith,
-        c.loop-rest.invariant.place,
-        length-append entries
-            (entry ∷ []),
-      ));
+      place = rw c.in_ok-push.ensures.items
+          (omega (arith, c.loop-rest.invariant.place, length-append entries (entry ∷ [])));
       room = rw c.in_ok-push.ensures.items (room_left version n rest entry after entries (length c.args.lines.now)
           has c.loop-rest.invariant.room);
     }
