@@ -10,7 +10,7 @@ pub find_passes : {X : Type 0} (test : X → Bool) (xs : List X) (x : X) → fin
 find_passes test [] x is = absurd cc
 find_passes test (y ∷ ys) x is = grind (arith, find_passes test ys x)
 
--- no word and no number but its own finds a stimulus
+-- no other word and number find a stimulus
 pub word_found : (word : List ℕ) (one : Stimulus) → stimulus_of_word word ≡ Some one → word ≡ (stimulus_form one).word
 word_found word one is =
     (bytes_eq-Decides word (stimulus_form one).word).0
