@@ -41,10 +41,7 @@ module _ (chipset : Running) (bytes : Bytes) (held : HoldsBytes chipset bytes) w
       ≡ record old { transfer = after }
   unfolding done_as_told
   ended_done Exact moved after old = refl
-  ended_done Longer moved after old = refl
-  ended_done Shorter moved after old = refl
-  ended_done (Abort addr denial) moved after old = refl
-  ended_done (Sector lba) moved after old = refl
+  ended_done _ moved after old = refl
 
   -- what is told is done to the point too, whatever the piece
   done_so : (piece : Piece) (old : Stage) →

@@ -43,48 +43,41 @@ fixed_even : All IsEven fixed_edges
 unfolding fixed_edges
 fixed_even = all_even fixed_edges refl
 
-boundary_even : (bytes : Bytes) (row : ℕ) → boundary bytes row % 4 ≡ 0
-boundary_even bytes row = omega arith
+module _ (bytes : Bytes) where
+  boundary_even : (row : ℕ) → boundary bytes row % 4 ≡ 0
+  boundary_even row = omega arith
 
-rows_even : (bytes : Bytes) → All IsEven (row_edges bytes)
-rows_even bytes =
-    All-map IsEven (boundary bytes) (0 ∷ 1 ∷ 2 ∷ 3 ∷ 4 ∷ 5 ∷ 6 ∷ 7 ∷ []) (λ k d within. boundary_even bytes _)
+  rows_even : All IsEven (row_edges bytes)
+  rows_even = All-map IsEven (boundary bytes) (0 ∷ 1 ∷ 2 ∷ 3 ∷ 4 ∷ 5 ∷ 6 ∷ 7 ∷ []) (λ k d within. boundary_even _)
 
-base_even : (bytes : Bytes) (dev k : ℕ) (base : Base) → IsBase base →
-    All IsEven (flat_map window_edges (memory_window bytes dev k base))
-base_even bytes dev k (MemoryBase bits) fit =
-    window_all (record { dev = dev; base = k; inside = base_value bytes dev k; bits = bits }) (omega (arith, fit.0))
-base_even bytes dev k (IoBase bits) fit = All-nil IsEven
-base_even bytes dev k (OutsideBase bits) fit =
-    window_all (record { dev = dev; base = k; inside = base_value bytes dev k; bits = bits }) (omega (arith, fit.0))
+  base_even : (dev k : ℕ) (base : Base) → IsBase base →
+      All IsEven (flat_map window_edges (memory_window bytes dev k base))
+  base_even dev k (IoBase bits) fit = All-nil IsEven
+  base_even dev k _ fit = window_all _ (omega (arith, fit.0))
 
-bases_even : (bytes : Bytes) (dev k : ℕ) (bases : List Base) → All IsBase bases →
-    All IsEven
-    (flat_map (λ numbered. flat_map window_edges (memory_window bytes dev numbered.0 numbered.1))
-    (enumerate_from k bases))
-bases_even bytes dev k [] fit = All-nil IsEven
-bases_even bytes dev k (base ∷ later) fit =
-    All-append IsEven (flat_map window_edges (memory_window bytes dev k base)) _
-    (base_even bytes dev k base (All-head IsBase base later fit))
-    (bases_even bytes dev (k + 1) later (All-tail IsBase base later fit))
+  bases_even : (dev k : ℕ) (bases : List Base) → All IsBase bases →
+      All IsEven
+      (flat_map (λ numbered. flat_map window_edges (memory_window bytes dev numbered.0 numbered.1))
+      (enumerate_from k bases))
+  bases_even dev k [] fit = All-nil IsEven
+  bases_even dev k (base ∷ later) fit =
+      All-append IsEven (flat_map window_edges (memory_window bytes dev k base)) _
+      (base_even dev k base (All-head IsBase base later fit))
+      (bases_even dev (k + 1) later (All-tail IsBase base later fit))
 
-rom_even : (bytes : Bytes) (dev : ℕ) (rom : Option ℕ) → IsExpansionRom rom →
-    All IsEven (flat_map window_edges (rom_window_of bytes dev rom))
-rom_even bytes dev None fit = All-nil IsEven
-rom_even bytes dev (Some bits) fit =
-    window_all (record { dev = dev; base = 6; inside = rom_value bytes dev; bits = bits }) (omega (arith, fit.0))
+  rom_even : (dev : ℕ) (rom : Option ℕ) → IsExpansionRom rom →
+      All IsEven (flat_map window_edges (rom_window_of bytes dev rom))
+  rom_even dev None fit = All-nil IsEven
+  rom_even dev (Some bits) fit = window_all _ (omega (arith, fit.0))
 
-card_even : (bytes : Bytes) (card : FittedCard) → IsCard card → All IsEven (card_edges bytes card)
-card_even bytes card fit =
-    All-append IsEven _ (flat_map window_edges (rom_window bytes card))
-    (bases_even bytes card.dev 0 card.bases fit.each) (rom_even bytes card.dev card.rom fit.rom)
-
-cards_even : (bytes : Bytes) (cards : List FittedCard) → All IsCard cards →
-    All IsEven (flat_map (card_edges bytes) cards)
-cards_even bytes [] fit = All-nil IsEven
-cards_even bytes (card ∷ later) fit =
-    All-append IsEven (card_edges bytes card) (flat_map (card_edges bytes) later)
-    (card_even bytes card (All-head IsCard card later fit)) (cards_even bytes later (All-tail IsCard card later fit))
+  cards_even : (cards : List FittedCard) → All IsCard cards → All IsEven (flat_map (card_edges bytes) cards)
+  cards_even [] fit = All-nil IsEven
+  cards_even (card ∷ later) fit =
+      let one = All-head IsCard card later fit in
+      All-append IsEven (card_edges bytes card) (flat_map (card_edges bytes) later)
+      (All-append IsEven _ (flat_map window_edges (rom_window bytes card))
+      (bases_even card.dev 0 card.bases one.each) (rom_even card.dev card.rom one.rom))
+      (cards_even later (All-tail IsCard card later fit))
 
 edges_even : (setup : Setup) (bytes : Bytes) → All IsCard setup.cards → All IsEven (edges_of setup bytes)
 unfolding edges_of
@@ -96,15 +89,13 @@ edges_even setup bytes fit = grind (arith, nat_tests, common_steps, fixed_even, 
 none_inside : (addr i edge : ℕ) (width : Width) → addr % bytes_of width ≡ 0 → i < bytes_of width → edge % 4 ≡ 0 →
     addr < edge → addr + i < edge
 none_inside addr i edge One aligned within even above = omega arith
-none_inside addr i edge Two aligned within even above = omega arith
-none_inside addr i edge Four aligned within even above = omega arith
+none_inside addr i edge _ aligned within even above = omega arith
 
 picked : (setup : Setup) (bytes : Bytes) (addr x : ℕ) (kind : Kind) (smm : Bool) →
     six_areas setup bytes x ≡ six_areas setup bytes addr →
     area_of setup bytes x kind smm ≡ area_of setup bytes addr kind smm
 picked setup bytes addr x Fetch smm same = grind (arith, nat_tests)
-picked setup bytes addr x Read smm same = grind (arith, nat_tests)
-picked setup bytes addr x Write smm same = grind (arith, nat_tests)
+picked setup bytes addr x _ smm same = grind (arith, nat_tests)
 
 pub same_area : (setup : Setup) (bytes : Bytes) (addr i : ℕ) (width : Width) (kind : Kind) (smm : Bool) →
     All IsCard setup.cards → addr % bytes_of width ≡ 0 → i < bytes_of width → addr + i < address_count →

@@ -27,8 +27,7 @@ moved Abort i = Abort
 same_quarter : (addr i : ℕ) (width : Width) → addr % bytes_of width ≡ 0 → i < bytes_of width →
     ((addr + i) / 4 ≡ addr / 4) × ((addr + i) % 4 ≡ addr % 4 + i)
 same_quarter addr i One aligned within = (omega arith, omega arith)
-same_quarter addr i Two aligned within = (omega arith, omega arith)
-same_quarter addr i Four aligned within = (omega arith, omega arith)
+same_quarter addr i _ aligned within = (omega arith, omega arith)
 
 window_moved : (addr i bits : ℕ) (width : Width) → 2 ≤ bits → addr % bytes_of width ≡ 0 → i < bytes_of width →
     (addr + i) % 2 ^ bits ≡ addr % 2 ^ bits + i
@@ -75,25 +74,17 @@ reaches_memory setup _ addr claim = tt
 start : (from : ℕ) → from ≡ from + 0
 start from = omega arith
 
-wide_byte : (byte_at : ℕ → ℕ) (from i : ℕ) (width : Width) → ((at : ℕ) → byte_at at < 256) → i < bytes_of width →
+wide_byte : (width : Width) (byte_at : ℕ → ℕ) (from i : ℕ) → ((at : ℕ) → byte_at at < 256) → i < bytes_of width →
     byte (wide byte_at from width) i ≡ byte_at (from + i)
-wide_byte byte_at from zero One below within = omega (arith, below from, ap byte_at (start from))
-wide_byte byte_at from zero Two below within = omega (arith, below from, ap byte_at (start from))
-wide_byte byte_at from (suc zero) Two below within = omega (arith, below from, below (from + 1))
-wide_byte byte_at from zero Four below within = omega (arith, below from, ap byte_at (start from))
-wide_byte byte_at from (suc zero) Four below within = omega (arith, below from, below (from + 1))
-wide_byte byte_at from (suc (suc zero)) Four below within =
-    omega (arith, below from, below (from + 1), below (from + 2))
-wide_byte byte_at from (suc (suc (suc zero))) Four below within =
-    omega (arith, below from, below (from + 1), below (from + 2), below (from + 3))
-wide_byte byte_at from (suc i) One below within = absurd (omega arith)
-wide_byte byte_at from (suc (suc i)) Two below within = absurd (omega arith)
-wide_byte byte_at from (suc (suc (suc (suc i)))) Four below within = absurd (omega arith)
+wide_byte One byte_at from (suc i) below within = absurd (omega arith)
+wide_byte Two byte_at from (suc (suc i)) below within = absurd (omega arith)
+wide_byte Four byte_at from (suc (suc (suc (suc i)))) below within = absurd (omega arith)
+wide_byte _ byte_at from _ below within =
+    omega (arith, below from, below (from + 1), below (from + 2), below (from + 3), ap byte_at (start from))
 
 all_ones : (width : Width) → largest_of width ≡ wide (λ at. 255) 0 width
 all_ones One = refl
-all_ones Two = refl
-all_ones Four = refl
+all_ones _ = refl
 
 module _ (setup : Setup) (before : List Entry) (rom : (at : ℕ) → slice_index setup.rom at < 256) where
   dram_below : (at : ℕ) → dram_byte setup before at < 256
@@ -116,11 +107,11 @@ module _ (setup : Setup) (before : List Entry) (rom : (at : ℕ) → slice_index
 
   pub byte_alone : (target : Target) (place i : ℕ) (width : Width) → InMemory setup target → i < bytes_of width →
       byte (value_at setup before target place width) i ≡ value_at setup before (moved target i) (place + i) One
-  byte_alone (Rom off) place i width is within = wide_byte (slice_index setup.rom) off i width rom within
+  byte_alone (Rom off) place i width is within = wide_byte width (slice_index setup.rom) off i rom within
   byte_alone (Card dev base off) place i width is within =
-      wide_byte (λ at. card_byte setup before dev base at) off i width (card_below dev base is.number) within
+      wide_byte width (λ at. card_byte setup before dev base at) off i (card_below dev base is.number) within
   byte_alone (Device dev) place i width is within = absurd is
   byte_alone (Config reg) place i width is within = absurd is
   byte_alone Abort place i width is within =
-      rw (all_ones width) (wide_byte (λ at. 255) 0 i width (λ at. lit< tt) within)
-  byte_alone _ place i width is within = wide_byte (dram_byte setup before) place i width dram_below within
+      rw (all_ones width) (wide_byte width (λ at. 255) 0 i (λ at. lit< tt) within)
+  byte_alone _ place i width is within = wide_byte width (dram_byte setup before) place i dram_below within

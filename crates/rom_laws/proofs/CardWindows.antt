@@ -31,59 +31,58 @@ IsFound setup card = IsCard card × (card_at setup card.dev ≡ Some card)
 all_found : (setup : Setup) → IsCardList setup.cards → All (IsFound setup) setup.cards
 all_found setup list k d within = (list.each k d within, find_at setup.cards list.rises k d within)
 
-base_window : (setup : Setup) (card : FittedCard) (k : ℕ) (base : Base) → IsFound setup card → k < 6 →
-    slice_get card.bases k ≡ Some base → IsWindow setup card.dev k
-base_window setup card k base is below at =
-    let not_vga : (k == 7) ≡ false = ne_eqb k 7 (λ (e : k ≡ 7). omega arith) in
-    let not_rom : (k == 6) ≡ false = ne_eqb k 6 (λ (e : k ≡ 6). omega arith) in
-    record {
-      number = record { first = is.0.first; last = is.0.last; below = omega arith };
-      least = rw (not_vga, not_rom, is.1, at) (least_bits base (is_base card.bases k base is.0.each at));
-    }
+module _ (setup : Setup) (bytes : Bytes) (card : FittedCard) (is : IsFound setup card) where
+  base_window : (k : ℕ) (base : Base) → k < 6 → slice_get card.bases k ≡ Some base → IsWindow setup card.dev k
+  base_window k base below at =
+      let not_vga : (k == 7) ≡ false = ne_eqb k 7 (λ (e : k ≡ 7). omega arith) in
+      let not_rom : (k == 6) ≡ false = ne_eqb k 6 (λ (e : k ≡ 6). omega arith) in
+      record {
+        number = record { first = is.0.first; last = is.0.last; below = omega arith };
+        least = rw (not_vga, not_rom, is.1, at) (least_bits base (is_base card.bases k base is.0.each at));
+      }
 
--- the window of a base, where it has one
-window_at : (setup : Setup) (bytes : Bytes) (card : FittedCard) (k : ℕ) (base : Base) → IsFound setup card → k < 6 →
-    slice_get card.bases k ≡ Some base → All (OfCard setup) (memory_window bytes card.dev k base)
-window_at setup bytes card k (MemoryBase bits) is below at =
-    All-cons (OfCard setup) _ [] (base_window setup card k (MemoryBase bits) is below at) (All-nil (OfCard setup))
-window_at setup bytes card k (IoBase bits) is below at = All-nil (OfCard setup)
-window_at setup bytes card k (OutsideBase bits) is below at =
-    All-cons (OfCard setup) _ [] (base_window setup card k (OutsideBase bits) is below at) (All-nil (OfCard setup))
+  -- the window of a base, where it has one
+  window_at : (k : ℕ) (base : Base) → k < 6 → slice_get card.bases k ≡ Some base →
+      All (OfCard setup) (memory_window bytes card.dev k base)
+  window_at k (IoBase bits) below at = All-nil (OfCard setup)
+  window_at k (MemoryBase bits) below at =
+      All-cons (OfCard setup) _ [] (base_window k (MemoryBase bits) below at) (All-nil (OfCard setup))
+  window_at k (OutsideBase bits) below at =
+      All-cons (OfCard setup) _ [] (base_window k (OutsideBase bits) below at) (All-nil (OfCard setup))
 
-base_windows : (setup : Setup) (bytes : Bytes) (card : FittedCard) → IsFound setup card → (k : ℕ) (bases : List Base) →
-    k + length bases ≤ 6 → ((i : ℕ) → slice_get card.bases (k + i) ≡ slice_get bases i) → All (OfCard setup)
-    (flat_map (λ numbered. memory_window bytes card.dev numbered.0 numbered.1) (enumerate_from k bases))
-base_windows setup bytes card is k [] few same = All-nil (OfCard setup)
-base_windows setup bytes card is k (base ∷ later) few same =
-    All-append (OfCard setup) (memory_window bytes card.dev k base) _
-    (window_at setup bytes card k base is (omega arith) (ap (slice_get card.bases) (omega arith) ∙ same 0))
-    (base_windows setup bytes card is (k + 1) later (omega arith)
-    (λ i. ap (slice_get card.bases) (omega arith) ∙ same (i + 1) ∙ grind arith))
+  base_windows : (k : ℕ) (bases : List Base) → k + length bases ≤ 6 →
+      ((i : ℕ) → slice_get card.bases (k + i) ≡ slice_get bases i) →
+      All (OfCard setup)
+      (flat_map (λ numbered. memory_window bytes card.dev numbered.0 numbered.1) (enumerate_from k bases))
+  base_windows k [] few same = All-nil (OfCard setup)
+  base_windows k (base ∷ later) few same =
+      All-append (OfCard setup) (memory_window bytes card.dev k base) _
+      (window_at k base (omega arith) (ap (slice_get card.bases) (omega arith) ∙ same 0))
+      (base_windows (k + 1) later (omega arith)
+      (λ i. ap (slice_get card.bases) (omega arith) ∙ same (i + 1) ∙ grind arith))
 
-rom_windows : (setup : Setup) (bytes : Bytes) (card : FittedCard) → IsFound setup card → (rom : Option ℕ) →
-    card.rom ≡ rom → IsExpansionRom rom → All (OfCard setup) (rom_window_of bytes card.dev rom)
-rom_windows setup bytes card is None none size = All-nil (OfCard setup)
-rom_windows setup bytes card is (Some bits) some size = grind (arith, nat_tests)
+  rom_windows : (rom : Option ℕ) → card.rom ≡ rom → IsExpansionRom rom →
+      All (OfCard setup) (rom_window_of bytes card.dev rom)
+  rom_windows None none size = All-nil (OfCard setup)
+  rom_windows (Some bits) some size = grind (arith, nat_tests)
 
-vga_windows : (setup : Setup) (card : FittedCard) → IsFound setup card → All (OfCard setup) (vga_window card)
-vga_windows setup card is = grind (arith, nat_tests)
+  vga_windows : All (OfCard setup) (vga_window card)
+  vga_windows = grind (arith, nat_tests)
 
-card_windows : (setup : Setup) (bytes : Bytes) (card : FittedCard) → IsFound setup card →
-    All (OfCard setup) (memory_windows bytes card)
-card_windows setup bytes card is =
-    let bases : List Window =
-    flat_map (λ numbered. memory_window bytes card.dev numbered.0 numbered.1) (enumerate_from 0 card.bases) in
-    let rom : List Window = if is_rom_on bytes card.dev then rom_window bytes card else [] in
-    let of_rom : All (OfCard setup) rom =
-    elim (cases_Bool (is_rom_on bytes card.dev)) [
-      | inl on ↦ rw on (rom_windows setup bytes card is card.rom refl is.0.rom)
-      | inr off ↦ rw off (All-nil (OfCard setup))
-    ] in
-    All-append (OfCard setup) (bases ++ rom) (vga_window card)
-    (All-append (OfCard setup) bases rom
-    (base_windows setup bytes card is 0 card.bases (let few = is.0.count in omega arith)
-    (λ i. ap (slice_get card.bases) (omega arith))) of_rom)
-    (vga_windows setup card is)
+  card_windows : All (OfCard setup) (memory_windows bytes card)
+  card_windows =
+      let bases : List Window =
+      flat_map (λ numbered. memory_window bytes card.dev numbered.0 numbered.1) (enumerate_from 0 card.bases) in
+      let rom : List Window = if is_rom_on bytes card.dev then rom_window bytes card else [] in
+      let of_rom : All (OfCard setup) rom =
+      elim (cases_Bool (is_rom_on bytes card.dev)) [
+        | inl on ↦ rw on (rom_windows card.rom refl is.0.rom)
+        | inr off ↦ rw off (All-nil (OfCard setup))
+      ] in
+      All-append (OfCard setup) (bases ++ rom) (vga_window card)
+      (All-append (OfCard setup) bases rom
+      (base_windows 0 card.bases (let few = is.0.count in omega arith)
+      (λ i. ap (slice_get card.bases) (omega arith))) of_rom) vga_windows
 
 all_windows : (setup : Setup) (bytes : Bytes) (cards : List FittedCard) → All (IsFound setup) cards →
     All (OfCard setup) (flat_map (memory_windows bytes) cards)

@@ -11,24 +11,17 @@ use Rattle.board_records.specs.RomReplies.{part_of}
 
 -- ---- a byte of a sum
 
-low_byte : (n above i : ℕ) (width : Width) → n < 256 ^ bytes_of width → i < bytes_of width →
+low_byte : (width : Width) (n above i : ℕ) → n < 256 ^ bytes_of width → i < bytes_of width →
     byte (n + 256 ^ bytes_of width * above) i ≡ byte n i
-low_byte n above zero One fits within = omega (arith, fits)
-low_byte n above zero Two fits within = omega (arith, fits)
-low_byte n above (suc zero) Two fits within = omega (arith, fits)
-low_byte n above zero Four fits within = omega (arith, fits)
-low_byte n above (suc zero) Four fits within = omega (arith, fits)
-low_byte n above (suc (suc zero)) Four fits within = omega (arith, fits)
-low_byte n above (suc (suc (suc zero))) Four fits within = omega (arith, fits)
-low_byte n above (suc i) One fits within = absurd (omega arith)
-low_byte n above (suc (suc i)) Two fits within = absurd (omega arith)
-low_byte n above (suc (suc (suc (suc i)))) Four fits within = absurd (omega arith)
+low_byte One n above (suc i) fits within = absurd (omega arith)
+low_byte Two n above (suc (suc i)) fits within = absurd (omega arith)
+low_byte Four n above (suc (suc (suc (suc i)))) fits within = absurd (omega arith)
+low_byte _ n above _ fits within = omega (arith, fits)
 
 above_low : (n above : ℕ) (width : Width) → n < 256 ^ bytes_of width →
     (n + 256 ^ bytes_of width * above) / 256 ^ bytes_of width ≡ above
 above_low n above One fits = omega (arith, fits)
-above_low n above Two fits = omega (arith, fits)
-above_low n above Four fits = omega (arith, fits)
+above_low n above _ fits = omega (arith, fits)
 
 high_byte : (n above i : ℕ) (width : Width) → n < 256 ^ bytes_of width →
     byte (n + 256 ^ bytes_of width * above) (bytes_of width + i) ≡ byte above i
@@ -64,9 +57,8 @@ module _ (access : WideAccess) (said : Access → PartRecord) (value : Access �
       let first : part ≡ part_at access (access.addr + before) width = cc in
       let others : later ≡ parts_from access most (access.addr + before + bytes_of width) (left - bytes_of width) =
       cc in
-      let wide : part.width ≡ width = ap (λ (it : Access). it.width) first in
       let start : part.addr ≡ access.addr + before = covers.0 in
-      let count : bytes_of part.width ≡ bytes_of width = ap bytes_of wide in
+      let count : bytes_of part.width ≡ bytes_of width = ap (λ (it : Access). bytes_of it.width) first in
       elim (cases_lt k (before + bytes_of width)) [
         | inl here ↦ record {
           part = part;
@@ -75,7 +67,7 @@ module _ (access : WideAccess) (said : Access → PartRecord) (value : Access �
           address = omega arith;
           within = omega arith;
           is = All-head P part later each;
-          value_is = low_byte (value part) (joined value later) (k - before) part.width
+          value_is = low_byte part.width (value part) (joined value later) (k - before)
               (fits part (All-head P part later each)) (omega arith);
         }
         | inr past ↦

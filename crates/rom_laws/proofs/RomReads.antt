@@ -120,14 +120,12 @@ module _ (setup : Setup) (before : List Entry) (roms : List (List ℕ)) (fits : 
     where
       few : (width : Width) (k : ℕ) → k < bytes_of width → k < 8
       few One k within = omega arith
-      few Two k within = omega arith
-      few Four k within = omega arith
+      few _ k within = omega arith
 
       ends : (width : Width) (addr k : ℕ) → addr % bytes_of width ≡ 0 → addr < address_count → k < bytes_of width →
           addr + k < address_count
       ends One addr k aligned address within = omega arith
-      ends Two addr k aligned address within = omega arith
-      ends Four addr k aligned address within = omega arith
+      ends _ addr k aligned address within = omega arith
 
   -- ---- a wide access
 
@@ -142,8 +140,7 @@ module _ (setup : Setup) (before : List Entry) (roms : List (List ℕ)) (fits : 
       (parts_said told ≡ map of_part (parts_list they) ++ others_of they) × (told.has_value ≡ 1) × (told.value ≡ value)
   unfolding wide_said blank
   wide_is (parts.Two a b) value after = (refl, refl, refl)
-  wide_is (parts.Three a b c) value after = (refl, refl, refl)
-  wide_is (parts.Four a b c d) value after = (refl, refl, refl)
+  wide_is _ value after = (refl, refl, refl)
 
   map_map : (accesses : List Access) → map of_part (map (part_answer setup before) accesses) ≡ map of_access accesses
   unfolding part_said
@@ -182,14 +179,13 @@ module _ (setup : Setup) (before : List Entry) (roms : List (List ℕ)) (fits : 
       moves access of_access value_of rest (IsPart access) fit 4 0 k (parts_of access) (rw (start, all) refl) cut.each
       (rw start cut.covers) (omega arith) within
 
-  read_in_parts : (said : EventRecord) (access : WideAccess) (value : Option ℕ) (they : Parts) (after : AfterStep)
-      (k : ℕ) →
+  read_in_wide : (said : EventRecord) (access : WideAccess) (reply : Reply) (after : AfterStep) (k : ℕ) →
       is_write access.kind ≡ false → said.addr ≡ access.addr → said.bytes ≡ access.bytes →
-      IsInRange setup (Wide access) → IsWideAnswer setup before access value they → k < access.bytes →
-      byte (with_roms roms said (record_said (replies.Parts they value) after)).value k
+      IsInRange setup (Wide access) → IsAnswer setup before (Wide access) reply → k < access.bytes →
+      byte (with_roms roms said (record_said reply after)).value k
       ≡ byte_read roms setup before access.kind access.smm (access.addr + k)
   unfolding record_said wide_value area_of
-  read_in_parts said access value they after k reads addr count legal answer within =
+  read_in_wide said access (replies.Parts they value) after k reads addr count legal answer within =
       let whole : ℕ = joined value_of (parts_of access) in
       let is : value ≡ Some whole = answer.value_is ∙ cond-false (is_write access.kind) None (Some whole) reads in
       let each : map of_part (parts_list they) ≡ map of_access (parts_of access) =
@@ -198,16 +194,7 @@ module _ (setup : Setup) (before : List Entry) (roms : List (List ℕ)) (fits : 
       rw is
       (read_by_part said access they after k addr count last (omega (arith, legal.bytes, within)) each
       (moved_by access (others_of they) k (cut_into_parts access legal) within))
-
-  read_in_wide : (said : EventRecord) (access : WideAccess) (reply : Reply) (after : AfterStep) (k : ℕ) →
-      is_write access.kind ≡ false → said.addr ≡ access.addr → said.bytes ≡ access.bytes →
-      IsInRange setup (Wide access) → IsAnswer setup before (Wide access) reply → k < access.bytes →
-      byte (with_roms roms said (record_said reply after)).value k
-      ≡ byte_read roms setup before access.kind access.smm (access.addr + k)
-  read_in_wide said access (Bus value target denial) after k reads addr count legal answer within = absurd answer
-  read_in_wide said access (Saw look) after k reads addr count legal answer within = absurd answer
-  read_in_wide said access (replies.Parts they value) after k reads addr count legal answer within =
-      read_in_parts said access value they after k reads addr count legal answer within
+  read_in_wide said access _ after k reads addr count legal answer within = absurd answer
 
 -- ---- the laws
 

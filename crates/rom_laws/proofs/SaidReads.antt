@@ -67,8 +67,7 @@ module _ (said : EventRecord) where
   width_is : (bytes : ℕ) (width : Width) → width_said bytes ≡ Some width → bytes_of width ≡ bytes
   unfolding width_said
   width_is bytes One says = grind (arith, nat_tests)
-  width_is bytes Two says = grind (arith, nat_tests)
-  width_is bytes Four says = grind (arith, nat_tests)
+  width_is bytes _ says = grind (arith, nat_tests)
 
   by_width : (kind : Kind) (width : Option Width) → width_said said.bytes ≡ width →
       ReadsSaid said (option_and_then (cycle_said said kind) width)

@@ -45,11 +45,8 @@ of_cycle setup (Some value) target denial after is = rw (no_config_part setup ta
 of_parts : (they : Parts) (value : Option ℕ) (after : AfterStep) → is_config_read (wide_said they value after) ≡ false
 unfolding wide_said blank
 of_parts (parts.Two a b) None after = refl
-of_parts (parts.Two a b) (Some value) after = refl
-of_parts (parts.Three a b c) None after = refl
-of_parts (parts.Three a b c) (Some value) after = refl
-of_parts (parts.Four a b c d) None after = refl
-of_parts (parts.Four a b c d) (Some value) after = refl
+of_parts _ None after = refl
+of_parts _ (Some value) after = refl
 
 unidentified : (identities : List FittedIdentity) (said : EventRecord) (told : ReplyRecord) →
     is_config_read told ≡ false → identified_record identities said told ≡ told
@@ -75,10 +72,9 @@ module _ (setup : Setup) (before : List Entry) (roms : List (List ℕ)) (fits : 
   by_parts : (access : WideAccess) (reply : Reply) → SaysRead setup said (Wide access) read →
       IsAnswer setup before (Wide access) reply → IsTold (record_said reply after)
   unfolding record_said
-  by_parts access (Bus value target denial) says answer = absurd answer
-  by_parts access (Saw look) says answer = absurd answer
   by_parts access (replies.Parts they value) says answer =
       by_chipset (Wide access) (replies.Parts they value) says answer (of_parts they value after)
+  by_parts access _ says answer = absurd answer
 
   by_cycle : (access : Access) (reply : Reply) → SaysRead setup said (Memory access) read →
       IsAnswer setup before (Memory access) reply → IsTold (record_said reply after)
