@@ -1,12 +1,12 @@
 -- What a board with a serial port sent in a whole replay.
-use Rattle.std.proofs.Common.{◌≡◌, ℕ, ◌≤◌, true, List, [], ◌∷◌, length, All, refl, ap, ◌∙◌, arith, sym, slice_index}
-use Rattle.board_prelude.proofs.Common.{append-nil, Setup, reset_control, IsLegal, LegalKeepsLock, statements_of}
+use Rattle.std.proofs.Common.{◌≡◌, ℕ, ◌≤◌, true, List, [], ◌∷◌, length, All, refl, ◌∙◌, append-nil, arith, sym}
+use Rattle.std.proofs.Common.{slice_index}
+use Rattle.board_prelude.proofs.Common.{Setup, reset_control, IsLegal, LegalKeepsLock, statements_of}
 use Rattle.board_core.specs.Kept.{Standing}
 use Rattle.script_spec.specs.Common.{Script as Said, IsInRangeScript, statements_in}
 use Rattle.uart_16550.specs.Common.{Uart, has_room, com1_at_reset, Serial, Sending, sending_at_reset}
 use Rattle.command_texts.specs.Common.{bytes_before, happenings_in, steps_in, sent_in, IsSerialText, IsForPort, WentOn}
 use Rattle.command_texts.specs.Common.{port_of}
-use Rattle.command_texts.proofs.Happenings.{port_is}
 
 -- ---- the byte that comes
 
@@ -20,7 +20,7 @@ one_comes uart (byte ∷ input) room some = rw room refl
 reset_port : (serial : Serial Standing) → serial.com1 ≡ com1_at_reset → serial.board.entries ≡ [] →
     port_of serial ≡ sending_at_reset
 unfolding reset_control
-reset_port serial com1 entries = port_is serial.com1 com1_at_reset _ 0 com1 (ap reset_control entries)
+reset_port serial com1 entries = rw (com1, entries) refl
 
 none_later : (port : Sending) (input : List ℕ) → (sent_in port input [] ≡ []) × (steps_in port input [] ≡ [])
 unfolding happenings_in steps_in

@@ -28,9 +28,7 @@ push_phase-requires-clause-in_range c =
 
 pub push_phase-requires-clause-few : goal.push_phase-requires-clause-few
 push_phase-requires-clause-few c =
-    let adds =
-    phase_adds c.deref-phase-items.result.now c.loop-phase.phase-index c.phase-item.result c.deref.result.now
-    c.loop-phase-test.true c.phase-item.is c.deref.ensures.value in
+    let adds = phase_adds _ _ _ c.deref.result.now c.loop-phase-test.true c.phase-item.is c.deref.ensures.value in
     let all = ap (λ ps. length (in_file_order (lists_of ps))) c.deref-phase-items.ensures.value in
     omega (arith, c.loop-phase.invariant.count, adds.few, all, c.requires.in_range.statements)
 
@@ -38,9 +36,7 @@ pub loop-phase-preserved : goal.loop-phase-preserved
 loop-phase-preserved c =
     let phases = c.deref-phase-items.result.now in
     let before = c.loop-phase.invariant in
-    let adds =
-    phase_adds phases c.loop-phase.phase-index c.phase-item.result c.deref.result.now c.loop-phase-test.true
-    c.phase-item.is c.deref.ensures.value in
+    let adds = phase_adds _ _ _ c.deref.result.now c.loop-phase-test.true c.phase-item.is c.deref.ensures.value in
     record {
       setup = c.push_phase.ensures.setup ∙ before.setup;
       count = omega (arith, c.in_ok-push_phase.ensures.count, before.count, adds.long);
