@@ -184,6 +184,7 @@ impl Uart {
 
     /// The UART whose state is at the front of the bytes. Refused where a field is not whole or out of range: the bytes
     /// left then begin with the first such field.
+    #[tactic(auto, using(byte_fields::proofs::Loaded::loads, crate::proofs::StateFormat::uart_format))]
     pub fn load_state(fields: &mut Fields) -> Result<Uart, Bad>
         ensures loaded { Loads uart_fields uart_bytes IsUart fields.old fields.new result }
     {
@@ -232,6 +233,7 @@ impl Com1 {
     }
 
     /// The serial port whose state is at the front of the bytes. Refused as `Uart::load_state` refuses.
+    #[tactic(auto, using(byte_fields::proofs::Loaded::loads, crate::proofs::StateFormat::com1_format))]
     pub fn load_state(fields: &mut Fields) -> Result<Com1, Bad>
         ensures loaded { Loads com1_fields com1_bytes IsCom1 fields.old fields.new result }
     {
@@ -251,6 +253,7 @@ impl Com1 {
 }
 
 /// One state has one spelling, and one spelling is of one state.
+#[tactic(auto, using(byte_fields::proofs::Loaded::one_spelling, crate::proofs::StateFormat::uart_format))]
 pub fn law_one_uart()
     ensures one { OneSpelling uart_bytes IsUart }
 {}

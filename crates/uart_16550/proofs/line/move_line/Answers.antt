@@ -13,8 +13,7 @@ differs _ _ is = refl
 pub returns-then-old-new-clause-moved : goal.returns-then-old-new-clause-moved
 returns-then-old-new-clause-moved g c = λ history left_at.
     rw (differs c.args.old c.args.new c.if-old-new.true)
-    (one_step g.B.SteppedBoard.is_answer g.B.SteppedBoard.setup g.B.SteppedBoard.is_left_by c.args.board.now
-    c.step.new.self c.args.old history com1_actor (Line com1_irq c.args.new) c.step.result left_at
+    (one_step _ _ _ _ c.step.new.self c.args.old history com1_actor (Line com1_irq c.args.new) c.step.result left_at
     c.step.ensures.setup (c.step.ensures.answer history left_at.left) (c.step.ensures.left history left_at.left)
     c.args.new refl (λ _. refl))
 
@@ -28,5 +27,4 @@ returns-else-old-new-clause-moved g c =
     let stays = agrees c.args.old c.args.new c.if-old-new.false in
     λ history left_at.
     rw (stays.1)
-    (no_step g.B.SteppedBoard.is_answer g.B.SteppedBoard.setup g.B.SteppedBoard.is_left_by c.args.board.now c.args.new
-    history (rw (stays.0) at left_at))
+    (no_step _ _ _ c.args.board.now c.args.new history (rw (stays.0) at left_at))
