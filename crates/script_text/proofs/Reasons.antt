@@ -13,6 +13,7 @@ use Rattle.script_spec.specs.Common.{has_setup, lacks_setup, is_misplaced, is_re
 use Rattle.script_spec.specs.Common.{is_placed, is_there, pulses_of_event, pulses_of, passes_limits, least_reason, ask}
 use Rattle.script_spec.specs.Common.{is_event_placed, is_card_there}
 use Rattle.script_spec.proofs.ReadingLaws.{same_some}
+use Rattle.script_spec.proofs.RangeLaws.{any_found}
 use Rattle.script_spec.proofs.LeastReasons.{first_is, first_of}
 use Rattle.script_lines.specs.declared.item.Asked.{Asked}
 use Rattle.script_lines.specs.Items.{asked_said}
@@ -73,10 +74,6 @@ pub lacks_is : (items : List Item) → (list_any is_phase items ≡ true → has
 lacks_is items whole = grind (arith, nat_tests)
 
 -- ---- what is kept
-
-any_found : {X : Type 0} (p : X → Bool) (xs : List X) → list_any p xs ≡ is_some (find p xs)
-any_found p [] = refl
-any_found p (x ∷ xs) = grind (arith, nat_tests, any_found p xs)
 
 any_counted : {X : Type 0} (p : X → Bool) (xs : List X) → list_any p xs ≡ nat_lt 0 (length (filter p xs))
 any_counted p [] = refl

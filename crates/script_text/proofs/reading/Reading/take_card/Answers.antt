@@ -1,5 +1,6 @@
 use Rattle.std.proofs.Common.{◌≡◌, ap}
-use Rattle.script_text.proofs.TakenSetup.{put, card_inserted, card_taken}
+use Rattle.script_spec.proofs.ReadingExists.{put}
+use Rattle.script_text.proofs.TakenSetup.{card_inserted, card_taken}
 use Rattle.script_text.proofs.reading.Reading.take_card.Goals as goal
 
 pub returns : goal.returns
