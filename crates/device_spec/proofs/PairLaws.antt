@@ -8,34 +8,25 @@ use Rattle.device_spec.proofs.Levels.{levels_where-same, has-levels_where}
 
 -- ---- the same levels again
 
-no-edge : (latched level : Bool) → ((latched || (level && not level)) && not (level && not level)) ≡ latched
-no-edge latched level = grind arith
-
 latches-stay : (test : ℕ → Bool) (inputs : Levels) → latches_after (levels_where test) inputs inputs ≡ levels_where test
 latches-stay test inputs =
-    levels_where-same _ test (λ level small. rw (has-levels_where test level small)
-    (no-edge (test level) (has inputs level)))
+    levels_where-same _ test (λ level small. rw (has-levels_where test level small) (grind arith))
 
 set-again : (latches : Levels) (two : ℕ) → with_level (with_level latches two) two ≡ with_level latches two
 set-again latches two =
     levels_where-same _ _ (λ level small. rw (has-levels_where (λ l. eqb l two || has latches l) level small)
     (grind arith))
 
+-- a chip, whatever its latches are, after inputs that it has already
+had-again : (chip : Chip) (test : ℕ → Bool) (inputs triggers : Levels) →
+    let now = record chip { latches = levels_where test; inputs = inputs; triggers = triggers } in
+    chip_after_inputs now inputs triggers ≡ now
+had-again chip test inputs triggers =
+    ap (λ l. record chip { latches = l; inputs = inputs; triggers = triggers }) (latches-stay test inputs)
+
 pub inputs-again : (chip : Chip) (inputs triggers : Levels) →
     chip_after_inputs (chip_after_inputs chip inputs triggers) inputs triggers ≡ chip_after_inputs chip inputs triggers
-inputs-again chip inputs triggers =
-    ap (λ l. record chip { latches = l; inputs = inputs; triggers = triggers }) (latches-stay _ inputs)
-
-cascade-again : (chip : Chip) (inputs triggers : Levels) (two : ℕ) →
-    let now = chip_after_inputs chip inputs triggers in
-    chip_after_inputs (record now { latches = with_level now.latches two }) inputs triggers
-    ≡ record now { latches = with_level now.latches two }
-cascade-again chip inputs triggers two =
-    ap (λ l. record chip { latches = l; inputs = inputs; triggers = triggers }) (latches-stay _ inputs)
-
-pair-equal : {a b c d : Chip} → a ≡ c → b ≡ d → ◌≡◌ {A = Pair} (record { master = a; slave = b })
-    (record { master = c; slave = d })
-pair-equal p q = rw (p, q) refl
+inputs-again chip inputs triggers = had-again chip _ inputs triggers
 
 -- a pair whose slave asks, with its request latched at the master
 abbrev pub latched : Pair → Pair
@@ -63,16 +54,17 @@ given-again pair low low_triggers high high_triggers =
     elim (cases_Bool (is_some (interrupt now.slave))) [
       | inl asks ↦
           let is = settled-asks now asks in
-          let again : given (latched now) low low_triggers high high_triggers ≡ latched now =
-          pair-equal (cascade-again pair.master low low_triggers 2) same_slave in
+          let same_master = had-again pair.master (λ l. eqb l 2 || has now.master.latches l) low low_triggers in
+          let again : given (latched now) low low_triggers high high_triggers ≡ latched now = cc in
           let once : latched (latched now) ≡ latched now =
           ap (λ l. record now { master = record now.master { latches = l } }) (set-again now.master.latches 2) in
           ap (λ p. settled (given p low low_triggers high high_triggers)) is
           ∙ (ap settled again ∙ (settled-asks (latched now) asks ∙ (once ∙ sym is)))
       | inr quiet ↦
           let is = settled-quiet now quiet in
-          ap (λ p. settled (given p low low_triggers high high_triggers)) is
-          ∙ ap settled (pair-equal (inputs-again pair.master low low_triggers) same_slave)
+          let same_master = inputs-again pair.master low low_triggers in
+          let again : given now low low_triggers high high_triggers ≡ now = cc in
+          ap (λ p. settled (given p low low_triggers high high_triggers)) is ∙ ap settled again
     ]
 
 pub same-levels : SameLevelsAgain

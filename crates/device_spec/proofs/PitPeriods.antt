@@ -24,10 +24,6 @@ module _ (n : ℕ) (c : CounterState) (s : IsAtLoad RateGenerator n true c) wher
       let next_not : (e - 1 == 1) ≡ false = grind (arith, nat_tests) in
       rw (s.mode, s.load_asked, s.trigger, s.started, one_not, zero_not, next_not) refl
 
-  rate_falls : pulse true (phase c 2 true) ≡ phase c 1 false
-  unfolding pulse pulse_by_mode count_to_reload count_down
-  rate_falls = rw (s.mode, s.load_asked, s.trigger, s.started) refl
-
   rate_loads : pulse true (phase c 1 false) ≡ phase c n true
   unfolding pulse pulse_by_mode count_to_reload load
   rate_loads = rw (s.mode, s.load_asked, s.trigger, s.started, s.count, s.in_use, s.null_count, s.expired) refl
@@ -40,10 +36,11 @@ module _ (n : ℕ) (c : CounterState) (s : IsAtLoad RateGenerator n true c) wher
       ∙ (rate_counts (n - k) (omega arith) ∙ ap (λ e. phase c e true) (omega arith))
 
   rate-low : (j : ℕ) → n ≡ suc (suc j) → pulses_of true (suc j) c ≡ phase c 1 false
-  unfolding pulses_of
+  unfolding pulses_of pulse pulse_by_mode count_to_reload count_down
   rate-low j e =
       let two : n - j ≡ 2 = omega arith in
-      ap (pulse true) (rate-high j (omega arith) ∙ ap (λ x. phase c x true) two) ∙ rate_falls
+      ap (pulse true) (rate-high j (omega arith) ∙ ap (λ x. phase c x true) two)
+      ∙ rw (s.mode, s.load_asked, s.trigger, s.started) refl
 
   rate-again : (j : ℕ) → n ≡ suc (suc j) → pulses_of true (suc (suc j)) c ≡ c
   unfolding pulses_of
