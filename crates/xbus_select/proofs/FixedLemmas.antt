@@ -1,9 +1,9 @@
 -- The registers of the 82371SB that cannot be written, in the table of registers.
-use Rattle.std.proofs.Common.{◌≡◌, ◌≢◌, ℕ, ◌-◌, ◌<◌, ◌≤◌, List, [], ◌∷◌, false, None, sym, refl, subst, arith, inl, inr}
-use Rattle.std.proofs.Common.{slice_index}
+use Rattle.std.proofs.Common.{◌≡◌, ◌≢◌, ℕ, ◌<◌, ◌≤◌, List, [], ◌∷◌, false, None, sym, refl, subst, arith, inl, inr}
+use Rattle.std.proofs.Common.{slice_index, ◌==◌, ◌∙◌, if◌then◌else◌, rules}
 use Rattle.board_base.proofs.Common.{cases_lt, cases_eq, cases_Bool, nat_tests, get_or_past, merged-none, common_steps}
 use Rattle.board_prelude.proofs.Common.{Width, Reg, Store, Setup, is_within, byte, isa_bridge, ide_function, reset_byte}
-use Rattle.board_prelude.proofs.Common.{writable_bits, isa, ide, smram, is_same, changed_byte, Each, each_below}
+use Rattle.board_prelude.proofs.Common.{writable_bits, isa, ide, smram, is_same, changed_byte, each_below, ne_eqb}
 
 -- a register has this byte at all times
 pub record IsFixedAt (setup : Setup) (reg : Reg) (byte : ℕ) : Type 0 where
@@ -43,12 +43,6 @@ isa_fixed-past setup off xbcs pirq above =
           record { reset = sym past.0; read_only = past.1; fits = omega arith }
     ]
 
-isa_header_byte : (off : ℕ) → off < 16 → slice_index isa_header off < 256
-isa_header_byte off below = grind (arith, nat_tests)
-
-ide_header_byte : (off : ℕ) → off < 16 → slice_index ide_header off < 256
-ide_header_byte off below = grind (arith, nat_tests)
-
 -- all registers of the ISA bridge but XBCS and those that route interrupts
 pub isa_fixed : (setup : Setup) (off : ℕ) → off ≢ 0x4E → is_within 0x60 0x63 off ≡ false → IsFixedAt setup (isa off)
     (slice_index isa_header off)
@@ -56,30 +50,12 @@ unfolding reset_byte writable_bits isa_bridge
 isa_fixed setup off xbcs pirq =
     elim (cases_lt off 16) [
       | inl below ↦ record {
-        reset =
-            let later : Each (λ k. slice_index isa_header k ≡ reset_byte setup (isa k)) 8 8 =
-            (refl, (refl, (refl, (refl, (refl, (refl, (refl, (refl, tt)))))))) in
-            each_below (λ k. slice_index isa_header k ≡ reset_byte setup (isa k)) 16 off
-            (refl, (refl, (refl, (refl, (refl, (refl, (refl, (refl, later)))))))) below;
-        read_only =
-            let later : Each (λ k. writable_bits setup (isa k) ≡ 0) 8 8 =
-            (refl, (refl, (refl, (refl, (refl, (refl, (refl, (refl, tt)))))))) in
-            each_below (λ k. writable_bits setup (isa k) ≡ 0) 16 off
-            (refl, (refl, (refl, (refl, (refl, (refl, (refl, (refl, later)))))))) below;
-        fits = isa_header_byte off below;
+        reset = each_below (λ k. slice_index isa_header k ≡ reset_byte setup (isa k)) 16 off (search rules) below;
+        read_only = each_below (λ k. writable_bits setup (isa k) ≡ 0) 16 off (search rules) below;
+        fits = each_below (λ k. slice_index isa_header k < 256) 16 off (search rules) below;
       }
       | inr above ↦ isa_fixed-past setup off xbcs pirq above
     ]
-
-ide_read_only : (setup : Setup) (off : ℕ) → off < 16 → off ≢ 0x04 → writable_bits setup (ide off) ≡ 0
-unfolding writable_bits ide_function
-ide_read_only setup off below =
-    let ReadOnly : ℕ → Type 0 = λ k. k ≢ 0x04 → writable_bits setup (ide k) ≡ 0 in
-    let later : Each ReadOnly 8 8 =
-    (λ _. refl, (λ _. refl, (λ _. refl, (λ _. refl, (λ _. refl, (λ _. refl, (λ _. refl, (λ _. refl, tt)))))))) in
-    let middle : Each ReadOnly 4 12 =
-    (λ apart. absurd (apart refl), (λ _. refl, (λ _. refl, (λ _. refl, later)))) in
-    each_below ReadOnly 16 off (λ _. refl, (λ _. refl, (λ _. refl, (λ _. refl, middle)))) below
 
 -- all registers of the IDE function but the low byte of the command and the two of IDETIM
 pub ide_fixed : (setup : Setup) (off : ℕ) → off ≢ 0x04 → is_within 0x40 0x41 off ≡ false → IsFixedAt setup (ide off)
@@ -88,13 +64,11 @@ unfolding reset_byte writable_bits ide_function
 ide_fixed setup off command timing =
     elim (cases_lt off 16) [
       | inl below ↦ record {
-        reset =
-            let later : Each (λ k. slice_index ide_header k ≡ reset_byte setup (ide k)) 8 8 =
-            (refl, (refl, (refl, (refl, (refl, (refl, (refl, (refl, tt)))))))) in
-            each_below (λ k. slice_index ide_header k ≡ reset_byte setup (ide k)) 16 off
-            (refl, (refl, (refl, (refl, (refl, (refl, (refl, (refl, later)))))))) below;
-        read_only = ide_read_only setup off below command;
-        fits = ide_header_byte off below;
+        reset = each_below (λ k. slice_index ide_header k ≡ reset_byte setup (ide k)) 16 off (search rules) below;
+        read_only =
+            each_below (λ k. writable_bits setup (ide k) ≡ (if k == 0x04 then 0x05 else 0)) 16 off (search rules) below
+            ∙ rw (ne_eqb off 0x04 command) refl;
+        fits = each_below (λ k. slice_index ide_header k < 256) 16 off (search rules) below;
       }
       | inr above ↦
           let past = ide_past setup off above timing in

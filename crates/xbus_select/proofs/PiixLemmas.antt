@@ -26,53 +26,49 @@ pub registers_at_reset :
     (setup : Setup) (xbcs : ℕ) (regs : IdeBytes) → xbcs ≡ reset_byte setup select_register →
     IsIdeOf (reset_byte setup) regs →
     IsPiixOf (reset_byte setup) (record { xbcs = xbcs; ide = regs })
-registers_at_reset setup xbcs regs is_xbcs is_ide =
-    record {
-      xbcs = is_xbcs;
-      ide = is_ide;
-      fixed = λ other off is_fixed. sym (fixed_at setup off is_fixed).reset ∙ (fixed_at other off is_fixed).reset;
-    }
+registers_at_reset setup xbcs regs is_xbcs is_ide = record {
+  xbcs = is_xbcs;
+  ide = is_ide;
+  fixed = λ other off is_fixed. sym (fixed_at setup off is_fixed).reset ∙ (fixed_at other off is_fixed).reset;
+}
 
 -- ---- a store of one byte
 
-fixed_stays : (setup : Setup) (bytes : Bytes) (old : PiixBytes) (at : Reg) (written : ℕ) → IsPiixOf bytes old →
-    (other : Setup) (off : ℕ) → IsIsaFixed off → changed_byte setup (Store at One written) (isa off) (bytes (isa off))
-    ≡ reset_byte other (isa off)
-fixed_stays setup bytes old at written is_piix other off is_fixed =
-    kept_byte setup at One written (isa off) (bytes (isa off)) (slice_index isa_header off) refl
-    (fixed_at setup off is_fixed)
-    (is_piix.fixed setup off is_fixed ∙ sym (fixed_at setup off is_fixed).reset)
-    ∙ (fixed_at other off is_fixed).reset
+module _ (setup : Setup) (bytes : Bytes) (old : PiixBytes) where
+  fixed_stays : (at : Reg) (written : ℕ) → IsPiixOf bytes old → (other : Setup) (off : ℕ) → IsIsaFixed off →
+      changed_byte setup (Store at One written) (isa off) (bytes (isa off)) ≡ reset_byte other (isa off)
+  fixed_stays at written is_piix other off is_fixed =
+      let fixed = fixed_at setup off is_fixed in
+      kept_byte setup at One written (isa off) (bytes (isa off)) (slice_index isa_header off) refl fixed
+      (is_piix.fixed setup off is_fixed ∙ sym fixed.reset)
+      ∙ (fixed_at other off is_fixed).reset
 
--- to a register of the ISA bridge
-isa_stored_at : (setup : Setup) (bytes : Bytes) (old : PiixBytes) (off new written : ℕ) → IsPiixOf bytes old →
-    new ≡ changed_byte setup (Store (isa off) One written) select_register old.xbcs →
-    IsPiixOf (λ reg. changed_byte setup (Store (isa off) One written) reg (bytes reg)) (record old { xbcs = new })
-isa_stored_at setup bytes old off new written is_piix xbcs =
-    record {
-      xbcs = xbcs ∙ ap (λ (now : ℕ). changed_byte setup (Store (isa off) One written) select_register now) is_piix.xbcs;
-      ide = ide_stored_at setup bytes old.ide old.ide (isa off) written is_piix.ide refl refl refl;
-      fixed = fixed_stays setup bytes old (isa off) written is_piix;
-    }
+  -- to a register of the ISA bridge
+  isa_stored_at : (off new written : ℕ) → IsPiixOf bytes old →
+      new ≡ changed_byte setup (Store (isa off) One written) select_register old.xbcs →
+      IsPiixOf (λ reg. changed_byte setup (Store (isa off) One written) reg (bytes reg)) (record old { xbcs = new })
+  isa_stored_at off new written is_piix xbcs = record {
+    xbcs = xbcs ∙ ap (λ (now : ℕ). changed_byte setup (Store (isa off) One written) select_register now) is_piix.xbcs;
+    ide = ide_stored_at setup bytes old.ide old.ide (isa off) written is_piix.ide refl refl refl;
+    fixed = fixed_stays (isa off) written is_piix;
+  }
 
-pub xbcs_stored :
-    (setup : Setup) (bytes : Bytes) (old : PiixBytes) (written : ℕ) → written < 256 → IsPiixOf bytes old →
-    IsPiixOf (λ reg. changed_byte setup (Store select_register One written) reg (bytes reg))
-    (record old { xbcs = merged (writable_bits setup select_register) old.xbcs written })
-xbcs_stored setup bytes old written below is_piix =
-    isa_stored_at setup bytes old 0x4E (merged (writable_bits setup select_register) old.xbcs written) written is_piix
-    (sym (changed_byte-one_same setup select_register old.xbcs written below refl))
+  pub xbcs_stored : (written : ℕ) → written < 256 → IsPiixOf bytes old →
+      IsPiixOf (λ reg. changed_byte setup (Store select_register One written) reg (bytes reg))
+      (record old { xbcs = merged (writable_bits setup select_register) old.xbcs written })
+  xbcs_stored written below is_piix =
+      isa_stored_at 0x4E (merged (writable_bits setup select_register) old.xbcs written) written is_piix
+      (sym (changed_byte-one_same setup select_register old.xbcs written below refl))
 
-pub isa_stored : (setup : Setup) (bytes : Bytes) (old : PiixBytes) (off written : ℕ) → 0x4E ≢ off → IsPiixOf bytes old →
-    IsPiixOf (λ reg. changed_byte setup (Store (isa off) One written) reg (bytes reg)) old
-isa_stored setup bytes old off written apart is_piix =
-    isa_stored_at setup bytes old off old.xbcs written is_piix
-    (sym (changed_byte-one_other setup select_register off old.xbcs written apart))
+  pub isa_stored : (off written : ℕ) → 0x4E ≢ off → IsPiixOf bytes old →
+      IsPiixOf (λ reg. changed_byte setup (Store (isa off) One written) reg (bytes reg)) old
+  isa_stored off written apart is_piix =
+      isa_stored_at off old.xbcs written is_piix
+      (sym (changed_byte-one_other setup select_register off old.xbcs written apart))
 
--- to a register of the IDE function
-pub ide_stored_in :
-    (setup : Setup) (bytes : Bytes) (old : PiixBytes) (new : IdeBytes) (off written : ℕ) → IsPiixOf bytes old →
-    IsIdeOf (λ reg. changed_byte setup (Store (ide off) One written) reg (bytes reg)) new →
-    IsPiixOf (λ reg. changed_byte setup (Store (ide off) One written) reg (bytes reg)) (record old { ide = new })
-ide_stored_in setup bytes old new off written is_piix is_ide =
-    record { xbcs = is_piix.xbcs; ide = is_ide; fixed = fixed_stays setup bytes old (ide off) written is_piix }
+  -- to a register of the IDE function
+  pub ide_stored_in : (new : IdeBytes) (off written : ℕ) → IsPiixOf bytes old →
+      IsIdeOf (λ reg. changed_byte setup (Store (ide off) One written) reg (bytes reg)) new →
+      IsPiixOf (λ reg. changed_byte setup (Store (ide off) One written) reg (bytes reg)) (record old { ide = new })
+  ide_stored_in new off written is_piix is_ide =
+      record { xbcs = is_piix.xbcs; ide = is_ide; fixed = fixed_stays (ide off) written is_piix }

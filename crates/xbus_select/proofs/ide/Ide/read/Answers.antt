@@ -3,10 +3,9 @@ use Rattle.xbus_select.proofs.IdeLemmas.{ide_byte}
 use Rattle.xbus_select.proofs.ide.Ide.read.Goals as goal
 
 pub returns-in_default : goal.returns-in_default
-returns-in_default c =
-    record {
-      byte = λ bytes is_ide.
-          c.header_byte.ensures.byte
-          ∙ ide_byte bytes c.args.self.now c.args.off is_ide
-          (record { command = omega arith; timing_low = omega arith; timing_high = omega arith });
-    }
+returns-in_default c = record {
+  byte = λ bytes is_ide.
+      c.header_byte.ensures.byte
+      ∙ ide_byte bytes c.args.self.now c.args.off is_ide
+      (record { command = omega arith; timing_low = omega arith; timing_high = omega arith });
+}

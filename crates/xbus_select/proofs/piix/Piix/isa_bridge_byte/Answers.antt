@@ -3,9 +3,8 @@ use Rattle.xbus_select.proofs.PiixLemmas.{isa_byte}
 use Rattle.xbus_select.proofs.piix.Piix.isa_bridge_byte.Goals as goal
 
 pub returns-in_default : goal.returns-in_default
-returns-in_default c =
-    record {
-      byte = λ bytes is_piix.
-          isa_byte bytes c.args.self.now c.args.off _ is_piix
-          (record { select = omega arith; routing = c.requires.register }) c.isa_fixed_byte.ensures.byte;
-    }
+returns-in_default c = record {
+  byte = λ bytes is_piix.
+      isa_byte bytes c.args.self.now c.args.off _ is_piix
+      (record { select = omega arith; routing = c.requires.register }) c.isa_fixed_byte.ensures.byte;
+}

@@ -6,11 +6,10 @@ pub returns-in-0 : goal.returns-in-0
 returns-in-0 c = record { written = rw c.in-0.is c.write_isa_bridge.ensures.written }
 
 pub returns-in_default : goal.returns-in_default
-returns-in_default c =
-    record {
-      written =
-          rw (← c.self.view_is, ide_function_alone c.args.fun c.args.off c.requires.register (omega arith))
-          (λ setup bytes is_piix.
-          ide_stored_in setup bytes _ _ c.args.off c.args.byte is_piix
-          (c.write.ensures.written setup bytes is_piix.ide));
-    }
+returns-in_default c = record {
+  written =
+      rw (← c.self.view_is, ide_function_alone c.args.fun c.args.off c.requires.register (omega arith))
+      (λ setup bytes is_piix.
+      ide_stored_in setup bytes _ _ c.args.off c.args.byte is_piix
+      (c.write.ensures.written setup bytes is_piix.ide));
+}
