@@ -10,19 +10,15 @@ use Rattle.pmc_regs.proofs.TableLemmas.{reset_byte-blank, writable_bits-fixed}
 
 -- ---- after a reset
 
-reset_byte-same : (setup other : Setup) (off : ℕ) → reset_byte setup (bridge off) ≡ reset_byte other (bridge off)
-unfolding reset_byte
-reset_byte-same setup other off = refl
-
 pub pmc_at_reset :
     (setup : Setup) (drb : List ℕ) (hole : ℕ) → drb ≡ row_bytes (reset_byte setup) → hole ≡ reset_byte setup fdhc →
     IsPmcOf (reset_byte setup) (record { drb = drb; fdhc = hole })
-pmc_at_reset setup drb hole rows is =
-    record {
-      rows = rows_are (reset_byte setup) drb rows;
-      hole = is;
-      fixed = λ other off fixed. reset_byte-same setup other off;
-    }
+unfolding reset_byte
+pmc_at_reset setup drb hole rows is = record {
+  rows = rows_are (reset_byte setup) drb rows;
+  hole = is;
+  fixed = λ other off fixed. refl;
+}
 
 -- ---- a store to one register
 
@@ -66,62 +62,52 @@ fixed_stay setup bytes off written below fixed other at is_fixed =
 
 -- ---- the three kinds of registers
 
--- the boundaries after a byte is stored in one of their registers
-pub rows_after_store : (setup : Setup) (bytes : Bytes) (drb : List ℕ) (row written : ℕ) → length drb ≡ 8 → row < 8 →
-    written < 256 → IsRowsOf bytes drb → IsRowsOf (after_store setup bytes (0x60 + row) written) (set drb row written)
-rows_after_store setup bytes drb row written eight within below is_rows at at_within =
-    elim (cases_eq at row) [
-      | inl same ↦
-          rw same
-          (get_or-set_same drb row written 0 (omega arith)
-          ∙ sym (there setup bytes (0x60 + row) written 0xFF below (omega arith) (writable_bits-row setup row within)
-          ∙ merged-all (bytes (bridge (0x60 + row))) written below))
-      | inr apart ↦
-          get_or-set_other drb row at written 0 apart
-          ∙ is_rows at at_within
-          ∙ sym (elsewhere setup bytes (0x60 + row) written (0x60 + at) (λ e. apart (omega arith)))
-    ]
+module _ (setup : Setup) (bytes : Bytes) (drb : List ℕ) where
+  -- the boundaries after a byte is stored in one of their registers
+  pub rows_after_store : (row written : ℕ) → length drb ≡ 8 → row < 8 → written < 256 → IsRowsOf bytes drb →
+      IsRowsOf (after_store setup bytes (0x60 + row) written) (set drb row written)
+  rows_after_store row written eight within below is_rows at at_within =
+      elim (cases_eq at row) [
+        | inl same ↦
+            rw same
+            (get_or-set_same drb row written 0 (omega arith)
+            ∙ sym (there setup bytes (0x60 + row) written 0xFF below (omega arith) (writable_bits-row setup row within)
+            ∙ merged-all (bytes (bridge (0x60 + row))) written below))
+        | inr apart ↦
+            get_or-set_other drb row at written 0 apart
+            ∙ is_rows at at_within
+            ∙ sym (elsewhere setup bytes (0x60 + row) written (0x60 + at) (λ e. apart (omega arith)))
+      ]
 
-pub stored_row :
-    (setup : Setup) (bytes : Bytes) (drb : List ℕ) (hole row written : ℕ) → length drb ≡ 8 → row < 8 → written < 256 →
-    IsPmcOf bytes (record { drb = drb; fdhc = hole }) →
-    IsPmcOf (after_store setup bytes (0x60 + row) written) (record { drb = set drb row written; fdhc = hole })
-stored_row setup bytes drb hole row written eight within below is_pmc =
-    record {
-      rows = rows_after_store setup bytes drb row written eight within below is_pmc.rows;
-      hole = is_pmc.hole ∙ sym (elsewhere setup bytes (0x60 + row) written 0x68 (omega arith));
-      fixed = fixed_stay setup bytes (0x60 + row) written below is_pmc.fixed;
-    }
+  pub stored_row : (hole row written : ℕ) → length drb ≡ 8 → row < 8 → written < 256 →
+      IsPmcOf bytes (record { drb = drb; fdhc = hole }) →
+      IsPmcOf (after_store setup bytes (0x60 + row) written) (record { drb = set drb row written; fdhc = hole })
+  stored_row hole row written eight within below is_pmc = record {
+    rows = rows_after_store row written eight within below is_pmc.rows;
+    hole = is_pmc.hole ∙ sym (elsewhere setup bytes (0x60 + row) written 0x68 (omega arith));
+    fixed = fixed_stay setup bytes (0x60 + row) written below is_pmc.fixed;
+  }
 
-pub stored_hole :
-    (setup : Setup) (bytes : Bytes) (drb : List ℕ) (old written : ℕ) → written < 256 →
-    IsPmcOf bytes (record { drb = drb; fdhc = old }) →
-    IsPmcOf (after_store setup bytes fdhc.off written)
-    (record { drb = drb; fdhc = merged (writable_bits setup fdhc) old written })
-stored_hole setup bytes drb old written below is_pmc =
-    record {
-      rows =
-          λ at at_within.
-          is_pmc.rows at at_within ∙ sym (elsewhere setup bytes fdhc.off written (0x60 + at) (omega arith));
-      hole = ap (λ byte. merged (writable_bits setup fdhc) byte written) is_pmc.hole
-          ∙ sym (there setup bytes fdhc.off written (writable_bits setup fdhc) below (omega arith) refl);
-      fixed = fixed_stay setup bytes fdhc.off written below is_pmc.fixed;
-    }
+  pub stored_hole : (old written : ℕ) → written < 256 → IsPmcOf bytes (record { drb = drb; fdhc = old }) →
+      IsPmcOf (after_store setup bytes fdhc.off written)
+      (record { drb = drb; fdhc = merged (writable_bits setup fdhc) old written })
+  stored_hole old written below is_pmc = record {
+    rows = λ at within.
+        is_pmc.rows at within ∙ sym (elsewhere setup bytes fdhc.off written (0x60 + at) (omega arith));
+    hole = ap (λ byte. merged (writable_bits setup fdhc) byte written) is_pmc.hole
+        ∙ sym (there setup bytes fdhc.off written (writable_bits setup fdhc) below (omega arith) refl);
+    fixed = fixed_stay setup bytes fdhc.off written below is_pmc.fixed;
+  }
 
 pub stored_nowhere : (setup : Setup) (bytes : Bytes) (pmc : PmcBytes) (off written : ℕ) → written < 256 →
     ((off < 0x60) ⊎ (0x68 < off)) → IsPmcOf bytes pmc → IsPmcOf (after_store setup bytes off written) pmc
-stored_nowhere setup bytes pmc off written below outside is_pmc =
-    record {
-      rows = λ at low. is_pmc.rows at low ∙ sym (elsewhere setup bytes off written (0x60 + at) (λ e. grind arith));
-      hole = is_pmc.hole ∙ sym (elsewhere setup bytes off written 0x68 (λ e. grind arith));
-      fixed = fixed_stay setup bytes off written below is_pmc.fixed;
-    }
+stored_nowhere setup bytes pmc off written below outside is_pmc = record {
+  rows = λ at low. is_pmc.rows at low ∙ sym (elsewhere setup bytes off written (0x60 + at) (λ e. grind arith));
+  hole = is_pmc.hole ∙ sym (elsewhere setup bytes off written 0x68 (λ e. grind arith));
+  fixed = fixed_stay setup bytes off written below is_pmc.fixed;
+}
 
--- ---- the fixed registers by any setup
+-- ---- the fixed registers are those of any setup
 
-abbrev bare : Setup
+abbrev pub bare : Setup
 bare = record { mib = 0; cards = []; rom = []; disk = None }
-
-pub fixed_read : (bytes : Bytes) (pmc : PmcBytes) (off byte : ℕ) → IsPmcOf bytes pmc → IsFixedOffset off →
-    ((setup : Setup) → byte ≡ reset_byte setup (bridge off)) → byte ≡ bytes (bridge off)
-fixed_read bytes pmc off byte is_pmc is_fixed is_reset = is_reset bare ∙ sym (is_pmc.fixed bare off is_fixed)

@@ -1,5 +1,5 @@
-use Rattle.std.proofs.Common.{◌<◌, ◌⊎◌, arith, inl, inr}
-use Rattle.pmc_regs.proofs.PmcLemmas.{fixed_read}
+use Rattle.std.proofs.Common.{◌<◌, ◌⊎◌, arith, inl, inr, sym, ◌∙◌}
+use Rattle.pmc_regs.proofs.PmcLemmas.{bare}
 use Rattle.pmc_regs.proofs.pmc.Pmc.read.Goals as goal
 use Rattle.pmc_regs.proofs.pmc.Pmc.read.Goals.{in_default-via-then-off-lt96}
 use Rattle.pmc_regs.proofs.pmc.Pmc.read.Goals.{in_default-via-else-off-lt96+else-off-lt104}
@@ -13,6 +13,5 @@ returns-in_default c =
     ] in
     record {
       byte = λ bytes is_pmc.
-          fixed_read bytes c.args.self.now c.args.off c.fixed_byte.result is_pmc (c.requires.offset, outside)
-          c.fixed_byte.ensures.byte;
+          c.fixed_byte.ensures.byte bare ∙ sym (is_pmc.fixed bare c.args.off (c.requires.offset, outside));
     }
