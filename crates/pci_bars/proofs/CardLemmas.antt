@@ -5,15 +5,15 @@ use Rattle.std.proofs.Common.{get_or-set_other, slice_index, slice_get}
 use Rattle.board_prelude.proofs.Common.{and_left, ne_eqb, cases_eq, nat_tests, Reg, Base, IoBase, FittedCard, Setup}
 use Rattle.board_prelude.proofs.Common.{IsCard, card_at, byte, merged, wide, card_function, listed, base_reset}
 use Rattle.board_prelude.proofs.Common.{base_writable, rom_writable, reset_byte, reg_after, Bytes, card_register}
-use Rattle.board_prelude.proofs.Common.{base_register, option_map_or, smram, is_same, merged-all, merged-none}
-use Rattle.board_prelude.proofs.Common.{changed_byte-one_same, changed_byte-one_other}
+use Rattle.board_prelude.proofs.Common.{base_register, option_map_or, merged-all, merged-none, changed_byte-one_same}
+use Rattle.board_prelude.proofs.Common.{changed_byte-one_other}
 use Rattle.board_base.specs.declared.access.Width.TheVariants.{Four}
 use Rattle.pci_bars.specs.Common.{of_base, CardBytes, HoldsLong, HoldsRom, DecodesAs, IsCardOf, is_kept_offset}
 use Rattle.pci_bars.specs.Common.{header_of, stored}
 use Rattle.pci_bars.specs.Cards.{IsDecodedWritten, IsWritten}
 use Rattle.pci_bars.proofs.TableLemmas.{byte_of_zero, kept_nowhere, is_fixed, reset_byte-card, writable_bits-card}
-use Rattle.pci_bars.proofs.TableLemmas.{in_bases, reset-rom, writable-rom, reset-header, past_rom, past_pin}
-use Rattle.pci_bars.proofs.TableLemmas.{reset-command, command_writable}
+use Rattle.pci_bars.proofs.TableLemmas.{in_bases, reset-rom, writable-rom, as_reset, reset_header, past_rom, past_pin}
+use Rattle.pci_bars.proofs.TableLemmas.{command_writable}
 
 -- ---- four bytes as a number
 
@@ -64,22 +64,22 @@ module _ (setup : Setup) (card : FittedCard) (values : List ℕ) (fit : IsCard c
 
   pub card_at_reset : ((k : ℕ) → slice_index values k ≡ of_base base_reset card.bases k) →
       IsCardOf setup (reset_byte setup) (new_card card values)
-  card_at_reset is_reset =
-      record {
-        decodes = record {
-          fitted = fitted;
-          command = at_reset 0x04 ∙ reset-command card;
-          bases = λ k below.
-              rw (is_reset k)
-              (long_of (reset_byte setup) card.dev (0x10 + 4 * k) _ (small_reset (slice_get card.bases k))
-              (λ j j_below.
-              at_reset (0x10 + 4 * k + j) ∙ in_bases (λ entry. entry.reset) card base_reset k j refl below j_below));
-          rom = rom_at_reset card.rom;
-        };
-        line = at_reset 0x3C ∙ past_rom (λ entry. entry.reset) card fit.count 0x3C (lit≤ tt);
-        no_rom = λ none. refl;
-        fixed = λ off _. refl;
-      }
+  unfolding card_function
+  card_at_reset is_reset = record {
+    decodes = record {
+      fitted = fitted;
+      command = at_reset 0x04;
+      bases = λ k below.
+          rw (is_reset k)
+          (long_of (reset_byte setup) card.dev (0x10 + 4 * k) _ (small_reset (slice_get card.bases k))
+          (λ j j_below.
+          at_reset (0x10 + 4 * k + j) ∙ in_bases (λ entry. entry.reset) card base_reset k j refl below j_below));
+      rom = rom_at_reset card.rom;
+    };
+    line = at_reset 0x3C ∙ past_rom (λ entry. entry.reset) card fit.count 0x3C (lit≤ tt);
+    no_rom = λ none. refl;
+    fixed = λ off _. refl;
+  }
 
 -- ---- as they are read
 
@@ -118,7 +118,8 @@ module _ (setup : Setup) (bytes : Bytes) (card : CardBytes) (off : ℕ) where
         decoded-header is.decodes below
         (λ apart. sym (read-fixed
         (kept_nowhere card.card.rom off (grind (arith, nat_tests)) (inl (omega arith)))
-        ∙ reset-header card off below apart))
+        ∙ as_reset card off below
+        ∙ sym (get_or-set_other (reset_header card) 4 off card.command 0 apart)))
 
     pub read-rom : 0x30 ≤ off → off ≤ 0x33 →
         byte card.rom (off - 0x30) ≡ bytes (card_register card.card.dev off)
@@ -142,9 +143,6 @@ module _ (setup : Setup) (bytes : Bytes) (card : CardBytes) (off : ℕ) where
         ∙ past_pin (λ entry. entry.reset) card.card fit.count off above off_rom not_line not_pin)
 
 -- ---- after a store of one byte
-
-not_smram : (dev off : ℕ) → 2 ≤ dev → is_same (card_register dev off) smram ≡ false
-not_smram dev off above = and_left _ _ (and_left _ _ (ne_eqb dev 0 (λ e. omega arith)))
 
 -- an offset lies in none of the four registers from another on
 abbrev pub IsOffLong : (from off : ℕ) → Type 0
@@ -189,7 +187,7 @@ module _ (setup : Setup) (bytes : Bytes) (card : FittedCard) (off written : ℕ)
     stored-same =
         rw (← writable_bits-card setup card off fit.first fitted)
         (changed_byte-one_same setup (card_register card.dev off) (bytes (card_register card.dev off)) written below
-        (not_smram card.dev off fit.first))
+        (and_left _ _ (and_left _ _ (ne_eqb card.dev 0 (λ e. omega arith)))))
 
     -- a doubleword where one of its bytes is stored
     long-stored :

@@ -71,15 +71,13 @@ map_twice (Some card) = refl
 
 -- ---- one card more
 
-pub added-cards : (old new : List CardBytes) (spec : FittedCard) → IsCardAdded old new spec →
-    cards_of new ≡ cards_of old ++ spec ∷ []
-added-cards old new spec is = rw (is.added, map-append (λ card. card.card) old (is.regs ∷ []), is.card) refl
+module _ (old new : List CardBytes) (spec : FittedCard) (is : IsCardAdded old new spec) where
+  pub added-cards : cards_of new ≡ cards_of old ++ spec ∷ []
+  added-cards = rw (is.added, map-append (λ card. card.card) old (is.regs ∷ []), is.card) refl
 
-pub added-reset : (old new : List CardBytes) (spec : FittedCard) → IsCardAdded old new spec → AreReset old →
-    AreReset new
-added-reset old new spec is each =
-    rw is.added (All-append IsReset old (is.regs ∷ []) each (All-cons IsReset is.regs [] is.reset (All-nil IsReset)))
+  pub added-reset : AreReset old → AreReset new
+  added-reset each =
+      rw is.added (All-append IsReset old (is.regs ∷ []) each (All-cons IsReset is.regs [] is.reset (All-nil IsReset)))
 
-pub added-count : (old new : List CardBytes) (spec : FittedCard) → IsCardAdded old new spec →
-    length new ≡ length old + 1
-added-count old new spec is = rw is.added (length-append old (is.regs ∷ []))
+  pub added-count : length new ≡ length old + 1
+  added-count = rw is.added (length-append old (is.regs ∷ []))

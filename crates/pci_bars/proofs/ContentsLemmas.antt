@@ -23,26 +23,16 @@ pub card_within :
     card_byte setup history dev base off ≡ stored_of history (CardCell dev base off)
 card_within setup history dev base off kept within = grind (arith, nat_tests)
 
-same_byte :
-    (setup : Setup) (history : List Entry) (contents : List (List ℕ)) (dev base off : ℕ) →
-    length (held contents dev base) ≡ kept_size (card_at setup dev) base →
-    (base ≢ 6 → off < length (held contents dev base) →
-    slice_index (held contents dev base) off ≡ stored_of history (CardCell dev base off)) →
-    held_byte contents dev base off ≡ card_byte setup history dev base off
-same_byte setup history contents dev base off size is = grind (arith, nat_tests)
-
 -- what the contents of a history are asked to be, and what they give: each byte that is kept is the last one stored
 pub contents_of :
     {setup : Setup} {history : List Entry} {contents : List (List ℕ)} → HaveSizes setup contents →
     ((dev base off : ℕ) → IsBaseNumber dev base → base ≢ 6 → off < length (held contents dev base) →
     slice_index (held contents dev base) off ≡ stored_of history (CardCell dev base off)) →
     IsContentsOf setup history contents
-contents_of {setup} {history} {contents} sizes each =
-    record {
-      sizes = sizes;
-      bytes = λ dev base off number.
-          same_byte setup history contents dev base off (sizes dev base number) (each dev base off number);
-    }
+contents_of sizes each = record {
+  sizes = sizes;
+  bytes = λ dev base off number. grind (arith, nat_tests, sizes dev base number, each dev base off number);
+}
 
 pub stored_byte :
     {setup : Setup} {history : List Entry} {contents : List (List ℕ)} → IsContentsOf setup history contents →
@@ -123,20 +113,19 @@ module _ (old : List (List ℕ)) (dev base off : ℕ) (width : Width) (value : �
       ]
 
   pub written : IsWritten old dev base off width value (set old (slot_number dev base) new)
-  written =
-      record {
-        sizes = λ d b. sizes_stay old (slot_number dev base) new (slot_number d b) long;
-        bytes = λ d b at other within. elim (cases_eq b 6) [
-          | inl rom ↦
-              rw rom
-              (sym (written_elsewhere dev base off width value d 6 at (expansion_byte d at) kept (λ _ same. kept same)))
-          | inr held_b ↦
-              let stay = sizes_stay old (slot_number dev base) new (slot_number d b) long in
-              rw (held_within old d b at held_b within)
-              (held_within (set old (slot_number dev base) new) d b at held_b (omega arith)
-              ∙ in_lists d b at other within)
-        ];
-      }
+  written = record {
+    sizes = λ d b. sizes_stay old (slot_number dev base) new (slot_number d b) long;
+    bytes = λ d b at other within. elim (cases_eq b 6) [
+      | inl rom ↦
+          rw rom
+          (sym (written_elsewhere dev base off width value d 6 at (expansion_byte d at) kept (λ _ same. kept same)))
+      | inr held_b ↦
+          let stay = sizes_stay old (slot_number dev base) new (slot_number d b) long in
+          rw (held_within old d b at held_b within)
+          (held_within (set old (slot_number dev base) new) d b at held_b (omega arith)
+          ∙ in_lists d b at other within)
+    ];
+  }
 
 -- a write to an expansion ROM leaves all
 pub lost : (contents : List (List ℕ)) (dev off : ℕ) (width : Width) (value : ℕ) →

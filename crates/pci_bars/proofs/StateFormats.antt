@@ -1,5 +1,5 @@
 -- The bytes behind the bases are spelled base by base, and read back.
-use Rattle.std.proofs.Common.{◌≡◌, ℕ, zero, suc, ◌+◌, ◌-◌, ◌/◌, ◌%◌, ◌^◌, ◌≤◌, ◌<◌, inl, inr, List, [], ◌∷◌, ◌++◌, Vec}
+use Rattle.std.proofs.Common.{◌≡◌, ℕ, zero, suc, ◌+◌, ◌-◌, ◌/◌, ◌%◌, ◌≤◌, ◌<◌, inl, inr, List, [], ◌∷◌, ◌++◌, Vec}
 use Rattle.std.proofs.Common.{Global, length, drop, get_or, Option, Some, None, Result, refl, sym, ◌∙◌, append_assoc}
 use Rattle.std.proofs.Common.{arith, All, find, ◌==◌, slice_get}
 use Rattle.board_prelude.proofs.Common.{append-nil, flat_map-cons, drop_more, drop_all, cases_Bool, All-head, All-tail}
@@ -20,14 +20,11 @@ use Rattle.pci_bars.proofs.ContentsLemmas.{lists, slot_of_base}
 
 -- ---- of no base more than 16 MiB are kept
 
-pow_few : (bits : ℕ) → bits ≤ 24 → 2 ^ bits ≤ 0x100_0000
-pow_few bits few = pow_mono {i = bits} {j = 24} few
-
 base_few : (found : Option Base) → ((base : Base) → found ≡ Some base → IsBase base) →
     option_map_or kept_of_base found 0 ≤ 0x100_0000
 base_few None each = omega arith
 base_few (Some (OutsideBase bits)) each = omega arith
-base_few (Some base) each = let range = each base refl in pow_few _ (omega (arith, range.1))
+base_few (Some base) each = let range = each base refl in pow_mono {i = _} {j = 24} (omega (arith, range.1))
 
 card_few : (card : FittedCard) (base : ℕ) → IsCard card → kept_size (Some card) base ≤ 0x100_0000
 card_few card base is =

@@ -1,7 +1,7 @@
 -- A card in the table of registers.
 use Rattle.std.proofs.Common.{◌≡◌, ◌≢◌, ◌⊎◌, ℕ, zero, suc, ◌+◌, ◌-◌, ◌*◌, ◌<◌, ◌≤◌, Bool, false, Option, None, List, []}
 use Rattle.std.proofs.Common.{◌∷◌, length, get_or, Some, inl, inr, ◌∙◌, refl, sym, ap, subst, arith, lit<, lit≤, ◌==◌}
-use Rattle.std.proofs.Common.{◌&&◌, ◌||◌, flat_map, if◌then◌else◌, is_some, replicate, get_or-set_other, rules}
+use Rattle.std.proofs.Common.{◌&&◌, ◌||◌, flat_map, if◌then◌else◌, is_some, replicate, rules}
 use Rattle.std.proofs.lemmas.Option.{slice_get_past}
 use Rattle.board_prelude.proofs.Common.{ne_eqb, cases_lt, cases_eq, nat_tests, get_or_append_left, get_or-append_right}
 use Rattle.board_prelude.proofs.Common.{get_or-replicate, Base, FittedCard, Setup, IsCard, card_at, byte, is_within}
@@ -54,10 +54,6 @@ get_or-base_bytes number_of (base ∷ later) (suc k) j i at below =
     get_or-append_right (long_bytes (number_of base)) (base_bytes number_of later) 4 i 0 refl (omega arith)
     ∙ get_or-base_bytes number_of later k j (i - 4) (omega arith) below
 
-past_last : (number_of : Base → ℕ) (bases : List Base) (k j : ℕ) → length bases ≤ k →
-    byte (of_base number_of bases k) j ≡ 0
-past_last number_of bases k j past = rw (slice_get_past bases k past) (byte_of_zero j)
-
 abbrev base_entry : FittedCard → Line
 base_entry card = line 0x10 (base_bytes base_reset card.bases) (base_bytes base_writable card.bases)
 
@@ -90,7 +86,7 @@ module _ (column : Line → List ℕ) (card : FittedCard) where
         | inr past ↦
             listed-past column (base_entry card) later off (omega arith)
             ∙ before_rom off (omega arith)
-            ∙ sym (past_last number_of card.bases k j past)
+            ∙ sym (rw (slice_get_past card.bases k past) (byte_of_zero j))
       ]
 
   module _ (count : length card.bases ≤ 6) where
@@ -124,10 +120,6 @@ pub writable-rom : (card : FittedCard) (j : ℕ) → length card.bases ≤ 6 →
 writable-rom card j count below =
     in_rom (λ entry. entry.writable) card count j below ∙ long_byte (rom_writable card.rom) j below
 
-pub reset-command : (card : FittedCard) → listed (λ entry. entry.reset) (card_function card) 0x04 ≡ 0
-unfolding card_function
-reset-command card = refl
-
 -- the writable bits of the command
 abbrev pub command_writable : FittedCard → ℕ
 command_writable card = listed (λ entry. entry.writable) (card_function card) 0x04
@@ -135,21 +127,16 @@ command_writable card = listed (λ entry. entry.writable) (card_function card) 0
 -- ---- the header, and what is not kept
 
 -- the header after a reset, in which the command is 0
-abbrev reset_header : CardBytes → List ℕ
+abbrev pub reset_header : CardBytes → List ℕ
 reset_header card = header_of (record card { command = 0 })
 
-as_reset : (card : CardBytes) (off : ℕ) → off < 16 →
+pub as_reset : (card : CardBytes) (off : ℕ) → off < 16 →
     listed (λ entry. entry.reset) (card_function card.card) off ≡ get_or (reset_header card) off 0
 unfolding card_function
 as_reset card off =
     each_below
     (λ off. listed (λ entry. entry.reset) (card_function card.card) off ≡ get_or (reset_header card) off 0) 16 off
     assumption
-
-pub reset-header : (card : CardBytes) (off : ℕ) → off < 16 → off ≢ 4 → listed (λ entry. entry.reset)
-    (card_function card.card) off ≡ get_or (header_of card) off 0
-reset-header card off below apart =
-    as_reset card off below ∙ sym (get_or-set_other (reset_header card) 4 off card.command 0 apart)
 
 -- what an offset has that is not kept: a byte, none of whose bits can be written
 pub record IsFixed (card : FittedCard) (off : ℕ) : Type 0 where

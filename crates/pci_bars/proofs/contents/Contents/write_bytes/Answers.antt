@@ -1,6 +1,6 @@
 use Rattle.std.proofs.Common.{◌≡◌, ◌≤◌, ◌+◌, ◌-◌, [], length, set, sym, refl, ◌∙◌, arith}
 use Rattle.board_prelude.proofs.Common.{get_or-set_same, get_or-set_other, with_items, drop-drop}
-use Rattle.pci_bars.specs.Contents.{slot_number, held}
+use Rattle.pci_bars.specs.Contents.{slot_number}
 use Rattle.pci_bars.proofs.ContentsLemmas.{IsBuffer, buffer_held, buffer_set, buffer_there, lists, stretch}
 use Rattle.pci_bars.proofs.ContentsLemmas.{stretch_length, same_slot}
 use Rattle.pci_bars.proofs.contents.Contents.write_bytes.Goals.{After-copy_from_slice}
@@ -10,9 +10,6 @@ there : (c : After-copy_from_slice) → IsBuffer c.self.inside.buffers.items c.a
     c.args.base c.index_mut.result.now
 there c = grind arith
 
-old : (c : After-copy_from_slice) → held c.args.self.now c.args.dev c.args.base ≡ c.deref_mut.result.now
-old c = buffer_held (there c) ∙ sym c.deref_mut.ensures.value
-
 new : (c : After-copy_from_slice) →
     lists (set c.self.inside.buffers.items c.slot_of.result
     (with_items c.index_mut.result.now (stretch c.deref_mut.result.now c.copy_from_slice.new.self c.args.off
@@ -20,7 +17,8 @@ new : (c : After-copy_from_slice) →
     ≡ set c.args.self.now (slot_number c.args.dev c.args.base)
     (stretch c.deref_mut.result.now c.copy_from_slice.new.self c.args.off (length c.args.bytes.now))
 new c =
-    let fits : c.args.off + length c.args.bytes.now ≤ length c.deref_mut.result.now = rw (old c) at c.requires.within in
+    let fits : c.args.off + length c.args.bytes.now ≤ length c.deref_mut.result.now =
+    rw (buffer_held (there c) ∙ sym c.deref_mut.ensures.value) at c.requires.within in
     buffer_set (there c) _
     (stretch_length c.deref_mut.result.now c.args.bytes.now c.copy_from_slice.new.self c.args.off fits
     c.copy_from_slice.ensures.after
@@ -36,7 +34,7 @@ returns-clause-here c =
       size,
       c.copy_from_slice.ensures.after,
       drop-drop (length c.args.bytes.now) c.args.off c.deref_mut.result.now,
-      old at,
+      buffer_held (there at) ∙ sym at.deref_mut.ensures.value,
     ) refl
 
 pub returns-clause-others : goal.returns-clause-others
