@@ -28,12 +28,6 @@ pub record IsOfCard (setup : Setup) (Is : Bytes → CardBytes → Type 0) : Type
   pub beyond : (bytes : Bytes) (card : CardBytes) (off written : ℕ) → IsCard card.card → written < 256 → 256 ≤ off →
       Is bytes card → Is (stored setup bytes (card_register card.card.dev off) written) card
 
-module _ (setup : Setup) (bytes bytes' : Bytes) (card : CardBytes)
-    (same : (off : ℕ) → off < 256 → bytes' (card_register card.card.dev off) ≡ bytes (card_register card.card.dev off))
-  where
-    decodes-same : DecodesAs setup bytes card → DecodesAs setup bytes' card
-    decodes-same is = grind (arith, nat_tests)
-
 -- so it is of those on which the address map depends, and of all
 pub of_decoded : (setup : Setup) → IsOfCard setup (DecodesAs setup)
 of_decoded setup = grind (arith, nat_tests)
@@ -42,7 +36,7 @@ pub of_registers : (setup : Setup) → IsOfCard setup (IsCardOf setup)
 of_registers setup = record {
   fitted = λ bytes card is. is.decodes.fitted;
   agrees = λ bytes bytes' card same is. record {
-    decodes = decodes-same setup bytes bytes' card (λ off _. same off) is.decodes;
+    decodes = (of_decoded setup).agrees bytes bytes' card same is.decodes;
     line = same 0x3C ∙ is.line;
     no_rom = is.no_rom;
     fixed = λ off fixed. same off ∙ is.fixed off fixed;

@@ -67,12 +67,8 @@ one_less addr edge (first ∷ later) above has =
     ]
 
 -- fewer edges lie above the next edge
-pub fewer_after_next : (setup : Setup) (bytes : Bytes) (addr edge : ℕ) → IsNextEdge setup bytes addr edge →
-    edges_after setup bytes edge < edges_after setup bytes addr
-fewer_after_next setup bytes addr edge next = one_less addr edge (edges_of setup bytes) next.above next.is_edge.listed
-
 pub fewer_after :
     (setup : Setup) (bytes : Bytes) (addr : ℕ) (found : Option ℕ) → IfSome found (IsNextEdge setup bytes addr) →
     IfSome found (λ edge. edges_after setup bytes edge < edges_after setup bytes addr)
 fewer_after setup bytes addr None next = tt
-fewer_after setup bytes addr (Some edge) next = fewer_after_next setup bytes addr edge next
+fewer_after setup bytes addr (Some edge) next = one_less addr edge (edges_of setup bytes) next.above next.is_edge.listed

@@ -7,7 +7,7 @@ use Rattle.board_prelude.proofs.Common.{pow_pos, recursion_from_All, Kind, Fitte
 use Rattle.board_prelude.proofs.Common.{is_within, Bytes, Window, row_of, is_in_hole, is_shadowed, is_rom_selected}
 use Rattle.board_prelude.proofs.Common.{is_covered, memory_window, rom_window, is_rom_on, vga_window, memory_windows}
 use Rattle.board_prelude.proofs.Common.{is_enabled_for, first_window, memory_claim, area_of, xbcs as select_register}
-use Rattle.board_prelude.proofs.Common.{address_count, six_areas}
+use Rattle.board_prelude.proofs.Common.{address_count}
 use Rattle.std.proofs.lemmas.List.Elements.{All-contains_itself}
 use Rattle.addr_decode.specs.Edges.{fixed_edges, row_edges, window_edges, card_edges, edges_of, IsNextEdge, NoEdgeAbove}
 use Rattle.addr_decode.specs.Edges.{SameAreas, AreasChangeAtEdges}
@@ -156,9 +156,6 @@ module _ (setup : Setup) (bytes : Bytes) (addr x : ℕ) (between : Between setup
         claim_same,
       ) refl
 
-  six_same : six_areas setup bytes x ≡ six_areas setup bytes addr
-  six_same = simp area_same
-
 pub areas_change_at_edges : AreasChangeAtEdges
 unfolding edges_of
 areas_change_at_edges setup bytes addr x order last clear =
@@ -171,8 +168,8 @@ areas_change_at_edges setup bytes addr x order last clear =
     ] in
     let parts = all_parts (Clear addr x) fixed_edges _ (recursion_from_All (Clear addr x) (edges_of setup bytes) all) in
     let others = all_parts (Clear addr x) (row_edges bytes) _ parts.1 in
-    six_same setup bytes addr x
-    (record { order = order; last = last; fixed = parts.0; rows = others.0; cards = others.1 })
+    simp (area_same setup bytes addr x
+    (record { order = order; last = last; fixed = parts.0; rows = others.0; cards = others.1 }))
 
 -- up to the next edge, or to the last address where there is none
 pub same_to_next : (setup : Setup) (bytes : Bytes) (addr : ℕ) (found : Option ℕ) →

@@ -193,20 +193,19 @@ unfolding nearest
 in_two addr addr' found first all xs ys same is_first is_all =
     rw (is_all, same, is_first, fold-append (nearer addr) found xs ys) refl
 
-swapped : (xs ys zs : List ℕ) (x : ℕ) → Contains (xs ++ (ys ++ zs)) x → Contains (xs ++ (zs ++ ys)) x
-swapped xs ys zs x has =
-    elim (Contains-append_cases xs (ys ++ zs) x has) [
-      | inl first ↦ Contains-append_left xs (zs ++ ys) x first
-      | inr later ↦ Contains-append_right xs (zs ++ ys) x (elim (Contains-append_cases ys zs x later) [
-        | inl second ↦ Contains-append_right zs ys x second
-        | inr third ↦ Contains-append_left zs ys x third
-      ])
-    ]
-
 above_swapped : (addr : ℕ) (xs ys zs : List ℕ) (edge : ℕ) → IsAbove addr (xs ++ (ys ++ zs)) edge →
     IsAbove addr (xs ++ (zs ++ ys)) edge
-above_swapped addr xs ys zs edge is =
-    record { listed = swapped xs ys zs edge is.listed; above = is.above; below = is.below }
+above_swapped addr xs ys zs edge is = record {
+  listed = elim (Contains-append_cases xs (ys ++ zs) edge is.listed) [
+    | inl first ↦ Contains-append_left xs (zs ++ ys) edge first
+    | inr later ↦ Contains-append_right xs (zs ++ ys) edge (elim (Contains-append_cases ys zs edge later) [
+      | inl second ↦ Contains-append_right zs ys edge second
+      | inr third ↦ Contains-append_left zs ys edge third
+    ])
+  ];
+  above = is.above;
+  below = is.below;
+}
 
 -- those that the code sees are those of the board, with the rows last
 pub edges_seen : (setup : Setup) (bytes : Bytes) (drb : List ℕ) (cards : List CardBytes) (addr : ℕ) (found : Option ℕ) →

@@ -24,7 +24,7 @@ nearest_stays addr least (edge ∷ later) rise =
     rw (nearer_stays addr least edge rise.0)
     (nearest_stays addr least later (rise_from_lower edge least later rise.0 rise.2))
 
-first_is_nearest :
+pub first_is_nearest :
     (addr from : ℕ) (edges : List ℕ) → Rise from edges → find (nat_lt addr) edges ≡ nearest addr None edges
 unfolding nearest
 first_is_nearest addr from [] rise = refl
@@ -76,9 +76,3 @@ rows_are_far addr least (boundary ∷ later) near =
     ap (λ (found : Option ℕ). nearest addr found (map (λ boundary. boundary * boundary_unit) later))
     (row_is_far addr least boundary near)
     ∙ rows_are_far addr least later near
-
--- ---- the least of the fixed edges
-
-pub first_fixed_edge : (addr : ℕ) → find (nat_lt addr) fixed_edges ≡ nearest addr None fixed_edges
-unfolding fixed_edges
-first_fixed_edge addr = first_is_nearest addr 0 fixed_edges (search arith)

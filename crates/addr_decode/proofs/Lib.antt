@@ -1,10 +1,8 @@
-pub mod AreaLemmas
 pub mod MemoryLemmas
 pub mod PortLemmas
 pub mod StoreLemmas
 pub mod SingleLemmas
 pub mod NameLemmas
-pub mod DenialLemmas
 pub mod CardLemmas
 pub mod StandsLemmas
 pub mod EdgeCounts

@@ -1,4 +1,4 @@
--- The memory map in the order of the code is that of the definitions.
+-- The memory map and the denials in the order of the code are those of the definitions.
 use Rattle.std.proofs.Common.{◌≡◌, ℕ, Bool, true, false, ◌&&◌, Option, Some, None, IfSome, refl, sym, ◌∙◌, arith}
 use Rattle.std.proofs.Common.{unwrap_or, [], ◌∷◌, option_map}
 use Rattle.board_prelude.proofs.Common.{nat_tests, Area, Denial, Kind, top_of, memory_shut, rom_unselected}
@@ -6,10 +6,11 @@ use Rattle.board_prelude.proofs.Common.{abort_denial, rom_denial, denial_in, den
 use Rattle.board_prelude.proofs.Common.{Window, first_of, line_where, is_smram_range, is_shadow_range, card_area}
 use Rattle.board_prelude.proofs.Common.{area_under, Bytes, row_of, pam_register, is_high_window, nibble, is_open}
 use Rattle.board_prelude.proofs.Common.{is_shadowed, memory_claim, area_of, xbcs as select_register, is_in_hole}
-use Rattle.board_prelude.proofs.Common.{is_bios_selected, is_smram_open}
+use Rattle.board_prelude.proofs.Common.{is_bios_selected, is_smram_open, Read, Write, six_areas}
 use Rattle.board_base.specs.declared.target.Area.TheVariants.{Dram, Shadow, Rom, Abort}
 use Rattle.pmc_regs.specs.Pmc.{IsRowsOf}
 use Rattle.addr_decode.specs.Common.{MapBytes, StandsFor, dram_area, above_dram, beside_dram, master_area, AreSinglesOf}
+use Rattle.addr_decode.specs.Memory.{board_denial, card_denial}
 
 no_dram : (rom : Bool) (claim : Option Window) →
     first_of (line_where rom Rom ∷ option_map card_area claim ∷ []) Abort ≡ above_dram None rom claim
@@ -108,3 +109,36 @@ module _ (regs : MapBytes) (addr : ℕ) (outside : lies_in upper_memory addr ≡
   if_plain_undenied (Some row) is = λ setup bytes kind smm stands.
       sym (dram_undenied setup bytes addr kind smm (Dram row)
       (plain_dram setup bytes addr kind smm row outside (no_hole bytes stands.singles) (is bytes stands.rows)))
+
+-- ---- denials
+
+abbrev pub after_board : Option Denial → (shut rom : Option Window) → ℕ → Denial
+after_board (Some denial) shut rom addr = denial
+after_board None shut rom addr =
+    card_denial (option_map (λ window. window.dev) shut) (option_map (λ window. window.dev) rom) addr
+
+pub denials_in_order : (top : ℕ) (shut rom : Option Window) (addr : ℕ) →
+    abort_denial top shut rom addr ≡ after_board (board_denial top addr) shut rom addr
+unfolding board_denial
+denials_in_order top shut rom addr = grind (arith, nat_tests)
+
+-- ---- the areas of all six accesses
+
+-- outside A0000h to BFFFFh the area of an access is that of a read or a write outside SMM
+pub areas_beside_smram : (setup : Setup) (bytes : Bytes) (addr : ℕ) → is_smram_range addr ≡ false →
+    six_areas setup bytes addr
+    ≡ area_of setup bytes addr Read false ∷ area_of setup bytes addr Read false ∷ area_of setup bytes addr Write false
+    ∷ area_of setup bytes addr Read false ∷ area_of setup bytes addr Read false ∷ area_of setup bytes addr Write false
+    ∷ []
+unfolding area_of
+areas_beside_smram setup bytes addr beside = rw beside refl
+
+-- and outside the shadow windows too that of a read
+pub areas_beside_windows : (setup : Setup) (bytes : Bytes) (addr : ℕ) → is_smram_range addr ≡ false →
+    is_shadow_range addr ≡ false →
+    six_areas setup bytes addr
+    ≡ area_of setup bytes addr Read false ∷ area_of setup bytes addr Read false ∷ area_of setup bytes addr Read false
+    ∷ area_of setup bytes addr Read false ∷ area_of setup bytes addr Read false ∷ area_of setup bytes addr Read false
+    ∷ []
+unfolding area_of
+areas_beside_windows setup bytes addr beside closed = rw (beside, closed) refl

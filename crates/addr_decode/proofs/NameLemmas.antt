@@ -29,13 +29,6 @@ no_rom (Some card) none = absurd (cc)
 abbrev pub is_isa_byte : ℕ → Bool
 is_isa_byte off = off == 0x4E
 
-bridge_byte : (setup : Setup) (off : ℕ) → is_some (card_at setup 0) ≡ false →
-    is_map_byte setup (bridge off) ≡ is_host_byte off
-bridge_byte setup off none = simp (none, no_rom (card_at setup 0) none, or-false)
-
-isa_byte : (setup : Setup) (off : ℕ) → is_some (card_at setup 1) ≡ false → is_map_byte setup (isa off) ≡ is_isa_byte off
-isa_byte setup off none = simp (none, no_rom (card_at setup 1) none, or-false)
-
 -- PAM, the boundaries of rows and the registers of one byte are map bytes, and so are those of a fitted card
 pub block_is_byte : (setup : Setup) (off : ℕ) → 0x59 ≤ off → off ≤ 0x67 → is_map_byte setup (bridge off) ≡ true
 block_is_byte setup off from to =
@@ -52,9 +45,6 @@ pub rom_is_byte : (setup : Setup) (dev off : ℕ) → has_rom (card_at setup dev
     is_map_byte setup (card_register dev off) ≡ true
 rom_is_byte setup dev off fitted is = grind (arith, nat_tests)
 
-other_byte : (setup : Setup) (reg : Reg) → reg.fun ≢ 0 → is_map_byte setup reg ≡ false
-other_byte setup reg fun = simp (ne_eqb reg.fun 0 fun, and-false)
-
 -- ---- each kind of register and its name
 
 -- what holds of a register and its name, by the function that has the register
@@ -66,14 +56,11 @@ by_function :
 unfolding map_register
 by_function P cards other host south device reg = grind (arith, nat_tests)
 
--- of a name that a test gives, of one by another, and of one by what was found
+-- of a name that a test gives
 if_test : {X : Type 0} (P : X → Type 0) (test : Bool) (name : X) (later : Option X) → (test ≡ true → P name) →
     (test ≡ false → IfSome later P) → IfSome (if test then Some name else later) P
 if_test P true name later here beside = here refl
 if_test P false name later here beside = beside refl
-
-if_some : {X : Type 0} (P : X → Type 0) (found : Option X) (x : X) → IfSome found P → found ≡ Some x → P x
-if_some P found x is same = rw same at is
 
 pub is_named : {X Y : Type 0} (f : X → Y) (name : Option X) → is_some (option_map f name) ≡ is_some name
 is_named f None = refl
@@ -97,9 +84,9 @@ pub named : (setup : Setup) (reg : Reg) → is_some (card_at setup 0) ≡ false 
     is_some (map_register setup.cards reg) ≡ is_map_byte setup reg
 named setup reg none0 none1 =
     by_function (λ reg name. is_some name ≡ is_map_byte setup reg) setup.cards
-    (λ reg other. sym (other_byte setup reg other))
-    (λ off. bridge_named off ∙ sym (bridge_byte setup off none0))
-    (λ off. isa_named off ∙ sym (isa_byte setup off none1))
+    (λ reg other. sym (simp (ne_eqb reg.fun 0 other, and-false)))
+    (λ off. bridge_named off ∙ sym (simp (none0, no_rom (card_at setup 0) none0, or-false)))
+    (λ off. isa_named off ∙ sym (simp (none1, no_rom (card_at setup 1) none1, or-false)))
     (λ dev off above. device_named (card_at setup dev) dev off ∙ sym (simp (
       ne_eqb dev 0 (omega arith),
       ne_eqb dev 1 (omega arith),
@@ -141,7 +128,7 @@ names_at cards =
 
 pub is_name : (cards : List FittedCard) (reg : Reg) (register : MapRegister) → map_register cards reg ≡ Some register →
     IsNameAt register reg
-is_name cards reg register = if_some (λ register. IsNameAt register reg) _ register (names_at cards reg)
+is_name cards reg register is = rw is at (names_at cards reg)
 
 -- ---- the names of the registers that a store covers
 
@@ -159,10 +146,6 @@ pub count_names : (cards : List FittedCard) (reg : Reg) (width : Width) →
     length (names_from cards reg width) ≡ bytes_of width
 count_names cards reg One = refl
 count_names cards reg _ = refl
-
-pub name_at : (cards : List FittedCard) (reg : Reg) (width : Width) (k : ℕ) (d : Option MapRegister) →
-    k < bytes_of width → get_or (names_from cards reg width) k d ≡ map_register cards (reg_after reg k)
-name_at cards reg width k d below = grind (arith, nat_tests)
 
 any_same : (name : ℕ → Option MapRegister) (is : ℕ → Bool) (xs : List ℕ) → ((k : ℕ) → is_some (name k) ≡ is k) →
     list_any is_some (map name xs) ≡ list_any is xs
@@ -196,7 +179,7 @@ pub named_so_far : (cards cards' : List CardBytes) (reg : Reg) (width : Width) (
     cards_of cards' ≡ cards_of cards → names ≡ names_from (cards_of cards) reg width →
     get_or names k d ≡ map_register (cards_of cards') (reg_after reg k)
 named_so_far cards cards' reg width k names d below same are =
-    rw (are, same) (name_at (cards_of cards) reg width k d below)
+    rw (are, same) (grind (arith, nat_tests))
 
 -- no register past offset FFh has a name
 small : (register : MapRegister) → IsNumbered register → (place_of register).off < 256

@@ -12,34 +12,24 @@ use Rattle.addr_decode.specs.declared.onboard.Onboard.{Onboard}
 use Rattle.addr_decode.proofs.NameLemmas.{is_named}
 use Rattle.addr_decode.specs.Common.{by_select, response_of, IsChannelOf, register_answers, after_onboard}
 
-select_in_order :
-    (setup : Setup) (bytes : Bytes) (select : Select) (disk : Bool) (dev : Dev) (timing port : ℕ) →
-    timing / 0x100 ≡ bytes idetim_high →
-    selected_by select disk dev setup bytes port
-    ≡ after_onboard setup bytes port
-    (by_select select dev (bytes select_register) disk (bytes command_register) timing)
-select_in_order setup bytes Always disk dev timing port is = refl
-select_in_order setup bytes IdeChannel false dev timing port is = refl
-select_in_order setup bytes IdeChannel true dev timing port is = rw is (grind (arith, nat_tests))
-select_in_order setup bytes _ disk dev timing port is = grind (arith, nat_tests)
+module _ (setup : Setup) (bytes : Bytes) (timing port : ℕ) (is : timing / 0x100 ≡ bytes idetim_high) where
+  select_in_order : (select : Select) (disk : Bool) (dev : Dev) →
+      selected_by select disk dev setup bytes port
+      ≡ after_onboard setup bytes port
+      (by_select select dev (bytes select_register) disk (bytes command_register) timing)
+  select_in_order Always disk dev = refl
+  select_in_order IdeChannel false dev = refl
+  select_in_order IdeChannel true dev = rw is (grind (arith, nat_tests))
+  select_in_order _ disk dev = grind (arith, nat_tests)
+
+  found_in_order : (found : Option Dev) (disk : Bool) →
+      device_port found disk setup bytes port
+      ≡ after_onboard setup bytes port
+      (response_of found (bytes select_register) disk (bytes command_register) timing)
+  found_in_order None disk = refl
+  found_in_order (Some dev) disk = select_in_order (select_of dev) disk dev
 
 -- ---- what each part of the code gives
-
-pub config_target : (setup : Setup) (bytes : Bytes) (address : ℕ) (disk : Bool) (port : ℕ) (width : Width) →
-    true ≡ is_config_port port →
-    config_port address (config_register setup address port) ≡ port_target_of setup bytes address disk port width
-unfolding port_target_of
-config_target setup bytes address disk port width here = rw (← here) refl
-
-found_in_order :
-    (setup : Setup) (bytes : Bytes) (found : Option Dev) (disk : Bool) (timing port : ℕ) →
-    timing / 0x100 ≡ bytes idetim_high →
-    device_port found disk setup bytes port
-    ≡ after_onboard setup bytes port
-    (response_of found (bytes select_register) disk (bytes command_register) timing)
-found_in_order setup bytes None disk timing port is = refl
-found_in_order setup bytes (Some dev) disk timing port is =
-    select_in_order setup bytes (select_of dev) disk dev timing port is
 
 pub onboard_target : (setup : Setup) (bytes : Bytes) (address : ℕ) (disk : Bool) (port : ℕ) (width : Width) (xbcs : ℕ)
     (ide_command idetim : ℕ) (response : Onboard) → false ≡ is_config_port port → xbcs ≡ bytes select_register →
@@ -53,7 +43,7 @@ onboard_target setup bytes address disk port width xbcs ide_command idetim respo
       is,
       same_xbcs,
       is_ide.command,
-      found_in_order setup bytes (device_at port (bytes_of width)) disk idetim port is_ide.timing,
+      found_in_order setup bytes idetim port is_ide.timing (device_at port (bytes_of width)) disk,
     ) refl
 
 -- a selected register is reached where its function exists

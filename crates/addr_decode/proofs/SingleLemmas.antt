@@ -86,22 +86,19 @@ single_is k below =
     single_told (single k) (each_below (λ k. is_single (single k) ≡ true) single_count k (search rules) below)
 
 -- a register that is none of them has no number: so PAM and the boundaries of rows, and a card
-is_none : (reg : Reg) → ((k : ℕ) → k < single_count → single k ≢ reg) → (number : Option ℕ) →
-    single_number reg ≡ number → number ≡ None
-is_none reg other None is = refl
-is_none reg other (Some number) is = let there = number_stands reg number is in absurd (other number there.0 there.1)
-
 not_one : (at reg : Reg) → Differs at reg → reg ≢ at
 not_one at reg apart same = grind (arith, nat_tests)
 
+is_none : (reg : Reg) → ((k : ℕ) → k < single_count → Differs reg (single k)) → (number : Option ℕ) →
+    single_number reg ≡ number → number ≡ None
+is_none reg apart None is = refl
+is_none reg apart (Some number) is =
+    let there = number_stands reg number is in
+    absurd (not_one reg (single number) (apart number there.0) there.1)
+
 pub block_unnumbered : (off : ℕ) → 0x59 ≤ off → off ≤ 0x67 → single_number (bridge off) ≡ None
-block_unnumbered off from to =
-    is_none (bridge off)
-    (λ k below. not_one (bridge off) (single k) ((single_is k below).apart off from to))
-    (single_number (bridge off)) refl
+block_unnumbered off from to = is_none (bridge off) (λ k below. (single_is k below).apart off from to) _ refl
 
 pub card_unnumbered : (dev off : ℕ) → 2 ≤ dev → single_number (card_register dev off) ≡ None
 card_unnumbered dev off above =
-    is_none (card_register dev off)
-    (λ k below. not_one (card_register dev off) (single k) (inl (omega (arith, (single_is k below).low))))
-    (single_number (card_register dev off)) refl
+    is_none (card_register dev off) (λ k below. inl (omega (arith, (single_is k below).low))) _ refl

@@ -114,14 +114,10 @@ module _ (setup : Setup) (bytes : Bytes) (regs : MapBytes) (stands : StandsFor s
 -- ---- a register without a name is none of those that the address map depends on
 
 -- a card has none of the bridges' registers, nor has a function other than 0, nor are any past offset FFh
-pub card_apart : (at : Reg) → 2 ≤ at.dev → IsApart at
-card_apart at above = grind (arith, nat_tests, single_is)
-
-function_apart : (at : Reg) → at.fun ≢ 0 → IsApart at
-function_apart at fun = grind (arith, nat_tests, single_is)
-
-pub beyond_apart : (at : Reg) → 256 ≤ at.off → IsApart at
-beyond_apart at past = grind (arith, nat_tests, single_is)
+pub outside_apart : (at : Reg) → (2 ≤ at.dev) ⊎ (at.fun ≢ 0) ⊎ (256 ≤ at.off) → IsApart at
+outside_apart at (inl above) = grind (arith, nat_tests, single_is)
+outside_apart at (inr (inl fun)) = grind (arith, nat_tests, single_is)
+outside_apart at (inr (inr past)) = grind (arith, nat_tests, single_is)
 
 -- none of the registers of the map has this offset in the host bridge
 pub record IsBeside (off : ℕ) : Type 0 where
@@ -155,10 +151,10 @@ nameless_in_bridge cards at first function none = bridge_beside at.off (rw (func
 pub nameless_apart : (cards : List FittedCard) (at : Reg) → (at.dev < 2) ⊎ (at.fun ≢ 0) →
     map_register cards at ≡ None → IsApart at
 unfolding map_register
-nameless_apart cards at (inr fun) none = function_apart at fun
+nameless_apart cards at (inr fun) none = outside_apart at (inr (inl fun))
 nameless_apart cards at (inl low) none =
     elim (cases_eq at.fun 0) [
-      | inr other ↦ function_apart at other
+      | inr other ↦ outside_apart at (inr (inl other))
       | inl function ↦ elim (cases_eq at.dev 0) [
         | inl first ↦
             subst IsApart (in_function_0 at 0 first function)

@@ -1,5 +1,5 @@
 -- A byte that is stored in one register leaves all others, and a register takes it under its mask.
-use Rattle.std.proofs.Common.{◌≡◌, ◌≢◌, ℕ, List, ◌<◌, false, ◌⊎◌, refl, sym, arith, slice_index}
+use Rattle.std.proofs.Common.{◌≡◌, ◌≢◌, ℕ, List, ◌<◌, ◌⊎◌, refl, sym, arith, slice_index}
 use Rattle.board_prelude.proofs.Common.{w32, to_le_bytes, cond-false, nat_tests, One, Reg, Setup, byte, covers, Bytes}
 use Rattle.board_prelude.proofs.Common.{card_register}
 use Rattle.pci_bars.proofs.BaseLemmas.{long_byte}
@@ -8,12 +8,9 @@ use Rattle.addr_decode.specs.MapRegs.{stored}
 abbrev pub Differs : Reg → Reg → Type 0
 Differs at reg = (at.dev ≢ reg.dev) ⊎ (at.fun ≢ reg.fun) ⊎ (at.off ≢ reg.off)
 
-not_covered : (at reg : Reg) → Differs at reg → covers at One reg ≡ false
-not_covered at reg apart = grind (arith, nat_tests)
-
 pub stored-elsewhere : (setup : Setup) (bytes : Bytes) (at : Reg) (written : ℕ) (reg : Reg) → Differs at reg →
     stored setup bytes at written reg ≡ bytes reg
-stored-elsewhere setup bytes at written reg apart = cond-false (covers at One reg) _ _ (not_covered at reg apart)
+stored-elsewhere setup bytes at written reg apart = cond-false (covers at One reg) _ _ (grind (arith, nat_tests))
 
 -- a register by its three numbers
 pub same_register : (reg other : Reg) → reg.dev ≡ other.dev → reg.fun ≡ other.fun → reg.off ≡ other.off → reg ≡ other

@@ -68,7 +68,7 @@ fn areas_in_smram(regs: &MapRegs, addr: u32) -> SixAreas
 }
 
 /// The areas of an address at which SMRAM cannot answer. Outside the shadow windows all kinds of access reach the same.
-#[tactic(auto, using(std::proofs::lemmas::Bool::Decides::nat_tests, crate::proofs::AreaLemmas::areas_beside_windows))]
+#[tactic(auto, using(std::proofs::lemmas::Bool::Decides::nat_tests, crate::proofs::MemoryLemmas::areas_beside_windows))]
 fn areas_beside_smram(regs: &MapRegs, addr: u32) -> SixAreas
     requires cards { AreFitted regs.now.cards.items }
     requires beside { is_smram_range addr ≡ false }
@@ -84,7 +84,7 @@ fn areas_beside_smram(regs: &MapRegs, addr: u32) -> SixAreas
 }
 
 /// The areas of an address in a shadow window: a fetch reaches what a read does, and SMM does not count.
-#[tactic(auto, using(std::proofs::lemmas::Bool::Decides::nat_tests, crate::proofs::AreaLemmas::areas_beside_smram))]
+#[tactic(auto, using(std::proofs::lemmas::Bool::Decides::nat_tests, crate::proofs::MemoryLemmas::areas_beside_smram))]
 fn areas_in_shadow(regs: &MapRegs, addr: u32) -> SixAreas
     requires cards { AreFitted regs.now.cards.items }
     requires beside { is_smram_range addr ≡ false }

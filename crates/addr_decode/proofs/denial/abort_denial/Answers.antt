@@ -1,5 +1,5 @@
 use Rattle.std.proofs.Common.{refl}
-use Rattle.addr_decode.proofs.DenialLemmas.{denials_in_order}
+use Rattle.addr_decode.proofs.MemoryLemmas.{denials_in_order}
 use Rattle.addr_decode.proofs.denial.abort_denial.Goals as goal
 
 pub returns-in-Some : goal.returns-in-Some

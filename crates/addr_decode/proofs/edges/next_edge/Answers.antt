@@ -1,8 +1,8 @@
-use Rattle.std.proofs.Common.{rules, ◌≡◌, ◌++◌, ◌*◌, None, length, ◌∙◌, refl, map, flat_map}
+use Rattle.std.proofs.Common.{rules, ◌≡◌, ◌++◌, ◌*◌, None, length, ◌∙◌, refl, map, flat_map, arith}
 use Rattle.board_spec.specs.Ranges.{boundary_unit}
 use Rattle.addr_decode.specs.Common.{edges_of, ends_of_card, fixed_edges, nearest, StandsFor, map_bytes}
 use Rattle.addr_decode.proofs.EdgeSearchLemmas.{IsLeast, edges_seen, in_two, least_above, is_next, is_last}
-use Rattle.addr_decode.proofs.FixedEdgeLemmas.{first_fixed_edge}
+use Rattle.addr_decode.proofs.FixedEdgeLemmas.{first_is_nearest}
 use Rattle.addr_decode.proofs.EdgeLaws.{same_to_next}
 use Rattle.addr_decode.proofs.EdgeCounts.{fewer_after}
 use Rattle.addr_decode.proofs.edges.next_edge.Goals as goal
@@ -13,7 +13,7 @@ seen : (c : goal.After-see_rows) → c.see_rows.new.self.edge
 unfolding fixed_edges
 seen c =
     in_two c.args.addr c.args.addr None c.fixed_above.result _ fixed_edges _ refl
-    (c.fixed_above.ensures.first ∙ first_fixed_edge c.args.addr)
+    (c.fixed_above.ensures.first ∙ first_is_nearest c.args.addr 0 fixed_edges (search arith))
     (in_two _ _ _ _ _ _ _ c.see_cards.ensures.same (rw c.deref.ensures.0 at c.see_cards.ensures.nearest)
     c.see_rows.ensures.nearest)
 

@@ -1,11 +1,13 @@
-use Rattle.std.proofs.Common.{◌∙◌}
-use Rattle.addr_decode.proofs.PortLemmas.{config_target, onboard_target}
+use Rattle.std.proofs.Common.{◌∙◌, refl}
+use Rattle.board_prelude.proofs.Common.{port_target_of}
+use Rattle.addr_decode.proofs.PortLemmas.{onboard_target}
 use Rattle.addr_decode.proofs.ports.find_port.Goals as goal
 
 pub returns-then-is_config_data-clause-decoded : goal.returns-then-is_config_data-clause-decoded
+unfolding port_target_of
 returns-then-is_config_data-clause-decoded c = λ setup bytes stands ide.
     c.config_port.ensures.decoded setup bytes (rw c.deref.ensures.0 stands.cards)
-    ∙ config_target setup bytes _ _ c.args.port c.args.width c.if-is_config_data.ensures.data
+    ∙ rw (← c.if-is_config_data.ensures.data) refl
 
 pub returns-in-Answers-clause-decoded : goal.returns-in-Answers-clause-decoded
 returns-in-Answers-clause-decoded c = λ setup bytes stands ide.

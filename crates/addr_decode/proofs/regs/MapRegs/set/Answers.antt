@@ -4,7 +4,7 @@ use Rattle.addr_decode.specs.MapRegs.{map_bytes}
 use Rattle.addr_decode.specs.Singles.{single}
 use Rattle.addr_decode.proofs.CardLemmas.{cards_beside, of_registers}
 use Rattle.addr_decode.proofs.SingleLemmas.{single_is}
-use Rattle.addr_decode.proofs.StandsLemmas.{window_stored, row_stored, stored_apart, card_apart}
+use Rattle.addr_decode.proofs.StandsLemmas.{window_stored, row_stored, stored_apart, outside_apart}
 use Rattle.addr_decode.proofs.regs.MapRegs.set.Goals as goal
 
 pub returns-in-Pam-clause-stands : goal.returns-in-Pam-clause-stands
@@ -41,7 +41,7 @@ pub returns-in-Card-clause-stands : goal.returns-in-Card-clause-stands
 returns-in-Card-clause-stands c = λ setup bytes stands.
     let number = rw c.in-Card.is at c.requires.number in
     rw (c.in-Card.is, ← c.offset.ensures.offset)
-    (stored_apart setup bytes _ stands c.args.byte _ _ (card_apart _ number.0)
+    (stored_apart setup bytes _ stands c.args.byte _ _ (outside_apart _ (inl number.0))
     (c.write_card.ensures.decoded setup bytes stands.cards))
 
 pub returns-in-Card-clause-cards : goal.returns-in-Card-clause-cards

@@ -1,9 +1,9 @@
-use Rattle.std.proofs.Common.{◌≡◌, ℕ, ◌+◌, ◌≤◌, refl, arith}
+use Rattle.std.proofs.Common.{◌≡◌, ℕ, ◌+◌, ◌≤◌, refl, arith, inl, inr}
 use Rattle.board_prelude.proofs.Common.{Reg, card_register, reg_after}
 use Rattle.addr_decode.specs.MapRegs.{map_bytes}
 use Rattle.addr_decode.proofs.CardLemmas.{cards_beside, cards_beyond, of_decoded, of_registers}
 use Rattle.addr_decode.proofs.StoreLemmas.{in_function_0}
-use Rattle.addr_decode.proofs.StandsLemmas.{stored_apart, nameless_apart, card_apart, beyond_apart}
+use Rattle.addr_decode.proofs.StandsLemmas.{stored_apart, nameless_apart, outside_apart}
 use Rattle.addr_decode.proofs.regs.MapRegs.store_beside.Goals as goal
 
 pub returns-then-is_of_bridge-clause-stands : goal.returns-then-is_of_bridge-clause-stands
@@ -25,7 +25,7 @@ pub returns-in-Some-clause-stands : goal.returns-in-Some-clause-stands
 returns-in-Some-clause-stands c = λ setup bytes stands.
     let card = c.is_of_bridge.ensures.card c.if-is_of_bridge.false in
     rw (← place c.args.reg c.args.k c.in-Some.off card.1 (omega (arith, c.in-Some.ensures)))
-    (stored_apart setup bytes (map_bytes c.args.self.now) stands c.args.byte _ _ (card_apart _ card.0)
+    (stored_apart setup bytes (map_bytes c.args.self.now) stands c.args.byte _ _ (outside_apart _ (inl card.0))
     (c.write_card.ensures.decoded setup bytes stands.cards))
 
 pub returns-in-Some-clause-cards : goal.returns-in-Some-clause-cards
@@ -38,7 +38,7 @@ pub returns-in-None-clause-stands : goal.returns-in-None-clause-stands
 returns-in-None-clause-stands c = λ setup bytes stands.
     let past : 256 ≤ c.args.reg.off + c.args.k = omega (arith, c.in-None.ensures) in
     stored_apart setup bytes (map_bytes c.args.self.now) stands c.args.byte (reg_after c.args.reg c.args.k) _
-    (beyond_apart _ past)
+    (outside_apart _ (inr (inr past)))
     (cards_beyond (of_decoded setup) bytes _ stands.cards _ c.args.byte c.requires.cards.each c.ranges.byte.fits past)
 
 pub returns-in-None-clause-cards : goal.returns-in-None-clause-cards
