@@ -1,6 +1,6 @@
 -- The PAM registers in the table of registers.
-use Rattle.std.proofs.Common.{◌≡◌, ◌≢◌, ℕ, ◌-◌, ◌<◌, List, [], ◌∷◌, length, get_or, set, false, ◌∙◌, sym, refl, ap}
-use Rattle.std.proofs.Common.{subst, arith, inl, inr, get_or-set_other, get_or-set_same, map}
+use Rattle.std.proofs.Common.{◌≡◌, ◌≢◌, ℕ, ◌-◌, ◌<◌, List, [], ◌∷◌, length, get_or, set, false, ◌∙◌, sym, ap}
+use Rattle.std.proofs.Common.{rules, arith, inl, inr, get_or-set_other, get_or-set_same, map}
 use Rattle.board_prelude.proofs.Common.{cases_eq, Store, Each, each_from, changed_byte-one_same, changed_byte-one_other}
 use Rattle.board_spec.specs.Common.{One, Setup, merged, writable_bits, changed_byte, Bytes, bridge, pam, smram, is_same}
 use Rattle.pam_windows.specs.Pam.{IsPamOffset, IsPamOf, pam_byte}
@@ -15,46 +15,33 @@ pam_bytes bytes = map (λ k. bytes (pam k)) (0 ∷ 1 ∷ 2 ∷ 3 ∷ 4 ∷ 5 ∷
 
 pub pam_are : (bytes : Bytes) (list : List ℕ) → list ≡ pam_bytes bytes → IsPamOf bytes list
 pam_are bytes list are off h =
-    rw are
-    (each_offset (λ off. pam_byte (pam_bytes bytes) off ≡ bytes (bridge off))
-    (refl, (refl, (refl, (refl, (refl, (refl, (refl, tt))))))) off h)
+    rw are (each_offset (λ off. pam_byte (pam_bytes bytes) off ≡ bytes (bridge off)) (search rules) off h)
 
 plain_register : (off : ℕ) → IsPamOffset off → is_same (bridge off) smram ≡ false
-plain_register =
-    each_offset (λ off. is_same (bridge off) smram ≡ false) (refl, (refl, (refl, (refl, (refl, (refl, (refl, tt)))))))
+plain_register = each_offset (λ off. is_same (bridge off) smram ≡ false) (search rules)
 
 -- a store of one byte to a PAM register, as the registers keep it
-stored_at : (setup : Setup) (bytes : Bytes) (masks pam : List ℕ) (off written : ℕ) → length pam ≡ 7 → written < 256 →
-    masks ≡ pam_bytes (writable_bits setup) → IsPamOffset off → IsPamOf bytes pam →
-    get_or (set pam (off - 0x59) (merged (pam_byte masks off) (pam_byte pam off) written))
-    (off - 0x59) 0 ≡ changed_byte setup (Store (bridge off) One written) (bridge off) (bytes (bridge off))
-stored_at setup bytes masks pam off written seven below are h is_pam =
-    let within : off - 0x59 < length pam = omega arith in
-    get_or-set_same pam (off - 0x59) (merged (pam_byte masks off) (pam_byte pam off) written) 0 within
-    ∙ ap (λ mask. merged mask (pam_byte pam off) written) (pam_are (writable_bits setup) masks are off h)
-    ∙ ap (λ old. merged (writable_bits setup (bridge off)) old written) (is_pam off h)
-    ∙ sym (changed_byte-one_same setup (bridge off) (bytes (bridge off)) written below (plain_register off h))
+module _ (setup : Setup) (bytes : Bytes) (masks pam : List ℕ) (off written : ℕ) (seven : length pam ≡ 7)
+    (below : written < 256) (are : masks ≡ pam_bytes (writable_bits setup)) (h : IsPamOffset off)
+    (is_pam : IsPamOf bytes pam) where
+  stored_at : get_or (set pam (off - 0x59) (merged (pam_byte masks off) (pam_byte pam off) written)) (off - 0x59) 0
+      ≡ changed_byte setup (Store (bridge off) One written) (bridge off) (bytes (bridge off))
+  stored_at =
+      let within : off - 0x59 < length pam = omega arith in
+      get_or-set_same pam (off - 0x59) (merged (pam_byte masks off) (pam_byte pam off) written) 0 within
+      ∙ ap (λ mask. merged mask (pam_byte pam off) written) (pam_are (writable_bits setup) masks are off h)
+      ∙ ap (λ old. merged (writable_bits setup (bridge off)) old written) (is_pam off h)
+      ∙ sym (changed_byte-one_same setup (bridge off) (bytes (bridge off)) written below (plain_register off h))
 
-stored_apart : (setup : Setup) (bytes : Bytes) (pam : List ℕ) (off written byte at : ℕ) → IsPamOffset off →
-    IsPamOffset at → at ≢ off → IsPamOf bytes pam → get_or (set pam (off - 0x59) byte)
-    (at - 0x59) 0 ≡ changed_byte setup (Store (bridge off) One written) (bridge at) (bytes (bridge at))
-stored_apart setup bytes pam off written byte at h at_h apart is_pam =
-    let elsewhere : at - 0x59 ≢ off - 0x59 = λ e. apart (omega arith) in
-    get_or-set_other pam (off - 0x59) (at - 0x59) byte 0 elsewhere
-    ∙ is_pam at at_h
-    ∙ sym (changed_byte-one_other setup (bridge at) off (bytes (bridge at)) written apart)
+  stored_apart : (byte at : ℕ) → IsPamOffset at → at ≢ off → get_or (set pam (off - 0x59) byte) (at - 0x59) 0
+      ≡ changed_byte setup (Store (bridge off) One written) (bridge at) (bytes (bridge at))
+  stored_apart byte at at_h apart =
+      let elsewhere : at - 0x59 ≢ off - 0x59 = λ e. apart (omega arith) in
+      get_or-set_other pam (off - 0x59) (at - 0x59) byte 0 elsewhere
+      ∙ is_pam at at_h
+      ∙ sym (changed_byte-one_other setup (bridge at) off (bytes (bridge at)) written apart)
 
-pub stored_byte : (setup : Setup) (bytes : Bytes) (masks pam : List ℕ) (off written : ℕ) → length pam ≡ 7 →
-    written < 256 → masks ≡ pam_bytes (writable_bits setup) → IsPamOffset off → IsPamOf bytes pam →
-    IsPamOf (λ reg. changed_byte setup (Store (bridge off) One written) reg (bytes reg))
-    (set pam (off - 0x59) (merged (pam_byte masks off) (pam_byte pam off) written))
-stored_byte setup bytes masks pam off written seven below are h is_pam at at_h =
-    let byte = merged (pam_byte masks off) (pam_byte pam off) written in
-    let IsStored : ℕ → Type 0 =
-    λ at.
-    get_or (set pam (off - 0x59) byte) (at - 0x59) 0
-    ≡ changed_byte setup (Store (bridge off) One written) (bridge at) (bytes (bridge at)) in
-    elim (cases_eq at off) [
-      | inl same ↦ subst IsStored (sym same) (stored_at setup bytes masks pam off written seven below are h is_pam)
-      | inr apart ↦ stored_apart setup bytes pam off written byte at h at_h apart is_pam
-    ]
+  pub stored_byte : IsPamOf (λ reg. changed_byte setup (Store (bridge off) One written) reg (bytes reg))
+      (set pam (off - 0x59) (merged (pam_byte masks off) (pam_byte pam off) written))
+  stored_byte at at_h =
+      elim (cases_eq at off) [ inl same ↦ rw same stored_at | inr apart ↦ stored_apart _ at at_h apart ]
