@@ -1,6 +1,6 @@
 -- The registers of the 82371SB that cannot be written, in the table of registers.
-use Rattle.std.proofs.Common.{◌≡◌, ◌≢◌, ℕ, ◌<◌, ◌≤◌, List, [], ◌∷◌, false, None, sym, refl, subst, arith, inl, inr}
-use Rattle.std.proofs.Common.{slice_index, ◌==◌, ◌∙◌, if◌then◌else◌, rules}
+use Rattle.std.proofs.Common.{◌≡◌, ◌≢◌, ℕ, ◌<◌, ◌≤◌, List, [], ◌∷◌, false, None, refl, arith, inl, inr, slice_index}
+use Rattle.std.proofs.Common.{◌==◌, ◌∙◌, if◌then◌else◌, rules}
 use Rattle.board_base.proofs.Common.{cases_lt, cases_eq, cases_Bool, nat_tests, get_or_past, merged-none, common_steps}
 use Rattle.board_prelude.proofs.Common.{Width, Reg, Store, Setup, is_within, byte, isa_bridge, ide_function, reset_byte}
 use Rattle.board_prelude.proofs.Common.{writable_bits, isa, ide, smram, is_same, changed_byte, each_below, ne_eqb}
@@ -20,28 +20,17 @@ abbrev pub ide_header : List ℕ
 ide_header =
     0x86 ∷ 0x80 ∷ 0x10 ∷ 0x70 ∷ 0x00 ∷ 0x00 ∷ 0x80 ∷ 0x02 ∷ 0x00 ∷ 0x80 ∷ 0x01 ∷ 0x01 ∷ 0x00 ∷ 0x00 ∷ 0x00 ∷ 0x00 ∷ []
 
+-- past the header of the ISA bridge but 4Eh and 4Fh, and past that of the IDE function
 isa_past : (setup : Setup) (off : ℕ) → 16 ≤ off → off ≢ 0x4E → off ≢ 0x4F → is_within 0x60 0x63 off ≡ false →
-    (reset_byte setup (isa off) ≡ 0) × (writable_bits setup (isa off) ≡ 0)
+    IsFixedAt setup (isa off) 0
 unfolding reset_byte writable_bits isa_bridge
-isa_past setup off above xbcs high pirq = (grind (arith, nat_tests), grind (arith, nat_tests))
+isa_past setup off above xbcs high pirq =
+    record { reset = grind (arith, nat_tests); read_only = grind (arith, nat_tests); fits = omega arith }
 
-ide_past : (setup : Setup) (off : ℕ) → 16 ≤ off → is_within 0x40 0x41 off ≡ false →
-    (reset_byte setup (ide off) ≡ 0) × (writable_bits setup (ide off) ≡ 0)
+ide_past : (setup : Setup) (off : ℕ) → 16 ≤ off → is_within 0x40 0x41 off ≡ false → IsFixedAt setup (ide off) 0
 unfolding reset_byte writable_bits ide_function
-ide_past setup off above timing = (grind (arith, nat_tests), grind (arith, nat_tests))
-
-isa_fixed-past : (setup : Setup) (off : ℕ) → off ≢ 0x4E → is_within 0x60 0x63 off ≡ false → 16 ≤ off →
-    IsFixedAt setup (isa off) (slice_index isa_header off)
-unfolding reset_byte writable_bits isa_bridge
-isa_fixed-past setup off xbcs pirq above =
-    rw (get_or_past {X = ℕ} isa_header off 0 above) elim (cases_eq off 0x4F) [
-      | inl high ↦
-          subst (λ k. IsFixedAt setup (isa k) 0) (sym high)
-          (record { reset = refl; read_only = refl; fits = omega arith })
-      | inr low ↦
-          let past = isa_past setup off above xbcs low pirq in
-          record { reset = sym past.0; read_only = past.1; fits = omega arith }
-    ]
+ide_past setup off above timing =
+    record { reset = grind (arith, nat_tests); read_only = grind (arith, nat_tests); fits = omega arith }
 
 -- all registers of the ISA bridge but XBCS and those that route interrupts
 pub isa_fixed : (setup : Setup) (off : ℕ) → off ≢ 0x4E → is_within 0x60 0x63 off ≡ false → IsFixedAt setup (isa off)
@@ -54,7 +43,10 @@ isa_fixed setup off xbcs pirq =
         read_only = each_below (λ k. writable_bits setup (isa k) ≡ 0) 16 off (search rules) below;
         fits = each_below (λ k. slice_index isa_header k < 256) 16 off (search rules) below;
       }
-      | inr above ↦ isa_fixed-past setup off xbcs pirq above
+      | inr above ↦ rw (get_or_past {X = ℕ} isa_header off 0 above) (elim (cases_eq off 0x4F) [
+        | inl high ↦ rw high (record { reset = refl; read_only = refl; fits = omega arith })
+        | inr low ↦ isa_past setup off above xbcs low pirq
+      ])
     ]
 
 -- all registers of the IDE function but the low byte of the command and the two of IDETIM
@@ -70,10 +62,7 @@ ide_fixed setup off command timing =
             ∙ rw (ne_eqb off 0x04 command) refl;
         fits = each_below (λ k. slice_index ide_header k < 256) 16 off (search rules) below;
       }
-      | inr above ↦
-          let past = ide_past setup off above timing in
-          rw (get_or_past {X = ℕ} ide_header off 0 above)
-          (record { reset = sym past.0; read_only = past.1; fits = omega arith })
+      | inr above ↦ rw (get_or_past {X = ℕ} ide_header off 0 above) (ide_past setup off above timing)
     ]
 
 -- a board with nothing on it: the chip's registers are those of every board

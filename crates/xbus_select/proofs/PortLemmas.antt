@@ -3,10 +3,10 @@
 use Rattle.std.proofs.Common.{◌≡◌, ◌≢◌, ℕ, ◌↔◌, Bool, true, false, Option, Some, None, refl, ap, arith, inl, inr, ◌&&◌}
 use Rattle.std.proofs.Common.{not, if◌then◌else◌, unwrap_or, option_map, ◌∙◌}
 use Rattle.board_prelude.proofs.Common.{cases_Bool, cond-true, cond-false, false≢true, nat_tests, Width, One, Dev}
-use Rattle.board_prelude.proofs.Common.{Keyboard, Ata, Target, Device, Denial, Register, bytes_of, is_port_of}
-use Rattle.board_prelude.proofs.Common.{device_at, Setup, is_bit, Bytes, Window, io_claim, xbcs as select_register}
-use Rattle.board_prelude.proofs.Common.{ide_command, idetim, idetim_high, device, nobody, card_port, unselected}
-use Rattle.board_prelude.proofs.Common.{device_port, is_config_port, port_target_of, common_steps}
+use Rattle.board_prelude.proofs.Common.{Keyboard, Ata, Device, Denial, Register, bytes_of, is_port_of, device_at, Setup}
+use Rattle.board_prelude.proofs.Common.{is_bit, Bytes, Window, io_claim, xbcs as select_register, ide_command, idetim}
+use Rattle.board_prelude.proofs.Common.{idetim_high, device, nobody, card_port, unselected, device_port, is_config_port}
+use Rattle.board_prelude.proofs.Common.{port_target_of, common_steps}
 use Rattle.board_base.specs.declared.target.Dev.TheVariants.{Clock}
 use Rattle.device_spec.specs.Common.{PortsApart, ConfigApart}
 use Rattle.xbus_select.specs.Ide.{is_ide_decoded}
@@ -15,18 +15,14 @@ use Rattle.xbus_select.specs.PortSelects.{KeyboardAnswers, ClockAnswers, DiskAns
 
 -- ---- a device is no card and not nobody
 
-abbrev is_device : Target → Bool
-is_device (Device dev) = true
-is_device _ = false
-
-card_or_nobody : (claim : Option Window) (port : ℕ) (denial : Denial) →
-    is_device (unwrap_or (option_map (card_port port) claim) (nobody denial)).target ≡ false
-card_or_nobody claim port denial = grind (arith, nat_tests)
+no_device : (claim : Option Window) (port : ℕ) (denial : Denial) (dev : Dev) →
+    (unwrap_or (option_map (card_port port) claim) (nobody denial)).target ≢ Device dev
+no_device None port denial dev is = cc
+no_device (Some window) port denial dev is = cc
 
 not_device : (setup : Setup) (bytes : Bytes) (port : ℕ) (denial : Denial) (dev : Dev) →
     (unselected setup bytes port denial).target ≢ Device dev
-not_device setup bytes port denial dev is =
-    false≢true (rw (← card_or_nobody (io_claim setup bytes port) port denial) (ap is_device is))
+not_device setup bytes port denial = no_device (io_claim setup bytes port) port denial
 
 -- ---- a device that answers where a bit is set, or two
 
