@@ -118,8 +118,7 @@ module _ (counts : ℕ → Bool) (bytes : Bytes) (place : ℕ) where
   pick_rom : (windows : Windows) (dev register : ℕ) (rom : Option ℕ) → HoldsRom bytes dev register rom →
       Claims (rom_windows windows bytes dev rom) dev (rom_claim windows rom register place)
   pick_rom Ports dev register rom held = none dev
-  pick_rom Memory dev register None held = grind arith
-  pick_rom UnselectedRom dev register None held = grind arith
+  pick_rom _ dev register None held = grind arith
   pick_rom windows dev register (Some bits) held = rom_chosen windows dev register bits held
 
   pick_vga : (windows : Windows) (card : FittedCard) →

@@ -193,11 +193,6 @@ fixed-rom card off count none from to =
       writable = writable-rom card j count (omega arith) ∙ rw none (byte_of_zero j);
     })
 
-no_rom_here : (rom : Option ℕ) (off : ℕ) → 0x30 ≤ off → off < 0x34 →
-    (off == 0x04 || is_within 0x10 0x27 off || is_some rom && is_within 0x30 0x33 off || off == 0x3C) ≡ false →
-    rom ≡ None
-no_rom_here rom off from to not_kept = grind (arith, nat_tests)
-
 pub is_fixed : (card : FittedCard) → IsCard card → (off : ℕ) → is_kept_offset card off ≡ false → IsFixed card off
 is_fixed card fit off not_kept =
     elim (cases_lt off 0x28) [
@@ -205,7 +200,7 @@ is_fixed card fit off not_kept =
       | inr above ↦ elim (cases_lt off 0x30) [
         | inl before ↦ fixed-past card off fit.count above (inl before) (λ e. omega arith)
         | inr from ↦ elim (cases_lt off 0x34) [
-          | inl to ↦ fixed-rom card off fit.count (no_rom_here card.rom off from to not_kept) from to
+          | inl to ↦ fixed-rom card off fit.count (grind (arith, nat_tests)) from to
           | inr past ↦ fixed-past card off fit.count above (inr past) (λ e. grind (arith, nat_tests))
         ]
       ]

@@ -4,8 +4,8 @@ use Rattle.std.proofs.Common.{◌∷◌, ◌++◌, if◌then◌else◌, length, 
 use Rattle.std.proofs.Common.{arith, lit<, lit≤, ◌==◌, All, find, flat_map, slice_get, ne_eqb, pow-add, pow_pos}
 use Rattle.board_prelude.proofs.Common.{cases_Bool, nil_from_length, All-nil, All-cons, All-head, All-tail, All-append}
 use Rattle.board_prelude.proofs.Common.{Base, IoBase, FittedCard, Setup, IsBase, IsExpansionRom, IsCard, card_at}
-use Rattle.board_prelude.proofs.Common.{kept_of_base, kept_size, Width, bytes_of, window_bits, bits_of_base, Bytes}
-use Rattle.board_prelude.proofs.Common.{Window, rom_window_of, is_rom_on, io_windows, memory_claim, io_claim}
+use Rattle.board_prelude.proofs.Common.{kept_size, Width, bytes_of, window_bits, bits_of_base, Bytes, Window}
+use Rattle.board_prelude.proofs.Common.{rom_window_of, is_rom_on, io_windows, memory_claim, io_claim}
 use Rattle.std.proofs.lemmas.Nat.{mod-pow-add}
 use Rattle.std.proofs.Math.Nat.{mod-lt}
 use Rattle.pci_bars.specs.declared.claims.Gate.TheVariants.{Open}
@@ -40,9 +40,6 @@ All-find P test (first ∷ later) window each found =
 pub least_bits : (base : Base) → IsBase base → 2 ≤ bits_of_base (Some base)
 least_bits base fit = grind arith
 
-size_of_bits : (base : Base) → IsKeptAs (kept_of_base base) (bits_of_base (Some base))
-size_of_bits base = grind arith
-
 module _ (setup : Setup) where
   no_windows : All (IsSized setup) []
   no_windows = All-nil (IsSized setup)
@@ -69,7 +66,7 @@ module _ (setup : Setup) (bytes : Bytes) (card : FittedCard) (fit : IsCard card)
         number = record { first = fit.first; last = fit.last; below = omega arith };
         least = least_bits base (is_base card.bases k base fit.each at);
         bits = rw (not_vga, not_rom, fitted, at) refl;
-        size = λ _. rw (fitted, not_vga, at) (size_of_bits base);
+        size = λ _. rw (fitted, not_vga, at) (grind arith);
       })
 
   sized_base : (windows : Windows) (k : ℕ) (base : Base) → k < 6 → slice_get card.bases k ≡ Some base →
