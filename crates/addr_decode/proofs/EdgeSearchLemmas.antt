@@ -1,14 +1,15 @@
 -- The next edge as the code looks for it is the least edge above an address.
 use Rattle.std.proofs.Common.{◌≡◌, ℕ, zero, suc, ◌+◌, ◌*◌, ◌<◌, ◌≤◌, ◌⊎◌, inl, inr, List, [], ◌∷◌, ◌++◌, length, map}
-use Rattle.std.proofs.Common.{Option, Some, None, refl, sym, ◌∙◌, arith, subst, All, flat_map, slice_index, unwrap_or}
-use Rattle.std.proofs.Common.{IfSome, IsNone, ◌↔◌}
+use Rattle.std.proofs.Common.{Option, Some, None, refl, sym, ap, ◌∙◌, arith, subst, All, flat_map, slice_index}
+use Rattle.std.proofs.Common.{unwrap_or, IfSome, IsNone, ◌↔◌}
 use Rattle.board_prelude.proofs.Common.{Contains, enumerate_from, cases_lt, nat_tests, All-head, All-tail, Base, IoBase}
 use Rattle.board_prelude.proofs.Common.{Setup, IsCard, boundary_unit, Bytes, base_value, memory_window, rom_window_of}
-use Rattle.board_prelude.proofs.Common.{address_count, none-some}
+use Rattle.board_prelude.proofs.Common.{address_count, none-some, ext_get_or}
 use Rattle.std.proofs.lemmas.List.Elements.{Contains-append_cases, Contains-append_left, Contains-append_right}
 use Rattle.std.proofs.lemmas.List.Sums.{fold-append}
 use Rattle.std.proofs.lemmas.Option.{same_Some}
 use Rattle.pmc_regs.specs.Pmc.{IsRowsOf}
+use Rattle.pmc_regs.proofs.Common.{row_bytes, rows_are}
 use Rattle.pci_bars.specs.Cards.{CardBytes, HoldsRom, DecodesAs, AreCards, AreDecoded, cards_of}
 use Rattle.addr_decode.specs.Common.{fixed_edges, row_edges, window_edges, card_edges, edges_of, IsNextEdge}
 use Rattle.addr_decode.specs.Common.{NoEdgeAbove, nearer, nearest, ends_from, ends_of_rom, ends_of_card}
@@ -47,18 +48,9 @@ cards_same setup bytes (card ∷ later) fit are =
 
 rows_same : (bytes : Bytes) (drb : List ℕ) → length drb ≡ 8 → IsRowsOf bytes drb →
     map (λ b. b * boundary_unit) drb ≡ row_edges bytes
-rows_same bytes (a ∷ b ∷ c ∷ d ∷ e ∷ f ∷ g ∷ h ∷ []) eight is =
-    rw (
-      is 0 (omega arith),
-      is 1 (omega arith),
-      is 2 (omega arith),
-      is 3 (omega arith),
-      is 4 (omega arith),
-      is 5 (omega arith),
-      is 6 (omega arith),
-      is 7 (omega arith),
-    ) refl
-rows_same bytes _ eight is = absurd (omega (arith, eight))
+rows_same bytes drb eight is =
+    ap (map (λ b. b * boundary_unit)) (ext_get_or 0 drb (row_bytes bytes) eight (λ row within.
+    is row (omega arith) ∙ sym (rows_are bytes (row_bytes bytes) refl row (omega arith))))
 
 -- ---- the least of a list of edges
 
