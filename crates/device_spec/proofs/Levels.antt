@@ -1,26 +1,19 @@
 -- Sets of levels, level by level.
-use Rattle.std.proofs.Common.{◌≡◌, ℕ, suc, ◌<◌, Bool, [], ◌∷◌, length, refl, arith, lit<}
+use Rattle.std.proofs.Common.{◌≡◌, ℕ, suc, ◌<◌, Bool, false, [], ◌∷◌, length, refl, sym, ◌∙◌, arith, ext_get_or}
 use Rattle.device_spec.specs.Levels.{Levels, has, levels_where}
-
--- tests that agree on the levels give one set
-pub levels_where-same : (p q : ℕ → Bool) → ((l : ℕ) → l < 8 → p l ≡ q l) → levels_where p ≡ levels_where q
-unfolding levels_where
-levels_where-same p q same =
-    let e0 = same 0 (lit< tt) in
-    let e1 = same 1 (lit< tt) in
-    let e2 = same 2 (lit< tt) in
-    let e3 = same 3 (lit< tt) in
-    let e4 = same 4 (lit< tt) in
-    let e5 = same 5 (lit< tt) in
-    let e6 = same 6 (lit< tt) in
-    let e7 = same 7 (lit< tt) in
-    cc
 
 -- a set has the levels that pass its test
 pub has-levels_where : (p : ℕ → Bool) (l : ℕ) → l < 8 → has (levels_where p) l ≡ p l
 unfolding levels_where
 has-levels_where p (suc (suc (suc (suc (suc (suc (suc (suc l)))))))) h = absurd (omega arith)
 has-levels_where p _ h = refl
+
+-- tests that agree on the levels give one set
+pub levels_where-same : (p q : ℕ → Bool) → ((l : ℕ) → l < 8 → p l ≡ q l) → levels_where p ≡ levels_where q
+unfolding levels_where
+levels_where-same p q same =
+    ext_get_or false (levels_where p) (levels_where q) refl
+    (λ l below. has-levels_where p l below ∙ same l below ∙ sym (has-levels_where q l below))
 
 -- a list of eight Booleans is the set of the levels at which it is true
 pub levels_where-has : (set : Levels) → length set ≡ 8 → levels_where (λ l. has set l) ≡ set

@@ -2,7 +2,7 @@
 use Rattle.std.proofs.Common.{◌≡◌, ℕ, Bool, true, false, ◌&&◌, ◌||◌, nat_le, List, [], ◌∷◌, Option, Some, None, refl}
 use Rattle.std.proofs.Common.{◌∙◌, find, arith, inl, inr, ap, sym}
 use Rattle.std.specs.List.{list_any}
-use Rattle.board_base.proofs.Common.{cond-true, cond-false, false≢true, nat_tests, cases_Bool, and_parts}
+use Rattle.board_base.proofs.Common.{cond-true, cond-false, false≢true, nat_tests, cases_Bool, and_parts, and-false}
 use Rattle.board_base.specs.Bits.{is_within}
 use Rattle.device_spec.specs.PortNames.{config_data_ports}
 use Rattle.device_spec.specs.PortTable.{Ports, is_size, takes, device_line, port_devices}
@@ -36,11 +36,7 @@ module _ (port size : ℕ) where
   untaken first last is (some ∷ others) apart =
       let both = neither _ _ apart in
       rw (outside first last some.first some.last port both.0 is, untaken first last is others both.1)
-      (and_false (is_size some.sizes size))
-    where
-      and_false : (x : Bool) → ((x && false) || false) ≡ false
-      and_false true = refl
-      and_false false = refl
+      (rw (and-false (is_size some.sizes size)) refl)
 
   apart_takes : (ports others : List Ports) → meets ports others ≡ false → takes ports port size ≡ true →
       takes others port size ≡ false

@@ -11,17 +11,12 @@ use Rattle.std.proofs.lemmas.Bool.{agree_below}
 -- ---- the search for a level
 
 -- each level of an order is one of the eight
-order_is_small : ℕ → ℕ → Bool
-order_is_small lowest i = ltb (get_or (priority_order lowest) i 0) 8
-
-orders_are_small : ℕ → Bool
-orders_are_small lowest = agree_below (order_is_small lowest) (λ _. true) 8
-
 pub priority_order-small : (lowest i : ℕ) → lowest < 8 → i < 8 → get_or (priority_order lowest) i 0 < 8
-unfolding order_is_small orders_are_small
 priority_order-small lowest i hl hi =
-    let here = agree_below_at orders_are_small (λ _. true) 8 lowest refl hl in
-    ltb-true _ 8 (agree_below_at (order_is_small lowest) (λ _. true) 8 i here hi)
+    let is_small = λ (lowest i : ℕ). ltb (get_or (priority_order lowest) i 0) 8 in
+    let all_small = λ (lowest : ℕ). agree_below (is_small lowest) (λ _. true) 8 in
+    let here = agree_below_at all_small (λ _. true) 8 lowest refl hl in
+    ltb-true _ 8 (agree_below_at (is_small lowest) (λ _. true) 8 i here hi)
 
 -- a search goes past an element that fails, and ends at one that passes
 pub find-past : (test : ℕ → Bool) (xs : List ℕ) (i : ℕ) → i < length xs → test (get_or xs i 0) ≡ false →
