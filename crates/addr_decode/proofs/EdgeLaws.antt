@@ -49,10 +49,6 @@ abbrev IsCoveredAlike : ℕ → ℕ → Window → Type 0
 IsCoveredAlike addr x window = is_covered x window ≡ is_covered addr window
 
 module _ (addr x : ℕ) (order : addr ≤ x) where
-  within_same : (first last : ℕ) → Clear addr x first → Clear addr x (last + 1) →
-      is_within first last x ≡ is_within first last addr
-  within_same first last at_first at_end = grind (arith, nat_tests)
-
   covered_by : (size quotient : ℕ) → 0 < size → Clear addr x (quotient * size) → Clear addr x (quotient * size + size) →
       (quotient == x / size) ≡ (quotient == addr / size)
   covered_by size quotient positive at_first at_end = grind (arith, nat_tests)
@@ -94,7 +90,7 @@ module _ (setup : Setup) (bytes : Bytes) (addr x : ℕ) (between : Between setup
   range_same : (first last : ℕ) → list_any (λ other. first == other) fixed_edges ≡ true →
       list_any (λ other. last + 1 == other) fixed_edges ≡ true → is_within first last x ≡ is_within first last addr
   range_same first last at_first at_end =
-      within_same addr x between.order first last (fixed_clear first at_first) (fixed_clear (last + 1) at_end)
+      grind (arith, nat_tests, between.order, fixed_clear first at_first, fixed_clear (last + 1) at_end)
 
   hole_same : is_in_hole bytes x ≡ is_in_hole bytes addr
   unfolding fixed_edges
@@ -135,16 +131,10 @@ module _ (setup : Setup) (bytes : Bytes) (addr x : ℕ) (between : Between setup
       (all_where _ card.vga _ vga))
       (cards_alike later parts.1)
 
-  claim_same : memory_claim setup bytes x ≡ memory_claim setup bytes addr
-  unfolding memory_claim
-  claim_same =
-      found_alike addr x between.order (is_enabled_for 1 bytes) (flat_map (memory_windows bytes) setup.cards)
-      (cards_alike setup.cards between.cards)
-
   -- ---- the areas
 
   area_same : (kind : Kind) (smm : Bool) → area_of setup bytes x kind smm ≡ area_of setup bytes addr kind smm
-  unfolding area_of fixed_edges
+  unfolding area_of fixed_edges memory_claim
   area_same kind smm =
       rw (
         row_same,
@@ -153,7 +143,8 @@ module _ (setup : Setup) (bytes : Bytes) (addr x : ℕ) (between : Between setup
         rom_same (bytes select_register),
         range_same smram_range.0 smram_range.1 refl refl,
         range_same upper_memory.0 upper_memory.1 refl refl,
-        claim_same,
+        found_alike addr x between.order (is_enabled_for 1 bytes) (flat_map (memory_windows bytes) setup.cards)
+            (cards_alike setup.cards between.cards),
       ) refl
 
 pub areas_change_at_edges : AreasChangeAtEdges
