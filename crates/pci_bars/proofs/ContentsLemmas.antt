@@ -1,12 +1,12 @@
 -- The bytes behind the bases: as they begin, and after a write.
-use Rattle.std.proofs.Common.{◌≡◌, ◌≢◌, ℕ, ◌+◌, ◌-◌, ◌/◌, ◌%◌, ◌<◌, ◌≤◌, ◌&&◌, List, [], ◌∷◌, map, Vec, Global, length}
+use Rattle.std.proofs.Common.{◌≡◌, ◌≢◌, ℕ, ◌+◌, ◌-◌, ◌/◌, ◌%◌, ◌<◌, ◌≤◌, List, [], ◌∷◌, map, Vec, Global, length}
 use Rattle.std.proofs.Common.{get_or, set, take, drop, ◌++◌, replicate, inl, inr, ◌∙◌, refl, sym, ap, arith}
-use Rattle.std.proofs.Common.{get_or-set_same, get_or-set_other, length-append, length-drop, length-take-le, ◌==◌}
-use Rattle.std.proofs.Common.{nat_le, nat_lt, find, if◌then◌else◌, slice_index, unwrap_or, vec_len}
+use Rattle.std.proofs.Common.{get_or-set_same, get_or-set_other, length-append, length-drop, length-take-le, ◌==◌, find}
+use Rattle.std.proofs.Common.{slice_index, unwrap_or, vec_len}
 use Rattle.board_prelude.proofs.Common.{with_items, cases_lt, cases_eq, nat_tests, get_or_past, length-replicate}
 use Rattle.board_prelude.proofs.Common.{length-map, map-set, get_or-map, with_items_is, Width, Card, bytes_of, Entry}
-use Rattle.board_prelude.proofs.Common.{FittedCard, Setup, card_at, kept_size, byte, CardCell, byte_put, card_byte}
-use Rattle.board_prelude.proofs.Common.{entry_put, stored_of, expansion_byte, get_or-set_at}
+use Rattle.board_prelude.proofs.Common.{FittedCard, Setup, card_at, kept_size, CardCell, byte_put, card_byte, entry_put}
+use Rattle.board_prelude.proofs.Common.{stored_of, expansion_byte, get_or-set_at}
 use Rattle.std.proofs.lemmas.List.{set_past}
 use Rattle.board_base.proofs.ZeroLemmas.{zero_at}
 use Rattle.board_spec.proofs.WideLemmas.{put_byte}
@@ -70,12 +70,6 @@ written_elsewhere : (dev base off : ℕ) (width : Width) (value d b at old : ℕ
     written_byte dev base off width value d b at old ≡ old
 written_elsewhere dev base off width value d b at old kept apart = grind (arith, nat_tests)
 
-written_here :
-    (dev base off : ℕ) (width : Width) (value at old : ℕ) → base ≢ 6 →
-    written_byte dev base off width value dev base at old
-    ≡ (if nat_le off at && nat_lt at (off + bytes_of width) then byte value (at - off) else old)
-written_here dev base off width value at old kept = grind (arith, nat_tests)
-
 pub same_slot : {dev base d b : ℕ} → IsBaseNumber dev base → IsBaseNumber d b → slot_number d b ≡ slot_number dev base →
     (d ≡ dev) × (b ≡ base)
 same_slot {dev} {base} {d} {b} place other same =
@@ -105,7 +99,7 @@ module _ (old : List (List ℕ)) (dev base off : ℕ) (width : Width) (value : �
             let both = same_slot number other same in
             let inside : at < length (held old dev base) = rw (both.0, both.1) at within in
             rw (both.0, both.1, get_or-set_same old (slot_number dev base) new [] there)
-            (put at inside ∙ sym (written_here dev base off width value at (slice_index (held old dev base) at) kept))
+            (put at inside ∙ sym (grind (arith, nat_tests)))
         | inr apart ↦
             rw (get_or-set_other old (slot_number dev base) (slot_number d b) new [] apart)
             (sym (written_elsewhere dev base off width value d b at (slice_index (held old d b) at) kept

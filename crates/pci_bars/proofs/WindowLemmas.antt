@@ -167,10 +167,6 @@ low_two place bits above =
     let same : bits ≡ bits - 2 + 2 = omega arith in
     rw (same, mod-pow-add place (bits - 2) 2) (omega arith)
 
-fits_below : (place off size : ℕ) (width : Width) → off < size * 4 → off % 4 ≡ place % 4 → place % bytes_of width ≡ 0 →
-    off + bytes_of width ≤ size * 4
-fits_below place off size width below same aligned = grind arith
-
 -- an access that a window claims lies in the contents of its base
 pub lies_in_window : (setup : Setup) (contents : List (List ℕ)) (window : Window) (place : ℕ) (width : Width) →
     IsSized setup window → HaveSizes setup contents → place % bytes_of width ≡ 0 →
@@ -184,8 +180,7 @@ lies_in_window setup contents window place width sized sizes aligned =
         | inl none ↦ inl (nil_from_length (held contents window.dev window.base) (kept ∙ none))
         | inr all ↦
             let below = rw quarters at (mod-lt place (pow_pos window.bits)) in
-            inr (rw (kept, all, quarters)
-            (fits_below place _ (2 ^ (window.bits - 2)) width below
-            (rw quarters at (low_two place window.bits sized.least)) aligned))
+            let same = rw quarters at (low_two place window.bits sized.least) in
+            inr (rw (kept, all, quarters) (grind arith))
       ];
     }
