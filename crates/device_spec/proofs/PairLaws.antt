@@ -1,6 +1,5 @@
 -- The pair: levels that are given again.
-use Rattle.std.proofs.Common.{◌≡◌, ℕ, Bool, true, false, not, cond, eqb, ◌||◌, ◌&&◌, refl, sym, ap, ◌∙◌, inl, inr}
-use Rattle.std.proofs.Common.{is_some, arith}
+use Rattle.std.proofs.Common.{◌≡◌, ℕ, Bool, true, false, cond, eqb, ◌||◌, sym, ap, ◌∙◌, inl, inr, is_some, arith}
 use Rattle.std.proofs.lemmas.Bool.{cases_Bool}
 use Rattle.device_spec.specs.Common.{Levels, has, levels_where, with_level, Chip, interrupt, chip_after_inputs}
 use Rattle.device_spec.specs.Common.{latches_after, Pair, settled, SameLevelsAgain}

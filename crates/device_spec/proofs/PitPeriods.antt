@@ -1,6 +1,6 @@
 -- The rate generator and the square wave repeat.
 use Rattle.std.proofs.Common.{◌≡◌, ℕ, zero, suc, ◌+◌, ◌-◌, ◌*◌, ◌/◌, ◌%◌, ◌<◌, ◌≤◌, ◌==◌, ◌&&◌, not, Bool, true, false}
-use Rattle.std.proofs.Common.{cond, refl, ap, sym, subst, ◌∙◌, arith}
+use Rattle.std.proofs.Common.{cond, refl, ap, sym, ◌∙◌, arith}
 use Rattle.board_base.proofs.Common.{nat_tests}
 use Rattle.device_spec.specs.Common.{RateGenerator, SquareWave, CounterState, load, count_down, count_to_reload}
 use Rattle.device_spec.specs.Common.{count_half, pulse_by_mode, pulse, pulses_of, IsAtLoad, RateRepeats, SquareRepeats}
@@ -10,8 +10,7 @@ abbrev pub phase : CounterState → ℕ → Bool → CounterState
 phase c e level = record c { element = e; out = level }
 
 pub phase-self : (c : CounterState) (e : ℕ) (level : Bool) → c.element ≡ e → c.out ≡ level → phase c e level ≡ c
-phase-self c e level h g = subst (λ (x : ℕ). phase c x level ≡ c) h
-    (subst (λ (y : Bool). phase c c.element y ≡ c) g refl)
+phase-self c e level h g = rw (← h, ← g) refl
 
 -- THE RATE GENERATOR
 

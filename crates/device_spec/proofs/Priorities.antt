@@ -19,13 +19,12 @@ priority_order-small lowest i hl hi =
     ltb-true _ 8 (agree_below_at (is_small lowest) (λ _. true) 8 i here hi)
 
 -- a search goes past an element that fails, and ends at one that passes
-pub find-past : (test : ℕ → Bool) (xs : List ℕ) (i : ℕ) → i < length xs → test (get_or xs i 0) ≡ false →
-    find test (drop i xs) ≡ find test (drop (i + 1) xs)
-find-past test xs i h fails = rw (add-one, drop-cons xs i 0) (rw fails refl)
+module _ (test : ℕ → Bool) (xs : List ℕ) (i : ℕ) (h : i < length xs) where
+  pub find-past : test (get_or xs i 0) ≡ false → find test (drop i xs) ≡ find test (drop (i + 1) xs)
+  find-past fails = rw (add-one, drop-cons xs i 0) (rw fails refl)
 
-pub find-here : (test : ℕ → Bool) (xs : List ℕ) (i : ℕ) → i < length xs → test (get_or xs i 0) ≡ true →
-    find test (drop i xs) ≡ Some (get_or xs i 0)
-find-here test xs i h passes = rw (drop-cons xs i 0) (rw passes refl)
+  pub find-here : test (get_or xs i 0) ≡ true → find test (drop i xs) ≡ Some (get_or xs i 0)
+  find-here passes = rw (drop-cons xs i 0) (rw passes refl)
 
 pub first_blocking-is : (chip : Chip) (order : List ℕ) → order ≡ priority_order chip.lowest →
     first_blocking chip ≡ find (is_blocking chip) order
@@ -82,23 +81,21 @@ request-is chip order is = unblocked chip [] (priority_order chip.lowest) refl �
 
 -- ---- the search for a request, one level further
 
-pub scan-found : (chip : Chip) (xs : List ℕ) (i : ℕ) → i < length xs →
-    (is_requested chip (get_or xs i 0) && not (blocks_itself chip (get_or xs i 0))) ≡ true →
-    scan chip (drop i xs) ≡ Some (get_or xs i 0)
-unfolding scan
-scan-found chip xs i h found = rw (drop-cons xs i 0) (rw found refl)
+module _ (chip : Chip) (xs : List ℕ) (i : ℕ) (h : i < length xs) where
+  pub scan-found : (is_requested chip (get_or xs i 0) && not (blocks_itself chip (get_or xs i 0))) ≡ true →
+      scan chip (drop i xs) ≡ Some (get_or xs i 0)
+  unfolding scan
+  scan-found found = rw (drop-cons xs i 0) (rw found refl)
 
-pub scan-blocked : (chip : Chip) (xs : List ℕ) (i : ℕ) → i < length xs →
-    (is_requested chip (get_or xs i 0) && not (blocks_itself chip (get_or xs i 0))) ≡ false →
-    is_blocking chip (get_or xs i 0) ≡ true → scan chip (drop i xs) ≡ None
-unfolding scan
-scan-blocked chip xs i h not_here blocking = rw (drop-cons xs i 0) (rw (not_here, blocking) refl)
+  pub scan-blocked : (is_requested chip (get_or xs i 0) && not (blocks_itself chip (get_or xs i 0))) ≡ false →
+      is_blocking chip (get_or xs i 0) ≡ true → scan chip (drop i xs) ≡ None
+  unfolding scan
+  scan-blocked not_here blocking = rw (drop-cons xs i 0) (rw (not_here, blocking) refl)
 
-pub scan-past : (chip : Chip) (xs : List ℕ) (i : ℕ) → i < length xs →
-    (is_requested chip (get_or xs i 0) && not (blocks_itself chip (get_or xs i 0))) ≡ false →
-    is_blocking chip (get_or xs i 0) ≡ false → scan chip (drop i xs) ≡ scan chip (drop (i + 1) xs)
-unfolding scan
-scan-past chip xs i h not_here open_level = rw (add-one, drop-cons xs i 0) (rw (not_here, open_level) refl)
+  pub scan-past : (is_requested chip (get_or xs i 0) && not (blocks_itself chip (get_or xs i 0))) ≡ false →
+      is_blocking chip (get_or xs i 0) ≡ false → scan chip (drop i xs) ≡ scan chip (drop (i + 1) xs)
+  unfolding scan
+  scan-past not_here open_level = rw (add-one, drop-cons xs i 0) (rw (not_here, open_level) refl)
 
 -- past the end nothing is found
 pub scan-end : (chip : Chip) (xs : List ℕ) (i : ℕ) → length xs ≤ i → scan chip (drop i xs) ≡ None
