@@ -1,7 +1,7 @@
 -- The names of the registers: exactly the map bytes have one, and each stands for one register.
-use Rattle.std.proofs.Common.{◌≡◌, ◌≢◌, ℕ, ◌+◌, ◌-◌, ◌<◌, ◌≤◌, Bool, true, false, ◌&&◌, ◌||◌, Option, Some, None, List}
-use Rattle.std.proofs.Common.{[], ◌∷◌, ◌++◌, length, get_or, inl, inr, refl, sym, ◌∙◌, ap, arith, take, lit<, ◌==◌, map}
-use Rattle.std.proofs.Common.{find, is_some, option_map, option_and_then, if◌then◌else◌, rules, IfSome}
+use Rattle.std.proofs.Common.{◌≡◌, ◌≢◌, ℕ, ◌+◌, ◌<◌, ◌≤◌, Bool, true, false, ◌&&◌, ◌||◌, Option, Some, None, List, []}
+use Rattle.std.proofs.Common.{◌∷◌, ◌++◌, length, get_or, inl, inr, refl, sym, ◌∙◌, ap, arith, take, lit<, ◌==◌, map}
+use Rattle.std.proofs.Common.{find, is_some, option_map, option_and_then, rules, IfSome}
 use Rattle.board_prelude.proofs.Common.{position, AllByRecursion, list_any, and-true, and-false, cases_Bool, ne_eqb}
 use Rattle.board_prelude.proofs.Common.{nat_tests, Width, One, Reg, bytes_of, MapChange, Store, Reset, FittedCard}
 use Rattle.board_prelude.proofs.Common.{Setup, card_at, is_within, bridge, isa, card_register, is_host_byte, has_rom}
@@ -11,7 +11,7 @@ use Rattle.std.proofs.lemmas.List.Quantifiers.{position-Some}
 use Rattle.std.proofs.lemmas.Option.{slice_get-get_or}
 use Rattle.pci_bars.proofs.CardListLemmas.{find-cards, at_position}
 use Rattle.addr_decode.specs.declared.register.MapRegister.{MapRegister}
-use Rattle.addr_decode.specs.declared.register.MapRegister.TheVariants.{Pam, RowBoundary, Single, Card}
+use Rattle.addr_decode.specs.declared.register.MapRegister.TheVariants.{Single, Card}
 use Rattle.addr_decode.specs.MapRegister.{place_of, IsNumbered, IsNumberedName, AreNumbered, in_bridge, in_isa_bridge}
 use Rattle.addr_decode.specs.MapRegister.{in_card, in_device, map_register, names_from, names_of}
 use Rattle.addr_decode.specs.Singles.{single, single_count, single_number}
@@ -55,12 +55,6 @@ by_function :
     (reg : Reg) → P reg (map_register cards reg)
 unfolding map_register
 by_function P cards other host south device reg = grind (arith, nat_tests)
-
--- of a name that a test gives
-if_test : {X : Type 0} (P : X → Type 0) (test : Bool) (name : X) (later : Option X) → (test ≡ true → P name) →
-    (test ≡ false → IfSome later P) → IfSome (if test then Some name else later) P
-if_test P true name later here beside = here refl
-if_test P false name later here beside = beside refl
 
 pub is_named : {X Y : Type 0} (f : X → Y) (name : Option X) → is_some (option_map f name) ≡ is_some name
 is_named f None = refl
@@ -110,12 +104,7 @@ single_names reg (Some number) told =
     record { place = there.1; number = there.0 }
 
 bridge_names : (off : ℕ) → AreNamed (in_bridge off) (bridge off)
-bridge_names off =
-    if_test (λ register. IsNameAt register (bridge off)) (is_within 0x59 0x5F off) (Pam (off - 0x59)) _
-    (λ pam. record { place = ap bridge (grind (arith, nat_tests)); number = grind (arith, nat_tests) })
-    (λ _. if_test (λ register. IsNameAt register (bridge off)) (is_within 0x60 0x67 off) (RowBoundary (off - 0x60)) _
-    (λ row. record { place = ap bridge (grind (arith, nat_tests)); number = grind (arith, nat_tests) })
-    (λ _. single_names (bridge off) _ refl))
+bridge_names off = grind (arith, nat_tests, single_names (bridge off) _ refl)
 
 device_names : (fitted : Option FittedCard) (dev off : ℕ) → 2 ≤ dev →
     AreNamed (option_map (Card dev) (option_and_then (in_card off) fitted)) (card_register dev off)
