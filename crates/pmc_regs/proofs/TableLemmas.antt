@@ -33,11 +33,6 @@ unfolding reset_byte host_bridge
 reset_byte-header setup off below =
     each_below (λ off. slice_index header off ≡ reset_byte setup (bridge off)) 12 off (search rules) below
 
-writable_bits-header : (setup : Setup) (off : ℕ) → off < 12 → writable_bits setup (bridge off) ≡ 0
-unfolding writable_bits host_bridge
-writable_bits-header setup off below =
-    each_below (λ off. writable_bits setup (bridge off) ≡ 0) 12 off (search rules) below
-
 pub header_byte : (off : ℕ) → off < 12 → slice_index header off < 256
 header_byte off below = each_below (λ off. slice_index header off < 256) 12 off (search rules) below
 
@@ -69,9 +64,9 @@ unfolding reset_byte
 reset_byte-blank setup off fixed from = unlisted (λ entry. entry.reset) host_bridge off (outside off fixed from)
 
 pub writable_bits-fixed : (setup : Setup) (off : ℕ) → IsFixedOffset off → writable_bits setup (bridge off) ≡ 0
-unfolding writable_bits
+unfolding writable_bits host_bridge
 writable_bits-fixed setup off fixed =
     elim (cases_lt off 12) [
-      | inl below ↦ writable_bits-header setup off below
+      | inl below ↦ each_below (λ off. writable_bits setup (bridge off) ≡ 0) 12 off (search rules) below
       | inr from ↦ unlisted (λ entry. entry.writable) host_bridge off (outside off fixed from)
     ]
