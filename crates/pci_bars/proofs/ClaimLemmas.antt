@@ -8,7 +8,8 @@ use Rattle.board_prelude.proofs.Common.{base_value, memory_window, rom_window_of
 use Rattle.board_prelude.proofs.Common.{unselected_windows, io_windows, is_enabled_for, first_window}
 use Rattle.pci_bars.specs.declared.claims.Gate.{Gate}
 use Rattle.pci_bars.specs.declared.claims.Windows.{Windows}
-use Rattle.pci_bars.specs.declared.claims.Windows.TheVariants.{Memory, UnselectedRom, Ports}
+pub use Rattle.pci_bars.specs.declared.claims.Windows.TheVariants.{Memory, UnselectedRom, Ports}
+pub use Rattle.pci_bars.specs.declared.claims.Gate.TheVariants.{Open, Shut}
 use Rattle.pci_bars.specs.Common.{CardBytes, HoldsRom, DecodesAs, AreCards, AreDecoded, cards_of, agrees, covering}
 use Rattle.pci_bars.specs.Common.{rom_claim, vga_claim, covering_base, is_enabled, is_gate, first_claim}
 use Rattle.pci_bars.specs.Claims.{base_covers}

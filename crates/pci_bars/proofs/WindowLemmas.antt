@@ -8,14 +8,12 @@ use Rattle.board_prelude.proofs.Common.{kept_size, Width, bytes_of, window_bits,
 use Rattle.board_prelude.proofs.Common.{rom_window_of, is_rom_on, io_windows, memory_claim, io_claim}
 use Rattle.std.proofs.lemmas.Nat.{mod-pow-add}
 use Rattle.std.proofs.Math.Nat.{mod-lt}
-use Rattle.pci_bars.specs.declared.claims.Gate.TheVariants.{Open}
 use Rattle.pci_bars.specs.declared.claims.Windows.{Windows}
-use Rattle.pci_bars.specs.declared.claims.Windows.TheVariants.{Memory, UnselectedRom, Ports}
 use Rattle.pci_bars.specs.Common.{CardBytes, DecodesAs, AreCards, AreDecoded, cards_of, IsBaseNumber, LiesIn, HaveSizes}
 use Rattle.pci_bars.specs.Contents.{held}
 use Rattle.pci_bars.proofs.BaseLemmas.{is_base}
 use Rattle.pci_bars.proofs.ClaimLemmas.{window_in, base_windows, rom_windows, vga_windows, windows_in, windows_are}
-use Rattle.pci_bars.proofs.ClaimLemmas.{io_windows_are}
+use Rattle.pci_bars.proofs.ClaimLemmas.{io_windows_are, Memory, UnselectedRom, Ports, Open}
 
 -- of a base of 2 ^ bits bytes all are kept, or none
 abbrev IsKeptAs : (size bits : ℕ) → Type 0

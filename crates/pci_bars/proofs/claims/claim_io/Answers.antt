@@ -1,8 +1,6 @@
 use Rattle.std.proofs.Common.{◌∙◌}
 use Rattle.board_prelude.proofs.Common.{io_claim, io_windows}
-use Rattle.pci_bars.specs.declared.claims.Gate.TheVariants.{Open}
-use Rattle.pci_bars.specs.declared.claims.Windows.TheVariants.{Ports}
-use Rattle.pci_bars.proofs.ClaimLemmas.{claim_is, io_windows_are}
+use Rattle.pci_bars.proofs.ClaimLemmas.{claim_is, io_windows_are, Open, Ports}
 use Rattle.pci_bars.proofs.claims.claim_io.Goals as goal
 
 pub returns : goal.returns

@@ -1,8 +1,6 @@
 use Rattle.std.proofs.Common.{◌∙◌, refl}
 use Rattle.board_prelude.proofs.Common.{memory_claim, memory_windows}
-use Rattle.pci_bars.specs.declared.claims.Gate.TheVariants.{Open}
-use Rattle.pci_bars.specs.declared.claims.Windows.TheVariants.{Memory}
-use Rattle.pci_bars.proofs.ClaimLemmas.{claim_is}
+use Rattle.pci_bars.proofs.ClaimLemmas.{claim_is, Open, Memory}
 use Rattle.pci_bars.proofs.claims.claim_mem.Goals as goal
 
 pub returns : goal.returns

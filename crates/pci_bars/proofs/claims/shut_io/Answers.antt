@@ -1,8 +1,6 @@
 use Rattle.std.proofs.Common.{◌∙◌}
 use Rattle.board_prelude.proofs.Common.{io_shut, io_windows}
-use Rattle.pci_bars.specs.declared.claims.Gate.TheVariants.{Shut}
-use Rattle.pci_bars.specs.declared.claims.Windows.TheVariants.{Ports}
-use Rattle.pci_bars.proofs.ClaimLemmas.{device_is, io_windows_are}
+use Rattle.pci_bars.proofs.ClaimLemmas.{device_is, io_windows_are, Shut, Ports}
 use Rattle.pci_bars.proofs.claims.shut_io.Goals as goal
 
 pub returns : goal.returns

@@ -1,8 +1,6 @@
 use Rattle.std.proofs.Common.{◌∙◌, refl}
 use Rattle.board_prelude.proofs.Common.{memory_shut, memory_windows}
-use Rattle.pci_bars.specs.declared.claims.Gate.TheVariants.{Shut}
-use Rattle.pci_bars.specs.declared.claims.Windows.TheVariants.{Memory}
-use Rattle.pci_bars.proofs.ClaimLemmas.{device_is}
+use Rattle.pci_bars.proofs.ClaimLemmas.{device_is, Shut, Memory}
 use Rattle.pci_bars.proofs.claims.shut_mem.Goals as goal
 
 pub returns : goal.returns

@@ -1,8 +1,6 @@
 use Rattle.std.proofs.Common.{◌∙◌}
 use Rattle.board_prelude.proofs.Common.{rom_unselected, unselected_windows}
-use Rattle.pci_bars.specs.declared.claims.Gate.TheVariants.{Open}
-use Rattle.pci_bars.specs.declared.claims.Windows.TheVariants.{UnselectedRom}
-use Rattle.pci_bars.proofs.ClaimLemmas.{device_is, rom_windows_are}
+use Rattle.pci_bars.proofs.ClaimLemmas.{device_is, rom_windows_are, Open, UnselectedRom}
 use Rattle.pci_bars.proofs.claims.unselected_rom.Goals as goal
 
 pub returns : goal.returns
