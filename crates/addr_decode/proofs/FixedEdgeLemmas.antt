@@ -14,15 +14,12 @@ rise_from_lower : (from lower : ℕ) (edges : List ℕ) → lower ≤ from → R
 rise_from_lower from lower [] order rise = tt
 rise_from_lower from lower (edge ∷ later) order rise = (omega (arith, rise.0), rise.1, rise.2)
 
-nearer_stays : (addr least edge : ℕ) → least ≤ edge → nearer addr (Some least) edge ≡ Some least
-nearer_stays addr least edge order = grind (arith, nat_tests)
-
 nearest_stays : (addr least : ℕ) (edges : List ℕ) → Rise least edges → nearest addr (Some least) edges ≡ Some least
 unfolding nearest
 nearest_stays addr least [] rise = refl
 nearest_stays addr least (edge ∷ later) rise =
-    rw (nearer_stays addr least edge rise.0)
-    (nearest_stays addr least later (rise_from_lower edge least later rise.0 rise.2))
+    let stays : nearer addr (Some least) edge ≡ Some least = grind (arith, nat_tests, rise.0) in
+    rw stays (nearest_stays addr least later (rise_from_lower edge least later rise.0 rise.2))
 
 pub first_is_nearest :
     (addr from : ℕ) (edges : List ℕ) → Rise from edges → find (nat_lt addr) edges ≡ nearest addr None edges
@@ -64,15 +61,11 @@ rows_below addr found (boundary ∷ later) high bytes =
     ∙ rows_below addr found later high (λ k. bytes (suc k))
 
 -- those above an address lie at the next multiple of 8 MiB or above it
-row_is_far : (addr least boundary : ℕ) → least ≤ (addr / boundary_unit + 1) * boundary_unit →
-    nearer addr (Some least) (boundary * boundary_unit) ≡ Some least
-row_is_far addr least boundary near = grind (arith, nat_tests)
-
 pub rows_are_far : (addr least : ℕ) (drb : List ℕ) → least ≤ (addr / boundary_unit + 1) * boundary_unit →
     nearest addr (Some least) (map (λ boundary. boundary * boundary_unit) drb) ≡ Some least
 unfolding nearest
 rows_are_far addr least [] near = refl
 rows_are_far addr least (boundary ∷ later) near =
-    ap (λ (found : Option ℕ). nearest addr found (map (λ boundary. boundary * boundary_unit) later))
-    (row_is_far addr least boundary near)
+    let far : nearer addr (Some least) (boundary * boundary_unit) ≡ Some least = grind (arith, nat_tests) in
+    ap (λ (found : Option ℕ). nearest addr found (map (λ boundary. boundary * boundary_unit) later)) far
     ∙ rows_are_far addr least later near

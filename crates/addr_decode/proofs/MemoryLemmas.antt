@@ -74,11 +74,6 @@ module _ (setup : Setup) (bytes : Bytes) (addr : ℕ) where
         (abort_denial (top_of bytes) (memory_shut setup bytes addr) (rom_unselected setup bytes addr) addr)
         (rom_denial (bytes select_register))))
 
-    -- a row of ordinary DRAM
-    plain_dram : (row : ℕ) → lies_in upper_memory addr ≡ false → is_in_hole bytes addr ≡ false →
-        Some row ≡ row_of bytes addr → Some (Dram row) ≡ dram_by bytes addr kind smm
-    plain_dram row outside no_hole is = grind (arith, nat_tests)
-
     -- at an address of a shadow window
     pub shadow_answers : (row : ℕ) (open' : Bool) (beside : Area) → is_shadow_range addr ≡ true →
         Some row ≡ row_of bytes addr → open' ≡ is_shadowed bytes addr kind → beside ≡ beside_dram setup bytes addr →
@@ -99,7 +94,7 @@ module _ (regs : MapBytes) (addr : ℕ) (outside : lies_in upper_memory addr ≡
   if_plain_area None is = tt
   if_plain_area (Some row) is = λ setup bytes kind smm stands.
       sym (either_answers setup bytes addr kind smm (Some (Dram row)) _
-      (plain_dram setup bytes addr kind smm row outside (no_hole bytes stands.singles) (is bytes stands.rows)) refl)
+      (grind (arith, nat_tests, no_hole bytes stands.singles, is bytes stands.rows)) refl)
 
   pub if_plain_undenied :
       (found : Option ℕ) → ((bytes : Bytes) → IsRowsOf bytes regs.drb → found ≡ row_of bytes addr) →
@@ -108,7 +103,7 @@ module _ (regs : MapBytes) (addr : ℕ) (outside : lies_in upper_memory addr ≡
   if_plain_undenied None is = tt
   if_plain_undenied (Some row) is = λ setup bytes kind smm stands.
       sym (dram_undenied setup bytes addr kind smm (Dram row)
-      (plain_dram setup bytes addr kind smm row outside (no_hole bytes stands.singles) (is bytes stands.rows)))
+      (grind (arith, nat_tests, no_hole bytes stands.singles, is bytes stands.rows)))
 
 -- ---- denials
 

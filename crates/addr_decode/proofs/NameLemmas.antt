@@ -106,14 +106,10 @@ single_names reg (Some number) told =
 bridge_names : (off : ℕ) → AreNamed (in_bridge off) (bridge off)
 bridge_names off = grind (arith, nat_tests, single_names (bridge off) _ refl)
 
-device_names : (fitted : Option FittedCard) (dev off : ℕ) → 2 ≤ dev →
-    AreNamed (option_map (Card dev) (option_and_then (in_card off) fitted)) (card_register dev off)
-device_names fitted dev off above = grind (arith, nat_tests)
-
 names_at : (cards : List FittedCard) (reg : Reg) → AreNamed (map_register cards reg) reg
 names_at cards =
     by_function (λ reg name. AreNamed name reg) cards (λ _ _. tt) bridge_names (λ off. single_names (isa off) _ refl)
-    (λ dev off above. device_names (find (λ card. card.dev == dev) cards) dev off above)
+    (λ dev off above. grind (arith, nat_tests))
 
 pub is_name : (cards : List FittedCard) (reg : Reg) (register : MapRegister) → map_register cards reg ≡ Some register →
     IsNameAt register reg

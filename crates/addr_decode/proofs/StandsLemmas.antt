@@ -136,17 +136,16 @@ named_none : (number : Option ℕ) → option_map Single number ≡ None → num
 named_none None is = refl
 named_none (Some number) is = absurd (cc)
 
-bridge_beside : (off : ℕ) → in_bridge off ≡ None → IsBeside off
-bridge_beside off none = record {
-  windows = grind (arith, nat_tests);
-  rows = grind (arith, nat_tests);
-  singles = no_single (bridge off) (grind (arith, nat_tests));
-}
-
 pub nameless_in_bridge : (cards : List FittedCard) (at : Reg) → at.dev ≡ 0 → at.fun ≡ 0 → map_register cards at ≡ None →
     IsBeside at.off
 unfolding map_register
-nameless_in_bridge cards at first function none = bridge_beside at.off (rw (function, first) at none)
+nameless_in_bridge cards at first function none =
+    let beside : in_bridge at.off ≡ None = rw (function, first) at none in
+    record {
+      windows = grind (arith, nat_tests, beside);
+      rows = grind (arith, nat_tests, beside);
+      singles = no_single (bridge at.off) (grind (arith, nat_tests, beside));
+    }
 
 pub nameless_apart : (cards : List FittedCard) (at : Reg) → (at.dev < 2) ⊎ (at.fun ≢ 0) →
     map_register cards at ≡ None → IsApart at
