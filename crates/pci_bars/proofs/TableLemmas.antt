@@ -1,7 +1,7 @@
 -- A card in the table of registers.
-use Rattle.std.proofs.Common.{◌≡◌, ◌≢◌, ◌⊎◌, ℕ, zero, suc, ◌+◌, ◌-◌, ◌*◌, ◌<◌, ◌≤◌, Bool, false, Option, None, List, []}
-use Rattle.std.proofs.Common.{◌∷◌, length, get_or, Some, inl, inr, ◌∙◌, refl, sym, ap, subst, arith, lit<, lit≤, ◌==◌}
-use Rattle.std.proofs.Common.{◌&&◌, ◌||◌, flat_map, if◌then◌else◌, is_some, replicate, rules}
+use Rattle.std.proofs.Common.{◌≡◌, ◌≢◌, ◌⊎◌, ℕ, zero, suc, ◌+◌, ◌-◌, ◌*◌, ◌<◌, ◌≤◌, false, Option, None, List, [], ◌∷◌}
+use Rattle.std.proofs.Common.{length, get_or, Some, inl, inr, ◌∙◌, refl, sym, ap, subst, arith, lit<, lit≤, ◌==◌, ◌&&◌}
+use Rattle.std.proofs.Common.{◌||◌, flat_map, if◌then◌else◌, is_some, replicate, rules}
 use Rattle.std.proofs.lemmas.Option.{slice_get_past}
 use Rattle.board_prelude.proofs.Common.{ne_eqb, cases_lt, cases_eq, nat_tests, get_or_append_left, get_or-append_right}
 use Rattle.board_prelude.proofs.Common.{get_or-replicate, Base, FittedCard, Setup, IsCard, card_at, byte, is_within}
@@ -111,14 +111,12 @@ module _ (column : Line → List ℕ) (card : FittedCard) where
         listed column (card_function card) off ≡ 0
     past_pin off above off_rom not_line not_pin = past_bases off above ∙ grind (arith, nat_tests)
 
-pub reset-rom : (card : FittedCard) (j : ℕ) → length card.bases ≤ 6 → j < 4 → listed (λ entry. entry.reset)
-    (card_function card) (0x30 + j) ≡ 0
-reset-rom card j count below = in_rom (λ entry. entry.reset) card count j below ∙ get_or-replicate 4 j 0 0 below
+module _ (card : FittedCard) (j : ℕ) (count : length card.bases ≤ 6) (below : j < 4) where
+  pub reset-rom : listed (λ entry. entry.reset) (card_function card) (0x30 + j) ≡ 0
+  reset-rom = in_rom (λ entry. entry.reset) card count j below ∙ get_or-replicate 4 j 0 0 below
 
-pub writable-rom : (card : FittedCard) (j : ℕ) → length card.bases ≤ 6 → j < 4 → listed (λ entry. entry.writable)
-    (card_function card) (0x30 + j) ≡ byte (rom_writable card.rom) j
-writable-rom card j count below =
-    in_rom (λ entry. entry.writable) card count j below ∙ long_byte (rom_writable card.rom) j below
+  pub writable-rom : listed (λ entry. entry.writable) (card_function card) (0x30 + j) ≡ byte (rom_writable card.rom) j
+  writable-rom = in_rom (λ entry. entry.writable) card count j below ∙ long_byte (rom_writable card.rom) j below
 
 -- the writable bits of the command
 abbrev pub command_writable : FittedCard → ℕ
@@ -143,14 +141,11 @@ pub record IsFixed (card : FittedCard) (off : ℕ) : Type 0 where
   pub byte : listed (λ entry. entry.reset) (card_function card) off < 256
   pub writable : listed (λ entry. entry.writable) (card_function card) off ≡ 0
 
-class_byte : (vga : Bool) → (if vga then 0x03 else 0xFF) < 256
-class_byte vga = grind arith
-
 fixed-header : (card : FittedCard) → card.dev ≤ 9 → (off : ℕ) → off < 16 → off ≢ 4 → IsFixed card off
 unfolding card_function
 fixed-header card last off below apart =
     let dev : card.dev < 256 = omega arith in
-    let class = class_byte card.vga in
+    let class : (if card.vga then 0x03 else 0xFF) < 256 = grind arith in
     record {
       byte =
           each_below (λ off. listed (λ entry. entry.reset) (card_function card) off < 256) 16 off (search rules) below;
