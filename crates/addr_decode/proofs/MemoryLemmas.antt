@@ -1,12 +1,12 @@
 -- The memory map and the denials in the order of the code are those of the definitions.
-use Rattle.std.proofs.Common.{◌≡◌, ℕ, Bool, true, false, ◌&&◌, Option, Some, None, IfSome, refl, sym, ◌∙◌, arith}
-use Rattle.std.proofs.Common.{unwrap_or, [], ◌∷◌, option_map}
+use Rattle.std.proofs.Common.{◌≡◌, ℕ, Bool, true, false, Option, Some, None, IfSome, refl, sym, ◌∙◌, arith, unwrap_or}
+use Rattle.std.proofs.Common.{[], ◌∷◌, option_map}
 use Rattle.board_prelude.proofs.Common.{nat_tests, Area, Denial, Kind, top_of, memory_shut, rom_unselected}
 use Rattle.board_prelude.proofs.Common.{abort_denial, rom_denial, denial_in, denial_of, Setup, lies_in, upper_memory}
 use Rattle.board_prelude.proofs.Common.{Window, first_of, line_where, is_smram_range, is_shadow_range, card_area}
-use Rattle.board_prelude.proofs.Common.{area_under, Bytes, row_of, pam_register, is_high_window, nibble, is_open}
-use Rattle.board_prelude.proofs.Common.{is_shadowed, memory_claim, area_of, xbcs as select_register, is_in_hole}
-use Rattle.board_prelude.proofs.Common.{is_bios_selected, is_smram_open, Read, Write, six_areas}
+use Rattle.board_prelude.proofs.Common.{area_under, Bytes, row_of, is_shadowed, memory_claim, area_of}
+use Rattle.board_prelude.proofs.Common.{xbcs as select_register, is_in_hole, is_bios_selected, is_smram_open, Read}
+use Rattle.board_prelude.proofs.Common.{Write, six_areas}
 use Rattle.board_base.specs.declared.target.Area.TheVariants.{Dram, Shadow, Rom, Abort}
 use Rattle.pmc_regs.specs.Pmc.{IsRowsOf}
 use Rattle.addr_decode.specs.Common.{MapBytes, StandsFor, dram_area, above_dram, beside_dram, master_area, AreSinglesOf}
@@ -15,12 +15,6 @@ use Rattle.addr_decode.specs.Memory.{board_denial, card_denial}
 no_dram : (rom : Bool) (claim : Option Window) →
     first_of (line_where rom Rom ∷ option_map card_area claim ∷ []) Abort ≡ above_dram None rom claim
 no_dram rom claim = grind arith
-
-area_in_order :
-    (row : Option ℕ) (smram open' hole rom : Bool) (claim : Option Window) (addr : ℕ) →
-    area_under row smram (is_shadow_range addr && open') hole rom claim addr
-    ≡ above_dram (dram_area row smram (is_shadow_range addr && open') hole addr) rom claim
-area_in_order row smram open' hole rom claim addr = grind (arith, nat_tests, no_dram)
 
 -- where DRAM answers, over the register bytes
 abbrev pub dram_by : Bytes → ℕ → Kind → Bool → Option Area
@@ -47,9 +41,7 @@ module _ (setup : Setup) (bytes : Bytes) (addr : ℕ) where
       (is_bios_selected bytes addr) (memory_claim setup bytes addr) addr
   answers kind smram dram beside is_dram is_beside =
       rw is_beside (or_beside dram (is_bios_selected bytes addr) (memory_claim setup bytes addr)
-      ∙ rw is_dram (sym (area_in_order (row_of bytes addr) smram
-      (is_open (nibble (bytes (pam_register addr)) (is_high_window addr)) kind) (is_in_hole bytes addr)
-      (is_bios_selected bytes addr) (memory_claim setup bytes addr) addr)))
+      ∙ rw is_dram (sym (grind (arith, nat_tests, no_dram))))
 
   -- so it is of a bus master, to which SMRAM never answers
   pub master_answers : (kind : Kind) (dram : Option Area) (beside : Area) →

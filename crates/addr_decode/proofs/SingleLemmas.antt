@@ -85,10 +85,10 @@ pub single_is : (k : ℕ) → k < single_count → IsSingle (single k)
 single_is k below =
     single_told (single k) (each_below (λ k. is_single (single k) ≡ true) single_count k (search rules) below)
 
--- a register that is none of them has no number: so PAM and the boundaries of rows, and a card
 not_one : (at reg : Reg) → Differs at reg → reg ≢ at
 not_one at reg apart same = grind (arith, nat_tests)
 
+-- a register that is none of them has no number: so PAM and the boundaries of rows, and a card
 is_none : (reg : Reg) → ((k : ℕ) → k < single_count → Differs reg (single k)) → (number : Option ℕ) →
     single_number reg ≡ number → number ≡ None
 is_none reg apart None is = refl
