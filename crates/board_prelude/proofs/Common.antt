@@ -123,20 +123,20 @@ pub use Rattle.board_spec.proofs.Common.{YieldsList-from_slice, agree_below_at, 
 pub use Rattle.board_spec.proofs.Common.{and_mask, and_parts, and_right, append-nil, append_cancel_left, begun_goes_on}
 pub use Rattle.board_spec.proofs.Common.{begun_is_bounded, both_ways, byte_by_byte, bytes_eq-Decides, bytes_few}
 pub use Rattle.board_spec.proofs.Common.{cases_Bool, cases_eq, cases_lt, changed_byte-one_other, changed_byte-one_same}
-pub use Rattle.board_spec.proofs.Common.{clock-alone, common_steps, complete_is_begun, complete_is_whole, cond-false}
-pub use Rattle.board_spec.proofs.Common.{cond-true, cond_both, disk-alone, disk_of-same, div-lt_iff_lt-mul}
+pub use Rattle.board_spec.proofs.Common.{common_steps, complete_is_begun, complete_is_whole, cond-false}
+pub use Rattle.board_spec.proofs.Common.{cond-true, cond_both, disk_of-same, div-lt_iff_lt-mul}
 pub use Rattle.board_spec.proofs.Common.{drop-append-le, drop-append_seam, drop-cons, drop-drop, drop_all, drop_at}
 pub use Rattle.board_spec.proofs.Common.{drop_more, drop_of_length-le, each_below, each_from, elcr-same, eq-eqb}
 pub use Rattle.board_spec.proofs.Common.{eqb-false, eqb-true, err_from_is_err_and, ext_get_or, false≢true}
 pub use Rattle.board_spec.proofs.Common.{filter-append, find-append, find-here, find-past, first_blocking-is}
-pub use Rattle.board_spec.proofs.Common.{flat_map-append, flat_map-cons, fourth, front_is_begun, further}
+pub use Rattle.board_spec.proofs.Common.{flat_map-append, flat_map-cons, front_is_begun, further}
 pub use Rattle.board_spec.proofs.Common.{get_or-append_right, get_or-append_seam, get_or-drop, get_or-map}
 pub use Rattle.board_spec.proofs.Common.{get_or-map-range_with_len, get_or-replicate, get_or-set_at, get_or-set_other}
 pub use Rattle.board_spec.proofs.Common.{get_or-set_same, get_or-take, get_or_append_left, get_or_default, get_or_past}
 pub use Rattle.board_spec.proofs.Common.{has-levels_where, inputs-again, is_cut, latched, le-leb, le-ltb, leb-true}
 pub use Rattle.board_spec.proofs.Common.{length-append, length-drop, length-map, length-map-range_with_len}
 pub use Rattle.board_spec.proofs.Common.{length-replicate, length-reverse, length-set, length-take, length-take-le}
-pub use Rattle.board_spec.proofs.Common.{length_push, levels-pulsed, levels-same, levels_where-same, line-alone}
+pub use Rattle.board_spec.proofs.Common.{length_push, levels-pulsed, levels-same, levels_where-same}
 pub use Rattle.board_spec.proofs.Common.{list_any_at, listed-before, listed-here, listed-past, lt-leb, lt-ltb}
 pub use Rattle.board_spec.proofs.Common.{ltb-false, ltb-true, map-append, map-same, map-set, map_bytes_decide}
 pub use Rattle.board_spec.proofs.Common.{map_writes_decide, merged-all, merged-none, mod-eq_of_lt, nat_tests, ne_eqb}
@@ -146,10 +146,10 @@ pub use Rattle.board_spec.proofs.Common.{pair-pulsed, pair_has_seen, phase, phas
 pub use Rattle.board_spec.proofs.Common.{pow-add, pow-le-pow_right, pow_pos, priority_order-small, recursion_from_All}
 pub use Rattle.board_spec.proofs.Common.{request-is, reserved-rest, reverse-append, reverse-reverse, same-levels}
 pub use Rattle.board_spec.proofs.Common.{scan-found, scan-past, settled-asks, settled-quiet, some_bytes}
-pub use Rattle.board_spec.proofs.Common.{statements-newest, sum_by-append, sum_by-cons, system-alone, take-append-drop}
+pub use Rattle.board_spec.proofs.Common.{statements-newest, sum_by-append, sum_by-cons, take-append-drop}
 pub use Rattle.board_spec.proofs.Common.{take-append-le, take-append_seam, take_all, take_at, take_at_read, take_more}
-pub use Rattle.board_spec.proofs.Common.{take_rest, third, timer-alone, timer-pulsed, total, triggers-alone}
+pub use Rattle.board_spec.proofs.Common.{take_rest, timer-pulsed, total}
 pub use Rattle.board_spec.proofs.Common.{triggers-pulsed, true≢false, untouched, whole_front, whole_is_complete}
-pub use Rattle.board_spec.proofs.Common.{whole_is_front, wire-alone, with_items_is, applied_again, code_found}
+pub use Rattle.board_spec.proofs.Common.{whole_is_front, with_items_is, applied_again, code_found}
 pub use Rattle.board_spec.proofs.Common.{find_passes, word_found}
 unfoldable pub use Rattle.board_spec.proofs.Common.{made, scan}

@@ -1,9 +1,7 @@
 -- The lemmas and definitions that proofs above cite, passed on from one place. Declares nothing.
-pub use Rattle.board_spec.proofs.DeviceAlone.{SameDrivers, clock-alone, disk-alone, disk_of-same, levels-same}
-pub use Rattle.board_spec.proofs.DeviceAlone.{line-alone, map-same, out-alone, system-alone, timer-alone}
-pub use Rattle.board_spec.proofs.DeviceAlone.{triggers-alone, wire-alone}
+pub use Rattle.board_spec.proofs.DeviceAlone.{SameDrivers, disk_of-same, levels-same, map-same, out-alone}
 pub use Rattle.board_spec.proofs.GoesOnProofs.{begun_goes_on, none_so_far, nothing_left, whole_front}
-pub use Rattle.board_spec.proofs.MapByteLaws.{fourth, map_bytes_decide, third}
+pub use Rattle.board_spec.proofs.MapByteLaws.{map_bytes_decide}
 pub use Rattle.board_spec.proofs.MapWriteLaws.{map_writes_decide, untouched}
 pub use Rattle.board_spec.proofs.OrderLawProofs.{complete_is_begun, front_is_begun, statements-newest, whole_is_front}
 pub use Rattle.board_spec.proofs.OrderLengths.{begun_is_bounded, complete_is_whole, whole_is_complete}

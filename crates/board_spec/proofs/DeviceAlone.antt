@@ -1,47 +1,15 @@
 -- What an event leaves of each device, and the levels of lines whose drivers stayed.
-use Rattle.std.proofs.Common.{arith, ◌≡◌, ◌≢◌, ℕ, Bool, ◌&&◌, List, [], ◌∷◌, Option, Some, None, refl, ap, ◌==◌, map}
+use Rattle.std.proofs.Common.{arith, ◌≡◌, ◌≢◌, ℕ, Bool, ◌&&◌, List, [], ◌∷◌, Option, Some, refl, ap, ◌==◌, map}
 use Rattle.std.proofs.Common.{option_map}
-use Rattle.board_spec.specs.Common.{list_any, PortAccess, Dev, Pit, System, Elcr, Ata, Wires, Triggers, PitState}
-use Rattle.board_spec.specs.Common.{out_of, set_gate2, Clock, Disk, Pair, Setup, wire_set, line_set, wire_of, irq_of}
-use Rattle.board_spec.specs.Common.{triggers_after, PlainPorts, plain_after, timer_accessed, timer_after, clock_after}
-use Rattle.board_spec.specs.Common.{clock_of, disk_after, disk_with, pirq_of_card, card_devices, pirq_level, pirqs}
-use Rattle.board_spec.specs.Common.{routes_of, pirq_levels, level_with, all_lines, levels_with, pair_after, IsAnswer}
-use Rattle.board_spec.specs.Common.{NamesDevice, ActsOnPair}
-use Rattle.board_base.specs.declared.target.Dev.TheVariants.{Clock as ClockChip}
+use Rattle.board_spec.specs.Common.{list_any, PortAccess, Dev, Pit, PitState, out_of, set_gate2, Disk, Pair, Setup}
+use Rattle.board_spec.specs.Common.{wire_of, irq_of, timer_accessed, timer_after, clock_of, disk_with, pirq_of_card}
+use Rattle.board_spec.specs.Common.{card_devices, pirq_level, pirqs, routes_of, level_with, all_lines, levels_with}
+use Rattle.board_spec.specs.Common.{pair_after, IsAnswer, NamesDevice, ActsOnPair}
 use Rattle.board_spec.specs.declared.event.Event.{Event}
 use Rattle.board_spec.specs.declared.event.Reply.{Reply}
 use Rattle.board_spec.specs.declared.event.Entry.{Entry}
 
 -- ---- an event whose reply names another device
-
-pub triggers-alone : (event : Event) (reply : Reply) (triggers : Triggers) → ¬ NamesDevice reply Elcr →
-    triggers_after event reply triggers ≡ triggers
-triggers-alone event reply triggers apart = grind arith
-
-pub system-alone : (event : Event) (reply : Reply) (plain : PlainPorts) → ¬ NamesDevice reply System →
-    (plain_after event reply plain).system ≡ plain.system
-system-alone event reply plain apart = grind arith
-
-pub timer-alone : (setup : Setup) (before : List Entry) (event : Event) (reply : Reply) (timer : PitState) →
-    IsAnswer setup before event reply → ¬ NamesDevice reply Pit → ¬ NamesDevice reply System →
-    timer_after event reply timer ≡ timer
-timer-alone setup before event reply timer answer apart no_gate = grind arith
-
-pub clock-alone : (setup : Setup) (before : List Entry) (event : Event) (reply : Reply) (clock : Clock) →
-    IsAnswer setup before event reply → ¬ NamesDevice reply ClockChip → clock_after event reply clock ≡ clock
-clock-alone setup before event reply clock answer apart = grind arith
-
-pub disk-alone : (setup : Setup) (before : List Entry) (event : Event) (reply : Reply) (disk : Disk) →
-    IsAnswer setup before event reply → ¬ NamesDevice reply Ata → disk_after event reply disk ≡ disk
-disk-alone setup before event reply disk answer apart = grind arith
-
-pub wire-alone : (setup : Setup) (before : List Entry) (event : Event) (reply : Reply) (dev : ℕ) →
-    IsAnswer setup before event reply → ¬ NamesDevice reply Wires → wire_set dev event ≡ None
-wire-alone setup before event reply dev answer apart = grind arith
-
-pub line-alone : (setup : Setup) (before : List Entry) (event : Event) (reply : Reply) (line : ℕ) →
-    IsAnswer setup before event reply → ¬ NamesDevice reply Wires → line_set line event ≡ None
-line-alone setup before event reply line answer apart = grind arith
 
 -- port 61h gates counter 2, and OUT of counter 0 does not see it
 gate-elsewhere : (dev : Option Dev) (access : PortAccess) (timer : PitState) → dev ≢ Some Pit →
@@ -83,21 +51,12 @@ pub record SameDrivers (setup : Setup) (history other : List Entry) (timer timer
   pub lines : (line : ℕ) → irq_of history line ≡ irq_of other line
   pub routes : routes_of setup history ≡ routes_of setup other
 
-pirqs-same : (history other : List Entry) → ((dev : ℕ) → wire_of history dev ≡ wire_of other dev) →
-    pirq_levels history ≡ pirq_levels other
-pirqs-same history other wires =
-    map-same (pirq_level history) (pirq_level other) pirqs
-    (λ k. any-same _ _ card_devices (λ dev. ap (λ (b : Bool). pirq_of_card dev == k && b) (wires dev)))
-
-level-same : (setup : Setup) (history other : List Entry) (timer timer' : PitState) →
-    SameDrivers setup history other timer timer' → (line : ℕ) →
-    level_with setup history timer line ≡ level_with setup other timer' line
-level-same setup history other timer timer' same line =
-    grind (arith, disk_of-same setup.disk, pirqs-same history other same.wires, same.lines line)
-
 pub levels-same : (setup : Setup) (history other : List Entry) (timer timer' : PitState) →
     SameDrivers setup history other timer timer' → levels_with setup history timer ≡ levels_with setup other timer'
 unfolding levels_with
 levels-same setup history other timer timer' same =
+    let pirqs_same =
+    map-same (pirq_level history) (pirq_level other) pirqs
+    (λ k. any-same _ _ card_devices (λ dev. ap (λ (b : Bool). pirq_of_card dev == k && b) (same.wires dev))) in
     map-same (level_with setup history timer) (level_with setup other timer') all_lines
-    (level-same setup history other timer timer' same)
+    (λ line. grind (arith, disk_of-same setup.disk, pirqs_same, same.lines line))

@@ -8,9 +8,6 @@ pub tiles_below : (from : ℕ) (ranges : List MapRange) → Tiles from ranges �
 tiles_below from [] h = omega arith
 tiles_below from (range ∷ later) h = omega (arith, h.0, h.1, tiles_below (range.hi + 1) later h.2)
 
-same_range : (x y : MapRange) → x.lo ≡ y.lo → x.hi ≡ y.hi → x.areas ≡ y.areas → x ≡ y
-same_range x y p q r = grind arith
-
 module _ (setup : Setup) (bytes : Bytes) where
   abbrev AreRight : List MapRange → Type 0
   AreRight ranges = AllByRecursion (IsRight setup bytes) ranges
@@ -48,7 +45,7 @@ module _ (setup : Setup) (bytes : Bytes) where
   one_tiling from (x ∷ xs) (y ∷ ys) tx ty rx ry dx dy =
       let ends : x.hi ≡ y.hi = same_end from x y xs ys tx ty rx ry dx.0 dy.0 in
       let areas = sym (first_areas from x xs tx rx.0) ∙ first_areas from y ys ty ry.0 in
-      let head : x ≡ y = same_range x y (tx.0 ∙ sym ty.0) ends areas in
+      let head : x ≡ y = grind (arith, tx.0 ∙ sym ty.0) in
       let there : Tiles (x.hi + 1) ys = subst (λ (hi : ℕ). Tiles (hi + 1) ys) (sym ends) ty.2 in
       let tail : xs ≡ ys = one_tiling (x.hi + 1) xs ys tx.2 there rx.1 ry.1 dx.1 dy.1 in
       cc

@@ -14,11 +14,6 @@ use Rattle.board_spec.proofs.OrderLawProofs.{statements-newest}
 abbrev AllAddressed : List Statement → Type 0
 AllAddressed statements = AllByRecursion (λ (statement : Statement). IsAddressed statement.event) statements
 
--- two lists with the same first statement agree for an actor where their rests do
-events-same : (actor : ℕ) (first : Statement) (left right : List Statement) →
-    events_by actor left ≡ events_by actor right → events_by actor (first ∷ left) ≡ events_by actor (first ∷ right)
-events-same actor first left right same = grind (arith, nat_tests)
-
 -- a phase without the first statement of an actor
 record Without (actor : ℕ) (event : Event) (phase : List Statement) : Type 0 where
   pub rest : List Statement
@@ -45,7 +40,7 @@ without_first actor event events (first ∷ later) is =
             rest = first ∷ more.rest;
             size = ap suc more.size;
             own = grind (arith, nat_tests, more.own);
-            others = λ another apart. events-same another first later more.rest (more.others another apart);
+            others = λ another apart. grind (arith, nat_tests, more.others another apart);
             addressed = λ all. (all.0, more.addressed all.1);
           }
     ]

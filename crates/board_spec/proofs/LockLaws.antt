@@ -30,15 +30,10 @@ reset_kept : (setup : Setup) → Kept (reset_byte setup smram)
 unfolding reset_byte host_bridge
 reset_kept setup = grind (arith, nat_tests)
 
-changed_kept : (setup : Setup) (change : Option MapChange) (old : ℕ) → Kept old →
-    Kept (byte_with setup change smram old)
-changed_kept setup change old kept = grind (arith, nat_tests, shut_after, reset_kept)
-
 kept_of : (setup : Setup) (history : List Entry) → Kept (byte_of setup history smram)
 unfolding byte_of
 kept_of setup [] = reset_kept setup
-kept_of setup (entry ∷ before) =
-    changed_kept setup (register_change setup before entry.event) (byte_of setup before smram) (kept_of setup before)
+kept_of setup (entry ∷ before) = grind (arith, nat_tests, shut_after, reset_kept, kept_of setup before)
 
 -- ---- the lock stays until a hard reset
 
@@ -53,11 +48,6 @@ no_reset_change : (setup : Setup) (before : List Entry) (event : Event) → is_h
     register_change setup before event ≢ Some Reset
 no_reset_change setup before event soft = grind (arith, nat_tests)
 
-stays_locked : (setup : Setup) (before : List Entry) (entry : Entry) → is_hard_reset before entry.event ≡ false →
-    IsLocked setup before → IsLocked setup (entry ∷ before)
-unfolding byte_of IsLocked
-stays_locked setup before entry soft locked = grind (arith, stored_stays, no_reset_change)
-
 set_locks : (setup : Setup) (change : Option MapChange) (old : ℕ) → SetsLock change →
     bit (byte_with setup change smram old) 4 ≡ 1
 set_locks setup change old sets = grind (arith, nat_tests)
@@ -69,9 +59,10 @@ is_locked_by setup before lock sets = grind (arith, set_locks)
 
 locked_since : (setup : Setup) (between older : List Entry) → NoHardReset between older → IsLocked setup older →
     IsLocked setup (between ++ older)
+unfolding byte_of IsLocked
 locked_since setup [] older soft locked = locked
 locked_since setup (entry ∷ between) older soft locked =
-    stays_locked setup (between ++ older) entry soft.0 (locked_since setup between older soft.1 locked)
+    grind (arith, stored_stays, no_reset_change, soft.0, locked_since setup between older soft.1 locked)
 
 -- ---- with DOPEN at 0 nothing outside SMM reaches SMRAM
 

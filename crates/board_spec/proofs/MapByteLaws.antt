@@ -1,14 +1,13 @@
 -- Areas and denials depend on the map bytes alone.
-use Rattle.std.proofs.Common.{◌≡◌, ℕ, zero, suc, ◌+◌, ◌<◌, ◌≤◌, Bool, true, false, ◌&&◌, ◌||◌, not, List, [], ◌∷◌}
-use Rattle.std.proofs.Common.{length, get_or, Option, Some, None, refl, ◌∙◌, ap, arith, ◌==◌, is_some, find, flat_map}
-use Rattle.std.proofs.Common.{All, if◌then◌else◌}
-use Rattle.board_spec.specs.Common.{AllByRecursion, enumerate_from, Kind, Reg, Base, IoBase, FittedCard, Setup, IsCard}
-use Rattle.board_spec.specs.Common.{IsCardList, Rises, card_at, has_rom, is_host_byte, is_within, Bytes, boundary}
-use Rattle.board_spec.specs.Common.{row_of, is_shadowed, Window, is_covered, base_value, memory_window, vga_window}
+use Rattle.std.proofs.Common.{◌≡◌, ℕ, zero, suc, ◌+◌, ◌<◌, ◌≤◌, Bool, true, false, ◌&&◌, not, List, [], ◌∷◌, length}
+use Rattle.std.proofs.Common.{get_or, Option, Some, None, refl, ◌∙◌, ap, arith, ◌==◌, is_some, find, flat_map, All}
+use Rattle.std.proofs.Common.{if◌then◌else◌}
+use Rattle.board_spec.specs.Common.{AllByRecursion, enumerate_from, Kind, Base, IoBase, FittedCard, Setup, IsCard}
+use Rattle.board_spec.specs.Common.{IsCardList, Rises, card_at, has_rom, is_within, Bytes, boundary, row_of}
+use Rattle.board_spec.specs.Common.{is_shadowed, Window, is_covered, base_value, memory_window, vga_window}
 use Rattle.board_spec.specs.Common.{memory_windows, rom_window, rom_window_of, is_rom_on, unselected_windows}
 use Rattle.board_spec.specs.Common.{rom_unselected, is_enabled_for, first_window, memory_claim, memory_shut, area_of}
-use Rattle.board_spec.specs.Common.{denial_of, bridge, card_register, card_command, base_register, expansion_rom}
-use Rattle.board_spec.specs.Common.{SameMapBytes, MapBytesDecide}
+use Rattle.board_spec.specs.Common.{denial_of, card_register, expansion_rom, SameMapBytes, MapBytesDecide}
 use Rattle.device_spec.proofs.Common.{nat_tests, All-nil, All-cons, All-append, recursion_from_All}
 
 -- ---- searches in lists
@@ -23,12 +22,6 @@ found : (cards : List FittedCard) (k : ℕ) (d : FittedCard) → k < length card
 found [] k d below = absurd (omega arith)
 found (card ∷ later) zero d below = grind (arith, nat_tests)
 found (card ∷ later) (suc k) d below = grind (arith, nat_tests, found later k d)
-
-pub third : (a b fitted is d : Bool) → fitted ≡ true → is ≡ true → (a || b || fitted && true && is || d) ≡ true
-third a b fitted is d h k = grind arith
-
-pub fourth : (a b c rom is : Bool) → rom ≡ true → is ≡ true → (a || b || c || rom && true && is) ≡ true
-fourth a b c rom is h k = grind arith
 
 abbrev no_windows : List Window
 no_windows = []
@@ -61,21 +54,8 @@ module _ (setup : Setup) (bytes other : Bytes) (same : SameMapBytes setup bytes 
   abbrev IsFitted : ℕ → Type 0
   IsFitted dev = is_some (card_at setup dev) ≡ true
 
-  -- the command of a card and its bases
-  abbrev is_command_or_base : (dev off : ℕ) → Bool
-  is_command_or_base dev off = off == (card_command dev).off || is_within (base_register dev 0).off
-      ((base_register dev 5).off + 3) off
-
   abbrev is_in_rom : (dev off : ℕ) → Bool
   is_in_rom dev off = is_within (expansion_rom dev).off ((expansion_rom dev).off + 3) off
-
-  -- the registers of the map that are no card's
-  abbrev is_of_bridge : Reg → Bool
-  is_of_bridge reg = reg.dev == 0 && reg.fun == 0 && is_host_byte reg.off
-
-  card_same : (dev off : ℕ) → IsFitted dev → is_command_or_base dev off ≡ true →
-      bytes (card_register dev off) ≡ other (card_register dev off)
-  card_same dev off fitted is = grind (arith, nat_tests)
 
   -- the register of an expansion ROM
   abbrev HasRom : ℕ → Type 0
@@ -153,12 +133,6 @@ module _ (setup : Setup) (bytes other : Bytes) (same : SameMapBytes setup bytes 
   of_rom dev None fitted = All-nil IsOfCard
   of_rom dev (Some bits) fitted = search (All-cons, All-nil)
 
-  of_card : (card : FittedCard) → IsFitted card.dev → All IsOfCard (memory_windows other card)
-  of_card card fitted = search (All-append, of_choice, of_rom, of_vga, of_bases, All-nil)
-
-  of_unselected : (card : FittedCard) → IsFitted card.dev → All IsOfCard (unselected_windows other card)
-  of_unselected card fitted = search (of_choice, All-nil, of_rom)
-
   of_all : (windows : FittedCard → List Window) →
       ((card : FittedCard) → IsFitted card.dev → All IsOfCard (windows card)) → (cards : List FittedCard) →
       AllByRecursion (λ card. IsFitted card.dev) cards → All IsOfCard (flat_map windows cards)
@@ -199,7 +173,9 @@ module _ (setup : Setup) (bytes other : Bytes) (same : SameMapBytes setup bytes 
   memory_same left right addr counted list =
       ap (λ windows. first_window left addr windows)
       (windows_same setup.cards fitted_cards (rom_cards list) (recursion_from_All IsCard setup.cards list.each))
-      ∙ first_same left right addr _ (of_all (memory_windows other) of_card setup.cards fitted_cards) counted
+      ∙ first_same left right addr _
+      (of_all (memory_windows other)
+      (λ card fitted. search (All-append, of_choice, of_rom, of_vga, of_bases, All-nil)) setup.cards fitted_cards) counted
 
   claim_same : (addr : ℕ) → IsCardList setup.cards → memory_claim setup bytes addr ≡ memory_claim setup other addr
   unfolding memory_claim
@@ -217,7 +193,8 @@ module _ (setup : Setup) (bytes other : Bytes) (same : SameMapBytes setup bytes 
   not_selected_same addr list =
       ap (λ windows. first_window (is_enabled_for 1 bytes) addr windows) (unselected_same setup.cards (rom_cards list))
       ∙ first_same (is_enabled_for 1 bytes) (is_enabled_for 1 other) addr _
-      (of_all (unselected_windows other) of_unselected setup.cards fitted_cards) enabled_same
+      (of_all (unselected_windows other) (λ card fitted. search (of_choice, All-nil, of_rom)) setup.cards fitted_cards)
+      enabled_same
 
   -- ---- areas and denials
 

@@ -14,9 +14,6 @@ record Covered (at reg : Reg) (width : Width) : Type 0 where
   pub above : at.off ≤ reg.off
   pub below : reg.off < at.off + bytes_of width
 
-covers_tells : (at reg : Reg) (width : Width) → covers at width reg ≡ true → Covered at reg width
-covers_tells at reg width h = grind (arith, nat_tests)
-
 same_reg : (at reg : Reg) (width : Width) → Covered at reg width → reg_after at (reg.off - at.off) ≡ reg
 same_reg at reg width h = grind arith
 
@@ -32,7 +29,7 @@ untouched setup (Store at width value) reg old is not =
     elim (cases_Bool (covers at width reg)) [
       | inr outside ↦ rw outside refl
       | inl inside ↦
-          let covered : Covered at reg width = covers_tells at reg width inside in
+          let covered : Covered at reg width = grind (arith, nat_tests) in
           let any = any_covered (λ k. is_map_byte setup (reg_after at k)) width (reg.off - at.off) in
           grind (arith, covered, same_reg at reg width covered, any)
     ]

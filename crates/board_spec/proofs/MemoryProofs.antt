@@ -1,16 +1,10 @@
 -- Memory accesses and looks leave the devices, the lines and the pair.
 use Rattle.std.proofs.Common.{arith, ◌≡◌, List, ◌∷◌, refl}
-use Rattle.board_spec.specs.Common.{SameLevelsAgain, Reg, Setup, byte_of, pirq, wire_of, irq_of, triggers_of, plain_of}
-use Rattle.board_spec.specs.Common.{timer_of, clock_of, disk_with, pirqs, levels_of, ActsOnPair, IsOfMemory}
-use Rattle.board_spec.specs.Common.{MemoryLeavesDevices}
-use Rattle.board_spec.specs.declared.event.Event.{Event}
-use Rattle.board_spec.specs.declared.event.Reply.{Reply}
+use Rattle.board_spec.specs.Common.{SameLevelsAgain, Reg, Setup, pirq, byte_of, wire_of, irq_of, triggers_of, plain_of, timer_of}
+use Rattle.board_spec.specs.Common.{clock_of, disk_with, pirqs, levels_of, IsOfMemory, MemoryLeavesDevices}
 use Rattle.board_spec.specs.declared.event.Entry.{Entry}
 use Rattle.board_spec.proofs.DeviceAlone.{map-same, levels-same}
 use Rattle.board_spec.proofs.PairProofs.{pair_stays}
-
-not_of_pair : (event : Event) (reply : Reply) → IsOfMemory event → ¬ ActsOnPair event reply
-not_of_pair event reply is = grind arith
 
 timer-same :
     (before : List Entry) (entry : Entry) → IsOfMemory entry.event → timer_of (entry ∷ before) ≡ timer_of before
@@ -47,7 +41,5 @@ memory_leaves_devices again setup before entry is = record {
   wires = λ dev. grind arith;
   lines = λ line. grind arith;
   levels = lines-same setup before entry is;
-  pair =
-      pair_stays again setup before entry (grind arith) (not_of_pair entry.event entry.reply is)
-      (lines-same setup before entry is);
+  pair = pair_stays again setup before entry (grind arith) (grind arith) (lines-same setup before entry is);
 }

@@ -78,17 +78,11 @@ seen_stepped again setup before entry event is seen =
     again (pair_reset_or_after setup entry before (pair_of setup before)) (levels_of setup (entry ∷ before))
     (elcr_of (entry ∷ before))
 
-first_seen :
-    pair_after_lines (pair_at_reset levels_at_power_on) levels_at_power_on (elcr_of [])
-    ≡ pair_at_reset levels_at_power_on
-unfolding levels_where triggers_of
-first_seen = refl
-
 pub pair_has_seen : SameLevelsAgain → PairHasSeen
-unfolding pair_of
+unfolding pair_of levels_where triggers_of
 pair_has_seen again setup [] =
     ap (λ (l : List Bool). pair_after_lines (pair_at_reset levels_at_power_on) l (elcr_of [])) (first_levels setup)
-    ∙ first_seen
+    ∙ refl
 pair_has_seen again setup (entry ∷ before) =
     seen_stepped again setup before entry entry.event refl (pair_has_seen again setup before)
 

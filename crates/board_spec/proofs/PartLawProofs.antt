@@ -1,11 +1,11 @@
 -- The parts of a wide access cover it, and their values joined are its value.
-use Rattle.std.proofs.Common.{◌≡◌, ℕ, ◌+◌, ◌-◌, ◌*◌, ◌/◌, ◌%◌, ◌^◌, ◌≤◌, ◌<◌, Bool, List, [], ◌∷◌, refl, sym, ◌∙◌, ap}
-use Rattle.std.proofs.Common.{subst, arith, All}
+use Rattle.std.proofs.Common.{◌≡◌, ℕ, ◌+◌, ◌-◌, ◌/◌, ◌%◌, ◌^◌, ◌≤◌, ◌<◌, List, [], ◌∷◌, refl, sym, ◌∙◌, ap, subst}
+use Rattle.std.proofs.Common.{arith, All}
 use Rattle.std.proofs.Math.Nat.{div-div-eq-div-mul, mul_comm, div-one, one-le-pow}
 use Rattle.device_spec.proofs.Common.{mod-eq_of_lt, pow-add, All-nil, All-cons}
 use Rattle.std.proofs.Math.Arith.{mod-mul}
-use Rattle.board_spec.specs.Common.{Width, WideAccess, bytes_of, FitsAccess, FitsBytes, part_at, joined, is_write}
-use Rattle.board_spec.specs.Common.{Covers, IsPart, AreParts, CutIntoParts}
+use Rattle.board_spec.specs.Common.{Width, WideAccess, bytes_of, FitsBytes, part_at, joined, is_write, Covers, IsPart}
+use Rattle.board_spec.specs.Common.{AreParts, CutIntoParts}
 use Rattle.board_spec.proofs.PartLemmas.{made, length-made, total, Aligned, is_cut}
 
 -- ---- places
@@ -19,10 +19,6 @@ covers-made access from end (width ∷ later) sum =
 
 -- ---- values
 
-part_fits : (writes : Bool) (width : Width) (bytes value places : ℕ) → FitsBytes writes bytes value →
-    FitsAccess writes width (value / places % 256 ^ bytes_of width)
-part_fits writes width bytes value places fits = grind arith
-
 is_part :
     (access : WideAccess) (from : ℕ) (width : Width) → FitsBytes (is_write access.kind) access.bytes access.value →
     from % bytes_of width ≡ 0 → IsPart access (part_at access from width)
@@ -32,8 +28,7 @@ is_part access from width fits aligned = record {
   legal =
       record {
         aligned = aligned;
-        fits = part_fits (is_write access.kind) width access.bytes access.value
-            (256 ^ (from - access.addr)) fits;
+        fits = grind arith;
       };
 }
 
@@ -54,9 +49,6 @@ some_power n = omega (arith, one-le-pow n 256 (omega arith))
 pub further : (value d w : ℕ) → value / 256 ^ (d + w) ≡ value / 256 ^ d / 256 ^ w
 further value d w = ap (λ (n : ℕ). value / n) (pow-add 256 d w) ∙ sym (div-div-eq-div-mul value (256 ^ d) (256 ^ w))
 
-two_digits : (x w t : ℕ) → x % 256 ^ w + 256 ^ w * (x / 256 ^ w % 256 ^ t) ≡ x % 256 ^ (w + t)
-two_digits x w t = grind (arith, mod-mul x (some_power t) (some_power w), pow-add 256 w t, mul_comm)
-
 -- the parts from a place d on give the digits of the value from there
 joined-made : (access : WideAccess) (from d : ℕ) (widths : List Width) → from ≡ access.addr + d →
     joined (λ part. part.value) (made access from widths) ≡ access.value / 256 ^ d % 256 ^ total widths
@@ -66,13 +58,13 @@ joined-made access from d (width ∷ later) here =
     let place : from - access.addr ≡ d = omega arith in
     let w : ℕ = bytes_of width in
     rw (joined-made access (from + w) (d + w) later (omega arith), place, further access.value d w)
-    (two_digits (access.value / 256 ^ d) w (total later))
-
-value_fits : (writes : Bool) (bytes value : ℕ) → FitsBytes writes bytes value → value < 256 ^ bytes
-value_fits writes bytes value fits = grind (arith, some_power)
-
-whole_value : (value bytes sum : ℕ) → sum ≡ bytes → value < 256 ^ bytes → value / 256 ^ 0 % 256 ^ sum ≡ value
-whole_value value bytes sum same fits = rw (div-one value, same) (mod-eq_of_lt fits)
+    (grind (
+      arith,
+      mod-mul (access.value / 256 ^ d) (some_power (total later)) (some_power w),
+      pow-add 256 w
+          (total later),
+      mul_comm,
+    ))
 
 pub cut_into_parts : CutIntoParts
 cut_into_parts access legal =
@@ -86,6 +78,5 @@ cut_into_parts access legal =
       each = each-made access access.addr cut.widths legal.fits cut.aligned;
       value =
           joined-made access access.addr 0 cut.widths (omega arith)
-          ∙ whole_value access.value access.bytes (total cut.widths) cut.total_is
-          (value_fits (is_write access.kind) access.bytes access.value legal.fits);
+          ∙ (rw (div-one access.value, cut.total_is) (mod-eq_of_lt (grind (arith, some_power, legal.fits))));
     })

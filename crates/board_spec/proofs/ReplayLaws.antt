@@ -1,11 +1,10 @@
 -- Every event has one answer, and every list of statements one replay.
-use Rattle.std.proofs.Common.{◌≡◌, ℕ, ◌+◌, Bool, List, [], ◌∷◌, ◌++◌, refl, sym, ◌∙◌, ap, length, append_assoc, ◌≤◌}
-use Rattle.std.proofs.Common.{Option, map, reverse, arith}
+use Rattle.std.proofs.Common.{◌≡◌, ℕ, ◌+◌, Bool, List, [], ◌∷◌, ◌++◌, refl, sym, ◌∙◌, ap, length, append_assoc, ◌≤◌, map}
+use Rattle.std.proofs.Common.{reverse, arith}
 use Rattle.device_spec.proofs.Common.{length-map, append-nil, reverse-reverse, reverse-append, recursion_from_All}
 use Rattle.board_spec.specs.Common.{AllByRecursion, Kind, WideAccess, Setup, byte_of, version_of, parts_of, parts_list}
-use Rattle.board_spec.specs.Common.{IsWideAccess, part_answer, wide_value, IsLookAnswer, entries_by, IsNext, IsLegal}
-use Rattle.board_spec.specs.Common.{statement_of, statements_of, IsAddressed, SomeAnswer, OneAnswer, SomeReplay}
-use Rattle.board_spec.specs.Common.{OneReplay}
+use Rattle.board_spec.specs.Common.{IsWideAccess, part_answer, wide_value, IsLookAnswer, entries_by, IsNext, IsLegal, statement_of}
+use Rattle.board_spec.specs.Common.{statements_of, IsAddressed, SomeAnswer, OneAnswer, SomeReplay, OneReplay}
 use Rattle.board_spec.specs.declared.event.Event.{Event}
 use Rattle.board_spec.specs.declared.event.Event.TheVariants.{Wide, Look as LookAt}
 use Rattle.board_spec.specs.declared.event.Look.{Look}
@@ -32,10 +31,6 @@ some_parts (a ∷ b ∷ []) count = record { parts = TwoParts a b; same = refl }
 some_parts (a ∷ b ∷ c ∷ []) count = record { parts = ThreeParts a b c; same = refl }
 some_parts (a ∷ b ∷ c ∷ d ∷ []) count = record { parts = FourParts a b c d; same = refl }
 some_parts _ count = absurd (omega (arith, count.0, count.1))
-
-one_parts : (value value' : Option ℕ) (parts parts' : Parts) → value ≡ value' → parts_list parts ≡ parts_list parts' →
-    InParts parts value ≡ InParts parts' value'
-one_parts value value' parts parts' v l = grind arith
 
 parts_counted :
     (setup : Setup) (before : List Entry) (access : WideAccess) → IsWideAccess access →
@@ -74,7 +69,7 @@ one_look setup before kind addr smm left right l r =
 
 pub one_answer : OneAnswer
 one_answer setup before (Wide access) (InParts parts value) (InParts parts' value') l r =
-    one_parts value value' parts parts' (l.value_is ∙ sym r.value_is) (l.each ∙ sym r.each)
+    grind (arith, l.value_is ∙ sym r.value_is, l.each ∙ sym r.each)
 one_answer setup before (Wide access) (InParts parts value) _ l r = absurd r
 one_answer setup before (Wide access) _ right l r = absurd l
 one_answer setup before (LookAt kind addr smm) (Saw left) (Saw right) l r =
@@ -126,10 +121,6 @@ some_replay setup statements addressed =
     statements addressed) in
     record { history = more.history; replay = record { legal = more.legal; same = more.same } }
 
-same_entry : (setup : Setup) (before : List Entry) (left right : Entry) → IsNext setup before left →
-    IsNext setup before right → statement_of left ≡ statement_of right → left ≡ right
-same_entry setup before left right l r same = grind (arith, one_answer)
-
 same_history : (setup : Setup) (left right : List Entry) → IsLegal setup left → IsLegal setup right →
     map statement_of left ≡ map statement_of right → left ≡ right
 same_history setup [] [] l r same = refl
@@ -140,7 +131,7 @@ same_history setup (entry ∷ left) (entry' ∷ right) l r same =
     let rest : map statement_of left ≡ map statement_of right = cc in
     let tail : left ≡ right = same_history setup left right l.1 r.1 rest in
     let next : IsNext setup left entry' = rw tail r.0 in
-    let first : entry ≡ entry' = same_entry setup left entry entry' l.0 next head in
+    let first : entry ≡ entry' = grind (arith, one_answer, l.0) in
     cc
 
 map-reverse : (history : List Entry) → map statement_of (reverse history) ≡ reverse (map statement_of history)
