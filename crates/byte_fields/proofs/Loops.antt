@@ -22,33 +22,26 @@ pub front_joined : {A : Type 0} (front : List A) (value : A) (read : Result (Lis
     with_front front (then_read read (λ values. gives (value ∷ values))) ≡ with_front (front ++ value ∷ []) read
 front_joined front value read = grind (arith, append_assoc)
 
--- a loop begins, goes on by one value, stops where one is bad, and ends
+-- a loop goes on by one value, stops where one is bad, and ends
 
-pub begins : {A : Type 0} (read : Result (List A × List ℕ) ℕ) → with_front [] read ≡ read
-begins read = grind arith
+module _ {S A : Type 0} (one : S → Reading A) (next : S → A → S) (many : S → ℕ → Reading (List A))
+    (loop : IsLoop one next many) (front : List A) (s : S) (count i : ℕ) (bytes : List ℕ) where
+  pub goes_on : (after : List ℕ) (value : A) (total : Result (List A × List ℕ) ℕ) → i < count →
+      one s bytes ≡ Ok (value, after) → with_front front (many s (count - i) bytes) ≡ total →
+      with_front (front ++ value ∷ []) (many (next s value) (count - (i + 1)) after) ≡ total
+  goes_on after value total below is so_far =
+      let left : count - i ≡ suc (count - (i + 1)) = omega arith in
+      sym (front_joined front value (many (next s value) (count - (i + 1)) after))
+      ∙ rw (left, loop.more s (count - (i + 1)) bytes, is) at so_far
 
-pub goes_on :
-    {S A : Type 0} (one : S → Reading A) (next : S → A → S) (many : S → ℕ → Reading (List A)) → IsLoop one next many →
-    (front : List A) (s : S) (count i : ℕ) (bytes after : List ℕ) (value : A) (total : Result (List A × List ℕ) ℕ) →
-    i < count → one s bytes ≡ Ok (value, after) → with_front front (many s (count - i) bytes) ≡ total →
-    with_front (front ++ value ∷ []) (many (next s value) (count - (i + 1)) after) ≡ total
-goes_on one next many loop front s count i bytes after value total below is so_far =
-    let left : count - i ≡ suc (count - (i + 1)) = omega arith in
-    sym (front_joined front value (many (next s value) (count - (i + 1)) after))
-    ∙ rw (left, loop.more s (count - (i + 1)) bytes, is) at so_far
+  pub stops : (bad : ℕ) (total : Result (List A × List ℕ) ℕ) → i < count → one s bytes ≡ Err bad →
+      with_front front (many s (count - i) bytes) ≡ total → total ≡ Err bad
+  stops bad total below is so_far =
+      let left : count - i ≡ suc (count - (i + 1)) = omega arith in
+      sym (rw (left, loop.more s (count - (i + 1)) bytes, is) at so_far)
 
-pub stops :
-    {S A : Type 0} (one : S → Reading A) (next : S → A → S) (many : S → ℕ → Reading (List A)) → IsLoop one next many →
-    (front : List A) (s : S) (count i : ℕ) (bytes : List ℕ) (bad : ℕ) (total : Result (List A × List ℕ) ℕ) →
-    i < count → one s bytes ≡ Err bad → with_front front (many s (count - i) bytes) ≡ total → total ≡ Err bad
-stops one next many loop front s count i bytes bad total below is so_far =
-    let left : count - i ≡ suc (count - (i + 1)) = omega arith in
-    sym (rw (left, loop.more s (count - (i + 1)) bytes, is) at so_far)
-
-pub is_done :
-    {S A : Type 0} (one : S → Reading A) (next : S → A → S) (many : S → ℕ → Reading (List A)) → IsLoop one next many →
-    (front : List A) (s : S) (count i : ℕ) (bytes : List ℕ) (total : Result (List A × List ℕ) ℕ) →
-    count ≤ i → with_front front (many s (count - i) bytes) ≡ total → total ≡ Ok (front, bytes)
-is_done one next many loop front s count i bytes total over so_far =
-    let left : count - i ≡ 0 = omega arith in
-    sym (rw (left, loop.none s bytes, append-nil front) at so_far)
+  pub is_done : (total : Result (List A × List ℕ) ℕ) → count ≤ i → with_front front (many s (count - i) bytes) ≡ total →
+      total ≡ Ok (front, bytes)
+  is_done total over so_far =
+      let left : count - i ≡ 0 = omega arith in
+      sym (rw (left, loop.none s bytes, append-nil front) at so_far)

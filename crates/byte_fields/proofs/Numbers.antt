@@ -111,11 +111,8 @@ Any a = Unit {0}
 flag_tells : Tells flag_of flag_byte
 flag_tells = row flag_byte 0 false refl (row flag_byte 1 true refl (no_row flag_byte))
 
-flag_said : (flag : Bool) → Any flag → (flag_byte flag < 2 ^ 8) × (flag_of (flag_byte flag) ≡ Some flag)
-flag_said flag any = grind arith
-
 pub flag_format : IsFormat 1 flag_field (λ flag. flag_byte flag ∷ []) Any
-flag_format = byte_format flag_byte Any flag_said (λ n flag below is. (flag_tells n flag is, tt))
+flag_format = byte_format flag_byte Any (λ flag any. grind arith) (λ n flag below is. (flag_tells n flag is, tt))
 
 -- ---- numbers that are good
 
@@ -178,9 +175,6 @@ flag_again allowed n few = grind (arith, nat_tests)
 pub bound_where-small : (there : Bool) → bound_where there 255 < 2 ^ 8
 bound_where-small there = grind arith
 
-flag_small : (flag : Bool) → flag_byte flag < 2 ^ 8
-flag_small flag = grind arith
-
 flag_is : (flag : Bool) → flag ≡ (flag_byte flag == 1)
 flag_is flag = grind arith
 
@@ -188,7 +182,7 @@ pub flag_where_format : (allowed : Bool) →
     IsFormat 1 (flag_where allowed) (λ flag. flag_byte flag ∷ []) (λ flag. flag_byte flag ≤ flag_byte allowed)
 unfolding flag_where
 flag_where_format allowed =
-    fields_format (last_field _ (byte_within 0 (flag_byte allowed) (flag_small allowed)))
+    fields_format (last_field _ (byte_within 0 (flag_byte allowed) (grind arith)))
     (λ flag few. ((flag_byte flag, (omega arith, few)), flag_is flag))
     (λ t. rw (flag_again allowed t.0 t.1.1) (t.1.1, refl))
 
@@ -207,9 +201,6 @@ some_from :
 some_from spelled low high false n is = (tt, ap (λ n. 0 ∷ spelled n) (omega (arith, is.1)))
 some_from spelled low high true n is = (is, refl)
 
-bound_small : (there : Bool) (high limit : ℕ) → high < limit → bound_where there high < limit
-bound_small there high limit few = grind arith
-
 pub optional_format : {n limit : ℕ} {number_from : (low high : ℕ) → Reading ℕ} {spelled : ℕ → List ℕ} →
     ((low high : ℕ) → high < limit → IsFormat n (number_from low high) spelled (Ranges low high)) → (low high : ℕ) →
     high < limit → IsFormat (1 + n) (optional number_from low high)
@@ -218,6 +209,6 @@ unfolding optional
 optional_format {limit = limit} {spelled = spelled} format low high few =
     fields_format
     (flag_format then λ there any.
-    last_field _ (format (bound_where there low) (bound_where there high) (bound_small there high limit few)))
+    last_field _ (format (bound_where there low) (bound_where there high) (grind arith)))
     (λ o is. let told = optional_to low high o is in ((is_some o, tt) & (unwrap_or o 0, told.0), told.1))
     (λ t. some_from spelled low high t.0 t.2.0 t.2.1)

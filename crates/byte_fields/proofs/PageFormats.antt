@@ -8,7 +8,7 @@ use Rattle.board_base.proofs.Common.{nil_from_length, bytes_eq-Decides, cases_lt
 use Rattle.board_base.proofs.Common.{append-nil, take-append-le, drop-append-le, length-replicate}
 use Rattle.std.proofs.lemmas.List.{take_min, take-replicate, drop-replicate, replicate-append-replicate}
 use Rattle.std.proofs.Math.Nat.{suc-mul, zero-mul}
-use Rattle.byte_fields.specs.Fields.{Reading, then_read, gives, ◌>>=◌, flag_byte, other_than}
+use Rattle.byte_fields.specs.Fields.{Reading, then_read, gives, ◌>>=◌, flag_byte}
 use Rattle.byte_fields.specs.Pages.{page_bytes, page_where, page_field, each_page_bytes, each_page_field, cut, pages_of}
 use Rattle.byte_fields.specs.Pages.{pages_bytes, pages_fields, memory_page, memory_bytes, memory_fields}
 use Rattle.byte_fields.proofs.Formats.{IsFormat, format_as, fields_format, ◌then◌, ◌&◌, last_field, whole_field}
@@ -25,15 +25,6 @@ other_is : (same : Bool) (front page : List ℕ) → cond same None (Some front)
     (same ≡ false) × (front ≡ page)
 other_is same front page is = grind arith
 
-other_format : (plain : List ℕ) → IsFormat (length plain) (other_than plain) (λ page. page) (IsOther plain)
-other_format plain =
-    read_as (λ bytes. grind arith)
-    (cut_format {says = λ front. cond (bytes_eq front plain) None (Some front)} (λ page. page) (IsOther plain)
-    (λ page good. (good.0, rw good.1 refl))
-    (λ front page long are is.
-    let told = other_is (bytes_eq front plain) front page is in
-    (told.1, rw (← told.1) (long, told.0))))
-
 abbrev where_bytes : (differs : Bool) → (page : List ℕ) → List ℕ
 where_bytes true page = page
 where_bytes false page = []
@@ -44,7 +35,13 @@ IsWhere plain false page = page ≡ plain
 
 where_format : (plain : List ℕ) (differs : Bool) →
     IsFormat (length plain) (page_where differs plain) (where_bytes differs) (IsWhere plain differs)
-where_format plain true = other_format plain
+where_format plain true =
+    read_as (λ bytes. grind arith)
+    (cut_format {says = λ front. cond (bytes_eq front plain) None (Some front)} (λ page. page) (IsOther plain)
+    (λ page good. (good.0, rw good.1 refl))
+    (λ front page long are is.
+    let told = other_is (bytes_eq front plain) front page is in
+    (told.1, rw (← told.1) (long, told.0))))
 where_format plain false =
     format_as (length plain) (where_bytes false) (IsWhere plain false) (done_format plain) (omega arith)
     (λ page good. good) (λ page good. good) (λ page good. refl)
@@ -184,23 +181,20 @@ fields_first size plain bytes some there = rw (first_page size plain some there)
 
 -- ---- loops over pages: the page from a place on has so many bytes
 
-page_at : (size done count : ℕ) (bytes : List ℕ) → count ≡ min size (length bytes - done) →
-    take size (drop done bytes) ≡ take count (drop done bytes)
-page_at size done count bytes is =
-    sym (take_min size (drop done bytes))
-    ∙ ap (λ (n : ℕ). take n (drop done bytes)) (omega (arith, is, length-drop done bytes))
+module _ (size done count : ℕ) (bytes : List ℕ) (is : count ≡ min size (length bytes - done)) where
+  page_at : take size (drop done bytes) ≡ take count (drop done bytes)
+  page_at =
+      sym (take_min size (drop done bytes))
+      ∙ ap (λ (n : ℕ). take n (drop done bytes)) (omega (arith, is, length-drop done bytes))
 
-after_page : (size done count : ℕ) (bytes : List ℕ) → count ≡ min size (length bytes - done) →
-    drop size (drop done bytes) ≡ drop (done + count) bytes
-after_page size done count bytes is =
-    elim (cases_lt (length bytes - done) size) [
-      | inl last ↦
-          rw (drop_all size (drop done bytes) (omega (arith, length-drop done bytes)))
-          (sym (drop_all (done + count) bytes (omega arith)))
-      | inr whole ↦
-          let same : count ≡ size = omega arith in
-          rw same (drop-drop size done bytes)
-    ]
+  after_page : drop size (drop done bytes) ≡ drop (done + count) bytes
+  after_page =
+      elim (cases_lt (length bytes - done) size) [
+        | inl last ↦
+            rw (drop_all size (drop done bytes) (omega (arith, length-drop done bytes)))
+            (sym (drop_all (done + count) bytes (omega arith)))
+        | inr whole ↦ let same : count ≡ size = omega arith in rw same (drop-drop size done bytes)
+      ]
 
 -- a part of a slice from a place on
 pub page_is : (done count : ℕ) (now old : List ℕ) → drop done now ≡ drop done old →
