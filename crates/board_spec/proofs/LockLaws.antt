@@ -52,11 +52,6 @@ set_locks : (setup : Setup) (change : Option MapChange) (old : ℕ) → SetsLock
     bit (byte_with setup change smram old) 4 ≡ 1
 set_locks setup change old sets = grind (arith, nat_tests)
 
-is_locked_by : (setup : Setup) (before : List Entry) (lock : Entry) →
-    SetsLock (register_change setup before lock.event) → IsLocked setup (lock ∷ before)
-unfolding byte_of IsLocked
-is_locked_by setup before lock sets = grind (arith, set_locks)
-
 locked_since : (setup : Setup) (between older : List Entry) → NoHardReset between older → IsLocked setup older →
     IsLocked setup (between ++ older)
 unfolding byte_of IsLocked
@@ -136,11 +131,11 @@ next_in setup [] before entry legal = legal.0
 next_in setup (newer ∷ after) before entry legal = next_in setup after before entry legal.1
 
 pub legal_keeps_lock : LegalKeepsLock
-unfolding IsLocked
+unfolding IsLocked byte_of
 legal_keeps_lock setup history legal = record {
   locked = λ after between before later lock is sets soft outside.
       let older : List Entry = between ++ lock ∷ before in
       let next : IsNext setup older later = next_in setup after older later (rw is at legal) in
-      let locked = locked_since setup between (lock ∷ before) soft (is_locked_by setup before lock sets) in
+      let locked = locked_since setup between (lock ∷ before) soft (grind (arith, set_locks)) in
       no_smram_answer setup older later.event later.reply ((kept_of setup older).shut locked) next.answer outside;
 }

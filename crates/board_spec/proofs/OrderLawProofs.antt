@@ -1,6 +1,6 @@
 -- The orders in which a script may run: complete, begun, and how a begun history goes on.
-use Rattle.std.proofs.Common.{◌≡◌, ◌≢◌, ℕ, ◌+◌, inl, inr, List, [], ◌∷◌, ◌++◌, length, take, drop, refl, sym, ◌∙◌, ap}
-use Rattle.std.proofs.Common.{subst, arith, append_assoc}
+use Rattle.std.proofs.Common.{◌≡◌, ℕ, ◌+◌, inl, inr, List, [], ◌∷◌, ◌++◌, length, take, drop, refl, sym, ◌∙◌, ap, subst}
+use Rattle.std.proofs.Common.{arith, append_assoc}
 use Rattle.device_spec.proofs.Common.{take-append_seam, drop-append_seam, take-append-le, drop-append-le, length-append}
 use Rattle.device_spec.proofs.Common.{take_all, map-append, append-nil, reverse-append, filter-append, cases_lt}
 use Rattle.board_spec.specs.declared.event.Event.{Event}
@@ -68,13 +68,10 @@ whole_is_front phase part whole = record {
   each = λ actor. record { rest = []; whole = sym (whole.each actor) ∙ sym (append-nil (events_by actor part)) };
 }
 
-no_statement_more : (statements : List Statement) (statement : Statement) → statements ++ statement ∷ [] ≢ []
-no_statement_more [] statement e = cc
-no_statement_more (first ∷ later) statement e = cc
-
 shorter_so_far : (phases : List (List Statement)) (statements : List Statement) (last : Statement) →
     HasPhasesSoFar phases (statements ++ last ∷ []) → HasPhasesSoFar phases statements
-shorter_so_far [] statements last whole = absurd (no_statement_more statements last whole)
+shorter_so_far [] statements last whole =
+    absurd (omega (arith, ap length whole, length-append statements (last ∷ [])))
 shorter_so_far (phase ∷ later) statements last (inl front) = inl (shorter_phase phase statements (last ∷ []) front)
 shorter_so_far (phase ∷ later) statements last (inr whole) =
     elim (cases_lt (length statements) (length phase)) [

@@ -8,7 +8,7 @@ use Rattle.board_spec.specs.Common.{PairStays}
 use Rattle.board_spec.specs.declared.event.Event.{Event}
 use Rattle.board_spec.specs.declared.event.Event.TheVariants.{Pulses}
 use Rattle.board_spec.specs.declared.event.Entry.{Entry}
-use Rattle.board_spec.proofs.DeviceAlone.{pair-alone, SameDrivers, levels-same}
+use Rattle.board_spec.proofs.DeviceAlone.{pair-alone, levels-same}
 use Rattle.board_spec.proofs.LineProofs.{first_levels}
 
 -- ---- pulses
@@ -23,22 +23,18 @@ module _ (before : List Entry) (entry : Entry) (count : ℕ) (is : entry.event �
   unfolding triggers_of
   triggers-pulsed = rw is refl
 
-drivers-pulsed : (setup : Setup) (before : List Entry) (entry : Entry) (count : ℕ) (timer : PitState) →
-    entry.event ≡ Pulses count → SameDrivers setup (entry ∷ before) before timer timer
-unfolding clock_of disk_with wire_of irq_of byte_of
-drivers-pulsed setup before entry count timer is = record {
-  out = refl;
-  clock = rw is refl;
-  disk = λ bytes. rw is refl;
-  wires = λ dev. rw is refl;
-  lines = λ line. rw is refl;
-  routes = rw is refl;
-}
-
 pub levels-pulsed : (setup : Setup) (before : List Entry) (entry : Entry) (count : ℕ) (timer : PitState) →
     entry.event ≡ Pulses count → levels_with setup (entry ∷ before) timer ≡ levels_with setup before timer
+unfolding clock_of disk_with wire_of irq_of byte_of
 levels-pulsed setup before entry count timer is =
-    levels-same setup (entry ∷ before) before timer timer (drivers-pulsed setup before entry count timer is)
+    levels-same setup (entry ∷ before) before timer timer (record {
+      out = refl;
+      clock = rw is refl;
+      disk = λ bytes. rw is refl;
+      wires = λ dev. rw is refl;
+      lines = λ line. rw is refl;
+      routes = rw is refl;
+    })
 
 -- the lines after pulses
 levels-after : (setup : Setup) (before : List Entry) (entry : Entry) (count : ℕ) → entry.event ≡ Pulses count →

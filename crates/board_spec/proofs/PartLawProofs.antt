@@ -1,5 +1,5 @@
 -- The parts of a wide access cover it, and their values joined are its value.
-use Rattle.std.proofs.Common.{◌≡◌, ℕ, ◌+◌, ◌-◌, ◌/◌, ◌%◌, ◌^◌, ◌≤◌, ◌<◌, List, [], ◌∷◌, refl, sym, ◌∙◌, ap, subst}
+use Rattle.std.proofs.Common.{◌≡◌, ℕ, ◌+◌, ◌-◌, ◌*◌, ◌/◌, ◌%◌, ◌^◌, ◌≤◌, ◌<◌, List, [], ◌∷◌, refl, sym, ◌∙◌, ap, subst}
 use Rattle.std.proofs.Common.{arith, All}
 use Rattle.std.proofs.Math.Nat.{div-div-eq-div-mul, mul_comm, div-one, one-le-pow}
 use Rattle.device_spec.proofs.Common.{mod-eq_of_lt, pow-add, All-nil, All-cons}
@@ -49,6 +49,9 @@ some_power n = omega (arith, one-le-pow n 256 (omega arith))
 pub further : (value d w : ℕ) → value / 256 ^ (d + w) ≡ value / 256 ^ d / 256 ^ w
 further value d w = ap (λ (n : ℕ). value / n) (pow-add 256 d w) ∙ sym (div-div-eq-div-mul value (256 ^ d) (256 ^ w))
 
+two_digits : (x w t : ℕ) → x % 256 ^ w + 256 ^ w * (x / 256 ^ w % 256 ^ t) ≡ x % 256 ^ (w + t)
+two_digits x w t = grind (arith, mod-mul x (some_power t) (some_power w), pow-add 256 w t, mul_comm)
+
 -- the parts from a place d on give the digits of the value from there
 joined-made : (access : WideAccess) (from d : ℕ) (widths : List Width) → from ≡ access.addr + d →
     joined (λ part. part.value) (made access from widths) ≡ access.value / 256 ^ d % 256 ^ total widths
@@ -58,13 +61,7 @@ joined-made access from d (width ∷ later) here =
     let place : from - access.addr ≡ d = omega arith in
     let w : ℕ = bytes_of width in
     rw (joined-made access (from + w) (d + w) later (omega arith), place, further access.value d w)
-    (grind (
-      arith,
-      mod-mul (access.value / 256 ^ d) (some_power (total later)) (some_power w),
-      pow-add 256 w
-          (total later),
-      mul_comm,
-    ))
+    (two_digits (access.value / 256 ^ d) w (total later))
 
 pub cut_into_parts : CutIntoParts
 cut_into_parts access legal =

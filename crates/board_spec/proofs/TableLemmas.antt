@@ -14,11 +14,6 @@ module _ (column : Line → List ℕ) (entry : Line) (later : List Line) (off : 
       listed column (entry ∷ later) off ≡ get_or (column entry) (off - entry.first) 0
   listed-here from below = grind (arith, nat_tests)
 
--- what holds at an offset and after it
-at_or_above : (P : ℕ → Type 0) (first off : ℕ) → first ≤ off → P first → (first + 1 ≤ off → P off) → P off
-at_or_above P first off from here above =
-    elim (cases_eq first off) [ inl is ↦ rw (← is) here | inr past ↦ above (omega arith) ]
-
 -- what holds at this many offsets from a first one on
 abbrev pub Each : (P : ℕ → Type 0) (first count : ℕ) → Type 0
 Each P first zero = Unit {0}
@@ -27,7 +22,10 @@ Each P first (suc count) = P first × Each P (first + 1) count
 pub each_from : (P : ℕ → Type 0) (first count off : ℕ) → Each P first count → first ≤ off → off < first + count → P off
 each_from P first zero off each from below = absurd (omega arith)
 each_from P first (suc count) off each from below =
-    at_or_above P first off from each.0 (λ past. each_from P (first + 1) count off each.1 past (omega arith))
+    elim (cases_eq first off) [
+      | inl is ↦ rw (← is) each.0
+      | inr past ↦ each_from P (first + 1) count off each.1 (omega arith) (omega arith)
+    ]
 
 pub each_below : (P : ℕ → Type 0) (count off : ℕ) → Each P 0 count → off < count → P off
 each_below P count off each below = each_from P 0 count off each (omega arith) (omega arith)
