@@ -1,7 +1,7 @@
 -- The bytes of a ROM after some were written, and those of the others beside it.
-use Rattle.std.proofs.Common.{◌≡◌, ◌≢◌, ℕ, ◌+◌, ◌<◌, ◌≤◌, false, List, [], replicate, length, get_or, set, inl, inr}
-use Rattle.std.proofs.Common.{refl, sym, arith, nat_le, nat_lt, slice_index}
-use Rattle.std.proofs.lemmas.List.{get_or-set_same, get_or-set_other, get_or_read}
+use Rattle.std.proofs.Common.{◌≡◌, ℕ, ◌+◌, ◌<◌, ◌≤◌, false, List, [], replicate, length, set, inl, inr, refl, arith}
+use Rattle.std.proofs.Common.{nat_le, nat_lt, slice_index}
+use Rattle.std.proofs.lemmas.List.{get_or-set_same, get_or-set_other}
 use Rattle.board_prelude.proofs.Common.{and_right, cases_eq, cases_lt, eq-eqb, ne_eqb, lt-ltb, le-ltb, get_or-replicate}
 use Rattle.board_prelude.proofs.Common.{get_or_past, length-replicate, expansion_byte}
 use Rattle.expansion_roms.specs.Roms.{byte_after, byte_in, given, put_byte, rom_byte}
@@ -38,28 +38,18 @@ module _ (rom new : List ℕ) (at fixed : ℕ) where
 -- ---- all of them
 
 module _ (roms : List (List ℕ)) (dev : ℕ) (new : List ℕ) (there : dev < length roms) where
-  pub given_here : given (set roms dev new) dev ≡ new
-  given_here = get_or-set_same roms dev new [] there
-
-  pub given_beside : (d : ℕ) → d ≢ dev → given (set roms dev new) d ≡ given roms d
-  given_beside d apart = get_or-set_other roms dev d new [] apart
-
   pub put_here : (bytes : List ℕ) (off : ℕ) → off + length bytes ≤ length (given roms dev) →
       length new ≡ length (given roms dev) →
       ((k : ℕ) → slice_index new k ≡ byte_after off bytes k (slice_index (given roms dev) k)) →
       (d at : ℕ) → rom_byte (set roms dev new) d at ≡ put_byte dev off bytes d at (rom_byte roms d at)
   put_here bytes off within size put d at = elim (cases_eq d dev) [
     | inl same ↦
-        rw (same, eq-eqb dev dev refl, given_here)
+        rw (same, eq-eqb dev dev refl, get_or-set_same roms dev new [] there)
         (written_in (given roms dev) new at (expansion_byte dev at) bytes off within size put)
-    | inr apart ↦ rw (ne_eqb d dev apart, given_beside d apart) refl
+    | inr apart ↦ rw (ne_eqb d dev apart, get_or-set_other roms dev d new [] apart) refl
   ]
 
 -- ---- a place in the list
-
-pub rom_at : (roms : List (List ℕ)) (dev : ℕ) (rom : List ℕ) → dev < length roms → rom ≡ get_or roms dev rom →
-    given roms dev ≡ rom
-rom_at roms dev rom within is = sym (get_or_read roms dev rom within is [])
 
 pub none_past : (roms : List (List ℕ)) (dev : ℕ) → length roms ≤ dev → given roms dev ≡ []
 none_past roms dev past = get_or_past roms dev [] past

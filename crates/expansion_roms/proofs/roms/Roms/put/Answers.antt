@@ -1,6 +1,7 @@
-use Rattle.std.proofs.Common.{◌≡◌, ◌≤◌, ◌<◌, ◌+◌, ℕ, List, length, ap, ◌∙◌, arith}
+use Rattle.std.proofs.Common.{◌≡◌, ◌≤◌, ◌<◌, ◌+◌, ℕ, List, length, ap, ◌∙◌, arith, sym, []}
 use Rattle.expansion_roms.specs.Roms.{given, put_byte}
-use Rattle.expansion_roms.proofs.RomBytes.{put_here, rom_at}
+use Rattle.expansion_roms.proofs.RomBytes.{put_here}
+use Rattle.std.proofs.lemmas.List.{get_or_read}
 use Rattle.expansion_roms.proofs.roms.Roms.put.Goals as goal
 
 pub returns-clause-put : goal.returns-clause-put
@@ -10,7 +11,7 @@ returns-clause-put c = λ d at.
     let there : c.args.dev < length roms = omega (arith, all, c.requires.device) in
     let slot : c.from.result ≡ c.args.dev = c.from.ensures in
     let rom : given roms c.args.dev ≡ c.index_mut.result.now =
-    rom_at roms c.args.dev c.index_mut.result.now there (rw (← slot) c.index_mut.ensures.value) in
+    sym (get_or_read roms c.args.dev c.index_mut.result.now there (rw (← slot) c.index_mut.ensures.value) []) in
     let long : c.args.size ≤ length (given roms c.args.dev) = rw c.self.view_is c.in_ok-grow.ensures.kept in
     let within : c.args.off + length c.args.bytes.now ≤ length (given roms c.args.dev) =
     omega (arith, long, c.requires.within) in
