@@ -7,26 +7,23 @@ use Rattle.board_prelude.proofs.Common.{byte}
 use Rattle.card_identity.specs.declared.field.Field.{Field}
 use Rattle.card_identity.specs.Header.{byte_said, says}
 
-byte_next : (fields : List Field) (index off old : ℕ) (last : Field) → index < length fields →
-    byte_said (drop index fields) off old
-    ≡ (if says (get_or fields index last) off
-    then byte (get_or fields index last).value (off - (get_or fields index last).first)
-    else byte_said (drop (index + 1) fields) off old)
-byte_next fields index off old last within = ap (λ rest. byte_said rest off old) (drop_more fields index last within)
+module _ (fields : List Field) (index off old : ℕ) (last : Field) (within : index < length fields) where
+  byte_next :
+      byte_said (drop index fields) off old
+      ≡ (if says (get_or fields index last) off
+      then byte (get_or fields index last).value (off - (get_or fields index last).first)
+      else byte_said (drop (index + 1) fields) off old)
+  byte_next = ap (λ rest. byte_said rest off old) (drop_more fields index last within)
 
--- the field here says the byte
-pub byte_here : (fields : List Field) (index off old : ℕ) (last : Field) → index < length fields →
-    says (get_or fields index last) off ≡ true →
-    byte_said (drop index fields) off old
-    ≡ byte (get_or fields index last).value (off - (get_or fields index last).first)
-byte_here fields index off old last within here = byte_next fields index off old last within ∙ rw here refl
+  -- the field here says the byte
+  pub byte_here : says (get_or fields index last) off ≡ true → byte_said (drop index fields) off old
+      ≡ byte (get_or fields index last).value (off - (get_or fields index last).first)
+  byte_here here = byte_next ∙ rw here refl
 
--- a later one says it, or none
-pub byte_later : (fields : List Field) (index off old : ℕ) (last : Field) → index < length fields →
-    says (get_or fields index last) off ≡ false →
-    byte_said (drop (index + 1) fields) off old ≡ byte_said (drop index fields) off old
-byte_later fields index off old last within not_here =
-    sym (byte_next fields index off old last within ∙ rw not_here refl)
+  -- a later one says it, or none
+  pub byte_later : says (get_or fields index last) off ≡ false →
+      byte_said (drop (index + 1) fields) off old ≡ byte_said (drop index fields) off old
+  byte_later not_here = sym (byte_next ∙ rw not_here refl)
 
 -- past the last field it is as it was
 pub byte_past : (fields : List Field) (index off old : ℕ) → length fields ≤ index →
