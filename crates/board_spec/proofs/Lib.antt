@@ -11,11 +11,8 @@ pub mod ReplayLaws
 pub mod OrderLawProofs
 pub mod GoesOnProofs
 pub mod OrderLengths
-pub mod PartLemmas
 pub mod PartLawProofs
 mod WordProofs
-pub mod DeviceAlone
 pub mod LineProofs
-pub mod PairProofs
-pub mod MemoryProofs
+pub mod DeviceProofs
 pub mod Common

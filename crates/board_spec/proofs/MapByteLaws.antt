@@ -72,10 +72,9 @@ module _ (setup : Setup) (bytes other : Bytes) (same : SameMapBytes setup bytes 
         ≡ (if is_rom_on other card.dev then rom_window other card else [])
     pub unselected : unselected_windows bytes card ≡ unselected_windows other card
 
-  rom_windows_with : (card : FittedCard) (rom : Option ℕ) → card.rom ≡ rom →
-      (is_some rom ≡ true → HasRom card.dev) → SameRom card
-  rom_windows_with card rom is has =
-      let bytes_same = λ (off : ℕ) (some : is_some rom ≡ true). rom_same card.dev off (has some) in
+  rom_windows : (card : FittedCard) → (is_some card.rom ≡ true → HasRom card.dev) → SameRom card
+  rom_windows card has =
+      let bytes_same = λ (off : ℕ) (some : is_some card.rom ≡ true). rom_same card.dev off (has some) in
       grind (arith, nat_tests, bytes_same, both_empty)
 
   base_same : (dev k : ℕ) → IsFitted dev → k < 6 → base_value bytes dev k ≡ base_value other dev k
@@ -153,8 +152,7 @@ module _ (setup : Setup) (bytes other : Bytes) (same : SameMapBytes setup bytes 
   rom_cards list =
       recursion_from_All SameRom setup.cards
       (λ k d below.
-      let card : FittedCard = get_or setup.cards k d in
-      rom_windows_with card card.rom refl (λ some. found_rom setup.cards list.rises k d below ∙ some))
+      rom_windows (get_or setup.cards k d) (λ some. found_rom setup.cards list.rises k d below ∙ some))
 
   -- two searches in the same windows of cards agree where they count the same cards
   first_same : (left right : ℕ → Bool) (addr : ℕ) (windows : List Window) → All IsOfCard windows →

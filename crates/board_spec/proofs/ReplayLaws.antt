@@ -16,7 +16,7 @@ use Rattle.board_spec.specs.declared.event.Reply.TheVariants.{Parts as InParts, 
 use Rattle.board_spec.specs.declared.event.Entry.{Entry}
 use Rattle.board_spec.specs.declared.event.Statement.{Statement}
 use Rattle.board_spec.proofs.SpanLaws.{some_span, one_span}
-use Rattle.board_spec.proofs.PartLemmas.{is_cut, length-made}
+use Rattle.board_spec.proofs.PartLawProofs.{is_cut, length-made}
 use Rattle.board_spec.proofs.OrderLawProofs.{statements-newest}
 
 -- ---- the parts of a wide access

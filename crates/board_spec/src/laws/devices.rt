@@ -5,7 +5,7 @@ ghost use Rattle.board_spec.specs.DeviceLaws.{MemoryLeavesDevices, PairHasSeen, 
 use device_spec::laws::same_levels_again;
 
 /// The 8259A pair has always seen the lines as they stand, so what moves no line leaves it.
-#[tactic(auto, using(crate::proofs::PairProofs::pair_has_seen, crate::proofs::PairProofs::pair_stays))]
+#[tactic(auto, using(crate::proofs::DeviceProofs::pair_has_seen, crate::proofs::DeviceProofs::pair_stays))]
 pub fn law_pair()
     ensures seen { PairHasSeen }
     ensures stays { PairStays }

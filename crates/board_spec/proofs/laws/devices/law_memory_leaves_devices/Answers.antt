@@ -1,4 +1,4 @@
-use Rattle.board_spec.proofs.MemoryProofs.{memory_leaves_devices}
+use Rattle.board_spec.proofs.DeviceProofs.{memory_leaves_devices}
 use Rattle.board_spec.proofs.laws.devices.law_memory_leaves_devices.Goals as goal
 
 pub returns : goal.returns
