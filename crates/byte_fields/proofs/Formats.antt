@@ -1,7 +1,7 @@
 -- A format: how values are spelled and how they are read, and that each undoes the other.
-use Rattle.std.proofs.Common.{◌≡◌, ℕ, zero, suc, ◌+◌, ◌*◌, ◌≤◌, ◌⊎◌, inl, inr, Bool, false, cond, List, [], ◌∷◌, ◌++◌}
-use Rattle.std.proofs.Common.{length, take, drop, Result, Ok, Err, refl, sym, ap, subst, ◌∙◌, append_assoc, arith}
-use Rattle.std.proofs.Common.{nat_lt, flat_map, Option, Some}
+use Rattle.std.proofs.Common.{◌≡◌, ℕ, zero, suc, ◌+◌, ◌*◌, ◌≤◌, ◌⊎◌, inl, inr, false, cond, List, [], ◌∷◌, ◌++◌, length}
+use Rattle.std.proofs.Common.{take, drop, Result, Ok, Err, refl, sym, ap, subst, ◌∙◌, append_assoc, arith, nat_lt}
+use Rattle.std.proofs.Common.{flat_map, Option, Some}
 use Rattle.board_base.proofs.Common.{flat_map-cons, ltb-false, le-ltb, take_at, drop_at, length-append, length-take}
 use Rattle.board_base.proofs.Common.{take-append-drop, get_or-take, get_or_past, cases_lt, nil_from_length}
 use Rattle.std.proofs.Math.Nat.{mul-suc}
@@ -273,15 +273,6 @@ front_bytes n bytes are k =
       | inr past ↦ rw (get_or_past (take n bytes) k 0 (omega (arith, length-take n bytes, past))) (omega arith)
     ]
 
-cut_ok : {A : Type 0} (short : Bool) (value : Option A) (bytes after : List ℕ) (given : A) (rest : List ℕ) →
-    cond short (Err (length bytes)) (said value bytes after) ≡ Ok (given, rest) →
-    (short ≡ false) × (value ≡ Some given) × (after ≡ rest)
-cut_ok short value bytes after given rest is = grind arith
-
-cut_bad : {A : Type 0} (short : Bool) (value : Option A) (bytes after : List ℕ) (left : ℕ) →
-    cond short (Err (length bytes)) (said value bytes after) ≡ Err left → length bytes ≡ left
-cut_bad short value bytes after left is = grind arith
-
 -- bytes of a fixed number that say a value, or are bad
 abbrev pub cut_field : {A : Type 0} → (size : ℕ) → (List ℕ → Option A) → Reading A
 cut_field size says bytes =
@@ -299,13 +290,14 @@ cut_format {size = size} {says = says} spelled IsGood to from = record {
       le-ltb _ _ (omega (arith, length-append (spelled value) rest, told.0)) in
       rw (long, take_at (spelled value) rest size told.0, drop_at (spelled value) rest size told.0, told.1) refl;
   taken = λ bytes value rest are is.
-      let got = cut_ok (nat_lt (length bytes) size) (says (take size bytes)) bytes (drop size bytes) value rest is in
+      let got : (nat_lt (length bytes) size ≡ false) × (says (take size bytes) ≡ Some value) × (drop size bytes ≡ rest) =
+      grind arith in
       let long : size ≤ length bytes = ltb-false _ _ got.0 in
       let meant = from (take size bytes) value (omega (arith, length-take size bytes, long))
       (front_bytes size bytes are) got.1 in
       (rw (← meant.0, ← got.2) (sym (take-append-drop size bytes)), meant.1);
   bad = λ bytes left are is.
-      let same = cut_bad (nat_lt (length bytes) size) (says (take size bytes)) bytes (drop size bytes) left is in
+      let same : length bytes ≡ left = grind arith in
       (omega (arith, same), omega (arith, same));
   size = λ value good. omega (arith, (to value good).0);
 }

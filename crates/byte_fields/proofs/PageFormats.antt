@@ -21,10 +21,6 @@ use Rattle.byte_fields.proofs.Numbers.{flag_format}
 abbrev IsOther : (plain page : List ℕ) → Type 0
 IsOther plain page = (length page ≡ length plain) × (bytes_eq page plain ≡ false)
 
-other_is : (same : Bool) (front page : List ℕ) → cond same None (Some front) ≡ Some page →
-    (same ≡ false) × (front ≡ page)
-other_is same front page is = grind arith
-
 abbrev where_bytes : (differs : Bool) → (page : List ℕ) → List ℕ
 where_bytes true page = page
 where_bytes false page = []
@@ -40,7 +36,7 @@ where_format plain true =
     (cut_format {says = λ front. cond (bytes_eq front plain) None (Some front)} (λ page. page) (IsOther plain)
     (λ page good. (good.0, rw good.1 refl))
     (λ front page long are is.
-    let told = other_is (bytes_eq front plain) front page is in
+    let told : (bytes_eq front plain ≡ false) × (front ≡ page) = grind arith in
     (told.1, rw (← told.1) (long, told.0))))
 where_format plain false =
     format_as (length plain) (where_bytes false) (IsWhere plain false) (done_format plain) (omega arith)
