@@ -1,12 +1,181 @@
--- What stands in front of the state of a running board is spelled and read back.
-use Rattle.std.proofs.Common.{◌≡◌, ℕ, refl, arith}
-use Rattle.byte_fields.proofs.Formats.{IsFormat, fields_format, ◌then◌, ◌&◌, last_field}
-use Rattle.board_chipset.proofs.Marks.{exactly_format}
-use Rattle.byte_fields.proofs.Numbers.{Ranges, wide16, within_format}
+-- Setups and the identities of cards are spelled and read back, and so is what stands in front of the state of a running
+-- board.
+use Rattle.std.proofs.Common.{◌≡◌, ℕ, ◌^◌, ◌<◌, ◌≤◌, inl, inr, true, List, length, Option, Some, None, refl, sym, ◌∙◌}
+use Rattle.std.proofs.Common.{arith, ◌==◌, [], ◌∷◌, flat_map, All}
+use Rattle.board_prelude.proofs.Common.{cases_Bool, eqb-true, nat_tests, nil_from_length, AllByRecursion}
+use Rattle.board_prelude.proofs.Common.{recursion_from_All}
+use Rattle.board_prelude.specs.Common.{IsSetup, IsRomSize, is_rom_size, IsDisk, most_card_memory, most_mib}
+use Rattle.byte_fields.proofs.Formats.{IsFormat, fields_format, ◌then◌, ◌&◌, last_field, whole_field, format_as}
+use Rattle.byte_fields.proofs.Formats.{many_format, AreGood}
+use Rattle.byte_fields.proofs.Numbers.{wide32, byte_within, within_format, where_format, wide16, any_byte, any_number}
+use Rattle.byte_fields.proofs.Numbers.{Ranges}
+use Rattle.byte_fields.proofs.PageFormats.{memory_format}
 use Rattle.board_image.proofs.EventFormats.{wider}
+use Rattle.board_image.proofs.CardFormats.{cards_format}
+use Rattle.board_image.proofs.ImageFormats.{rom_size_to, rom_size_from, rom_most, length_from}
+use Rattle.fitted_bytes.specs.Setups.{bytes_on, counted_bytes, disk_fields, disk_where, is_fitted_size, rom_fields}
+use Rattle.fitted_bytes.specs.Setups.{setup_bytes, setup_fields}
+use Rattle.std.proofs.lemmas.List.Elements.{All-from_recursion}
+use Rattle.card_identity.specs.declared.identity.FittedIdentity.{FittedIdentity}
+use Rattle.byte_fields.specs.Fields.{Reading}
+use Rattle.byte_fields.proofs.Loops.{IsLoop}
+use Rattle.fitted_bytes.specs.Identities.{AreIdentities, IsIdentity, first_bytes, last_bytes, identity_bytes}
+use Rattle.fitted_bytes.specs.Identities.{identity_fields, identities_bytes, identities_fields, some_identities}
+use Rattle.board_chipset.proofs.Marks.{exactly_format}
 use Rattle.fitted_bytes.specs.Fitted.{IsFitting, fitting_bytes, fitting_fields, magic, version}
-use Rattle.fitted_bytes.proofs.IdentityFormats.{identities_format}
-use Rattle.fitted_bytes.proofs.SetupFormats.{setup_format}
+
+-- ---- the ROM
+
+rom_format : IsFormat 1_048_580 rom_fields counted_bytes (λ rom. IsRomSize (length rom))
+unfolding rom_fields
+rom_format =
+    fields_format
+    (where_format wide32 is_rom_size then λ size good.
+    whole_field (wider 1_048_576 (memory_format size) (omega (arith, rom_most size (rom_size_from size good.1)))))
+    (λ rom is. ((length rom, rom_size_to (length rom) is) & (rom, refl), refl))
+    (λ t. (rw t.2.1 (rom_size_from t.0 t.1.1), rw t.2.1 refl))
+
+-- ---- the disk
+
+pub size_of_disk : (disk : Option (List ℕ)) → IsDisk disk →
+    (length (bytes_on disk) < 2 ^ 32) × (is_fitted_size (length (bytes_on disk)) ≡ true)
+size_of_disk None is = (omega arith, refl)
+size_of_disk (Some bytes) (sectors, some, few, is) = grind (arith, nat_tests)
+
+size_most : (size : ℕ) → is_fitted_size size ≡ true → size ≤ 33_554_432
+size_most size is = grind (arith, nat_tests)
+
+disk_from : (size : ℕ) (bytes : List ℕ) → is_fitted_size size ≡ true → length bytes ≡ size →
+    IsDisk (disk_where size bytes)
+disk_from size bytes fits long =
+    elim (cases_Bool (size == 0)) [
+      | inl none ↦ rw none tt
+      | inr some ↦ rw (some, long) (length_from size (rw some at fits))
+    ]
+
+disk_again : (disk : Option (List ℕ)) → IsDisk disk → disk ≡ disk_where (length (bytes_on disk)) (bytes_on disk)
+disk_again None is = refl
+disk_again (Some bytes) (sectors, some, few, is) = grind (arith, nat_tests)
+
+bytes_again : (size : ℕ) (bytes : List ℕ) → length bytes ≡ size → bytes_on (disk_where size bytes) ≡ bytes
+bytes_again size bytes long =
+    elim (cases_Bool (size == 0)) [
+      | inl none ↦ rw none (sym (nil_from_length bytes (long ∙ eqb-true size 0 none)))
+      | inr some ↦ rw some refl
+    ]
+
+abbrev disk_spelled : Option (List ℕ) → List ℕ
+disk_spelled disk = counted_bytes (bytes_on disk)
+
+disk_format : IsFormat 67_108_868 disk_fields disk_spelled IsDisk
+unfolding disk_fields
+disk_format =
+    fields_format
+    (where_format wide32 is_fitted_size then λ size good.
+    last_field (disk_where size) (wider 67_108_864 (memory_format size) (omega (arith, size_most size good.1))))
+    (λ disk is. ((length (bytes_on disk), size_of_disk disk is) & (bytes_on disk, refl), disk_again disk is))
+    (λ t. (disk_from t.0 t.2.0 t.1.1 t.2.1, rw (bytes_again t.0 t.2.0 t.2.1, t.2.1) refl))
+
+-- ---- the whole
+
+pub setup_format : IsFormat 70_000_000 setup_fields setup_bytes IsSetup
+unfolding setup_fields
+setup_format =
+    wider 70_000_000 (fields_format
+    (within_format wide32 1 most_mib (omega arith) then λ mib good.
+    byte_within 0 8 (omega arith) then λ count few.
+    wider 80 (cards_format count most_card_memory) (omega (arith, few.1)) then λ cards are.
+    rom_format then λ rom is.
+    last_field (λ disk. record { mib = mib; cards = cards; rom = rom; disk = disk }) disk_format)
+    (λ setup is.
+    let cards = is.cards in (
+      (setup.mib, (is.some_memory, is.most_memory)) & (length setup.cards, (omega arith, cards.count))
+          & (setup.cards, (refl, cards.each, cards.rises, is.windows)) & (setup.rom, is.rom) & (setup.disk, is.disk),
+      refl,
+    ))
+    (λ t.
+    let cards = t.2.2.1 in
+    let few : length t.2.2.0 ≤ 8 = rw cards.0 t.2.1.1 in
+    (assumption (few, cards), rw cards.0 refl))) (omega arith)
+
+-- ---- what cards say that they are
+
+identity_format : IsFormat 15 identity_fields identity_bytes IsIdentity
+unfolding identity_fields first_bytes last_bytes
+identity_format =
+    fields_format
+    (any_byte then λ dev below.
+    any_number wide16 (omega arith) then λ vendor_id below.
+    any_number wide16 (omega arith) then λ device_id below.
+    any_byte then λ revision_id below.
+    any_number wide32 (omega arith) then λ class_code below.
+    any_number wide16 (omega arith) then λ subsystem_vendor_id below.
+    any_number wide16 (omega arith) then λ subsystem_id below.
+    last_field
+    (λ interrupt_pin. record {
+      dev = dev;
+      identity = record {
+        vendor_id = vendor_id;
+        device_id = device_id;
+        revision_id = revision_id;
+        class_code = class_code;
+        subsystem_vendor_id = subsystem_vendor_id;
+        subsystem_id = subsystem_id;
+        interrupt_pin = interrupt_pin;
+      };
+    })
+    any_byte)
+    (λ c is. (
+      (c.dev, is.dev) & (c.identity.vendor_id, is.vendor_id) & (c.identity.device_id, is.device_id)
+          & (c.identity.revision_id, is.revision_id) & (c.identity.class_code, is.class_code)
+          & (c.identity.subsystem_vendor_id, is.subsystem_vendor_id) & (c.identity.subsystem_id, is.subsystem_id)
+          & (c.identity.interrupt_pin, is.interrupt_pin),
+      refl,
+    ))
+    (λ t. (assumption, refl))
+
+-- ---- one after another
+
+abbrev pub one_identity : Unit {0} → Reading FittedIdentity
+one_identity before = identity_fields
+
+abbrev pub past_identity : Unit {0} → FittedIdentity → Unit {0}
+past_identity before card = before
+
+abbrev pub IsAfter : Unit {0} → FittedIdentity → Type 0
+IsAfter before card = IsIdentity card
+
+pub identities_loop : IsLoop one_identity past_identity some_identities
+unfolding some_identities
+identities_loop = record { none = λ before bytes. refl; more = λ before n bytes. refl }
+
+all_to : (cards : List FittedIdentity) (before : Unit {0}) → AllByRecursion IsIdentity cards →
+    AreGood past_identity IsAfter before cards
+all_to [] before all = tt
+all_to (card ∷ later) before all = (all.0, all_to later before all.1)
+
+all_from : (cards : List FittedIdentity) (before : Unit {0}) → AreGood past_identity IsAfter before cards →
+    AllByRecursion IsIdentity cards
+all_from [] before good = tt
+all_from (card ∷ later) before good = (good.0, all_from later before good.1)
+
+some_format : (count : ℕ) → count ≤ 8 → IsFormat 120 (some_identities tt count) (flat_map identity_bytes)
+    (λ cards. (length cards ≡ count) × All IsIdentity cards)
+some_format count few =
+    format_as 120 (flat_map identity_bytes) (λ cards. (length cards ≡ count) × All IsIdentity cards)
+    (many_format identities_loop (λ before. identity_format) tt count) (omega (arith, few))
+    (λ cards are. (are.0, all_to cards tt (recursion_from_All IsIdentity cards are.1)))
+    (λ cards good. (good.0, All-from_recursion IsIdentity cards (all_from cards tt good.1)))
+    (λ cards good. refl)
+
+pub identities_format : IsFormat 121 identities_fields identities_bytes AreIdentities
+unfolding identities_fields
+identities_format =
+    fields_format (byte_within 0 8 (omega arith) then λ count few. whole_field (some_format count few.1))
+    (λ cards are. ((length cards, (omega arith, are.few)) & (cards, (refl, are.each)), refl))
+    (λ t. (record { few = rw t.2.1.0 t.1.1; each = t.2.1.1 }, rw t.2.1.0 refl))
+
+-- ---- both
 
 only_version : (n : ℕ) → Ranges version version n → n ≡ version
 only_version n is = omega arith

@@ -1,4 +1,2 @@
-pub mod IdentityFormats
-pub mod SetupFormats
 pub mod FittedFormat
 pub mod Pushed

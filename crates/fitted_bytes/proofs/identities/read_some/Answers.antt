@@ -2,7 +2,7 @@ use Rattle.std.proofs.Common.{◌+◌, length, ap, ◌∙◌, arith}
 use Rattle.board_prelude.proofs.Common.{err_from_is_err_and, length_push}
 use Rattle.byte_fields.proofs.Loops.{goes_on, stops, is_done}
 use Rattle.fitted_bytes.specs.Identities.{some_identities}
-use Rattle.fitted_bytes.proofs.IdentityFormats.{one_identity, past_identity, identities_loop}
+use Rattle.fitted_bytes.proofs.FittedFormat.{one_identity, past_identity, identities_loop}
 use Rattle.fitted_bytes.proofs.identities.read_some.Goals as goal
 
 pub returns-in_err-read_identity : goal.returns-in_err-read_identity
