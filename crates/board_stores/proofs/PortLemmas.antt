@@ -10,10 +10,6 @@ use Rattle.board_base.specs.declared.access.Access.{Access}
 use Rattle.board_stores.specs.PortCycles.{as_wide, cycle_of, port_cycles, Follow, IsCycleOf, AreCyclesOf, AreBusCycles}
 use Rattle.board_stores.proofs.CutLemmas.{GoesOn, part_within, all_parts}
 
--- a part is aligned
-longest_aligned : (addr left : ℕ) → addr % bytes_of (longest_at addr left) ≡ 0
-longest_aligned addr left = grind (arith, nat_tests)
-
 -- no more parts than bytes are left, so they end where the bytes do
 follow_from : (access : PortAccess) (most addr left : ℕ) → left ≤ most → Follow addr (addr + left)
     (map (cycle_of access.write) (parts_from (as_wide access) most addr left))
@@ -46,19 +42,15 @@ each_from access (suc most) addr left =
           (All-cons (IsCycleOf access) (cycle_of access.write (part_at (as_wide access) addr width))
           (map (cycle_of access.write) (parts_from (as_wide access) most (addr + bytes_of width)
           (left - bytes_of width)))
-          (record { write = refl; aligned = longest_aligned addr left; value = refl })
+          (record { write = refl; aligned = grind (arith, nat_tests); value = refl })
           (each_from access most (addr + bytes_of width) (left - bytes_of width)))
     ]
 
-are_cycles : (access : PortAccess) → AreCyclesOf access (port_cycles access)
+pub are_cycles : (access : PortAccess) → AreCyclesOf access (port_cycles access)
 are_cycles access = record {
   covers = follow_from access 4 access.port (bytes_of access.width) (bytes_few access.width);
   each = each_from access 4 access.port (bytes_of access.width);
 }
-
-pub are_cycles_as : (access : PortAccess) (cycles : List PortAccess) → cycles ≡ port_cycles access →
-    AreCyclesOf access cycles
-are_cycles_as access cycles is = rw is (are_cycles access)
 
 -- where all parts were made they are those of the access
 pub whole : (access : PortAccess) (wide : WideAccess) (parts : List Access) (count done : ℕ)

@@ -1,32 +1,20 @@
 -- Bytes that are put into the stores one after the other.
-use Rattle.std.proofs.Common.{◌≡◌, ℕ, suc, ◌+◌, ◌<◌, List, [], ◌∷◌, length, get_or, drop, Option, None, inl, inr, refl}
-use Rattle.std.proofs.Common.{◌∙◌, ap, arith}
+use Rattle.std.proofs.Common.{◌≡◌, ℕ, suc, ◌+◌, ◌<◌, List, [], length, get_or, drop, Option, inl, inr, refl, ◌∙◌, ap}
+use Rattle.std.proofs.Common.{arith}
 use Rattle.board_prelude.proofs.Common.{drop-cons, nil_from_length, option_or, Width, Target, Rom, Card, Device, Config}
 use Rattle.board_prelude.proofs.Common.{Cell, DramCell, CardCell, memory_put, parts_put}
 use Rattle.pci_bars.specs.Contents.{held, held_byte}
-use Rattle.dram_store.proofs.DramLemmas.{HasPut, put_then as dram_then, later_first}
+use Rattle.dram_store.proofs.DramLemmas.{put_then as dram_then, later_first}
 use Rattle.board_stores.specs.declared.stores.Stores.{Stores}
 use Rattle.board_stores.specs.declared.cut.Cycle.{Cycle}
 use Rattle.board_stores.specs.Common.{IsHeld, ArePut, IsReady, accesses, answers}
-
-pub put_nothing : (stores : Stores) → ArePut (λ cell. None) stores stores
-put_nothing stores = record {
-  size = refl;
-  dram = λ at within. refl;
-  sizes = λ dev base. refl;
-  contents = λ dev base off number within. refl;
-}
-
-in_dram : (put : Cell → Option ℕ) (old new : Stores) → ArePut put old new →
-    HasPut (λ at. put (DramCell at)) old.dram new.dram
-in_dram put old new has = record { size = has.size; each = has.dram }
 
 -- bytes put after others stand over them
 pub put_then : (first later : Cell → Option ℕ) (old mid new : Stores) → ArePut first old mid → ArePut later mid new →
     ArePut (λ cell. option_or (later cell) (first cell)) old new
 put_then first later old mid new before after =
     let dram = dram_then (λ at. first (DramCell at)) (λ at. later (DramCell at)) old.dram mid.dram new.dram
-    (in_dram first old mid before) (in_dram later mid new after) in
+    (record { size = before.size; each = before.dram }) (record { size = after.size; each = after.dram }) in
     record {
       size = dram.size;
       dram = dram.each;
@@ -46,23 +34,22 @@ cycles_put cycles = parts_put (accesses cycles) (answers cycles)
 
 pub none_put : (stores : Stores) → ArePut (cycles_put []) stores stores
 unfolding parts_put
-none_put stores = put_nothing stores
-
--- a cycle and those after it
-pub put_next : (cycle : Cycle) (later : List Cycle) (old mid new : Stores) →
-    ArePut (memory_put cycle.access cycle.answer.target) old mid → ArePut (cycles_put later) mid new →
-    ArePut (cycles_put (cycle ∷ later)) old new
-unfolding parts_put
-put_next cycle later old mid new first rest =
-    put_then (memory_put cycle.access cycle.answer.target) (cycles_put later) old mid new first rest
+none_put stores = record {
+  size = refl;
+  dram = λ at within. refl;
+  sizes = λ dev base. refl;
+  contents = λ dev base off number within. refl;
+}
 
 pub put_at : (cycles : List Cycle) (i : ℕ) (d : Cycle) (old mid new : Stores) → i < length cycles →
     ArePut (memory_put (get_or cycles i d).access (get_or cycles i d).answer.target) old mid →
     ArePut (cycles_put (drop (i + 1) cycles)) mid new → ArePut (cycles_put (drop i cycles)) old new
+unfolding parts_put
 put_at cycles i d old mid new within first rest =
     let one : i + 1 ≡ suc i = omega arith in
     rw (drop-cons cycles i d within)
-    (put_next (get_or cycles i d) (drop (suc i) cycles) old mid new first (rw one at rest))
+    (put_then (memory_put (get_or cycles i d).access (get_or cycles i d).answer.target)
+    (cycles_put (drop (suc i) cycles)) old mid new first (rw one at rest))
 
 -- ---- the cycles that are left can still be done
 

@@ -3,7 +3,7 @@ use Rattle.board_prelude.proofs.Common.{map-append, length-append}
 use Rattle.board_stores.specs.declared.ports.PortCycle.{PortCycle}
 use Rattle.board_stores.specs.PortCycles.{cycle_of, port_accesses}
 use Rattle.board_stores.proofs.CutLemmas.{part_within, next_part, no_part}
-use Rattle.board_stores.proofs.PortLemmas.{whole, are_cycles_as, bus_cycles}
+use Rattle.board_stores.proofs.PortLemmas.{whole, bus_cycles, are_cycles}
 use Rattle.board_stores.proofs.ports.port_cycles.Goals.{then-done-wide, else-done-wide}
 use Rattle.board_stores.proofs.ports.port_cycles.Goals as goal
 
@@ -57,7 +57,7 @@ returns-clause-cycles c =
     (omega arith) c.loop.invariant.on
 
 pub returns-clause-covers : goal.returns-clause-covers
-returns-clause-covers c = are_cycles_as c.args.access.now (port_accesses c.loop.cycles.items) (returns-clause-cycles c)
+returns-clause-covers c = rw (returns-clause-cycles c) (are_cycles c.args.access.now)
 
 pub returns-clause-bus : goal.returns-clause-bus
 returns-clause-bus c = λ fits.
