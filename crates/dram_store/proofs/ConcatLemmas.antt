@@ -7,7 +7,6 @@ use Rattle.board_prelude.proofs.Common.{cases_eq, lt-ltb, nat_tests, Width, One,
 use Rattle.std.proofs.Math.ListN.{get_or}
 use Rattle.std.proofs.lemmas.List.{get_or_read}
 use Rattle.std.proofs.lemmas.List.Elements.{All-set}
-use Rattle.board_base.specs.declared.access.Width.TheVariants.{Two, Four}
 use Rattle.dram_store.specs.Common.{bank_size, IsBank, IsZero, IsPut, dram_at, IsWritten}
 
 -- the bank of an address, empty past the last, and the banks with another in its place
@@ -121,19 +120,11 @@ byte_at banks addr at place each inside here is =
 pub read_here : (banks : List (List ℕ)) (addr : ℕ) (width : Width) → All IsBank banks →
     addr / bank_size < length banks → addr % bytes_of width ≡ 0 → wide (slice_index (bank_at banks addr))
     (addr % bank_size) width ≡ wide (λ at. dram_at (concat banks) at) addr width
-read_here banks addr One each inside aligned = byte_at banks addr addr (addr % bank_size) each inside refl refl
-read_here banks addr Two each inside aligned =
-    rw (
-      byte_at banks addr addr (addr % bank_size) each inside refl refl,
-      byte_at banks addr (addr + 1) (addr % bank_size + 1) each inside (omega arith) (omega arith),
-    ) refl
-read_here banks addr Four each inside aligned =
-    rw (
-      byte_at banks addr addr (addr % bank_size) each inside refl refl,
-      byte_at banks addr (addr + 1) (addr % bank_size + 1) each inside (omega arith) (omega arith),
-      byte_at banks addr (addr + 2) (addr % bank_size + 2) each inside (omega arith) (omega arith),
-      byte_at banks addr (addr + 3) (addr % bank_size + 3) each inside (omega arith) (omega arith),
-    ) refl
+read_here banks addr width each inside aligned =
+    let fits = aligned_fits addr width aligned in
+    let byte = λ (k : ℕ) (few : k < bytes_of width).
+    byte_at banks addr (addr + k) (addr % bank_size + k) each inside (omega arith) (omega arith) in
+    grind (arith, byte_at banks addr addr (addr % bank_size) each inside refl refl, byte 1, byte 2, byte 3)
 
 -- ---- banks of zeros
 

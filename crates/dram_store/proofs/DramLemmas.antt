@@ -1,9 +1,9 @@
 -- The DRAM after a history, and after one entry more.
-use Rattle.std.proofs.Common.{◌≡◌, ℕ, ◌+◌, ◌-◌, ◌<◌, ◌≤◌, ◌&&◌, List, [], ◌∷◌, length, Option, Some, None, ◌∙◌, refl}
-use Rattle.std.proofs.Common.{ap, arith, slice_index, nat_le, nat_lt, if◌then◌else◌, replicate, unwrap_or}
+use Rattle.std.proofs.Common.{◌≡◌, ℕ, ◌+◌, ◌<◌, List, [], ◌∷◌, length, Option, Some, None, ◌∙◌, refl, ap, arith}
+use Rattle.std.proofs.Common.{slice_index, replicate, unwrap_or}
 use Rattle.board_prelude.proofs.Common.{option_or, length-replicate, get_or-replicate, nat_tests, Width, Dram, bytes_of}
-use Rattle.board_prelude.proofs.Common.{largest_of, Entry, Setup, installed, byte, wide, DramCell, stored_of, byte_put}
-use Rattle.board_prelude.proofs.Common.{entry_put, dram_byte}
+use Rattle.board_prelude.proofs.Common.{Entry, Setup, installed, byte, wide, DramCell, stored_of, byte_put, entry_put}
+use Rattle.board_prelude.proofs.Common.{dram_byte}
 use Rattle.dram_store.specs.Dram.{dram_at, IsDramOf, IsWritten}
 
 pub fresh : (setup : Setup) (dram : List ℕ) → dram ≡ replicate (installed setup) 0 → IsDramOf setup [] dram
@@ -39,15 +39,6 @@ put_then first later old mid new before after = record {
       ∙ rw (before.each at within) (later_first (later at) (first at) (slice_index old at));
 }
 
--- a byte of the DRAM that is written, or is not
-put_cell :
-    (old new : List ℕ) (addr : ℕ) (width : Width) (value at : ℕ) → at < length old → at < length new →
-    dram_at new at
-    ≡ (if nat_le addr at && nat_lt at (addr + bytes_of width) && nat_lt at (length old) then byte value (at - addr) else
-    dram_at old at) →
-    slice_index new at ≡ unwrap_or (byte_put (Dram 0) addr width value (DramCell at)) (slice_index old at)
-put_cell old new addr width value at before within is = grind (arith, nat_tests)
-
 -- ---- one entry more
 
 pub stored : (setup : Setup) (history : List Entry) (entry : Entry) (old : List ℕ) (addr : ℕ) (width : Width)
@@ -59,8 +50,8 @@ unfolding stored_of
 stored setup history entry old addr width value new is_written same kept put = record {
   size = same ∙ kept.size;
   each = λ at within.
-      rw (put at, ← kept.each at (omega arith))
-      (put_cell old new addr width value at (omega arith) within (is_written at));
+      let before : at < length old = omega arith in
+      rw (put at, ← kept.each at before) (grind (arith, nat_tests, is_written at));
 }
 
 -- ---- values that are read
@@ -79,7 +70,3 @@ pub read_stored :
 read_stored setup history dram addr width is =
     let each = λ (at : ℕ). at_stored setup history dram at is in
     grind (arith, each addr, each (addr + 1), each (addr + 2), each (addr + 3))
-
-pub read_past : (dram : List ℕ) (addr : ℕ) (width : Width) → length dram ≤ addr →
-    largest_of width ≡ wide (λ at. dram_at dram at) addr width
-read_past dram addr _ past = grind (arith, nat_tests)

@@ -1,8 +1,7 @@
 -- The bytes of a DRAM are spelled bank by bank, and read back.
 use Rattle.std.proofs.Common.{◌≡◌, ℕ, ◌+◌, ◌-◌, ◌*◌, ◌/◌, ◌%◌, ◌≤◌, ◌<◌, List, [], ◌∷◌, ◌++◌, length, drop, get_or}
-use Rattle.std.proofs.Common.{replicate, Result, Ok, Err, refl, sym, ap, ◌∙◌, append_assoc, arith, All}
+use Rattle.std.proofs.Common.{replicate, Result, Ok, refl, sym, ap, ◌∙◌, append_assoc, arith, All}
 use Rattle.board_prelude.proofs.Common.{concat, append-nil, length-append, length-replicate, All-get_or, drop_more}
-use Rattle.board_prelude.proofs.Common.{drop_all}
 use Rattle.std.proofs.lemmas.List.{replicate-append-replicate}
 use Rattle.std.proofs.lemmas.List.Folds.{concat-append}
 use Rattle.byte_fields.specs.declared.fault.Fault.{Fault}
@@ -12,7 +11,7 @@ use Rattle.byte_fields.specs.Pages.{page_field, memory_page, memory_bytes, memor
 use Rattle.byte_fields.proofs.Formats.{IsFormat}
 use Rattle.byte_fields.proofs.Loops.{with_front}
 use Rattle.byte_fields.proofs.PageFormats.{memory_format, memory_append, memory_zeros, memory_then, then_more, joined}
-use Rattle.byte_fields.proofs.PageFormats.{zeros_go_on, zeros_stop, zeros_end}
+use Rattle.byte_fields.proofs.PageFormats.{zeros_go_on, zeros_end}
 use Rattle.dram_store.specs.Bank.{IsBank, bank_of, bank_size}
 use Rattle.dram_store.specs.State.{HasMib, dram_bytes, dram_fields}
 
@@ -85,11 +84,6 @@ module _ (kept bytes : List ℕ) (number : ℕ) (total : Result (List ℕ × Lis
       )
       (read_on (replicate memory_page 0) after before within read)
 
-  pub page_bad : (left : ℕ) → number < 256 → page_field (replicate memory_page 0) bytes ≡ Err left → total ≡ Err left
-  page_bad left within read =
-      zeros_stop memory_page (bank_size - number * memory_page) (front_at kept (number * memory_page)) bytes left total
-      (omega arith) (omega arith) so_far read
-
   pub pages_done : number ≡ 256 → total ≡ Ok (bank_of kept, bytes)
   pages_done all =
       let at : number * memory_page ≡ bank_size = omega arith in
@@ -98,9 +92,6 @@ module _ (kept bytes : List ℕ) (number : ℕ) (total : Result (List ℕ × Lis
       ∙ rw at refl
 
 -- ---- the banks of a DRAM
-
-concat_push : (banks : List (List ℕ)) (bank : List ℕ) → concat (banks ++ bank ∷ []) ≡ concat banks ++ bank
-concat_push banks bank = concat-append banks (bank ∷ []) ∙ rw (append-nil bank) refl
 
 abbrev pub AreRead : (mib counter : ℕ) → (banks : List (List ℕ)) → (bytes : List ℕ) → Result (List ℕ × List ℕ) ℕ →
     Type 0
@@ -119,7 +110,7 @@ module _ (mib counter : ℕ) (banks : List (List ℕ)) (bytes : List ℕ) (total
   pub bank_read : (bank after : List ℕ) → counter < mib → memory_fields bank_size bytes ≡ Ok (bank, after) →
       AreRead mib (counter + 1) (banks ++ bank ∷ []) after total
   bank_read bank after below read =
-      rw (concat_push banks bank)
+      rw (concat-append banks (bank ∷ []), append-nil bank)
       (sym (joined (concat banks) bank (memory_fields ((mib - (counter + 1)) * bank_size) after))
       ∙ rw read at (bank_first below))
 
@@ -140,8 +131,3 @@ bank_added banks i bank into new total each below is so_far added =
     let whole : length bank ≡ 256 * memory_page = rw is at (All-get_or IsBank banks i [] below each) in
     rw (added, append_assoc into (memory_bytes bank) (memory_bytes rest), ← memory_append 256 bank rest whole)
     (rw (drop_more banks i [] below, is) at so_far)
-
-pub banks_added : (banks : List (List ℕ)) (i : ℕ) (into total : List ℕ) → length banks ≤ i →
-    into ++ memory_bytes (concat (drop i banks)) ≡ total → into ≡ total
-banks_added banks i into total over so_far =
-    sym (append-nil into) ∙ rw (drop_all i banks over, memory_zeros 0) at so_far

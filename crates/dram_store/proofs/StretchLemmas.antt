@@ -1,11 +1,11 @@
 -- Stretches of bytes that are copied out of the DRAM and into it.
-use Rattle.std.proofs.Common.{◌≡◌, ℕ, ◌+◌, ◌-◌, ◌*◌, ◌/◌, ◌%◌, ◌^◌, ◌<◌, ◌≤◌, List, ◌++◌, length, take, drop, replicate}
+use Rattle.std.proofs.Common.{◌≡◌, ℕ, ◌+◌, ◌-◌, ◌*◌, ◌/◌, ◌%◌, ◌<◌, ◌≤◌, List, ◌++◌, length, take, drop, replicate}
 use Rattle.std.proofs.Common.{◌∙◌, refl, ap, arith, length-append, length-take-le, length-drop, slice_index, min, All}
 use Rattle.board_base.proofs.ZeroLemmas.{zero_at}
 use Rattle.board_prelude.proofs.Common.{concat, length-replicate, get_or_append_left, get_or_past, get_or-take}
 use Rattle.board_prelude.proofs.Common.{get_or-drop, get_or-replicate, nat_tests}
 use Rattle.std.proofs.Math.Seq.{of_parts}
-use Rattle.dram_store.specs.Common.{bank_size, bank_of, page_end, IsBank, IsPut, dram_at, IsWritten}
+use Rattle.dram_store.specs.Common.{bank_size, bank_of, page_end, IsBank, IsPut, dram_at}
 use Rattle.dram_store.proofs.BankLemmas.{same_byte}
 use Rattle.dram_store.proofs.ConcatLemmas.{bank_at, bank_byte, byte_at}
 
@@ -95,17 +95,3 @@ pub past_read : (dram front rest : List ℕ) (at count k : ℕ) → length dram 
     k < count → slice_index (front ++ rest) k ≡ dram_at dram (at + k)
 past_read dram front rest at count k past front_is within =
     rw front_is (grind (arith, nat_tests, of_parts, get_or-replicate, length-replicate {A = ℕ}))
-
--- an address that does not fit is past the end, as its saturated sum is
-pub same_place : (dram : List ℕ) (addr done at k : ℕ) → length dram < 2 ^ 64 - 1 → at ≡ min (addr + done) (2 ^ 64 - 1) →
-    dram_at dram (at + k) ≡ dram_at dram (addr + (done + k))
-same_place dram addr done at k few is = grind (arith, nat_tests)
-
--- bytes that were written after others
-pub written_more : (old mid new bytes : List ℕ) (addr done more at : ℕ) → length old < 2 ^ 64 - 1 →
-    length mid ≡ length old → at ≡ min (addr + done) (2 ^ 64 - 1) → IsWritten old addr done (slice_index bytes) mid →
-    IsWritten mid at more (slice_index (drop done bytes)) new → IsWritten old addr (done + more) (slice_index bytes) new
-written_more old mid new bytes addr done more at few same is before after x =
-    let first = before x in
-    let later = after x in
-    grind (arith, nat_tests, get_or-drop)

@@ -1,15 +1,18 @@
-use Rattle.std.proofs.Common.{◌≡◌, ◌*◌, length, arith}
+use Rattle.std.proofs.Common.{◌≡◌, ◌*◌, length, arith, ◌-◌}
 use Rattle.board_prelude.proofs.Common.{err_from_is_err_and}
 use Rattle.byte_fields.specs.Pages.{memory_page}
-use Rattle.dram_store.proofs.StateFormats.{page_bad, kept_length, page_kept, page_skipped, pages_done}
+use Rattle.dram_store.proofs.StateFormats.{kept_length, page_kept, page_skipped, pages_done, front_at}
 use Rattle.dram_store.proofs.bank.read_kept.Goals as goal
 use Rattle.dram_store.proofs.bank.read_kept.Goals.{in-Some, in_default}
+use Rattle.dram_store.specs.Bank.{bank_size}
+use Rattle.byte_fields.proofs.PageFormats.{zeros_stop}
 
 pub returns-in_err-bytes-clause-took : goal.returns-in_err-bytes-clause-took
 returns-in_err-bytes-clause-took c =
     let p = err_from_is_err_and c.from_residual.result c.from_residual.ensures.1 in
-    rw p.1 (page_bad c.loop-page.kept.items _ c.loop-page.page _ c.loop-page.invariant.read _ c.loop-page-test.true
-    c.in_err-bytes.ensures.took)
+    rw p.1 (zeros_stop memory_page (bank_size - c.loop-page.page * memory_page)
+    (front_at c.loop-page.kept.items (c.loop-page.page * memory_page)) _ _ _ (omega arith) (omega arith)
+    c.loop-page.invariant.read c.in_err-bytes.ensures.took)
 
 pub loop-page-preserved : goal.loop-page-preserved
 loop-page-preserved c =

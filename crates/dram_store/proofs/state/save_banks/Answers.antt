@@ -1,6 +1,8 @@
-use Rattle.std.proofs.Common.{[], sym}
+use Rattle.std.proofs.Common.{[], sym, ◌∙◌}
 use Rattle.std.proofs.lemmas.List.{get_or_read}
-use Rattle.dram_store.proofs.StateFormats.{bank_added, banks_added}
+use Rattle.dram_store.proofs.StateFormats.{bank_added}
+use Rattle.board_prelude.proofs.Common.{drop_all, append-nil}
+use Rattle.byte_fields.proofs.PageFormats.{memory_zeros}
 use Rattle.dram_store.proofs.state.save_banks.Goals as goal
 
 pub loop-bank-preserved : goal.loop-bank-preserved
@@ -11,5 +13,7 @@ loop-bank-preserved c =
 
 pub returns : goal.returns
 returns c = record {
-  saved = banks_added c.args.banks.now c.loop-bank.bank-index _ _ c.loop-bank-test.false c.loop-bank.invariant;
+  saved = sym (append-nil _) ∙
+      rw (drop_all c.loop-bank.bank-index c.args.banks.now c.loop-bank-test.false, memory_zeros 0)
+      at c.loop-bank.invariant;
 }

@@ -1,8 +1,8 @@
-use Rattle.std.proofs.Common.{◌≡◌, [], ◌∙◌}
-use Rattle.board_prelude.proofs.Common.{wide}
+use Rattle.std.proofs.Common.{◌≡◌, [], ◌∙◌, arith}
+use Rattle.board_prelude.proofs.Common.{wide, nat_tests}
 use Rattle.dram_store.specs.Dram.{dram_at}
 use Rattle.dram_store.proofs.ConcatLemmas.{past_banks, read_here}
-use Rattle.dram_store.proofs.DramLemmas.{read_stored, read_past}
+use Rattle.dram_store.proofs.DramLemmas.{read_stored}
 use Rattle.dram_store.proofs.dram.Dram.read.Goals as goal
 
 pub returns-in-Some : goal.returns-in-Some
@@ -22,7 +22,7 @@ returns-in-None c =
     let past = past_banks c.self.inside.banks.items c.args.addr c.self.invariant.each
     (rw c.deref.ensures.value at c.in-None.ensures.lookup.3) in
     let value : c.largest.result ≡ wide (λ at. dram_at c.args.self.now at) c.args.addr c.args.width =
-    rw (← c.self.view_is) (c.largest.ensures.largest ∙ read_past _ c.args.addr c.args.width past) in
+    rw (← c.self.view_is) (c.largest.ensures.largest ∙ (grind (arith, nat_tests))) in
     record {
       value = value;
       stored = λ setup history is. value ∙ read_stored setup history c.args.self.now c.args.addr c.args.width is;
