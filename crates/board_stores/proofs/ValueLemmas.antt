@@ -5,7 +5,6 @@ use Rattle.board_prelude.proofs.Common.{cases_Bool, Width, One, Target, Rom, Car
 use Rattle.board_prelude.proofs.Common.{Event, Reply, Part, Entry, Setup, wide, Cell, DramCell, CardCell, is_write}
 use Rattle.board_prelude.proofs.Common.{byte_put, memory_put, parts_put, entry_put, stored_of, dram_byte, card_byte}
 use Rattle.board_prelude.proofs.Common.{value_at, nat_tests}
-use Rattle.board_base.specs.declared.access.Width.TheVariants.{Two, Four}
 use Rattle.board_base.specs.declared.access.Access.{Access}
 use Rattle.board_stores.specs.Targets.{IsHeld}
 
@@ -60,8 +59,7 @@ value_below setup history rom contents (Card dev base off) place width image byt
     wide_below (λ at. card_byte setup history dev base at) off width
     (λ off. grind (arith, nat_tests, cases_Bool, stored_below history (CardCell dev base off)))
 value_below setup history rom contents Abort place One image bytes is = omega arith
-value_below setup history rom contents Abort place Two image bytes is = omega arith
-value_below setup history rom contents Abort place Four image bytes is = omega arith
+value_below setup history rom contents Abort place _ image bytes is = omega arith
 value_below setup history rom contents (Device dev) place width image bytes is = absurd is
 value_below setup history rom contents (Config reg) place width image bytes is = absurd is
 value_below setup history rom contents _ place width image bytes is =

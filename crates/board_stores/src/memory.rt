@@ -48,6 +48,7 @@ pub fn target_in(map: &MapRegs, rom: &[u8], area: Area, addr: u32) -> Target
 }
 
 /// The value that a read gives, by what it reaches.
+#[tactic(auto, using(std::proofs::lemmas::Bool::Decides::nat_tests))]
 #[inline(always)]
 pub fn read(stores: &Stores, rom: &[u8], access: &Access, answer: &Part) -> u32
     requires ready { IsReady rom.now stores.now.contents access.now answer.now }
