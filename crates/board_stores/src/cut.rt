@@ -41,6 +41,7 @@ impl Default for Cycle {
 }
 
 /// The cycles of a wide access, two to four, in rising order of address.
+#[tactic(auto, using(crate::proofs::CutLemmas::all_parts))]
 pub fn cycles_of(regs: &MapRegs, rom: &[u8], access: &WideAccess) -> ArrayVec<Cycle, MOST_CYCLES>
     requires wide { IsWideAccess access.now }
     requires cards { AreFitted regs.now.cards.items }
@@ -65,6 +66,7 @@ pub fn cycles_of(regs: &MapRegs, rom: &[u8], access: &WideAccess) -> ArrayVec<Cy
 }
 
 /// The part that begins `done` bytes after the first.
+#[tactic(auto, using(crate::proofs::CutLemmas::part_cut))]
 pub(crate) fn part_at(access: &WideAccess, done: u8) -> Access
     requires inside { done < access.now.bytes }
     requires bytes { access.now.bytes ≤ 8 }

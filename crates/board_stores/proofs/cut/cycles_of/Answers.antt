@@ -2,7 +2,7 @@ use Rattle.std.proofs.Common.{◌≡◌, ◌+◌, ◌-◌, ◌++◌, [], ◌∷�
 use Rattle.board_prelude.proofs.Common.{map-append, length-append}
 use Rattle.board_stores.specs.declared.cut.Cycle.{Cycle}
 use Rattle.board_stores.specs.Common.{accesses}
-use Rattle.board_stores.proofs.CutLemmas.{part_within, next_part, no_part, all_parts, all_decoded}
+use Rattle.board_stores.proofs.CutLemmas.{part_within, next_part, no_part, all_decoded}
 use Rattle.board_stores.proofs.cut.cycles_of.Goals.{then-done-access, else-done-access}
 use Rattle.board_stores.proofs.cut.cycles_of.Goals as goal
 
@@ -42,12 +42,3 @@ loop-preserved c =
                 rw w.cycles-is (c.loop.invariant.decoded setup bytes stands image);
           }
     ]
-
-pub returns-clause-parts : goal.returns-clause-parts
-returns-clause-parts c =
-    all_parts c.args.access.now (accesses c.loop.cycles.items) c.loop.counter c.loop.done (omega arith)
-    c.loop.invariant.parts
-
-pub returns-clause-decoded : goal.returns-clause-decoded
-returns-clause-decoded c = λ setup bytes stands image.
-    rw (returns-clause-parts c) at (c.loop.invariant.decoded setup bytes stands image)
