@@ -1,6 +1,6 @@
 -- Stretches of bytes that are copied out of the DRAM and into it.
-use Rattle.std.proofs.Common.{◌≡◌, ℕ, ◌+◌, ◌-◌, ◌*◌, ◌/◌, ◌%◌, ◌<◌, ◌≤◌, List, ◌++◌, length, take, drop, replicate}
-use Rattle.std.proofs.Common.{◌∙◌, refl, ap, arith, length-append, length-take-le, length-drop, slice_index, min, All}
+use Rattle.std.proofs.Common.{◌≡◌, ℕ, ◌+◌, ◌-◌, ◌*◌, ◌/◌, ◌%◌, ◌<◌, ◌≤◌, List, ◌++◌, length, take, drop, replicate, ◌∙◌}
+use Rattle.std.proofs.Common.{refl, ap, arith, length-append, length-take-le, length-drop, slice_index, min, All}
 use Rattle.board_base.proofs.ZeroLemmas.{zero_at}
 use Rattle.board_prelude.proofs.Common.{concat, length-replicate, get_or_append_left, get_or_past, get_or-take}
 use Rattle.board_prelude.proofs.Common.{get_or-drop, get_or-replicate, nat_tests}
@@ -11,18 +11,13 @@ use Rattle.dram_store.proofs.ConcatLemmas.{bank_at, bank_byte, byte_at}
 
 -- ---- in a bank
 
--- a list whose middle is replaced
-pub put_at : (old new : List ℕ) (from : ℕ) → from + length new ≤ length old →
-    IsPut old from (length new) (slice_index new) (take from old ++ (new ++ drop (length new) (drop from old)))
-put_at old new from fits at = grind (arith, nat_tests, of_parts, get_or-drop, length-take-le)
-
--- the same of a stretch that was copied into it
+-- a list whose middle is replaced by a stretch that was copied into it
 pub stretch_put : (old bytes copied : List ℕ) (from : ℕ) → from + length bytes ≤ length old → copied ≡ bytes →
     IsPut old from (length bytes) (slice_index bytes)
     (take from old ++ (copied ++ drop (from + length bytes - from) (drop from old)))
 stretch_put old bytes copied from fits is =
     let size : from + length bytes - from ≡ length bytes = omega arith in
-    rw (size, is) (put_at old bytes from fits)
+    rw (size, is) (λ at. grind (arith, nat_tests, of_parts, get_or-drop, length-take-le))
 
 pub length_same : (old bytes copied : List ℕ) (from : ℕ) → from + length bytes ≤ length old → copied ≡ bytes →
     length (take from old ++ (copied ++ drop (from + length bytes - from) (drop from old))) ≡ length old
