@@ -227,8 +227,7 @@ no_low_spec (card ∷ later) dev low each =
 
 pub no_low_card : (setup : Setup) (cards : List CardBytes) (dev : ℕ) → dev < 2 → AreCards cards →
     setup.cards ≡ cards_of cards → is_some (card_at setup dev) ≡ false
-no_low_card setup cards dev low each same =
-    rw same (no_low_spec (cards_of cards) dev low (All-map IsCard card_of cards each))
+no_low_card setup cards dev low each same = rw same (no_low_spec _ _ low (All-map IsCard card_of cards each))
 
 pub no_low_fitted : (setup : Setup) (dev : ℕ) → dev < 2 → IsCardList setup.cards → is_some (card_at setup dev) ≡ false
 no_low_fitted setup dev low list = no_low_spec setup.cards dev low list.each

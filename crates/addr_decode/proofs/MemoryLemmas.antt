@@ -60,11 +60,10 @@ module _ (setup : Setup) (bytes : Bytes) (addr : ℕ) where
         None ≡ denial_of setup bytes addr kind smm
     unfolding denial_of
     dram_undenied area is =
-        rw (← either_answers (Some area) (beside_dram setup bytes addr) is refl)
-        (rw (← is) at (undenied (row_of bytes addr) (is_smram_open bytes kind smm) (is_shadowed bytes addr kind)
-        (is_in_hole bytes addr) addr kind
-        (abort_denial (top_of bytes) (memory_shut setup bytes addr) (rom_unselected setup bytes addr) addr)
-        (rom_denial (bytes select_register))))
+        rw (← either_answers _ _ is refl) (rw (← is)
+        at (undenied (row_of bytes addr) (is_smram_open bytes kind smm) (is_shadowed bytes addr kind)
+        (is_in_hole bytes addr) addr kind (abort_denial (top_of bytes) (memory_shut setup bytes addr)
+        (rom_unselected setup bytes addr) addr) (rom_denial (bytes select_register))))
 
     -- at an address of a shadow window
     pub shadow_answers : (row : ℕ) (open' : Bool) (beside : Area) → is_shadow_range addr ≡ true →

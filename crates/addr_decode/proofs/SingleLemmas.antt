@@ -82,8 +82,7 @@ single_told : (reg : Reg) → is_single reg ≡ true → IsSingle reg
 single_told reg is = grind (arith, nat_tests)
 
 pub single_is : (k : ℕ) → k < single_count → IsSingle (single k)
-single_is k below =
-    single_told (single k) (each_below (λ k. is_single (single k) ≡ true) single_count k (search rules) below)
+single_is k below = single_told _ (each_below (λ k. is_single (single k) ≡ true) _ k (search rules) below)
 
 not_one : (at reg : Reg) → Differs at reg → reg ≢ at
 not_one at reg apart same = grind (arith, nat_tests)

@@ -90,14 +90,14 @@ module _ (setup : Setup) (bytes : Bytes) (regs : MapBytes) (stands : StandsFor s
         StandsFor setup (stored setup bytes (single number) written)
         (record regs { singles = set regs.singles number after })
     single_stored number after all within is =
-        let place = single_is number within in
+        let place = single_is _ within in
         record {
           rows = λ row below.
-              stays (single number) (drb row) _ (stands.rows row below)
-              (differs_back (drb row) (single number) (place.apart (0x60 + row) (omega arith) (omega arith)));
+              stays _ _ _ (stands.rows row below)
+              (differs_back _ _ (place.apart (0x60 + row) (omega arith) (omega arith)));
           windows = λ off inside.
-              stays (single number) (bridge off) _ (stands.windows off inside)
-              (differs_back (bridge off) (single number) (place.apart off inside.0 (omega (arith, inside.1))));
+              stays _ _ _ (stands.windows off inside)
+              (differs_back _ _ (place.apart off inside.0 (omega (arith, inside.1))));
           singles = λ k below.
               elim (cases_eq k number) [
                 | inl same ↦
@@ -105,8 +105,7 @@ module _ (setup : Setup) (bytes : Bytes) (regs : MapBytes) (stands : StandsFor s
                     is
                 | inr apart ↦
                     get_or-set_other regs.singles number k after 0 apart
-                    ∙ stays (single number) (single k) _ (stands.singles k below)
-                    (singles_apart number k within below (λ e. apart (sym e)))
+                    ∙ stays _ _ _ (stands.singles k below) (singles_apart _ k within below (λ e. apart (sym e)))
               ];
           cards = cards_stay (single number) place.low;
         }
@@ -197,8 +196,7 @@ module _ (setup : Setup) (bytes : Bytes) (at : Reg) (width : Width) (value count
       windows = λ off within. stands.windows off within ∙ sym (whole (bridge off));
       singles = λ k below. stands.singles k below ∙ sym (whole (single k));
       cards =
-          cards_agree (of_decoded setup) _ regs.cards stands.cards _ fitted.each
-          (λ dev off _. whole (card_register dev off));
+          cards_agree (of_decoded setup) _ _ stands.cards _ fitted.each (λ dev off _. whole (card_register dev off));
     }
 
     pub all_cards_stored : (cards : List CardBytes) → AreCards cards →

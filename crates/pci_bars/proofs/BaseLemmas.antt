@@ -52,8 +52,7 @@ is_base bases k base each there =
 -- the base that is found at a place
 pub found_base : (bases : List Base) (k : ℕ) {found : Option BaseSpec} {base : BaseSpec} → All IsBase bases →
     option_map base_of found ≡ slice_get bases k → found ≡ Some base → IsBase (base_of base)
-found_base bases k {found} {base} each is some =
-    is_base bases k (base_of base) each (sym is ∙ ap (option_map base_of) some)
+found_base bases k {found} {base} each is some = is_base _ k _ each (sym is ∙ ap (option_map base_of) some)
 
 pub base_within : (bases : List BaseSpec) (k : ℕ) (d : BaseSpec) → All IsBase (map base_of bases) → k < length bases →
     IsBase (base_of (get_or bases k d))

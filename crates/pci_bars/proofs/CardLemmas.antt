@@ -170,9 +170,7 @@ module _ (setup : Setup) (bytes : Bytes) (card : FittedCard) (off written : ℕ)
   -- a doubleword where the byte is stored elsewhere
   long-apart : (from value : ℕ) → IsOffLong from off → HoldsLong bytes (card_register card.dev from) value →
       HoldsLong (stored setup bytes card.dev off written) (card_register card.dev from) value
-  long-apart from value outside is =
-      holds-same bytes (stored setup bytes card.dev off written) (card_register card.dev from) value
-      (λ j below. stored-other (from + j) (λ e. grind arith)) is
+  long-apart from value outside is = holds-same _ _ _ _ (λ j below. stored-other _ (λ e. grind arith)) is
 
   rom-apart : (value : ℕ) → IsOffLong 0x30 off → (rom : Option ℕ) → HoldsRom bytes card.dev value rom →
       HoldsRom (stored setup bytes card.dev off written) card.dev value rom
@@ -196,13 +194,12 @@ module _ (setup : Setup) (bytes : Bytes) (card : FittedCard) (off written : ℕ)
         IsByteWrite mask old lane written new → HoldsLong bytes (card_register card.dev from) old →
         HoldsLong (stored setup bytes card.dev off written) (card_register card.dev from) new
     long-stored from lane mask old new place in_table write is =
-        long_of (stored setup bytes card.dev off written) card.dev from new write.fits
-        (λ j j_below. elim (cases_eq j lane) [
+        long_of _ _ _ _ write.fits (λ j j_below. elim (cases_eq j lane) [
           | inl same ↦
               rw (same, ← place)
               (stored-same ∙ rw (place, in_table, is.each lane write.in_long) (sym write.here))
           | inr apart ↦
-              stored-other (from + j) (λ e. apart (omega arith))
+              stored-other _ (λ e. apart (omega arith))
               ∙ is.each j j_below
               ∙ sym (write.others j j_below apart)
         ])
@@ -216,8 +213,7 @@ module _ (card : CardBytes) (off written : ℕ) (setup : Setup) (bytes : Bytes) 
 
   base-stays : (k : ℕ) → k < 6 → IsOffLong (0x10 + 4 * k) off → HoldsLong (stored setup bytes card.card.dev off written)
       (base_register card.card.dev k) (slice_index card.bases k)
-  base-stays k below apart =
-      long-apart setup bytes card.card off written (0x10 + 4 * k) (slice_index card.bases k) apart (is.bases k below)
+  base-stays k below apart = long-apart setup _ card.card _ written _ _ apart (is.bases k below)
 
   rom-stays : IsOffLong 0x30 off →
       HoldsRom (stored setup bytes card.card.dev off written) card.card.dev card.rom card.card.rom
@@ -297,21 +293,19 @@ module _ (card : CardBytes) (off written : ℕ) (fit : IsCard card.card) (below 
       AreWritten card (record card { bases = set card.bases index new }) off written
   base-written index lane new six in_range place write =
       let in_long = write.in_long in
-      card-stored (record card { bases = set card.bases index new }) (λ e. omega arith) refl refl (λ _ none. none)
-      (λ setup bytes is. record {
+      card-stored _ (λ e. omega arith) refl refl (λ _ none. none) (λ setup bytes is. record {
         fitted = is.fitted;
-        command = command-stays card off written setup bytes is (λ e. omega arith);
+        command = command-stays _ _ written _ _ is (λ e. omega arith);
         bases = λ k k_below. elim (cases_eq k index) [
           | inl same ↦
               rw (same, get_or-set_same card.bases index new 0 (omega arith))
-              (long-stored setup bytes card.card off written fit below is.fitted (0x10 + 4 * index) lane _ _ new place
-              (in_bases (λ entry. entry.writable) card.card base_writable index lane refl in_range in_long) write
-              (is.bases index in_range))
+              (long-stored _ _ _ _ _ fit below is.fitted _ _ _ _ _ place
+              (in_bases (λ entry. entry.writable) _ _ _ _ refl in_range in_long) write (is.bases index in_range))
           | inr apart ↦
               rw (get_or-set_other card.bases index k new 0 apart)
-              (base-stays card off written setup bytes is k k_below (grind arith))
+              (base-stays _ _ written _ _ is k k_below (grind arith))
         ];
-        rom = rom-stays card off written setup bytes is (inl (omega arith));
+        rom = rom-stays _ _ written _ _ is (inl (omega arith));
       })
 
   pub rom-written : (lane new : ℕ) → off ≡ 0x30 + lane →
@@ -319,12 +313,11 @@ module _ (card : CardBytes) (off written : ℕ) (fit : IsCard card.card) (below 
       AreWritten card (record card { rom = new }) off written
   rom-written lane new place write =
       let in_long = write.in_long in
-      card-stored (record card { rom = new }) (λ e. omega arith) refl refl
-      (λ none zero. none_written lane written new (rw (zero, none) at write))
+      card-stored _ (λ e. omega arith) refl refl (λ none zero. none_written _ _ _ (rw (zero, none) at write))
       (λ setup bytes is. record {
         fitted = is.fitted;
-        command = command-stays card off written setup bytes is (λ e. omega arith);
-        bases = λ k k_below. base-stays card off written setup bytes is k k_below (inr (omega arith));
+        command = command-stays _ _ written _ _ is (λ e. omega arith);
+        bases = λ k k_below. base-stays _ _ written _ _ is k k_below (inr (omega arith));
         rom = rom_held setup bytes is.fitted card.card.rom is.rom;
       })
     where
@@ -333,8 +326,8 @@ module _ (card : CardBytes) (off written : ℕ) (fit : IsCard card.card) (below 
           HoldsRom (stored setup bytes card.card.dev off written) card.card.dev new rom
       rom_held setup bytes fitted None held = tt
       rom_held setup bytes fitted (Some bits) held =
-          long-stored setup bytes card.card off written fit below fitted 0x30 lane _ _ new place
-          (writable-rom card.card lane fit.count write.in_long) write held
+          long-stored _ _ _ _ _ fit below fitted _ _ _ _ _ place
+          (writable-rom card.card _ fit.count write.in_long) write held
 
 pub card-apart : (setup : Setup) (bytes : Bytes) (card : CardBytes) (off written : ℕ) → IsCard card.card →
     written < 256 → IsApart off → off ≢ 0x3C → IsCardOf setup bytes card →
@@ -362,11 +355,9 @@ module _ (card : CardBytes) (written : ℕ) (fit : IsCard card.card) (below : wr
   pub command-written :
       AreWritten card (record card { command = merged (command_writable card.card) card.command written }) 0x04 written
   command-written =
-      card-stored card 0x04 written fit below
-      (record card { command = merged (command_writable card.card) card.command written }) (λ e. omega arith) refl refl
-      (λ _ none. none) (λ setup bytes is. record {
+      card-stored _ _ _ fit below _ (λ e. omega arith) refl refl (λ _ none. none) (λ setup bytes is. record {
         fitted = is.fitted;
-        command = stored-same setup bytes card.card 0x04 written fit below is.fitted ∙ rw is.command refl;
-        bases = λ k k_below. base-stays card 0x04 written setup bytes is k k_below (inl (omega arith));
-        rom = rom-stays card 0x04 written setup bytes is (inl (lit< tt));
+        command = stored-same _ bytes _ 0x04 _ fit below is.fitted ∙ rw is.command refl;
+        bases = λ k k_below. base-stays _ _ written _ _ is k k_below (inl (omega arith));
+        rom = rom-stays _ _ written _ _ is (inl (lit< tt));
       })

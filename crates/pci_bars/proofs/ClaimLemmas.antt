@@ -131,11 +131,9 @@ module _ (counts : ℕ → Bool) (bytes : Bytes) (place : ℕ) where
       Claims (windows_in windows bytes card.card) card.card.dev (covering_base windows place card)
   pick_card windows setup card fit is =
       let few = fit.count in
-      both card.card.dev _ _ _ _
-      (both card.card.dev _ _ _ _
-      (pick_bases windows card.card.dev card.bases (λ k below. (is.bases k below).number) 0 card.card.bases
-      (omega arith))
-      (pick_rom windows card.card.dev card.rom card.card.rom is.rom))
+      both _ _ _ _ _
+      (both _ _ _ _ _ (pick_bases windows _ _ (λ k below. (is.bases k below).number) 0 _ (omega arith))
+      (pick_rom windows _ _ _ is.rom))
       (pick_vga windows card.card)
 
   pick_cards :
@@ -204,9 +202,8 @@ module _ (setup : Setup) (bytes : Bytes) (cards : List CardBytes) (place : ℕ) 
   -- the claim of the cards' registers is that of the setup's windows, and so is its device
   pub claim_is : first_claim windows gate place cards ≡ named claim
   claim_is =
-      rw (← windows_are)
-      (sym (pick_cards (λ dev. is_gate gate (is_enabled_for (enable_bit windows) bytes dev)) bytes place windows gate
-      setup (λ card is. ap (is_gate gate) (enabled_is windows setup bytes card is)) cards fit are.1))
+      rw (← windows_are) (sym (pick_cards (λ dev. is_gate gate (is_enabled_for (enable_bit windows) bytes dev)) _ place
+      _ _ _ (λ card is. ap (is_gate gate) (enabled_is windows _ _ _ is)) _ fit are.1))
 
   pub device_is : option_map {T = ℕ × ℕ} (λ named. named.0)
       (first_claim windows gate place cards) ≡ option_map (λ window. window.dev) claim

@@ -58,9 +58,8 @@ slots_loop cards = record { none = λ slot bytes. refl; more = λ slot count byt
 slot_format : (cards : List FittedCard) → All IsCard cards → (slot : ℕ) →
     IsFormat 0x200_0000 (slot_field cards slot) memory_bytes (IsSlot cards slot)
 slot_format cards each slot =
-    format_as 0x200_0000 memory_bytes (IsSlot cards slot) (memory_format (slot_size cards slot))
-    (omega (arith, kept_few cards (2 + slot / 8) (slot % 8) each)) (λ bytes long. long) (λ bytes long. long)
-    (λ bytes long. refl)
+    format_as _ _ _ (memory_format (slot_size cards slot)) (omega (arith, kept_few _ (2 + slot / 8) (slot % 8) each))
+    (λ bytes long. long) (λ bytes long. long) (λ bytes long. refl)
 
 good_from : (cards : List FittedCard) (contents : List (List ℕ)) (slot : ℕ) →
     ((i at : ℕ) → at ≡ slot + i → i < length contents → length (get_or contents i []) ≡ slot_size cards at) →
@@ -89,20 +88,19 @@ sizes_to cards contents are i below =
 pub contents_format : (cards : List FittedCard) → All IsCard cards →
     IsFormat 0x8000_0000 (contents_fields cards) contents_bytes (AreContents cards)
 contents_format cards each =
-    format_as 0x8000_0000 contents_bytes (AreContents cards)
-    (many_format (slots_loop cards) (slot_format cards each) 0 64) (omega arith)
+    format_as _ _ _ (many_format (slots_loop cards) (slot_format cards each) 0 64) (omega arith)
     (λ contents are. (
       are.count,
-      good_from cards contents 0
+      good_from _ _ 0
           (λ i at is within.
           let same : at ≡ i = omega arith in
-          rw same (sizes_to cards contents are i (omega (arith, within, are.count)))),
+          rw same (sizes_to _ _ are i (omega (arith, within, are.count)))),
     ))
     (λ contents good. record {
       count = good.0;
       sizes = λ dev base number.
-          good_to cards contents 0 good.1 (slot_number dev base) _ (omega arith) (omega arith)
-          ∙ slot_of_base cards dev base number;
+          good_to _ _ 0 good.1 _ _ (omega arith) (omega arith)
+          ∙ slot_of_base cards _ _ number;
     })
     (λ contents good. refl)
 

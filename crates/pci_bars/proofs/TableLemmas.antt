@@ -147,11 +147,10 @@ fixed-header card last off below apart =
     let dev : card.dev < 256 = omega arith in
     let class : (if card.vga then 0x03 else 0xFF) < 256 = grind arith in
     record {
-      byte =
-          each_below (λ off. listed (λ entry. entry.reset) (card_function card) off < 256) 16 off (search rules) below;
+      byte = each_below (λ off. listed (λ entry. entry.reset) (card_function card) off < 256) 16 _ (search rules) below;
       writable =
           each_below
-          (λ off. listed (λ entry. entry.writable) (card_function card) off ≡ (if off == 4 then 0x07 else 0)) 16 off
+          (λ off. listed (λ entry. entry.writable) (card_function card) off ≡ (if off == 4 then 0x07 else 0)) 16 _
           (assumption) below
           ∙ rw (ne_eqb off 4 apart) refl;
     }

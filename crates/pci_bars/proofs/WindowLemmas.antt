@@ -79,10 +79,9 @@ module _ (setup : Setup) (bytes : Bytes) (card : FittedCard) (fit : IsCard card)
       (base_windows windows bytes card.dev k bases)
   sized_bases windows k [] few same = no_windows setup
   sized_bases windows k (base ∷ later) few same =
-      All-append (IsSized setup) (window_in windows bytes card.dev k base)
-      (base_windows windows bytes card.dev (k + 1) later)
-      (sized_base windows k base (omega arith) (ap (slice_get card.bases) (omega arith) ∙ same 0))
-      (sized_bases windows (k + 1) later (omega arith)
+      All-append (IsSized setup) (window_in windows bytes card.dev k base) (base_windows windows bytes card.dev (k + 1)
+      later) (sized_base windows k _ (omega arith) (ap (slice_get card.bases) (omega arith) ∙ same 0)) (sized_bases
+      windows (k + 1) later (omega arith)
       (λ i. ap (slice_get card.bases) (omega arith) ∙ same (suc i)))
 
   sized_vga : (windows : Windows) → All (IsSized setup) (vga_windows windows card)
@@ -112,19 +111,15 @@ module _ (setup : Setup) (bytes : Bytes) (card : FittedCard) (fit : IsCard card)
 
   sized_rom : (windows : Windows) → All (IsSized setup) (rom_windows windows bytes card.dev card.rom)
   sized_rom Ports = no_windows setup
-  sized_rom Memory =
-      either setup (is_rom_on bytes card.dev) _ [] (sized_rom_of card.rom refl fit.rom) (no_windows setup)
-  sized_rom UnselectedRom =
-      either setup (is_rom_on bytes card.dev) [] _ (no_windows setup) (sized_rom_of card.rom refl fit.rom)
+  sized_rom Memory = either _ (is_rom_on bytes card.dev) _ [] (sized_rom_of _ refl fit.rom) (no_windows setup)
+  sized_rom UnselectedRom = either _ (is_rom_on bytes card.dev) [] _ (no_windows setup) (sized_rom_of _ refl fit.rom)
 
   sized_card : (windows : Windows) → All (IsSized setup) (windows_in windows bytes card)
   sized_card windows =
       let few = fit.count in
-      All-append (IsSized setup)
-      (base_windows windows bytes card.dev 0 card.bases ++ rom_windows windows bytes card.dev card.rom) _
-      (All-append (IsSized setup) (base_windows windows bytes card.dev 0 card.bases) _
-      (sized_bases windows 0 card.bases (omega arith) (λ i. ap (slice_get card.bases) (omega arith)))
-      (sized_rom windows))
+      All-append (IsSized setup) (base_windows windows bytes card.dev 0 card.bases ++ rom_windows windows bytes card.dev
+      card.rom) _ (All-append (IsSized setup) (base_windows windows bytes card.dev 0 card.bases) _ (sized_bases windows
+      0 _ (omega arith) (λ i. ap (slice_get card.bases) (omega arith))) (sized_rom windows))
       (sized_vga windows)
 
 module _ (setup : Setup) (bytes : Bytes) where
@@ -132,11 +127,10 @@ module _ (setup : Setup) (bytes : Bytes) where
       All (IsSized setup) (flat_map (windows_in windows bytes) (cards_of cards))
   sized_cards windows [] fit are = no_windows setup
   sized_cards windows (card ∷ later) fit are =
-      All-append (IsSized setup) (windows_in windows bytes card.card) _
-      (sized_card setup bytes card.card (All-head (λ card. IsCard card.card) card later fit)
-      (All-head (DecodesAs setup bytes) card later are).fitted windows)
-      (sized_cards windows later (All-tail (λ card. IsCard card.card) card later fit)
-      (All-tail (DecodesAs setup bytes) card later are))
+      All-append (IsSized setup) (windows_in windows bytes card.card) _ (sized_card _ bytes _
+      (All-head (λ card. IsCard card.card) card later fit) (All-head (DecodesAs setup bytes) card later are).fitted
+      windows) (sized_cards windows later (All-tail (λ card. IsCard card.card) card later fit) (All-tail
+      (DecodesAs setup bytes) card later are))
 
   -- the window that claims an address is that of a base
   pub memory_claim_sized : (cards : List CardBytes) (addr : ℕ) (window : Window) → AreCards cards →

@@ -33,8 +33,7 @@ module _ (setup : Setup) (bytes : Bytes) (off written : ℕ) where
   pub there : (mask : ℕ) → written < 256 → off ≢ 0x72 → writable_bits setup (bridge off) ≡ mask →
       after_store setup bytes off written (bridge off) ≡ merged mask (bytes (bridge off)) written
   there mask below apart is_mask =
-      rw (← is_mask)
-      (changed_byte-one_same setup (bridge off) (bytes (bridge off)) written below (ne_eqb off 0x72 apart))
+      rw (← is_mask) (changed_byte-one_same setup _ (bytes (bridge off)) _ below (ne_eqb off 0x72 apart))
 
 -- ---- the fixed registers stay
 
@@ -54,10 +53,9 @@ fixed_stay setup bytes off written below fixed other at is_fixed =
     elim (cases_eq at off) [
       | inl same ↦
           rw (← same)
-          (there setup bytes at written 0 below (omega arith) (writable_bits-fixed setup at is_fixed)
-          ∙ rw (fixed other at is_fixed)
-          (merged-none (reset_byte other (bridge at)) written (reset_byte-small other at is_fixed)))
-      | inr apart ↦ elsewhere setup bytes off written at apart ∙ fixed other at is_fixed
+          (there _ bytes at _ 0 below (omega arith) (writable_bits-fixed setup at is_fixed)
+          ∙ rw (fixed other at is_fixed) (merged-none _ written (reset_byte-small other at is_fixed)))
+      | inr apart ↦ elsewhere setup bytes _ written at apart ∙ fixed other at is_fixed
     ]
 
 -- ---- the three kinds of registers

@@ -34,15 +34,13 @@ pub ide_stored_at : (setup : Setup) (bytes : Bytes) (old new : IdeBytes) (at : R
     IsIdeOf (λ reg. changed_byte setup (Store at One written) reg (bytes reg)) new
 ide_stored_at setup bytes old new at written is_ide command timing_low timing_high = record {
   command = command ∙ ap (λ (now : ℕ). changed_byte setup (Store at One written) ide_command now) is_ide.command;
-  timing_low =
-      timing_low ∙ ap (λ (now : ℕ). changed_byte setup (Store at One written) idetim now) is_ide.timing_low;
+  timing_low = timing_low ∙ ap (λ (now : ℕ). changed_byte setup (Store at One written) idetim now) is_ide.timing_low;
   timing_high =
       timing_high ∙ ap (λ (now : ℕ). changed_byte setup (Store at One written) idetim_high now) is_ide.timing_high;
   fixed = λ other off is_fixed.
-      kept_byte setup at One written (ide off) (bytes (ide off)) (slice_index ide_header off) refl
-      (fixed_at setup off is_fixed)
-      (is_ide.fixed setup off is_fixed ∙ sym (fixed_at setup off is_fixed).reset)
-      ∙ (fixed_at other off is_fixed).reset;
+      kept_byte _ at One written _ _ _ refl (fixed_at setup _ is_fixed)
+      (is_ide.fixed setup off is_fixed ∙ sym (fixed_at setup _ is_fixed).reset)
+      ∙ (fixed_at other _ is_fixed).reset;
 }
 
 -- to one of the three registers
@@ -75,7 +73,6 @@ pub ide_stored :
     (setup : Setup) (bytes : Bytes) (old : IdeBytes) (off written : ℕ) → 0x04 ≢ off → 0x40 ≢ off → 0x41 ≢ off →
     IsIdeOf bytes old → IsIdeOf (λ reg. changed_byte setup (Store (ide off) One written) reg (bytes reg)) old
 ide_stored setup bytes old off written command low high is_ide =
-    ide_stored_at setup bytes old old (ide off) written is_ide
-    (sym (changed_byte-one_other setup ide_command off old.command written command))
-    (sym (changed_byte-one_other setup idetim off old.timing_low written low))
-    (sym (changed_byte-one_other setup idetim_high off old.timing_high written high))
+    ide_stored_at _ _ _ old _ _ is_ide (sym (changed_byte-one_other setup ide_command _ old.command written command))
+    (sym (changed_byte-one_other setup idetim _ old.timing_low written low))
+    (sym (changed_byte-one_other setup idetim_high _ old.timing_high written high))

@@ -38,10 +38,9 @@ module _ (setup : Setup) (bytes : Bytes) (old : PiixBytes) where
   fixed_stays : (at : Reg) (written : ℕ) → IsPiixOf bytes old → (other : Setup) (off : ℕ) → IsIsaFixed off →
       changed_byte setup (Store at One written) (isa off) (bytes (isa off)) ≡ reset_byte other (isa off)
   fixed_stays at written is_piix other off is_fixed =
-      let fixed = fixed_at setup off is_fixed in
-      kept_byte setup at One written (isa off) (bytes (isa off)) (slice_index isa_header off) refl fixed
-      (is_piix.fixed setup off is_fixed ∙ sym fixed.reset)
-      ∙ (fixed_at other off is_fixed).reset
+      let fixed = fixed_at setup _ is_fixed in
+      kept_byte _ at One written _ _ _ refl fixed (is_piix.fixed setup off is_fixed ∙ sym fixed.reset)
+      ∙ (fixed_at other _ is_fixed).reset
 
   -- to a register of the ISA bridge
   isa_stored_at : (off new written : ℕ) → IsPiixOf bytes old →
@@ -57,14 +56,12 @@ module _ (setup : Setup) (bytes : Bytes) (old : PiixBytes) where
       IsPiixOf (λ reg. changed_byte setup (Store select_register One written) reg (bytes reg))
       (record old { xbcs = merged (writable_bits setup select_register) old.xbcs written })
   xbcs_stored written below is_piix =
-      isa_stored_at 0x4E (merged (writable_bits setup select_register) old.xbcs written) written is_piix
-      (sym (changed_byte-one_same setup select_register old.xbcs written below refl))
+      isa_stored_at _ _ _ is_piix (sym (changed_byte-one_same setup _ old.xbcs _ below refl))
 
   pub isa_stored : (off written : ℕ) → 0x4E ≢ off → IsPiixOf bytes old →
       IsPiixOf (λ reg. changed_byte setup (Store (isa off) One written) reg (bytes reg)) old
   isa_stored off written apart is_piix =
-      isa_stored_at off old.xbcs written is_piix
-      (sym (changed_byte-one_other setup select_register off old.xbcs written apart))
+      isa_stored_at _ _ _ is_piix (sym (changed_byte-one_other setup select_register _ old.xbcs written apart))
 
   -- to a register of the IDE function
   pub ide_stored_in : (new : IdeBytes) (off written : ℕ) → IsPiixOf bytes old →

@@ -6,9 +6,7 @@ use Rattle.addr_decode.proofs.change.byte_of.Goals as goal
 
 pub read-requires : goal.read-requires
 read-requires c = record {
-  card =
-      (found (λ card. IsCard card.card) c.args.cards.now c.args.dev c.in-Some.card.now c.requires.cards
-      (sym c.in-Some.ensures.found)).0;
+  card = (found (λ card. IsCard card.card) _ _ _ c.requires.cards (sym c.in-Some.ensures.found)).0;
 }
 
 pub returns-in-Some : goal.returns-in-Some

@@ -16,10 +16,9 @@ pub returns-in-None : goal.returns-in-None
 unfolding denial_of
 returns-in-None c = record {
   area = λ setup bytes stands.
-      either_answers setup bytes c.args.addr c.args.kind c.args.smm _ _ (c.in-None.ensures.dram setup bytes stands)
+      either_answers _ _ _ _ _ _ _ (c.in-None.ensures.dram setup bytes stands)
       (c.decode_beside_dram.ensures.area setup bytes stands);
   denial = λ setup bytes stands.
-      rw (← either_answers setup bytes c.args.addr c.args.kind c.args.smm _ _
-      (c.in-None.ensures.dram setup bytes stands) (c.decode_beside_dram.ensures.area setup bytes stands))
-      (c.decode_beside_dram.ensures.denial setup bytes stands);
+      rw (← either_answers _ _ _ _ _ _ _ (c.in-None.ensures.dram setup bytes stands)
+      (c.decode_beside_dram.ensures.area setup bytes stands)) (c.decode_beside_dram.ensures.denial setup bytes stands);
 }

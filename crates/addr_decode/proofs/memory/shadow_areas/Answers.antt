@@ -7,14 +7,12 @@ pub returns-in-Some : goal.returns-in-Some
 returns-in-Some c = record {
   read = λ setup bytes stands.
       c.shadow_or.ensures.area
-      ∙ shadow_answers setup bytes c.args.addr Read false _ _ _ c.requires.window
-      (c.in-Some.ensures.row bytes stands.rows) (c.shadows-reads.ensures.reads bytes stands.windows)
-      (c.requires.beside setup bytes stands);
+      ∙ shadow_answers _ _ _ _ false _ _ _ c.requires.window (c.in-Some.ensures.row bytes stands.rows)
+      (c.shadows-reads.ensures.reads bytes stands.windows) (c.requires.beside setup bytes stands);
   write = λ setup bytes stands.
       c.shadow_or-in-Some.ensures.area
-      ∙ shadow_answers setup bytes c.args.addr Write false _ _ _ c.requires.window
-      (c.in-Some.ensures.row bytes stands.rows) (c.shadows-reads.ensures.writes bytes stands.windows)
-      (c.requires.beside setup bytes stands);
+      ∙ shadow_answers _ _ _ _ false _ _ _ c.requires.window (c.in-Some.ensures.row bytes stands.rows)
+      (c.shadows-reads.ensures.writes bytes stands.windows) (c.requires.beside setup bytes stands);
 }
 
 pub returns-in-None : goal.returns-in-None

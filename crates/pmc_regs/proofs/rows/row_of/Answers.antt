@@ -14,8 +14,7 @@ returns-clause-row c =
     λ bytes is_rows.
     same
     ∙ c.first_above.ensures.first
-    ∙ row_below_top bytes c.args.drb.now c.args.addr c.told-drb is_rows
-    (rw (← c.top_of.ensures.top bytes is_rows) c.if-addr-top_of.false)
+    ∙ row_below_top _ _ _ c.told-drb is_rows (rw (← c.top_of.ensures.top bytes is_rows) c.if-addr-top_of.false)
 
 pub returns-clause-none : goal.returns-clause-none
 returns-clause-none c =

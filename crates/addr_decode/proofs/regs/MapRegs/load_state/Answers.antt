@@ -17,9 +17,8 @@ fitted_of fitted list before after (Err bad) told = tt
 
 pub returns : goal.returns
 returns c =
-    let loaded = loads (regs_format c.args.specs.now) c.args.fields.now _ c.read_state.result c.are_bytes.ensures.bytes
-    c.read_state.ensures.took in
+    let loaded = loads (regs_format c.args.specs.now) _ _ _ c.are_bytes.ensures.bytes c.read_state.ensures.took in
     record {
       loaded = loaded;
-      fitted = fitted_of c.args.specs.now c.requires.cards c.args.fields.now _ c.read_state.result loaded.loaded;
+      fitted = fitted_of _ c.requires.cards _ _ _ loaded.loaded;
     }

@@ -22,9 +22,8 @@ loop-card-preserved c = record {
   few = c.loop-card.invariant.few;
   count = added-count _ _ _ c.push_card.ensures.added ∙ ap (λ (n : ℕ). n + 1) c.loop-card.invariant.count;
   pushed =
-      one_more_pushed _ c.loop-card.card-index c.card-item.result _ c.copy.result (omega arith) c.card-item.is
-      (c.copy.ensures.equal ∙ ap (λ (card : CardBytes). card.card) c.card.view_is)
-      (added-cards _ _ _ c.push_card.ensures.added
+      one_more_pushed _ _ _ _ _ (omega arith) c.card-item.is (c.copy.ensures.equal ∙ ap
+      (λ (card : CardBytes). card.card) c.card.view_is) (added-cards _ _ _ c.push_card.ensures.added
       ∙ ap (λ (first : List FittedCard). first ++ c.copy.result ∷ []) c.loop-card.invariant.pushed);
   reset = added-reset _ _ _ c.push_card.ensures.added c.loop-card.invariant.reset;
 }

@@ -32,16 +32,14 @@ returns-in-Single-clause-stands c = λ setup bytes stands.
 
 pub returns-in-Single-clause-cards : goal.returns-in-Single-clause-cards
 returns-in-Single-clause-cards c = λ setup bytes are.
-    let place = single_is c.in-Single.number (rw c.in-Single.is at c.requires.number) in
-    rw (c.in-Single.is, c.set_single.ensures.cards)
-    (cards_beside (of_registers setup) bytes _ are (single c.in-Single.number) c.args.byte c.requires.cards.each
-    (inl place.low))
+    let place = single_is _ (rw c.in-Single.is at c.requires.number) in
+    rw (c.in-Single.is, c.set_single.ensures.cards) (cards_beside (of_registers setup) _ _ are
+    (single c.in-Single.number) c.args.byte c.requires.cards.each (inl place.low))
 
 pub returns-in-Card-clause-stands : goal.returns-in-Card-clause-stands
 returns-in-Card-clause-stands c = λ setup bytes stands.
     let number = rw c.in-Card.is at c.requires.number in
-    rw (c.in-Card.is, ← c.offset.ensures.offset)
-    (stored_apart setup bytes _ stands c.args.byte _ _ (outside_apart _ (inl number.0))
+    rw (c.in-Card.is, ← c.offset.ensures.offset) (stored_apart _ _ _ stands _ _ _ (outside_apart _ (inl number.0))
     (c.write_card.ensures.decoded setup bytes stands.cards))
 
 pub returns-in-Card-clause-cards : goal.returns-in-Card-clause-cards

@@ -19,9 +19,7 @@ loop-k-init c = record {
 pub store_after-requires : goal.store_after-requires
 store_after-requires c = record {
   cards = fitted_same _ _ c.loop-k.invariant.same c.requires.cards;
-  name =
-      rw (c.from-place.ensures)
-      (named_so_far _ _ c.args.reg c.args.width _ _ _ (omega arith) c.loop-k.invariant.same c.requires.names);
+  name = rw (c.from-place.ensures) (named_so_far _ _ _ _ _ _ _ (omega arith) c.loop-k.invariant.same c.requires.names);
 }
 
 this_byte : (c : goal.After-store_after) →

@@ -9,9 +9,8 @@ use Rattle.addr_decode.proofs.regs.MapRegs.store_beside.Goals as goal
 pub returns-then-is_of_bridge-clause-stands : goal.returns-then-is_of_bridge-clause-stands
 returns-then-is_of_bridge-clause-stands c = λ setup bytes stands.
     let other = c.is_of_bridge.ensures.bridge c.if-is_of_bridge.true in
-    stored_apart setup bytes (map_bytes c.args.self.now) stands c.args.byte (reg_after c.args.reg c.args.k) _
-    (nameless_apart _ (reg_after c.args.reg c.args.k) other c.requires.beside)
-    (cards_beside (of_decoded setup) bytes _ stands.cards _ c.args.byte c.requires.cards.each other)
+    stored_apart _ _ _ stands _ _ _ (nameless_apart _ _ other c.requires.beside)
+    (cards_beside (of_decoded setup) _ _ stands.cards _ c.args.byte c.requires.cards.each other)
 
 pub returns-then-is_of_bridge-clause-cards : goal.returns-then-is_of_bridge-clause-cards
 returns-then-is_of_bridge-clause-cards c = λ setup bytes are.
@@ -37,9 +36,8 @@ returns-in-Some-clause-cards c = λ setup bytes are.
 pub returns-in-None-clause-stands : goal.returns-in-None-clause-stands
 returns-in-None-clause-stands c = λ setup bytes stands.
     let past : 256 ≤ c.args.reg.off + c.args.k = omega (arith, c.in-None.ensures) in
-    stored_apart setup bytes (map_bytes c.args.self.now) stands c.args.byte (reg_after c.args.reg c.args.k) _
-    (outside_apart _ (inr (inr past)))
-    (cards_beyond (of_decoded setup) bytes _ stands.cards _ c.args.byte c.requires.cards.each c.ranges.byte.fits past)
+    stored_apart _ _ _ stands _ _ _ (outside_apart _ (inr (inr past)))
+    (cards_beyond (of_decoded setup) _ _ stands.cards _ _ c.requires.cards.each c.ranges.byte.fits past)
 
 pub returns-in-None-clause-cards : goal.returns-in-None-clause-cards
 returns-in-None-clause-cards c = λ setup bytes are.

@@ -4,6 +4,5 @@ use Rattle.pci_bars.proofs.contents.Contents.load_state.Goals as goal
 
 pub returns : goal.returns
 returns c = record {
-  loaded = loads_with (contents_format c.args.specs.now c.requires.cards) c.args.fields.now _ c.read_state.result
-      c.are_bytes.ensures.bytes c.read_state.ensures.filled;
+  loaded = loads_with (contents_format _ c.requires.cards) _ _ _ c.are_bytes.ensures.bytes c.read_state.ensures.filled;
 }

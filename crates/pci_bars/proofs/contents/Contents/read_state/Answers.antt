@@ -2,7 +2,6 @@ use Rattle.std.proofs.Common.{arith}
 use Rattle.board_prelude.proofs.Common.{err_from_is_err_and, length_push}
 use Rattle.std.proofs.lemmas.List.{map_push}
 use Rattle.byte_fields.proofs.Loops.{goes_on, is_done}
-use Rattle.pci_bars.proofs.ContentsLemmas.{lists}
 use Rattle.pci_bars.proofs.StateFormats.{slots_loop, slot_failed}
 use Rattle.pci_bars.proofs.contents.Contents.read_state.Goals as goal
 
@@ -11,8 +10,7 @@ returns-in_err-read_buffer c =
     let p = err_from_is_err_and c.from_residual.result c.from_residual.ensures.1 in
     record {
       filled =
-          rw (p.1, p.2) (slot_failed c.args.specs.now _ _ c.loop-slot.slot _ c.read_buffer.new.fields _
-          c.loop-slot-test.true c.loop-slot.invariant.read
+          rw (p.1, p.2) (slot_failed _ _ _ _ _ _ _ c.loop-slot-test.true c.loop-slot.invariant.read
           (rw c.slot_size-size.ensures.size at c.in_err-read_buffer.ensures.filled));
     }
 
@@ -23,14 +21,12 @@ loop-slot-preserved c =
     record {
       read =
           rw (c.in_ok-push.ensures.items, map_push (λ buffer. buffer.items) buffers buffer)
-          (goes_on _ _ _ (slots_loop c.args.specs.now) (lists buffers) c.loop-slot.slot 64 c.loop-slot.slot _ _
-          buffer.items _ c.loop-slot-test.true
+          (goes_on _ _ _ (slots_loop c.args.specs.now) _ _ 64 _ _ _ buffer.items _ c.loop-slot-test.true
           (rw c.slot_size-size.ensures.size at c.in_ok-read_buffer.ensures.filled) c.loop-slot.invariant.read);
       count = rw c.in_ok-push.ensures.items (omega (arith, length_push buffers buffer, c.loop-slot.invariant.count));
     }
 
 pub returns : goal.returns
 returns c = record {
-  filled = is_done _ _ _ (slots_loop c.args.specs.now) (lists c.loop-slot.buffers.items) c.loop-slot.slot 64
-      c.loop-slot.slot _ _ c.loop-slot-test.false c.loop-slot.invariant.read;
+  filled = is_done _ _ _ (slots_loop c.args.specs.now) _ _ 64 _ _ _ c.loop-slot-test.false c.loop-slot.invariant.read;
 }

@@ -19,9 +19,7 @@ new : (c : After-copy_from_slice) →
 new c =
     let fits : c.args.off + length c.args.bytes.now ≤ length c.deref_mut.result.now =
     rw (buffer_held (there c) ∙ sym c.deref_mut.ensures.value) at c.requires.within in
-    buffer_set (there c) _
-    (stretch_length c.deref_mut.result.now c.args.bytes.now c.copy_from_slice.new.self c.args.off fits
-    c.copy_from_slice.ensures.after
+    buffer_set (there c) _ (stretch_length _ _ _ _ fits c.copy_from_slice.ensures.after
     ∙ c.deref_mut.ensures.len)
 
 pub returns-clause-here : goal.returns-clause-here

@@ -7,8 +7,7 @@ pub returns-in-104 : goal.returns-in-104
 returns-in-104 c = record {
   written = λ setup bytes is_pmc.
       rw (c.in-104.is, c.fdhc_after-self-inside.ensures.merged setup)
-      (stored_hole setup bytes c.self.inside.drb c.self.inside.fdhc c.args.byte c.ranges.byte.fits
-      (subst (IsPmcOf bytes) (sym c.self.view_is) is_pmc));
+      (stored_hole setup _ _ _ _ c.ranges.byte.fits (subst (IsPmcOf bytes) (sym c.self.view_is) is_pmc));
 }
 
 pub returns-then-off-lt96 : goal.returns-then-off-lt96

@@ -6,6 +6,5 @@ pub returns-in_default : goal.returns-in_default
 returns-in_default c = record {
   byte = λ bytes is_ide.
       c.header_byte.ensures.byte
-      ∙ ide_byte bytes c.args.self.now c.args.off is_ide
-      (record { command = omega arith; timing_low = omega arith; timing_high = omega arith });
+      ∙ ide_byte _ _ _ is_ide (record { command = omega arith; timing_low = omega arith; timing_high = omega arith });
 }

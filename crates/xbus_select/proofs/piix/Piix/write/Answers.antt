@@ -8,8 +8,7 @@ returns-in-0 c = record { written = rw c.in-0.is c.write_isa_bridge.ensures.writ
 pub returns-in_default : goal.returns-in_default
 returns-in_default c = record {
   written =
-      rw (← c.self.view_is, ide_function_alone c.args.fun c.args.off c.requires.register (omega arith))
-      (λ setup bytes is_piix.
-      ide_stored_in setup bytes _ _ c.args.off c.args.byte is_piix
+      rw (← c.self.view_is, ide_function_alone _ _ c.requires.register (omega arith)) (λ setup bytes is_piix.
+      ide_stored_in _ _ _ _ _ _ is_piix
       (c.write.ensures.written setup bytes is_piix.ide));
 }

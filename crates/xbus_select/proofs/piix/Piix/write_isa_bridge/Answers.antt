@@ -7,8 +7,7 @@ returns-then-off-eq-XBCS c = record {
   written =
       rw (← c.self.view_is, c.if-off-eq-XBCS.true)
       (λ setup bytes is_piix.
-      rw (c.xbcs_after-self-inside.ensures.merged setup)
-      (xbcs_stored setup bytes _ c.args.byte c.ranges.byte.fits is_piix));
+      rw (c.xbcs_after-self-inside.ensures.merged setup) (xbcs_stored setup _ _ _ c.ranges.byte.fits is_piix));
 }
 
 pub returns-else-off-eq-XBCS : goal.returns-else-off-eq-XBCS
