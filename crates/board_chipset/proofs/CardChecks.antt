@@ -1,7 +1,7 @@
 -- Cards and bases that are tested one after another.
 use Rattle.std.proofs.Common.{◌≡◌, ℕ, ◌+◌, ◌<◌, ◌≤◌, List, [], ◌∷◌, length, get_or, drop, map, subst, arith, ◌↔◌, All}
-use Rattle.board_prelude.proofs.Common.{drop_more, drop_all, get_or-map, length-map, All-nil, All-cons, All-head}
-use Rattle.board_prelude.proofs.Common.{All-tail, FittedCard, IsBase, IsCard, IsCardList, Rises}
+use Rattle.board_prelude.proofs.Common.{drop_more, get_or-map, length-map, All-nil, All-cons, All-head, All-tail}
+use Rattle.board_prelude.proofs.Common.{FittedCard, IsBase, IsCard, IsCardList, Rises}
 use Rattle.pci_bars.specs.declared.spec.BaseSpec.{BaseSpec}
 use Rattle.pci_bars.specs.Bases.{base_of}
 use Rattle.board_chipset.specs.Setups.{RiseFrom}
@@ -14,11 +14,6 @@ pub rise_at : (cards : List FittedCard) (above i : ℕ) (card : FittedCard) → 
     RiseFrom 1 cards ↔ ((above < card.dev) × IsCard card × RiseFrom card.dev (drop (i + 1) cards))
 unfolding RiseFrom
 rise_at cards above i card within is so_far = rw (← is) at (rw (drop_more cards i card within) at so_far)
-
-pub rise_all : (cards : List FittedCard) (above i : ℕ) → length cards ≤ i →
-    RiseFrom 1 cards ↔ RiseFrom above (drop i cards) → RiseFrom 1 cards
-unfolding RiseFrom
-rise_all cards above i end so_far = so_far.1 (rw (drop_all i cards end) tt)
 
 rise_is : (above : ℕ) (cards : List FittedCard) →
     RiseFrom above cards ↔ (All (λ card. above < card.dev) cards × All IsCard cards × Rises cards)

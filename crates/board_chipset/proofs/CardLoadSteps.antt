@@ -1,31 +1,26 @@
 -- The state after bytes were written to a card from outside.
 use Rattle.std.proofs.Common.{◌≡◌, ◌≢◌, ℕ, zero, suc, ◌+◌, ◌-◌, ◌<◌, ◌≤◌, true, false, ◌&&◌, List, [], ◌∷◌, ◌++◌}
 use Rattle.std.proofs.Common.{length, take, drop, Option, Some, None, refl, sym, ◌∙◌, arith, ◌==◌, nat_le, nat_lt}
-use Rattle.std.proofs.Common.{if◌then◌else◌, slice_index, unwrap_or, IfSome}
+use Rattle.std.proofs.Common.{if◌then◌else◌, slice_index, unwrap_or}
 use Rattle.std.proofs.lemmas.Grind.{elements}
 use Rattle.std.proofs.lemmas.Option.{slice_get_past}
 use Rattle.board_prelude.proofs.Common.{eq-eqb, and_from, eqb-false, get_or-take, get_or-drop, nat_tests, Write, One}
-use Rattle.board_prelude.proofs.Common.{Card, Event, Memory, Bus, Entry, Setup, IsSetup, IsCard, FittedCard, card_at}
-use Rattle.board_prelude.proofs.Common.{Cell, DramCell, CardCell, byte, byte_put, card_byte, kept_size, Denial}
+use Rattle.board_prelude.proofs.Common.{Card, Event, Memory, Bus, Entry, Setup, IsSetup, Cell, DramCell, CardCell, byte}
+use Rattle.board_prelude.proofs.Common.{byte_put, card_byte, Denial}
 use Rattle.pci_bars.specs.Contents.{HaveSizes, IsBaseNumber, held, IsContentsOf}
 use Rattle.pci_bars.proofs.ContentsLemmas.{card_within, stored_byte}
 use Rattle.board_chipset.specs.declared.state.State.{State}
 use Rattle.board_chipset.specs.Common.{IsSound, IsStateOf}
 use Rattle.board_chipset.specs.CardLoads.{card_size, WritesByte, WriteCardInTurn, WriteCard}
 use Rattle.board_chipset.proofs.OutsideSteps.{found_in}
-use Rattle.board_chipset.proofs.LoadSteps.{IsPut, one_put, all_put, InTurn, state_in_turn, made, made_length}
+use Rattle.board_chipset.proofs.LoadSteps.{IsPut, all_put, InTurn, state_in_turn, made, made_length}
 
 -- ---- which bases have bytes
-
-by_found : (found : Option FittedCard) (dev base : ℕ) → IfSome found (λ card. IsCard card × (card.dev ≡ dev)) →
-    0 < kept_size found base → IsBaseNumber dev base × (base ≢ 6)
-by_found found dev base is some = grind (arith, nat_tests, slice_get_past)
 
 -- a base with bytes has a number, and is no expansion ROM
 pub numbered : (setup : Setup) (dev base : ℕ) → IsSetup setup → 0 < card_size setup dev base →
     IsBaseNumber dev base × (base ≢ 6)
-numbered setup dev base fits some =
-    by_found (card_at setup dev) dev base (found_in setup.cards dev fits.cards.each) some
+numbered setup dev base fits some = grind (arith, nat_tests, slice_get_past, found_in setup.cards dev fits.cards.each)
 
 pub none_without_number : (setup : Setup) (dev base : ℕ) → IsSetup setup → ¬ IsBaseNumber dev base →
     card_size setup dev base ≡ 0
@@ -47,10 +42,6 @@ abbrev in_card : (dev base : ℕ) → Cell → Option ℕ
 in_card dev base (DramCell at) = None
 in_card dev base (CardCell d b at) = if dev == d && base == b then Some at else None
 
-card_put : (dev base off n : ℕ) (bytes : List ℕ) (cell : Cell) → base ≢ 6 → slice_index bytes n ≤ 0xFF →
-    byte_put (Card dev base (off + n)) 0 One (slice_index bytes n) cell ≡ one_put (in_card dev base cell) off bytes n
-card_put dev base off n bytes cell kept small = grind (arith, nat_tests)
-
 write_put : (dev base off byte : ℕ) (denial : Option Denial) (event : Event) → WritesByte byte event →
     IsPut (byte_put (Card dev base off) 0 One byte) event (Bus None (Card dev base off) denial)
 write_put dev base off byte denial event is = grind (arith, nat_tests)
@@ -67,7 +58,7 @@ module _ (dev base off : ℕ) (bytes : List ℕ) where
         record {
           writes = is.writes;
           passes = is.passes;
-          puts = λ cell. is.puts cell ∙ card_put dev base off n bytes cell kept (small n);
+          puts = λ cell. is.puts cell ∙ (grind (arith, nat_tests, small n));
         },
         in_turn kept small earlier each.1,
       )

@@ -1,7 +1,7 @@
 -- The state of a chipset is spelled and read back. What is read has no ranges of the map yet.
 use Rattle.board_prelude.proofs.Common.{nat_tests, Setup, FittedCard, IsSetup, IsRomSize, IsDisk, w8, to_le_bytes}
-use Rattle.std.proofs.Common.{◌≡◌, ℕ, ◌+◌, ◌*◌, ◌^◌, ◌<◌, ◌≤◌, Bool, List, ◌∷◌, [], length, Option, Some, None, is_some}
-use Rattle.std.proofs.Common.{refl, ap, arith, unwrap_or}
+use Rattle.std.proofs.Common.{◌≡◌, ℕ, ◌+◌, ◌*◌, ◌^◌, ◌<◌, ◌≤◌, List, ◌∷◌, [], length, Option, Some, None, is_some, refl}
+use Rattle.std.proofs.Common.{ap, arith, unwrap_or}
 use Rattle.std.specs.Int.{Width as Size, byte_len}
 use Rattle.byte_fields.specs.Fields.{within, flag_byte}
 use Rattle.byte_fields.proofs.Exactly.{exactly_format}
@@ -43,16 +43,13 @@ disk_few : (disk : Option (List ℕ)) → IsDisk disk → length (unwrap_or disk
 disk_few None is = omega arith
 disk_few (Some bytes) is = omega (arith, is.2, is.3)
 
-flag_few : (flag : Bool) → flag_byte flag < 2 ^ 8
-flag_few flag = grind (arith, nat_tests)
-
 size_format : (setup : Setup) → IsSetup setup → IsFormat 12 (size_fields setup) (λ done. size_bytes setup) Any
 unfolding size_fields size_bytes
 size_format setup fits =
     fields_format
     (one_number wide16 setup.mib (omega (arith, fits.most_memory)) then λ mib good.
     one_byte (length setup.cards) (omega (arith, fits.cards.count)) then λ cards good.
-    one_byte (flag_byte (is_some setup.disk)) (flag_few (is_some setup.disk)) then λ has_disk good.
+    one_byte (flag_byte (is_some setup.disk)) (grind (arith, nat_tests)) then λ has_disk good.
     one_number wide32 (length setup.rom) (omega (arith, rom_few (length setup.rom) fits.rom)) then λ rom good.
     last_field (λ disk. tt) (one_number wide32 (disk_size setup) (omega (arith, disk_few setup.disk fits.disk))))
     (λ done any. (

@@ -18,7 +18,7 @@ use Rattle.board_chipset.specs.ChipsetState.{size_bytes, head_bytes, other_versi
 use Rattle.board_chipset.specs.ChipsetState.{registers_bytes, state_bytes, chipset_bytes, chipset_fields, LoadsChipset}
 use Rattle.board_chipset.specs.ChipsetState.{IsBadStateAt}
 use Rattle.board_chipset.proofs.KeptBytes.{has_bytes}
-use Rattle.board_chipset.proofs.ChipsetFormats.{IsBareChipset, chipset_format}
+use Rattle.board_chipset.proofs.ChipsetFormats.{chipset_format}
 use Rattle.board_chipset.specs.Alone.{alone}
 use Rattle.board_chipset.proofs.Marks.{alone_bad}
 use Rattle.byte_fields.specs.declared.fault.Fault.TheVariants as faults
@@ -50,10 +50,6 @@ running chipset is = assumption (
 
 -- ---- with ranges and without
 
-to_bare : (setup : Setup) (chipset : Running) → chipset.setup ≡ setup → IsChipset chipset →
-    IsBareChipset setup (bare_chipset chipset)
-to_bare setup chipset same is = rw (← same) assumption
-
 pub bare_spelled : (chipset : Running) → chipset_bytes (bare_chipset chipset) ≡ chipset_bytes chipset
 unfolding chipset_bytes state_bytes registers_bytes
 bare_spelled chipset = refl
@@ -81,7 +77,7 @@ read_back : (setup : Setup) (chipset : Running) (before rest : List ℕ) → chi
     before ≡ chipset_bytes chipset ++ rest → chipset_fields setup before ≡ Ok (bare_chipset chipset, rest)
 read_back setup chipset before rest same is begins =
     rw (begins, ← bare_spelled chipset)
-    ((chipset_format setup (rw same at is.fits)).back (bare_chipset chipset) rest (to_bare setup chipset same is))
+    ((chipset_format setup (rw same at is.fits)).back (bare_chipset chipset) rest (rw (← same) assumption))
 
 -- the chipset that is read
 pub read_is : (setup : Setup) (chipset : Running) (before after : List ℕ) → IsSetup setup → AreBytes before →

@@ -1,14 +1,11 @@
 -- What an access reaches has the bytes that it asks for.
 use Rattle.std.proofs.Common.{◌≡◌, ℕ, ◌+◌, ◌%◌, ◌^◌, ◌≤◌, Bool, List, [], ◌∷◌, length, Option, Some, refl, sym, arith}
 use Rattle.std.proofs.Common.{option_map}
-use Rattle.board_prelude.proofs.Common.{PortAccess, Kind, Width, Dev, Reg, Area, Target, Device, Config, Card, Abort}
-use Rattle.board_prelude.proofs.Common.{bytes_of, Part, Setup, IsRomSize, IsBusAccess, is_write, Bytes, Window}
-use Rattle.board_prelude.proofs.Common.{first_of, line_where, card_area, memory_claim, area_of, window_bits, target_at}
-use Rattle.board_prelude.proofs.Common.{nat_tests}
+use Rattle.board_prelude.proofs.Common.{PortAccess, Width, Dev, Reg, Area, Target, Device, Config, Card, Abort}
+use Rattle.board_prelude.proofs.Common.{bytes_of, Part, Setup, IsRomSize, IsBusAccess, is_write, Window, first_of}
+use Rattle.board_prelude.proofs.Common.{line_where, card_area, memory_claim, area_of, window_bits, target_at, nat_tests}
 use Rattle.board_base.specs.declared.access.Access.{Access}
-use Rattle.board_base.specs.declared.target.Area.TheVariants.{Dram as DramArea, Shadow as ShadowArea}
-use Rattle.board_base.specs.declared.target.Area.TheVariants.{Smram as SmramArea, Rom as RomArea, Card as CardArea}
-use Rattle.board_base.specs.declared.target.Area.TheVariants.{Abort as AbortArea}
+use Rattle.board_base.specs.declared.target.Area.TheVariants as areas
 use Rattle.pci_bars.specs.Common.{AreFitted, LiesIn}
 use Rattle.pci_bars.proofs.WindowLemmas.{IsSized, memory_claim_sized, io_claim_sized, lies_in_window}
 use Rattle.addr_decode.specs.MapRegs.{MapBytes, StandsFor}
@@ -28,17 +25,12 @@ IsClaim claim dev base = (window : Window) × (claim ≡ Some window) × (window
 pub claim_line :
     (smram shadow dram rom : Bool) (row : ℕ) (claim : Option Window) (dev base : ℕ) →
     first_of
-    (line_where smram SmramArea ∷ line_where shadow (ShadowArea row) ∷ line_where dram (DramArea row)
-    ∷ line_where rom RomArea ∷ option_map card_area claim ∷ [])
-    AbortArea
-    ≡ CardArea dev base →
+    (line_where smram areas.Smram ∷ line_where shadow (areas.Shadow row) ∷ line_where dram (areas.Dram row)
+    ∷ line_where rom areas.Rom ∷ option_map card_area claim ∷ [])
+    areas.Abort
+    ≡ areas.Card dev base →
     IsClaim claim dev base
 claim_line smram shadow dram rom row claim dev base is = grind (arith, nat_tests)
-
-claimed : (setup : Setup) (bytes : Bytes) (addr : ℕ) (kind : Kind) (smm : Bool) (dev base : ℕ) →
-    area_of setup bytes addr kind smm ≡ CardArea dev base → IsClaim (memory_claim setup bytes addr) dev base
-unfolding area_of
-claimed setup bytes addr kind smm dev base is = claim_line _ _ _ _ _ (memory_claim setup bytes addr) dev base is
 
 -- an aligned access ends within the ROM
 pub rom_within : (addr size : ℕ) (width : Width) → IsRomSize size → addr % bytes_of width ≡ 0 →
@@ -62,10 +54,10 @@ module _ {setup : Setup} {state : State} (kept : IsSound setup state) where
       fitted_list state.registers.map.regs.cards setup.cards (sym kept.registers.kept.cards.0) kept.fits.cards
 
   held_in : (addr : ℕ) (width : Width) (area : Area) → addr % bytes_of width ≡ 0 →
-      ((dev base : ℕ) → area ≡ CardArea dev base → IsClaim (memory_claim setup kept.registers.bytes addr) dev base) →
+      ((dev base : ℕ) → area ≡ areas.Card dev base → IsClaim (memory_claim setup kept.registers.bytes addr) dev base) →
       IsHeld setup.rom state.stores.contents (target_at setup area addr) width
-  held_in addr width RomArea aligned claim = rom_within addr (length setup.rom) width kept.fits.rom aligned
-  held_in addr width (CardArea dev base) aligned claim =
+  held_in addr width areas.Rom aligned claim = rom_within addr (length setup.rom) width kept.fits.rom aligned
+  held_in addr width (areas.Card dev base) aligned claim =
       let by = claim dev base refl in
       let sized : IsSized setup by.0 =
       memory_claim_sized setup kept.registers.bytes state.registers.map.regs.cards addr by.0 cards_fitted.each
@@ -77,11 +69,12 @@ module _ {setup : Setup} {state : State} (kept : IsSound setup state) where
   pub ready : {rom : List ℕ} {access : Access} {answer : Part} → setup.rom ≡ rom →
       IsBusAccess (is_write access.kind) access.addr access.width access.value →
       answer ≡ part_in setup kept.registers.bytes access → IsReady rom state.stores.contents access answer
+  unfolding area_of
   ready {rom} {access} image bus is = record {
     bus = bus;
     held = rw (is, ← image)
         (held_in access.addr access.width _ bus.aligned
-        (claimed setup kept.registers.bytes access.addr access.kind access.smm));
+        (λ dev base is. claim_line _ _ _ _ _ (memory_claim setup kept.registers.bytes access.addr) dev base is));
   }
 
   stored_target : (port : ℕ) (width : Width) (target : Target) → port % bytes_of width ≡ 0 →

@@ -1,7 +1,7 @@
 -- Bytes that a caller keeps itself: left out they are spelled as any others beside themselves, and they can be put in.
-use Rattle.std.proofs.Common.{◌≡◌, ℕ, zero, suc, ◌≤◌, ◌<◌, true, false, Bool, List, [], ◌∷◌, ◌++◌, length, drop}
-use Rattle.std.proofs.Common.{replicate, bytes_eq, map, option_map, unwrap_or, is_some, Option, Some, None, refl, sym}
-use Rattle.std.proofs.Common.{ap, ◌∙◌, arith, ◌+◌, ◌-◌, nat_le, nat_lt, ◌&&◌, if◌then◌else◌, slice_index, Result, OnOk}
+use Rattle.std.proofs.Common.{◌≡◌, ℕ, suc, ◌≤◌, ◌<◌, true, false, Bool, List, [], ◌∷◌, ◌++◌, length, drop, replicate}
+use Rattle.std.proofs.Common.{bytes_eq, map, option_map, unwrap_or, is_some, Option, Some, None, refl, sym, ap, ◌∙◌}
+use Rattle.std.proofs.Common.{arith, ◌+◌, ◌-◌, nat_le, nat_lt, ◌&&◌, if◌then◌else◌, slice_index, Result, OnOk}
 use Rattle.std.proofs.Common.{append_assoc}
 use Rattle.board_prelude.proofs.Common.{bytes_eq-Decides, length-replicate, length-take, length-drop, nat_tests, Bytes}
 use Rattle.board_prelude.proofs.Common.{Disk, IsDisk, Setup, IsSetup, reset_byte}
@@ -41,9 +41,6 @@ own_first size bytes some there =
 pub own_pages : (fuel size : ℕ) (xs ys : List ℕ) → 0 < size → length xs ≤ fuel → length xs ≡ length ys →
     pages_bytes size xs xs ≡ pages_bytes size ys ys
 own_pages fuel size [] [] some few same = refl
-own_pages fuel size [] (y ∷ ys) some few same = absurd (omega (arith, same))
-own_pages fuel size (x ∷ xs) [] some few same = absurd (omega (arith, same))
-own_pages zero size (x ∷ xs) (y ∷ ys) some few same = absurd (omega (arith, few))
 own_pages (suc fuel) size (x ∷ xs) (y ∷ ys) some few same =
     own_first size (x ∷ xs) some (omega arith)
     ∙ ap (λ (later : List ℕ). 0 ∷ later)
@@ -51,6 +48,7 @@ own_pages (suc fuel) size (x ∷ xs) (y ∷ ys) some few same =
     (omega (arith, some, few, length-drop size (x ∷ xs)))
     (omega (arith, same, length-drop size (x ∷ xs), length-drop size (y ∷ ys))))
     ∙ sym (own_first size (y ∷ ys) some (omega arith))
+own_pages _ size _ _ some few same = absurd (omega (arith, same, few))
 
 pub zeros_length : (bytes : List ℕ) → length (zeros bytes) ≡ length bytes
 zeros_length bytes = length-replicate {A = ℕ} (length bytes) 0
@@ -73,10 +71,6 @@ left_on left disk = grind (arith, nat_tests)
 
 -- ---- the devices without the bytes of the disk are spelled as over their own sectors
 
--- as many zeros
-same_zeros : (xs ys : List ℕ) → length xs ≡ length ys → zeros xs ≡ zeros ys
-same_zeros xs ys same = ap (λ (n : ℕ). replicate {A = ℕ} n 0) same
-
 left_over : (fitted : List ℕ) (disk : Disk) → length fitted ≡ length disk.medium.bytes →
     disk_bytes disk.medium.bytes disk ≡ disk_bytes (zeros fitted) (holding (zeros disk.medium.bytes) disk)
 left_over fitted disk same =
@@ -84,7 +78,8 @@ left_over fitted disk same =
     let pages : pages_bytes sector_size sectors sectors ≡ pages_bytes sector_size (zeros fitted) (zeros sectors) =
     own_pages (length sectors) sector_size sectors (zeros sectors) (omega arith) (omega arith)
     (sym (zeros_length sectors))
-    ∙ ap (λ (plain : List ℕ). pages_bytes sector_size plain (zeros sectors)) (sym (same_zeros fitted sectors same)) in
+    ∙ ap (λ (plain : List ℕ). pages_bytes sector_size plain (zeros sectors))
+    (sym (ap (λ (n : ℕ). replicate {A = ℕ} n 0) same)) in
     ap (λ (spelled : List ℕ). drive_bytes disk.drive ++ (spelled ++ map flag_byte disk.medium.bad)) pages
 
 left_disk : (fitted : Option (List ℕ)) (disk : Option Disk) → HasDisk fitted disk → HasDisk (sectors_in disk) disk →
@@ -95,13 +90,6 @@ unfolding fitted_bytes
 left_disk None None has own = refl
 left_disk (Some bytes) (Some disk) has own = left_over bytes disk (some_is _ _ has ∙ sym (some_is _ _ own))
 left_disk _ _ has own = absurd (let never = has in cc)
-
-pub left_devices : (fitted : Option (List ℕ)) (devices : DevicesValue) → HasDisk fitted devices.disk →
-    HasDisk (sectors_in devices.disk) devices.disk →
-    devices_bytes (sectors_in devices.disk) devices ≡ devices_left fitted devices
-unfolding devices_bytes machines_bytes
-left_devices fitted devices has own =
-    ap (λ (disk : List ℕ). machines_bytes devices ++ disk) (left_disk fitted devices.disk has own)
 
 -- ---- the head has the sizes alone
 
@@ -182,6 +170,8 @@ pub left_added : {T E : Type 0} (result : Result T E) (fitted sectors : Option (
     sectors ≡ sectors_in devices.disk → mid ≡ old ++ contents →
     OnOk result (new ≡ mid ++ devices_bytes sectors devices) →
     OnOk result (new ≡ old ++ (contents ++ devices_left fitted devices))
+unfolding devices_bytes machines_bytes
 left_added result fitted sectors devices old mid new contents has own same first =
     on_ok_weaker result (λ second. second
-    ∙ rw (same, first, left_devices fitted devices has own) (append_assoc old contents (devices_left fitted devices)))
+    ∙ rw (same, first, ap (λ (disk : List ℕ). machines_bytes devices ++ disk) (left_disk fitted devices.disk has own))
+    (append_assoc old contents (devices_left fitted devices)))

@@ -5,7 +5,6 @@ pub mod StateSteps
 pub mod PortSteps
 pub mod OutsideSteps
 pub mod MemorySteps
-pub mod ChangeSteps
 pub mod Lefts
 pub mod Openings
 pub mod Exact

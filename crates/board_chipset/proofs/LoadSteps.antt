@@ -2,10 +2,10 @@
 -- They write no register and reach no device.
 use Rattle.std.proofs.Common.{◌≡◌, ℕ, zero, suc, ◌+◌, ◌-◌, ◌&&◌, ◌==◌, nat_le, nat_lt, if◌then◌else◌, List, [], ◌∷◌}
 use Rattle.std.proofs.Common.{◌++◌, length, slice_index, unwrap_or, Option, Some, None, refl, sym, ◌∙◌, ap, arith}
-use Rattle.std.proofs.Common.{false, ◌<◌, ◌≤◌, Result, Ok, Err, OnOk, OnErr}
+use Rattle.std.proofs.Common.{false, ◌≤◌, Result, Ok, Err, OnOk, OnErr}
 use Rattle.board_prelude.proofs.Common.{nat_tests, Event, Reply, Entry, Setup, Cell, entry_put, stored_of}
 use Rattle.board_prelude.proofs.Common.{device_reached, Write, One, Dram, Device, clock_index_port, clock_data_port}
-use Rattle.board_prelude.proofs.Common.{Memory, Port, Bus, DramCell, CardCell, byte_put, clock_of}
+use Rattle.board_prelude.proofs.Common.{Memory, Port, Bus, DramCell, CardCell, clock_of}
 use Rattle.board_devices.specs.Common.{DevicesValue, AreDevicesOf, PassesBy, byte_out, WritesClock, PutsClockByte}
 use Rattle.board_devices.proofs.DeviceLemmas.{leaves_devices}
 use Rattle.board_stores.specs.declared.stores.Stores.{Stores}
@@ -16,7 +16,7 @@ use Rattle.board_chipset.specs.Common.{WriteClockByte}
 use Rattle.board_chipset.proofs.StateSteps.{quiet, soft, HavePut, stores_after, writes_none, stores_stay}
 use Rattle.board_base.specs.declared.target.Dev.TheVariants.{Clock as ClockChip}
 use Rattle.dram_store.specs.declared.dram.PastTheEnd.{PastTheEnd}
-use Rattle.dram_store.specs.Dram.{dram_at, IsWritten}
+use Rattle.dram_store.specs.Dram.{IsWritten}
 use Rattle.board_stores.specs.Puts.{HasStores}
 
 -- an event with its reply puts these bytes, and does nothing else
@@ -42,22 +42,15 @@ InTurn place from bytes (entry ∷ earlier) =
     IsPut (λ cell. one_put (place cell) from bytes (length earlier)) entry.event entry.reply
     × InTurn place from bytes earlier
 
-one_more : (found : Option ℕ) (from n was : ℕ) (bytes : List ℕ) → unwrap_or (one_put found from bytes n)
-    (unwrap_or (all_put found from bytes n) was) ≡ unwrap_or (all_put found from bytes (suc n)) was
-one_more found from n was bytes = grind (arith, nat_tests)
-
-none_yet : (found : Option ℕ) (from was : ℕ) (bytes : List ℕ) → was ≡ unwrap_or (all_put found from bytes 0) was
-none_yet found from was bytes = grind (arith, nat_tests)
-
 module _ (place : Cell → Option ℕ) (from : ℕ) (bytes : List ℕ) where
   stored : (history : List Entry) (cell : Cell) (entries : List Entry) → InTurn place from bytes entries →
       stored_of (entries ++ history) cell
       ≡ unwrap_or (all_put (place cell) from bytes (length entries)) (stored_of history cell)
   unfolding stored_of
-  stored history cell [] each = none_yet (place cell) from (stored_of history cell) bytes
+  stored history cell [] each = grind (arith, nat_tests)
   stored history cell (entry ∷ earlier) each =
       rw (each.0.puts cell, stored history cell earlier each.1)
-      (one_more (place cell) from (length earlier) (stored_of history cell) bytes)
+      (grind (arith, nat_tests))
 
   others_stay : {setup : Setup} {history : List Entry} {registers : Registers} {devices : DevicesValue} →
       HasRegisters setup history registers → AreDevicesOf setup history devices →
@@ -105,10 +98,6 @@ abbrev in_dram : Cell → Option ℕ
 in_dram (DramCell at) = Some at
 in_dram (CardCell dev base off) = None
 
-dram_put : (addr n : ℕ) (bytes : List ℕ) (cell : Cell) → slice_index bytes n ≤ 0xFF →
-    byte_put (Dram 0) (addr + n) One (slice_index bytes n) cell ≡ one_put (in_dram cell) addr bytes n
-dram_put addr n bytes cell small = grind (arith, nat_tests)
-
 module _ (addr : ℕ) (bytes : List ℕ) where
   in_turn : ((k : ℕ) → slice_index bytes k ≤ 0xFF) → (entries : List Entry) → WriteInTurn addr bytes entries →
       InTurn in_dram addr bytes entries
@@ -121,7 +110,7 @@ module _ (addr : ℕ) (bytes : List ℕ) where
               (λ access same. let e = is.event in cc);
           passes = rw (is.event) tt;
           puts = λ cell. rw (is.event, is.reply, is.in_dram)
-              (dram_put addr (length earlier) bytes cell (small (length earlier)));
+              (grind (arith, nat_tests, small (length earlier)));
         },
         in_turn small earlier each.1,
       )
@@ -152,14 +141,6 @@ module _ (addr : ℕ) (bytes : List ℕ) where
 
 -- ---- what `load` tells
 
-dram_byte : (old new : List ℕ) (addr count at byte : ℕ) → at < length old → addr + count ≤ length old →
-    length new ≡ length old →
-    dram_at new at ≡ (if nat_le addr at && nat_lt at (addr + count) && nat_lt at (length old) then byte else
-    dram_at old at) →
-    slice_index new at
-    ≡ unwrap_or (if nat_le addr at && nat_lt at (addr + count) then Some byte else None) (slice_index old at)
-dram_byte old new addr count at byte within fits size is = grind (arith, nat_tests)
-
 module _ (setup : Setup) (old : State) (dram : List ℕ) (addr : ℕ) (bytes : List ℕ)
     (size : length dram ≡ length old.stores.dram) (small : (k : ℕ) → slice_index bytes k ≤ 0xFF) where
   -- the state after all bytes were written to the DRAM
@@ -171,7 +152,7 @@ module _ (setup : Setup) (old : State) (dram : List ℕ) (addr : ℕ) (bytes : L
       state_in_turn in_dram addr bytes kept entries all.all (in_turn addr bytes small entries all.each)
       (record {
         size = size;
-        dram = λ at within. dram_byte old.stores.dram dram addr (length bytes) at _ within fits size (is at);
+        dram = λ at within. grind (arith, nat_tests, is at);
         sizes = λ dev base number. refl;
         contents = λ dev base at number other within. refl;
       })
@@ -194,10 +175,6 @@ module _ (setup : Setup) (old : State) (dram : List ℕ) (addr : ℕ) (bytes : L
 
 -- ---- a byte of the clock
 
-puts_none : (port byte : ℕ) (reply : Reply) (cell : Cell) → device_reached reply ≡ Some ClockChip →
-    entry_put (Port (byte_out port byte)) reply cell ≡ None
-puts_none port byte reply cell is = grind (arith, nat_tests)
-
 -- after a write to a port of the clock
 clock_step :
     {setup : Setup} {history : List Entry} {registers : Registers} {stores : Stores} {port byte : ℕ} {entry : Entry} →
@@ -209,7 +186,7 @@ clock_step {setup} {history} {port = port} {byte} {entry} none is registers stor
     let silent : Writes setup history entry.event None None None = rw (is.event) none in
     let after = quiet {entry = entry} silent registers in (
       after,
-      stores_stay stores (λ cell. rw (is.event) (puts_none port byte entry.reply cell is.reached)),
+      stores_stay stores (λ cell. rw (is.event) (grind (arith, nat_tests, is.reached))),
       record {
         reaches = record { event = is.event; device = is.reached; soft = soft silent };
         routes_are = after.kept.south.routes;

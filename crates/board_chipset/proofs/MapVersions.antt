@@ -20,14 +20,6 @@ counted : (setup : Setup) (change : Option MapChange) (writes : List MapChange) 
     ≡ (if moves setup change then length writes + 1 else length writes)
 counted setup change writes = grind (arith, nat_tests)
 
-version_after :
-    (setup : Setup) (history : List Entry) (entry : Entry) (change : Option MapChange) →
-    register_change setup history entry.event ≡ change →
-    version_of setup (entry ∷ history)
-    ≡ (if moves setup change then version_of setup history + 1 else version_of setup history)
-unfolding map_change_of map_writes_of
-version_after setup history entry change is = rw is (counted setup change (map_writes_of setup history))
-
 -- the version modulo 2^32 after a change of the registers
 abbrev pub version_by : Setup → Option MapChange → ℕ → ℕ
 version_by setup change version = if moves setup change then next_version version else version
@@ -37,17 +29,7 @@ next_modulo : (moves : Bool) (version : ℕ) →
     ≡ (if moves then version + 1 else version) % version_count
 next_modulo moves version = grind (arith, nat_tests)
 
-pub modulo_after :
-    (setup : Setup) (history : List Entry) (entry : Entry) (change : Option MapChange) →
-    register_change setup history entry.event ≡ change →
-    version_by setup change (version_of setup history % version_count) ≡ version_of setup (entry ∷ history)
-    % version_count
-modulo_after setup history entry change is =
-    rw (version_after setup history entry change is) (next_modulo (moves setup change) (version_of setup history))
-
--- ---- the windows of the last change
-
--- the windows become those of a map write, and stay where there is none
+-- the windows of the last change become those of a map write, and stay where there is none
 abbrev pub Follow : Setup → List Entry → Option MapChange → (old new : List Changed) → Type 0
 Follow setup history change old new = AreNextChanged setup history (map_write setup change) (new ≡ old) new
 
@@ -57,12 +39,23 @@ follow : (setup : Setup) (history : List Entry) (write : Option MapChange) (old 
 follow setup history None old new was same = rw same was
 follow setup history (Some change) old new was are = are
 
-pub changed_after : (setup : Setup) (history : List Entry) (entry : Entry) (change : Option MapChange)
-    (old new : List Changed) → register_change setup history entry.event ≡ change → AreLastChanged setup history old →
-    Follow setup history change old new → AreLastChanged setup (entry ∷ history) new
-unfolding AreLastChanged map_change_of
-changed_after setup history entry change old new is was are =
-    rw is (follow setup history (map_write setup change) old new was are)
+-- ---- after an entry that makes a change of the registers
+
+module _ (setup : Setup) (history : List Entry) (entry : Entry) (change : Option MapChange)
+    (is : register_change setup history entry.event ≡ change) where
+  version_after : version_of setup (entry ∷ history)
+      ≡ (if moves setup change then version_of setup history + 1 else version_of setup history)
+  unfolding map_change_of map_writes_of
+  version_after = rw is (counted setup change (map_writes_of setup history))
+
+  pub modulo_after : version_by setup change (version_of setup history % version_count)
+      ≡ version_of setup (entry ∷ history) % version_count
+  modulo_after = rw version_after (next_modulo (moves setup change) (version_of setup history))
+
+  pub changed_after : (old new : List Changed) → AreLastChanged setup history old →
+      Follow setup history change old new → AreLastChanged setup (entry ∷ history) new
+  unfolding AreLastChanged map_change_of
+  changed_after old new was are = rw is (follow setup history (map_write setup change) old new was are)
 
 -- a store, which is a map write or not
 pub store_follows :

@@ -5,9 +5,7 @@ use Rattle.board_prelude.proofs.Common.{cases_Bool, and_left, and_right, nat_tes
 use Rattle.board_prelude.proofs.Common.{Setup, lies_in, smram_range, shadow_range, upper_memory, Bytes, Window}
 use Rattle.board_prelude.proofs.Common.{first_of, line_where, card_area, row_of, is_shadowed, memory_claim}
 use Rattle.board_prelude.proofs.Common.{is_smram_range, target_at, DramCell, first_cell, is_in_hole, is_bios_selected}
-use Rattle.board_base.specs.declared.target.Area.TheVariants.{Dram as DramArea, Shadow as ShadowArea}
-use Rattle.board_base.specs.declared.target.Area.TheVariants.{Smram as SmramArea, Rom as RomArea, Card as CardArea}
-use Rattle.board_base.specs.declared.target.Area.TheVariants.{Abort as AbortArea}
+use Rattle.board_base.specs.declared.target.Area.TheVariants as areas
 use Rattle.addr_decode.specs.Master.{master_area}
 use Rattle.board_chipset.specs.Masters.{IsOutsideSmram, master_target}
 
@@ -17,9 +15,9 @@ use Rattle.board_chipset.specs.Masters.{IsOutsideSmram, master_target}
 abbrev closed_lines : (shadow dram rom : Bool) (row : ℕ) (claim : Option Window) → Area
 closed_lines shadow dram rom row claim =
     first_of
-    (line_where shadow (ShadowArea row) ∷ line_where dram (DramArea row) ∷ line_where rom RomArea
+    (line_where shadow (areas.Shadow row) ∷ line_where dram (areas.Dram row) ∷ line_where rom areas.Rom
     ∷ option_map card_area claim ∷ [])
-    AbortArea
+    areas.Abort
 
 of_master : (setup : Setup) (bytes : Bytes) (addr : ℕ) (kind : Kind) →
     master_area setup bytes addr kind ≡ closed_lines (is_some (row_of bytes addr) && is_shadowed bytes addr kind)
@@ -33,7 +31,7 @@ of_master setup bytes addr kind =
 -- ---- SMRAM answers nobody
 
 abbrev IsNoSmram : Area → Type 0
-IsNoSmram SmramArea = ⊥
+IsNoSmram areas.Smram = ⊥
 IsNoSmram _ = Unit {0}
 
 closed_smram : {area : Area} (shadow dram rom : Bool) (row : ℕ) (claim : Option Window) →
@@ -41,7 +39,7 @@ closed_smram : {area : Area} (shadow dram rom : Bool) (row : ℕ) (claim : Optio
 closed_smram shadow dram rom row claim is = grind (arith, nat_tests)
 
 no_smram_at : (setup : Setup) (area : Area) (addr : ℕ) → IsNoSmram area → target_at setup area addr ≢ Smram
-no_smram_at setup SmramArea addr other is = other
+no_smram_at setup areas.Smram addr other is = other
 no_smram_at setup _ addr other is = cc
 
 pub no_smram : (setup : Setup) (bytes : Bytes) (kind : Kind) (addr : ℕ) → master_target setup bytes kind addr ≢ Smram
@@ -52,9 +50,9 @@ no_smram setup bytes kind addr =
 -- ---- in its range nothing that answers is DRAM
 
 abbrev pub IsOffDram : Area → Type 0
-IsOffDram RomArea = Unit {0}
-IsOffDram (CardArea dev base) = Unit {0}
-IsOffDram AbortArea = Unit {0}
+IsOffDram areas.Rom = Unit {0}
+IsOffDram (areas.Card dev base) = Unit {0}
+IsOffDram areas.Abort = Unit {0}
 IsOffDram _ = ⊥
 
 in_upper : (addr : ℕ) → lies_in smram_range addr ≡ true →
@@ -72,19 +70,16 @@ off_dram setup bytes addr kind inside =
     off_lines _ _ _ _ _ (of_master setup bytes addr kind) (and_right _ _ (and_left _ _ upper.0))
     (and_left _ _ (and_left _ _ (ap not upper.1)))
 
-card_cell : (dev base off addr at : ℕ) → first_cell (Card dev base off) addr ≡ Some (DramCell at) → ⊥
-card_cell dev base off addr at is = grind (arith, nat_tests)
-
 off_cell : (setup : Setup) (area : Area) (addr at : ℕ) → IsOffDram area →
     first_cell (target_at setup area addr) addr ≡ Some (DramCell at) → ⊥
-off_cell setup RomArea addr at off is = cc
-off_cell setup (CardArea dev base) addr at off is = card_cell dev base _ addr at is
-off_cell setup AbortArea addr at off is = cc
+off_cell setup areas.Rom addr at off is = cc
+off_cell setup (areas.Card dev base) addr at off is = grind (arith, nat_tests)
+off_cell setup areas.Abort addr at off is = cc
 off_cell setup _ addr at off is = off
 
 -- a byte of DRAM stands at its own address
 own_address : (target : Target) (addr at : ℕ) → first_cell target addr ≡ Some (DramCell at) → addr ≡ at
-own_address (Card dev base off) addr at is = absurd (card_cell dev base off addr at is)
+own_address (Card dev base off) addr at is = absurd (grind (arith, nat_tests))
 own_address _ addr at is = cc
 
 pub outside_smram : (setup : Setup) (bytes : Bytes) (kind : Kind) (addr : ℕ) →

@@ -1,13 +1,11 @@
 -- The state after an access to memory.
-use Rattle.std.proofs.Common.{◌≡◌, ℕ, true, false, List, None, Some, refl, Bool, IsTrue, ◌↔◌, arith, [], ◌∷◌, ◌∙◌, ap}
-use Rattle.std.proofs.Common.{map, All}
-use Rattle.board_prelude.proofs.Common.{Kind, Write, Part, Entry, Bus, Setup, is_write, part_answer, value_at}
-use Rattle.board_prelude.proofs.Common.{memory_answer, nat_tests, byte_of, Bytes, IsBusAccess, get_or-map, length-map}
-use Rattle.board_prelude.proofs.Common.{All-head, All-tail, All-cons, WideAccess, Parts, parts_of, parts_list, joined}
-use Rattle.board_prelude.proofs.Common.{Cell, parts_put, IsPart, AreParts, IsWideAnswer, wide_value, memory_target}
+use Rattle.std.proofs.Common.{◌≡◌, ℕ, true, false, List, None, refl, Bool, IsTrue, ◌↔◌, arith, [], ◌∷◌, ◌∙◌, ap, map}
+use Rattle.std.proofs.Common.{All}
+use Rattle.board_prelude.proofs.Common.{Kind, Write, Part, Setup, is_write, nat_tests, Bytes, IsBusAccess, get_or-map}
+use Rattle.board_prelude.proofs.Common.{length-map, All-head, All-tail, All-cons, WideAccess, parts_of, Cell, parts_put}
+use Rattle.board_prelude.proofs.Common.{IsPart, AreParts}
 use Rattle.addr_decode.specs.MapRegs.{StandsFor}
 use Rattle.board_stores.specs.Common.{IsReady, part_in, accesses, answers, AreReady}
-use Rattle.board_stores.proofs.MemoryLemmas.{part_answered}
 use Rattle.board_chipset.specs.declared.state.State.{State}
 use Rattle.board_chipset.specs.Kept.{IsState, IsSound}
 use Rattle.board_chipset.proofs.HeldTargets.{ready}
@@ -17,20 +15,6 @@ use Rattle.board_stores.specs.declared.cut.Cycle.{Cycle}
 pub writes_when : {kind : Kind} {writes known : Bool} → IsTrue writes ↔ (kind ≡ Write) → writes ≡ known →
     is_write kind ≡ known
 writes_when is same = grind (arith, nat_tests)
-
-pub write_answer : (setup : Setup) (history : List Entry) (access : Access) (answer : Part) →
-    is_write access.kind ≡ true → answer ≡ part_in setup (byte_of setup history) access →
-    Bus None answer.target answer.denial ≡ memory_answer setup history access
-unfolding memory_answer part_answer
-write_answer setup history access answer writes is = rw (part_answered setup history access answer is, writes) refl
-
-pub read_answer : (setup : Setup) (history : List Entry) (access : Access) (answer : Part) (value : ℕ) →
-    is_write access.kind ≡ false → answer ≡ part_in setup (byte_of setup history) access →
-    value ≡ value_at setup history answer.target access.addr access.width →
-    Bus (Some value) answer.target answer.denial ≡ memory_answer setup history access
-unfolding memory_answer part_answer
-read_answer setup history access answer value reads is same =
-    rw (same, part_answered setup history access answer is, reads) refl
 
 -- an access to a state of a board can be done as it is decoded there
 pub ready_in : {state : State} {rom : List ℕ} {access : Access} {answer : Part} → IsState state rom →
@@ -81,16 +65,3 @@ parts_none access (part ∷ later) (reply ∷ replies) cell reads each =
     let first = All-head (IsPart access) part later each in
     let here : is_write part.kind ≡ false = ap is_write first.kind ∙ reads in
     rw (here, parts_none access later replies cell reads (All-tail (IsPart access) part later each)) refl
-
-pub wide_written : (setup : Setup) (history : List Entry) (access : WideAccess) (parts : Parts) →
-    is_write access.kind ≡ true →
-    parts_list parts ≡ map (part_answer setup history) (parts_of access) → IsWideAnswer setup history access None parts
-unfolding wide_value
-wide_written setup history access parts writes each = record { value_is = rw writes refl; each = each }
-
-pub wide_read : (setup : Setup) (history : List Entry) (access : WideAccess) (parts : Parts) (value : ℕ) →
-    is_write access.kind ≡ false → parts_list parts ≡ map (part_answer setup history) (parts_of access) →
-    value ≡ joined (λ part. value_at setup history (memory_target setup history part) part.addr part.width)
-    (parts_of access) → IsWideAnswer setup history access (Some value) parts
-unfolding wide_value
-wide_read setup history access parts value reads each is = record { value_is = rw (reads, is) refl; each = each }

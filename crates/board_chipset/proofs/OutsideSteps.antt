@@ -1,8 +1,7 @@
 -- Events for the devices alone: they write no register and store nothing.
 use Rattle.board_prelude.proofs.Common.{nat_tests, and_from, le-leb, Ack, IsAnswer, IsInRange, outside_answer, Applied}
 use Rattle.board_prelude.proofs.Common.{Stimulus, stimulus_form, applied_by, event_applied, cases_Bool, eqb-true}
-use Rattle.board_prelude.proofs.Common.{All-head, All-tail, Event, Reply, Entry, Setup, FittedCard, IsCard, IsSetup}
-use Rattle.board_prelude.proofs.Common.{card_at, Cell, entry_put}
+use Rattle.board_prelude.proofs.Common.{All-head, All-tail, Event, Entry, Setup, FittedCard, IsCard, IsSetup, card_at}
 use Rattle.std.proofs.Common.{◌≡◌, ◌≤◌, true, List, [], ◌∷◌, None, refl, sym, ◌∙◌, subst, inl, inr, ℕ, ◌==◌, All, find}
 use Rattle.std.proofs.Common.{is_some, Bool, Option, Some, IfSome, arith}
 use Rattle.board_spec.specs.declared.stimulus.Stimulus.TheVariants as stimuli
@@ -10,9 +9,6 @@ use Rattle.board_devices.specs.Common.{DevicesValue, AreDevicesOf, AreRoutesOf, 
 use Rattle.board_chipset.specs.declared.state.State.{State}
 use Rattle.board_chipset.specs.Common.{IsStateOf, Writes, IsForDevices}
 use Rattle.board_chipset.proofs.StateSteps.{soft, devices_move, writes_none}
-
-puts_nothing : (event : Event) (reply : Reply) (cell : Cell) → IsForDevices event → entry_put event reply cell ≡ None
-puts_nothing event reply cell is = grind (arith, nat_tests)
 
 -- the state after such an event, by what it makes of the devices
 pub outside_done :
@@ -24,7 +20,7 @@ pub outside_done :
 outside_done {setup} {history} {entry} {event} is for_devices kept after =
     let none : Writes setup history entry.event None None None =
     writes_none setup history entry.event (λ access same. subst IsForDevices (sym is ∙ same) for_devices) in
-    devices_move kept none (λ cell. rw is (puts_nothing event entry.reply cell for_devices))
+    devices_move kept none (λ cell. rw is (grind (arith, nat_tests)))
     (after (record { event_is = is; soft = soft none }))
 
 -- ---- a wire leads from a card that is fitted

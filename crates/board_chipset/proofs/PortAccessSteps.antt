@@ -17,7 +17,8 @@ unfolding AnswerInTurn value_read strongest
 none_done setup start first history [] left each = (refl, refl, left)
 none_done setup start first history (entry ∷ earlier) left each = absurd each
 
-next_done : (setup : Setup) (start mid now : Running) (first : ℕ) (sooner : List PortAccess) (cycle : PortAccess)
+-- a cycle more
+pub next_done : (setup : Setup) (start mid now : Running) (first : ℕ) (sooner : List PortAccess) (cycle : PortAccess)
     (value read : ℕ) (reset made : ResetKind) → AreCyclesDone setup start first sooner mid value reset →
     IsCycleStep setup mid cycle now read made →
     AreCyclesDone setup start first (cycle ∷ sooner) now (value + read * 256 ^ (cycle.port - first))
@@ -31,20 +32,9 @@ next_done setup start mid now first sooner cycle value read reset made so_far st
     rw (each.0) refl in
     (rw (at_place, before.0, one.0) refl, rw (before.1, one.1) refl, one.2)
 
-reversed : {X : Type 0} (xs : List X) (i : ℕ) (x : X) → i < length xs →
+pub reversed : {X : Type 0} (xs : List X) (i : ℕ) (x : X) → i < length xs →
     reverse (take (i + 1) xs) ≡ get_or xs i x ∷ reverse (take i xs)
 reversed xs i x within = ap reverse (take_more xs i x within) ∙ reverse-append (take i xs) (get_or xs i x ∷ [])
-
--- a cycle more
-pub cycle_done : (setup : Setup) (start mid now : Running) (first value read next : ℕ) (reset made after : ResetKind)
-    (cycles : List PortAccess) (i : ℕ) (cycle : PortAccess) → i < length cycles → get_or cycles i cycle ≡ cycle →
-    AreCyclesDone setup start first (reverse (take i cycles)) mid value reset →
-    IsCycleStep setup mid cycle now read made → next ≡ value + read * 256 ^ (cycle.port - first) →
-    after ≡ stronger made reset → AreCyclesDone setup start first (reverse (take (i + 1) cycles)) now next after
-cycle_done setup start mid now first value read next reset made after cycles i cycle within is so_far step next_is
-    after_is =
-    rw (reversed cycles i cycle within, is, next_is, after_is)
-    (next_done setup start mid now first (reverse (take i cycles)) cycle value read reset made so_far step)
 
 -- ---- places
 

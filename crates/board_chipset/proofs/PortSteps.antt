@@ -1,6 +1,6 @@
--- What an access at a port reaches, what it writes, and the state after it.
+-- What an access at a port reaches, what it writes, and the state after it, and the change of the map that it makes.
 use Rattle.std.proofs.Common.{◌≡◌, ℕ, ◌%◌, ◌^◌, Bool, true, false, ◌&&◌, List, [], ◌∷◌, drop, Option, Some, None, refl}
-use Rattle.std.proofs.Common.{arith, ◌==◌, unwrap_or, option_map, ◌+◌, ◌≤◌, is_some, ap, ◌∙◌, if◌then◌else◌, ◌≢◌}
+use Rattle.std.proofs.Common.{arith, ◌==◌, unwrap_or, option_map, ◌+◌, ◌≤◌, is_some, ap, ◌∙◌, if◌then◌else◌, ◌≢◌, sym}
 use Rattle.board_prelude.proofs.Common.{false≢true, cond_both, nat_tests, Width, Reg, Dev, Wires, Vector, Spurious}
 use Rattle.board_prelude.proofs.Common.{Keyboard, Ata, Target, Card, Device, Config, Abort, Denial, bytes_of}
 use Rattle.board_prelude.proofs.Common.{is_port_of, device_at, Setup, is_bit, config_address_port, reset_control_port}
@@ -8,6 +8,7 @@ use Rattle.board_prelude.proofs.Common.{xbcs, is_config_port, config_register, B
 use Rattle.board_prelude.proofs.Common.{card_port, config_port, unselected, by_channel, device_port, port_target_of}
 use Rattle.board_prelude.proofs.Common.{PortAccess, largest_of, Port, Entry, MapChange, Store, kept_address}
 use Rattle.board_prelude.proofs.Common.{config_address, register_of, byte_of, is_hard_reset, Cell, entry_put, byte_put}
+use Rattle.board_prelude.proofs.Common.{Event, Reset as HardReset, reset_control, is_hard_value, map_change_of}
 use Rattle.board_prelude.proofs.Common.{port_put, device_in, device_reached, device_value, port_value, value_at}
 use Rattle.board_prelude.proofs.Common.{bus_reply, port_answer, Bus}
 use Rattle.board_base.specs.declared.target.Dev.TheVariants.{Confadd as AddressPort, Reset, Clock}
@@ -26,7 +27,9 @@ use Rattle.board_stores.specs.declared.stores.Stores.{Stores}
 use Rattle.board_stores.specs.Puts.{ArePut}
 use Rattle.board_chipset.specs.declared.registers.Registers.{Registers}
 use Rattle.board_chipset.specs.Common.{HasRegisters, IsStateOf}
-use Rattle.board_chipset.proofs.StateSteps.{stores_stay, soft, state_after, state_put, state_stays, devices_move}
+use Rattle.board_chipset.proofs.MapVersions.{map_write}
+use Rattle.board_chipset.proofs.StateSteps.{change_by, change_is, stores_stay, soft, state_after, state_put}
+use Rattle.board_chipset.proofs.StateSteps.{state_stays, devices_move}
 
 -- no register is written at the port
 pub record IsBeside (setup : Setup) (address port : ℕ) (width : Width) : Type 0 where
@@ -52,23 +55,6 @@ module _ (setup : Setup) (bytes : Bytes) (address port : ℕ) (width : Width) wh
 
 -- ---- line by line
 
-control_line : (port : ℕ) (width : Width) → is_port_of Reset port (bytes_of width) ≡ true →
-    (port ≡ reset_control_port) × (bytes_of width ≡ 1)
-control_line port width is = (grind (arith, nat_tests), grind (arith, nat_tests))
-
-address_line : (port : ℕ) (width : Width) → is_port_of AddressPort port (bytes_of width) ≡ true →
-    (port ≡ config_address_port) × (bytes_of width ≡ 4)
-address_line port width is = (grind (arith, nat_tests), grind (arith, nat_tests))
-
-beside_lines : (setup : Setup) (address port : ℕ) (width : Width) →
-    is_port_of Reset port (bytes_of width) ≡ false → is_port_of AddressPort port (bytes_of width) ≡ false →
-    is_config_port port ≡ false → IsBeside setup address port width
-beside_lines setup address port width control address_port config = grind (arith, nat_tests)
-
-beside_none : (setup : Setup) (address port : ℕ) (width : Width) → is_config_port port ≡ true →
-    config_register setup address port ≡ None → IsBeside setup address port width
-beside_none setup address port width config none = grind (arith, nat_tests)
-
 module _ (setup : Setup) (bytes : Bytes) (address : ℕ) (disk : Bool) (port : ℕ) (width : Width) where
   abbrev Lands : Decoded → Type 0
   Lands decoded = IsReached setup bytes address port width decoded.target
@@ -76,7 +62,7 @@ module _ (setup : Setup) (bytes : Bytes) (address : ℕ) (disk : Bool) (port : �
   at_config : (found : Option Reg) → is_config_port port ≡ true →
       config_register setup address port ≡ found → Lands (config_port address found)
   at_config (Some reg) config is = (config, is)
-  at_config None config is = beside_none setup address port width config is
+  at_config None config is = grind (arith, nat_tests)
 
   -- ---- what a card can claim
 
@@ -100,8 +86,8 @@ module _ (setup : Setup) (bytes : Bytes) (address : ℕ) (disk : Bool) (port : �
 
   at_device : (dev : Dev) → IsBeside setup address port width → is_port_of dev port (bytes_of width) ≡ true →
       Finds (Some dev)
-  at_device AddressPort by is = address_line port width is
-  at_device Reset by is = control_line port width is
+  at_device AddressPort by is = (grind (arith, nat_tests), grind (arith, nat_tests))
+  at_device Reset by is = (grind (arith, nat_tests), grind (arith, nat_tests))
   at_device Keyboard by is = cond_both (is_bit (bytes xbcs) 1) _ _ Lands (λ _. (by, is)) (λ _. others _ by)
   at_device Clock by is = cond_both (is_bit (bytes xbcs) 0) _ _ Lands (λ _. (by, is)) (λ _. others _ by)
   at_device Ata by is = at_disk disk by is
@@ -118,9 +104,11 @@ module _ (setup : Setup) (bytes : Bytes) (address : ℕ) (disk : Bool) (port : �
 
   past_config : is_config_port port ≡ false → Finds (device_at port (bytes_of width))
   past_config not_config =
-      cond_both (is_port_of AddressPort port (bytes_of width)) _ _ Finds (address_line port width)
-      (λ other. cond_both (is_port_of Reset port (bytes_of width)) _ _ Finds (control_line port width)
-      (λ not_reset. in_table (drop 2 port_devices) (beside_lines setup address port width not_reset other not_config)))
+      cond_both (is_port_of AddressPort port (bytes_of width)) _ _ Finds
+      (λ is. (grind (arith, nat_tests), grind (arith, nat_tests)))
+      (λ other. cond_both (is_port_of Reset port (bytes_of width)) _ _ Finds
+      (λ is. (grind (arith, nat_tests), grind (arith, nat_tests)))
+      (λ not_reset. in_table (drop 2 port_devices) (grind (arith, nat_tests))))
 
   pub reaches : Lands (port_target_of setup bytes address disk port width)
   unfolding port_target_of
@@ -140,11 +128,23 @@ abbrev pub store_at : Target → PortAccess → Option MapChange
 store_at (Config reg) access = Some (Store reg access.width access.value)
 store_at _ access = None
 
+abbrev pub IsNoDevice : Target → Type 0
+IsNoDevice target = (dev : Dev) → target ≡ Device dev → ⊥
+
+abbrev pub IsNoRegister : Target → Type 0
+IsNoRegister target = (reg : Reg) → target ≡ Config reg → ⊥
+
 abbrev pub Reached : Setup → List Entry → PortAccess → Target → Type 0
 Reached setup history access target =
     IsReached setup (byte_of setup history) (config_address history) access.port access.width target
 
 module _ (setup : Setup) (history : List Entry) (access : PortAccess) where
+  pub target_reached : (target : Target) → target ≡ (reached setup history access).target →
+      Reached setup history access target
+  target_reached target is =
+      rw is
+      (reaches setup (byte_of setup history) (config_address history) (is_some setup.disk) access.port access.width)
+
   pub reads_only : access.write ≡ false → Writes setup history (Port access) None None None
   reads_only reads = record { control_is = rw reads refl; address_is = rw reads refl; store_is = rw reads refl }
 
@@ -162,6 +162,16 @@ module _ (setup : Setup) (history : List Entry) (access : PortAccess) where
   writes_at Abort writes at = writes_beside at
   writes_at _ writes at = absurd at
 
+  pub writes_stored : (target : Target) → IsNoDevice target → IsNoRegister target →
+      Reached setup history access target → Writes setup history (Port access) None None None
+  writes_stored target device config is = writes_beside (grind (arith, nat_tests))
+
+  -- the same by what was found
+  pub writes_found : (found : Found) → ((dev : Dev) → found ≡ FoundDevice dev → ⊥) →
+      ((register : ConfigRegister) → found ≡ FoundRegister register → ⊥) →
+      Reached setup history access (decoded_as found).target → Writes setup history (Port access) None None None
+  writes_found found device register is = writes_beside (grind (arith, nat_tests))
+
 pub fits_byte : (width : Width) (value : ℕ) → bytes_of width ≡ 1 → value ≤ largest_of width → value ≤ 0xFF
 fits_byte width value byte fits = grind (arith, nat_tests)
 
@@ -176,11 +186,6 @@ within_function setup address port width reg kept aligned is =
     (kept_address-low_bits address kept) refl refl aligned)
 
 -- ---- what an entry tells
-
-pub target_reached : (setup : Setup) (history : List Entry) (access : PortAccess) (target : Target) →
-    target ≡ (reached setup history access).target → Reached setup history access target
-target_reached setup history access target is =
-    rw is (reaches setup (byte_of setup history) (config_address history) (is_some setup.disk) access.port access.width)
 
 pub reached_in :
     {state : State} {access : PortAccess} {target : Target} → (reaching : Reaching state access target) →
@@ -209,26 +214,8 @@ entry_writes {setup} {history} {access} {target} {shown} same writes is =
 
 -- ---- targets
 
-abbrev pub IsNoDevice : Target → Type 0
-IsNoDevice target = (dev : Dev) → target ≡ Device dev → ⊥
-
-abbrev pub IsNoRegister : Target → Type 0
-IsNoRegister target = (reg : Reg) → target ≡ Config reg → ⊥
-
 pub no_chip : (target : Target) → IsNoDevice target → is_chip (device_in target) ≡ false
 no_chip target none = grind (arith, nat_tests)
-
-pub beside_of : (setup : Setup) (history : List Entry) (access : PortAccess) (target : Target) → IsNoDevice target →
-    IsNoRegister target →
-    Reached setup history access target → IsBeside setup (config_address history) access.port access.width
-beside_of setup history access target device config is = grind (arith, nat_tests)
-
--- the same by what was found
-pub beside_found : (setup : Setup) (history : List Entry) (access : PortAccess) (found : Found) →
-    ((dev : Dev) → found ≡ FoundDevice dev → ⊥) → ((register : ConfigRegister) → found ≡ FoundRegister register → ⊥) →
-    Reached setup history access (decoded_as found).target →
-    IsBeside setup (config_address history) access.port access.width
-beside_found setup history access found device register is = grind (arith, nat_tests)
 
 -- a device with ports of its own
 chip_in : (setup : Setup) (bytes : Bytes) (address : ℕ) (access : PortAccess) (dev : Dev) → dev ≢ AddressPort →
@@ -276,8 +263,8 @@ module _ {setup : Setup} {history : List Entry} {access : PortAccess} {target : 
       ArePut (byte_put target access.port access.width access.value) old.stores stores → IsStateOf setup history old →
       IsEntryOf setup history access target entry → IsStateOf setup (entry ∷ history) (record old { stores = stores })
   write_stored writes device config put kept is =
-      let by = beside_of setup history access target device config (entry_reached refl is) in
-      state_put kept (rw (is.event) (writes_beside setup history access by)) (passes is (no_chip target device))
+      state_put kept (rw (is.event) (writes_stored setup history access target device config (entry_reached refl is)))
+      (passes is (no_chip target device))
       (λ cell. puts is cell ∙ rw writes refl) put
 
   -- a write of registers that moves no route
@@ -335,3 +322,25 @@ replied {access = access} {value = value} denial gives leaves = (
     reply = said;
   }),
 )
+
+-- ---- the change of the map that an event makes
+
+pub changes : {setup : Setup} {history : List Entry} {event : Event} {written address : Option ℕ}
+    {store : Option MapChange} → Writes setup history event written address store →
+    map_write setup (change_by (reset_control history) written store) ≡ map_change_of setup history event
+unfolding map_change_of
+changes {setup} writes = ap (map_write setup) (sym (change_is writes))
+
+reset_or_none : (setup : Setup) (hard : Bool) →
+    (if hard then Some HardReset else None) ≡ map_write setup (if hard then Some HardReset else None)
+reset_or_none setup hard = grind (arith, nat_tests)
+
+pub by_device : (setup : Setup) (history : List Entry) (access : PortAccess) (dev : Dev) (change : Option MapChange) →
+    access.write ≡ true → Reached setup history access (Device dev) →
+    (dev ≡ Reset → change ≡ (if is_hard_value (reset_control history) access.value then Some HardReset else None)) →
+    ((dev ≡ Reset → ⊥) → change ≡ None) → change ≡ map_change_of setup history (Port access)
+by_device setup history access Reset change writes at control other =
+    control refl ∙ reset_or_none setup (is_hard_value (reset_control history) access.value)
+    ∙ changes (writes_at setup history access (Device Reset) writes at)
+by_device setup history access dev change writes at control other =
+    other (λ same. absurd (cc)) ∙ changes (writes_at setup history access (Device dev) writes at)

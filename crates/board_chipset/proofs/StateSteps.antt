@@ -1,6 +1,6 @@
 -- The state after an entry: its registers, the bytes behind the addresses, and its devices.
 use Rattle.std.proofs.Common.{arith, ◌≡◌, ◌≢◌, ◌<◌, ℕ, false, List, [], ◌∷◌, Option, Some, None, refl, sym, ◌∙◌, ap}
-use Rattle.std.proofs.Common.{if◌then◌else◌, unwrap_or, option_map, length, slice_index, true, ◌↔◌, subst}
+use Rattle.std.proofs.Common.{if◌then◌else◌, unwrap_or, option_map, length, slice_index, subst}
 use Rattle.board_prelude.proofs.Common.{nat_tests, Event, Entry, MapChange, Setup, config_address, byte_of, PortAccess}
 use Rattle.board_prelude.proofs.Common.{is_hard_reset, Cell, DramCell, CardCell, entry_put, stored_of, device_reached}
 use Rattle.board_prelude.proofs.Common.{Port, Reset, reset_byte, control_after, resets_hard, kept_address}
@@ -17,8 +17,6 @@ use Rattle.board_chipset.specs.declared.registers.Registers.{Registers}
 use Rattle.board_chipset.specs.declared.state.State.{State}
 use Rattle.board_chipset.specs.Common.{AreSound, HasRegisters, IsFlat, IsSound, IsStateOf, Writes, AreLastChanged}
 use Rattle.board_chipset.proofs.MapVersions.{version_by, modulo_after, Follow, changed_after}
-use Rattle.board_chipset.specs.declared.reset_control.ResetKind.TheVariants.{Hard}
-use Rattle.board_chipset.specs.Resets.{reset_by_written}
 
 -- ---- the registers
 
@@ -58,7 +56,7 @@ follows {setup} {history} {entry} {old} {new} {written} {store = store} writes h
           (sym change) kept;
       version = version ∙ ap (version_by setup (change_by old.control written store)) has.version
           ∙ modulo_after setup history entry _ change;
-      changed = changed_after setup history entry _ old.map.changed new.map.changed change has.changed windows;
+      changed = changed_after setup history entry _ change old.map.changed new.map.changed has.changed windows;
       flat = flat;
     }
 
@@ -169,10 +167,6 @@ module _ {setup : Setup} {old : State} (sound : IsSound setup old) where
       IsSound setup (record old { registers = registers; devices = devices })
   sound_changed is fitted = grind (arith, nat_tests)
 
-  pub sound_registers : {registers : Registers} → AreSound setup registers →
-      IsSound setup (record old { registers = registers })
-  sound_registers is = sound_changed is refl
-
   pub sound_devices : {devices : DevicesValue} → sectors_fitted devices.disk ≡ sectors_fitted old.devices.disk →
       IsSound setup (record old { devices = devices })
   sound_devices fitted = sound_changed sound.registers fitted
@@ -188,9 +182,3 @@ fresh_sound {setup} {state} is =
       flat = is.registers.flat;
     } in
     assumption (opened_has setup state.devices is.fits.disk is.devices.others.disk)
-
--- ---- a reset is told as hard exactly where it is
-
-pub hard_exactly : (control : ℕ) (written : Option ℕ) →
-    (reset_by_written control written ≡ Hard) ↔ (resets_hard control written ≡ true)
-hard_exactly control written = grind (arith, nat_tests)

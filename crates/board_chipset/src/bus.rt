@@ -19,6 +19,7 @@ use board_spec::{Event, Look};
 impl Chipset {
     /// Does an access to memory of one bus cycle, which is in range, as `step` does it: its address is a multiple of
     /// the width, and the value fits.
+    #[tactic(auto, unfolding(crate::specs::Chipset::IsLeftBy))]
     #[inline(always)]
     pub fn memory(&mut self, access: &Access) -> BusReply
         requires bus { IsBusAccess (is_write access.now.kind) access.now.addr access.now.width access.now.value }
@@ -32,6 +33,7 @@ impl Chipset {
     }
 
     /// Does a wide access to memory, which is in range, as `step` does it.
+    #[tactic(auto, unfolding(crate::specs::Chipset::IsLeftBy))]
     pub fn wide(&mut self, access: &WideAccess) -> WideReply
         requires wide { IsWideAccess access.now }
         ensures setup { self.new.setup ≡ self.old.setup }
@@ -46,6 +48,7 @@ impl Chipset {
 
     /// Does an access at a port of one bus cycle, which is in range, as `step` does it: the port is a multiple of the
     /// width, and the value fits.
+    #[tactic(auto, unfolding(crate::specs::Chipset::IsLeftBy))]
     pub fn port(&mut self, access: &PortAccess) -> BusReply
         requires bus { IsBusAccess access.now.write access.now.port access.now.width access.now.value }
         ensures setup { self.new.setup ≡ self.old.setup }
@@ -58,6 +61,7 @@ impl Chipset {
     }
 
     /// Looks at the memory map, as `step` does. A look is no access, and leaves the chipset as it is.
+    #[tactic(auto, unfolding(crate::specs::Chipset::IsLeftBy))]
     pub fn look(&self, kind: Kind, addr: u32, smm: bool) -> Look
         ensures answer { (history : List Entry) → IsLeftBy self.now history
             → IsAnswerModulo self.now.setup history (LookAt kind addr smm) (Saw result) }
@@ -69,6 +73,7 @@ impl Chipset {
 
     /// Does an event that is no access and no look, and is in range, as `step` does it: an interrupt acknowledge,
     /// pulses, a moment, a level of a wire or line, a bad sector.
+    #[tactic(auto, unfolding(crate::specs::Chipset::IsLeftBy))]
     pub fn outside(&mut self, event: &Event) -> BusReply
         requires devices { IsForDevices event.now }
         requires in_range { IsInRange self.old.setup event.now }

@@ -16,6 +16,7 @@ use pci_bars::Contents;
 impl Chipset {
     /// The DRAM: its bytes can be copied out in stretches, or seen in place, of each MiB those up to the highest page
     /// written.
+    #[tactic(auto, unfolding(crate::specs::Chipset::IsLeftBy))]
     pub fn dram(&self) -> &Dram
         ensures dram { (history : List Entry) → IsLeftBy self.now history
             → IsDramOf self.now.setup history result.now }

@@ -43,7 +43,7 @@ impl Chipset {
     /// The chipset of a setup, as after power-on. The memory is 1 to 512 MiB; the cards are at most eight in rising
     /// order of device, with at most 64 MiB of memory together. BadRom exactly where the ROM is not of 64, 128, 256 or
     /// 512 KiB, and BadDisk exactly where it is and the disk is not of 1 to 65,536 whole sectors.
-    #[tactic(auto, using(crate::proofs::Lefts::left_by))]
+    #[tactic(auto, unfolding(crate::specs::Chipset::IsLeftBy))]
     pub fn open(alloc: Global, setup: Setup) -> Result<Chipset, BoardOpen>
         requires low { 1 ≤ setup.mib }
         requires high { setup.mib ≤ most_mib }
@@ -59,6 +59,7 @@ impl Chipset {
 
     /// Does an event that is in range, and returns the reply: the answer after the history so far. A look's reply has
     /// the version of the map modulo 2^32. It takes no memory.
+    #[tactic(auto, unfolding(crate::specs::Chipset::IsLeftBy))]
     pub fn step(&mut self, event: &Event) -> Reply
         requires in_range { IsInRange self.old.setup event.now }
         ensures setup { self.new.setup ≡ self.old.setup }
@@ -74,6 +75,7 @@ impl Chipset {
 
     /// The change of the memory map that an event would make now: a store to a register that the map depends on, or a
     /// hard reset. None where it would make none.
+    #[tactic(auto, unfolding(crate::specs::Chipset::IsLeftBy))]
     pub fn map_change(&self, event: &Event) -> Option<MapChange>
         ensures change { (history : List Entry) → IsLeftBy self.now history
             → result ≡ map_change_of self.now.setup history event.now }
@@ -98,6 +100,7 @@ impl Chipset {
     /// The memory map of the registers as they stand. Its version is the number of map writes so far, modulo 2^32: the
     /// stores to a register that the map depends on, and the hard resets. The registers are those of the state, also
     /// where no history left it so.
+    #[tactic(auto, unfolding(crate::specs::Chipset::IsLeftBy))]
     pub fn map(&self) -> &FlatMap
         ensures held { result.now ≡ self.now.state.registers.map }
         ensures bytes { (history : List Entry) → IsLeftBy self.now history
@@ -116,6 +119,7 @@ impl Chipset {
     }
 
     /// Ends the chipset, and gives the registers and bytes as they stand, for a bus master. It takes no memory.
+    #[tactic(auto, unfolding(crate::specs::Chipset::IsLeftBy))]
     pub fn into_store(self) -> Store
         ensures regs { (history : List Entry) → IsLeftBy self history
             → StandsFor self.setup (byte_of self.setup history) (map_bytes result.regs) }

@@ -25,6 +25,7 @@ impl Chipset {
     }
 
     /// What would answer an access to memory.
+    #[tactic(auto, using(board_stores::proofs::MemoryLemmas::part_answered), unfolding(crate::specs::Chipset::IsLeftBy))]
     fn decode_memory(&self, access: &Access) -> Part
         ensures part { (history : List Entry) → IsLeftBy self.now history
             → result ≡ part_answer self.now.setup history access.now }
@@ -33,6 +34,7 @@ impl Chipset {
     }
 
     /// What would answer an access to a port.
+    #[tactic(auto, unfolding(crate::specs::Chipset::IsLeftBy))]
     fn decode_port(&self, access: &PortAccess) -> Part
         ensures part { (history : List Entry) → IsLeftBy self.now history
             → result ≡ port_part self.now.setup history access.now }

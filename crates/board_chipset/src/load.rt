@@ -33,6 +33,7 @@ impl Chipset {
     /// Writes the byte of the clock at an address below 128, as a processor does by ports 70h and 71h, and leaves the
     /// index at port 70h as it was. A write changes some bits of registers A and B, and none of C and D. Refused
     /// exactly where the address is not below 128; then nothing has changed.
+    #[tactic(auto, using(crate::proofs::StateSteps::sound_devices))]
     pub fn set_clock_byte(&mut self, address: u8, byte: u8) -> Result<(), NoClockByte>
         ensures refused { IsErr result ↔ 128 ≤ address }
         ensures unchanged { OnErr result (self.new ≡ self.old) }

@@ -16,6 +16,7 @@ impl Chipset {
     /// What would answer an access of a bus master at an address, and what would deny it: what answers a processor
     /// outside system management mode, where SMRAM answers nobody (82441FX, System Address Map). Whatever the registers
     /// hold it is not SMRAM, and no byte of DRAM at A0000h to BFFFFh.
+    #[tactic(auto, unfolding(crate::specs::Chipset::IsLeftBy))]
     pub fn decode_master(&self, addr: u32, kind: Kind) -> Part
         ensures part { (history : List Entry) → IsLeftBy self.now history
             → result ≡ master_part self.now.setup (byte_of self.now.setup history) kind addr }

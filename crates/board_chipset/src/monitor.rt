@@ -67,6 +67,7 @@ impl Chipset {
 
     /// The reset that an event would make now, which only a write of reset control (port CF9h) makes: none, a soft one,
     /// of the processor alone, or a hard one, of the chipset too.
+    #[tactic(auto, unfolding(crate::specs::Chipset::IsLeftBy))]
     pub fn reset_of(&self, event: &Event) -> ResetKind
         ensures kind { (history : List Entry) → IsLeftBy self.now history → result ≡ reset_of history event.now }
         ensures hard { (history : List Entry) → IsLeftBy self.now history
@@ -76,6 +77,7 @@ impl Chipset {
     }
 
     /// The same of an access at a port, which is no event yet.
+    #[tactic(auto, unfolding(crate::specs::Chipset::IsLeftBy))]
     pub fn reset_by(&self, access: &PortAccess) -> ResetKind
         ensures kind { (history : List Entry) → IsLeftBy self.now history
             → result ≡ reset_of history (Port access.now) }

@@ -12,6 +12,7 @@ use board_base::{Dev, Target};
 use board_spec::Event;
 
 /// Does an event that only the devices have a part in, and returns the reply.
+#[tactic(auto, using(crate::proofs::StateSteps::sound_devices))]
 pub fn answer(state: &mut State, event: &Event) -> BusReply
     requires devices { IsForDevices event.now }
     requires in_range { (rom : List ℕ) × CanDo state.old rom event.now }

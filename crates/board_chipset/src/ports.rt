@@ -54,6 +54,7 @@ fn at_device(state: &mut State, dev: Dev, access: &PortAccess) -> BusReply
 }
 
 /// The value of an access at a port that reaches a device. None where it writes.
+#[tactic(auto, using(std::proofs::lemmas::Bool::Decides::nat_tests))]
 fn device_value(state: &mut State, dev: Dev, access: &PortAccess) -> Option<u32>
     requires reaching { Reaching state.old access.now (Device dev) }
     ensures sound { StaysSound state.old state.new }
@@ -90,6 +91,7 @@ fn at_register(state: &mut State, register: &ConfigRegister, access: &PortAccess
 }
 
 /// The value of an access at a port that reaches a register. None where it writes.
+#[tactic(auto, using(std::proofs::lemmas::Bool::Decides::nat_tests))]
 fn register_value(state: &mut State, register: &ConfigRegister, access: &PortAccess) -> Option<u32>
     requires reaching { Reaching state.old access.now (Config register.now.reg) }
     requires function { HasRegister state.old.registers.map.regs.cards register.now.function register.now.reg }
@@ -147,6 +149,7 @@ fn at_nobody(state: &mut State, denial: Denial, access: &PortAccess) -> BusReply
 }
 
 /// The value of an access at a port that reaches a base of a card or nobody. None where it writes.
+#[tactic(auto, using(std::proofs::lemmas::Bool::Decides::nat_tests))]
 fn stored_value(state: &mut State, target: Target, access: &PortAccess) -> Option<u32>
     requires reaching { Reaching state.old access.now (target) }
     requires device { (dev : Dev) → target ≡ Device dev → ⊥ }
@@ -184,6 +187,7 @@ fn read(state: &mut State, target: Target, access: &PortAccess) -> u32
 }
 
 /// The value of a read of a device's port.
+#[tactic(auto, using(crate::proofs::PortSteps::chip_value, crate::proofs::StateSteps::sound_devices))]
 fn read_device(state: &mut State, dev: Dev, access: &PortAccess) -> u32
     requires reaching { Reaching state.old access.now (Device dev) }
     requires reads { access.now.write ≡ false }
@@ -203,6 +207,7 @@ fn read_device(state: &mut State, dev: Dev, access: &PortAccess) -> u32
 }
 
 /// Does a write at a port that `target` answers.
+#[tactic(auto, using(crate::proofs::StateSteps::sound_put))]
 fn write(state: &mut State, target: Target, access: &PortAccess)
     requires reaching { Reaching state.old access.now target }
     requires device { (dev : Dev) → target ≡ Device dev → ⊥ }
@@ -219,6 +224,7 @@ fn write(state: &mut State, target: Target, access: &PortAccess)
 
 /// Writes a register in configuration space. The PIRQRC registers of the 82371SB route the PCI interrupts, so after a
 /// write to the 82371SB the interrupt lines are set anew.
+#[tactic(auto, using(crate::proofs::StateSteps::sound_changed))]
 fn write_register(state: &mut State, register: &ConfigRegister, access: &PortAccess)
     requires reaching { Reaching state.old access.now (Config register.now.reg) }
     requires function { HasRegister state.old.registers.map.regs.cards register.now.function register.now.reg }
@@ -234,6 +240,7 @@ fn write_register(state: &mut State, register: &ConfigRegister, access: &PortAcc
 }
 
 /// Writes a port of a device.
+#[tactic(auto, using(crate::proofs::StateSteps::sound_changed))]
 fn write_device(state: &mut State, dev: Dev, access: &PortAccess)
     requires reaching { Reaching state.old access.now (Device dev) }
     requires writes { access.now.write ≡ true }
@@ -251,6 +258,7 @@ fn write_device(state: &mut State, dev: Dev, access: &PortAccess)
 }
 
 /// Writes reset control. A hard reset resets the registers, and then the devices.
+#[tactic(auto, using(crate::proofs::StateSteps::sound_changed))]
 fn write_control(state: &mut State, access: &PortAccess)
     requires reaching { Reaching state.old access.now (Device Reset) }
     requires writes { access.now.write ≡ true }

@@ -15,6 +15,7 @@ use board_stores::{Cycle, cycles_of, read_cycles, write_cycles};
 
 /// Does a wide access, and returns the reply. First each of its cycles is decoded, then they are done one after
 /// another.
+#[tactic(auto, using(crate::proofs::StateSteps::sound_put))]
 pub fn access(state: &mut State, rom: &[u8], access: &WideAccess) -> WideReply
     requires wide { IsWideAccess access.now }
     requires kept { IsState state.old rom.now }

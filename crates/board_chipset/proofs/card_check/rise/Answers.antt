@@ -1,8 +1,10 @@
 use Rattle.std.proofs.Common.{◌≡◌, ap, arith, refl}
 use Rattle.board_spec.specs.Setup.{FittedCard}
-use Rattle.board_chipset.proofs.CardChecks.{rise_at, rise_all}
+use Rattle.board_chipset.proofs.CardChecks.{rise_at}
 use Rattle.board_chipset.proofs.card_check.rise.Goals.{then-card-above-via-then-card-above}
 use Rattle.board_chipset.proofs.card_check.rise.Goals.{then-card-above-via-else-card-above+then-not-is_card}
+use Rattle.board_chipset.specs.Setups.{RiseFrom}
+use Rattle.board_prelude.proofs.Common.{drop_all}
 use Rattle.board_chipset.proofs.card_check.rise.Goals as goal
 
 pub returns-then-card-above : goal.returns-then-card-above
@@ -36,10 +38,10 @@ loop-card-preserved c =
     )
 
 pub returns : goal.returns
+unfolding RiseFrom
 returns c = record {
   rise = (
-    λ is. rise_all c.args.cards.now c.loop-card.above c.loop-card.card-index c.loop-card-test.false
-        c.loop-card.invariant,
+    λ is. c.loop-card.invariant.1 (rw (drop_all c.loop-card.card-index c.args.cards.now c.loop-card-test.false) tt),
     λ all. refl,
   );
 }

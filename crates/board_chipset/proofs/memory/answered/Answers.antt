@@ -1,20 +1,21 @@
 use Rattle.std.proofs.Common.{refl}
-use Rattle.board_spec.specs.Registers.{byte_of}
-use Rattle.board_chipset.proofs.StateSteps.{sound_put, state_put, state_stays, writes_none}
-use Rattle.board_chipset.proofs.MemorySteps.{writes_when, write_answer, read_answer, ready_in}
+use Rattle.board_prelude.proofs.Common.{byte_of, memory_answer, part_answer}
+use Rattle.board_stores.proofs.MemoryLemmas.{part_answered}
+use Rattle.board_chipset.proofs.StateSteps.{state_put, state_stays, writes_none}
+use Rattle.board_chipset.proofs.MemorySteps.{writes_when, ready_in}
 use Rattle.board_chipset.proofs.memory.answered.Goals as goal
 
 pub write-requires-clause-ready : goal.write-requires-clause-ready
 write-requires-clause-ready c = (c.args.rom.now, ready_in c.requires.kept c.requires.bus c.requires.decoded)
 
-pub returns-then-is_write-clause-sound : goal.returns-then-is_write-clause-sound
-returns-then-is_write-clause-sound c = λ setup sound. sound_put sound c.write.ensures.put
-
 pub returns-then-is_write-clause-answer : goal.returns-then-is_write-clause-answer
+unfolding memory_answer part_answer
 returns-then-is_write-clause-answer c = λ setup history kept image.
-    write_answer setup history c.args.access.now c.args.answer.now
-    (writes_when c.is_write.ensures.write c.if-is_write.true)
-    (c.requires.decoded setup (byte_of setup history) kept.registers.kept.map image)
+    rw (
+      part_answered setup history c.args.access.now c.args.answer.now
+          (c.requires.decoded setup (byte_of setup history) kept.registers.kept.map image),
+      writes_when c.is_write.ensures.write c.if-is_write.true,
+    ) refl
 
 pub returns-then-is_write-clause-board : goal.returns-then-is_write-clause-board
 returns-then-is_write-clause-board c = λ setup history entry kept image event replied.
@@ -25,11 +26,14 @@ pub read-requires : goal.read-requires
 read-requires c = record { ready = ready_in c.requires.kept c.requires.bus c.requires.decoded }
 
 pub returns-clause-answer : goal.returns-clause-answer
+unfolding memory_answer part_answer
 returns-clause-answer c = λ setup history kept image.
-    read_answer setup history c.args.access.now c.args.answer.now c.read.result
-    (writes_when c.is_write.ensures.write c.if-is_write.false)
-    (c.requires.decoded setup (byte_of setup history) kept.registers.kept.map image)
-    (c.read.ensures.value setup history kept.stores image)
+    rw (
+      c.read.ensures.value setup history kept.stores image,
+      part_answered setup history c.args.access.now c.args.answer.now
+          (c.requires.decoded setup (byte_of setup history) kept.registers.kept.map image),
+      writes_when c.is_write.ensures.write c.if-is_write.false,
+    ) refl
 
 pub returns-clause-board : goal.returns-clause-board
 returns-clause-board c = λ setup history entry kept image event replied.

@@ -1,7 +1,6 @@
 use Rattle.std.proofs.Common.{sym, subst, ◌∙◌}
 use Rattle.board_prelude.proofs.Common.{IsInRange}
 use Rattle.board_chipset.proofs.OutsideSteps.{outside_done, applied_is, applied_answer, level_number}
-use Rattle.board_chipset.proofs.StateSteps.{sound_devices}
 use Rattle.board_chipset.proofs.outside.answer.Goals as goal
 
 pub apply-requires : goal.apply-requires
@@ -29,12 +28,3 @@ returns-in-Some-clause-board c = λ setup history entry kept event.
     outside_done (event ∙ is) (applied_answer setup history said.stimulus said.number said.on).0 kept
     (λ asks routes. c.apply.ensures.devices setup history entry kept.devices asks
     kept.registers.kept.south.routes routes)
-
-pub returns-in-Ack-clause-sound : goal.returns-in-Ack-clause-sound
-returns-in-Ack-clause-sound c = λ setup sound. sound_devices sound c.acknowledge-vector.ensures.fitted
-
-pub returns-in-Time-clause-sound : goal.returns-in-Time-clause-sound
-returns-in-Time-clause-sound c = λ setup sound. sound_devices sound c.moment.ensures.fitted
-
-pub returns-in-Some-clause-sound : goal.returns-in-Some-clause-sound
-returns-in-Some-clause-sound c = λ setup sound. sound_devices sound c.apply.ensures.fitted

@@ -1,6 +1,5 @@
-use Rattle.std.proofs.Common.{◌∙◌, refl}
-use Rattle.board_chipset.proofs.PortSteps.{chip_reached, chip_value, read_stays, chip_changed}
-use Rattle.board_chipset.proofs.StateSteps.{sound_devices}
+use Rattle.std.proofs.Common.{refl}
+use Rattle.board_chipset.proofs.PortSteps.{chip_reached, read_stays, chip_changed}
 use Rattle.board_chipset.proofs.ports.read_device.Goals as goal
 
 pub read-requires-in_default : goal.read-requires-in_default
@@ -15,16 +14,7 @@ pub returns-in-Reset-clause-board : goal.returns-in-Reset-clause-board
 returns-in-Reset-clause-board c = λ setup history entry kept is.
     read_stays c.requires.reads (rw c.in-Reset.is refl) kept is
 
-pub returns-in_default : goal.returns-in_default
-returns-in_default c =
-    let access = c.args.access.now in
-    let dev = c.args.dev in
-    record {
-      sound = λ setup sound. sound_devices sound c.read-in_default.ensures.fitted;
-      value = λ setup history kept.
-          c.read-in_default.ensures.value setup history kept.devices
-          ∙ chip_value setup history dev access.port access.width c.in_default.not-Confadd c.in_default.not-Reset;
-      board = λ setup history entry kept is.
-          chip_changed c.in_default.not-Confadd c.in_default.not-Reset kept is
-          (λ reaches. c.read-in_default.ensures.devices setup history entry kept.devices reaches c.requires.reads);
-    }
+pub returns-in_default-clause-board : goal.returns-in_default-clause-board
+returns-in_default-clause-board c = λ setup history entry kept is.
+    chip_changed c.in_default.not-Confadd c.in_default.not-Reset kept is
+    (λ reaches. c.read-in_default.ensures.devices setup history entry kept.devices reaches c.requires.reads)

@@ -5,9 +5,5 @@ use Rattle.board_chipset.proofs.ports.register_value.Goals as goal
 pub read-requires-clause-within : goal.read-requires-clause-within
 read-requires-clause-within c = register_within c.requires.reaching
 
-pub returns-clause-value : goal.returns-clause-value
-returns-clause-value c = λ setup history kept reached.
-    rw (c.if-access.false, c.read.ensures.value setup history kept.registers) refl
-
 pub returns-clause-board : goal.returns-clause-board
 returns-clause-board c = λ setup history entry kept is. read_stays c.if-access.false refl kept is

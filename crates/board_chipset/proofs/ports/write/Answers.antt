@@ -1,6 +1,5 @@
 use Rattle.board_chipset.proofs.PortSteps.{write_stored}
 use Rattle.board_chipset.proofs.HeldTargets.{stored_in}
-use Rattle.board_chipset.proofs.StateSteps.{sound_put}
 use Rattle.board_chipset.proofs.ports.write.Goals as goal
 
 pub write-requires : goal.write-requires
@@ -10,10 +9,7 @@ write-requires c = record {
   value = rw c.requires.writes at c.requires.reaching.bus.fits;
 }
 
-pub returns : goal.returns
-returns c = record {
-  sound = λ setup sound. sound_put sound c.write.ensures.put;
-  board = λ setup history entry kept is.
-      write_stored c.requires.writes c.requires.device c.requires.register
-      (rw c.from.ensures at c.write.ensures.put) kept is;
-}
+pub returns-clause-board : goal.returns-clause-board
+returns-clause-board c = λ setup history entry kept is.
+    write_stored c.requires.writes c.requires.device c.requires.register
+    (rw c.from.ensures at c.write.ensures.put) kept is

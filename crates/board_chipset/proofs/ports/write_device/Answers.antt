@@ -1,7 +1,7 @@
 use Rattle.std.proofs.Common.{refl, ap}
 use Rattle.board_prelude.proofs.Common.{Dev, Device}
 use Rattle.board_chipset.proofs.PortSteps.{entry_writes, chip_reached, registers_move, chip_changed}
-use Rattle.board_chipset.proofs.StateSteps.{soft, sound_devices, sound_registers}
+use Rattle.board_chipset.proofs.StateSteps.{soft}
 use Rattle.board_chipset.proofs.ports.write_device.Goals as goal
 
 pub write-requires : goal.write-requires
@@ -10,27 +10,18 @@ write-requires c = record {
   fits = rw c.requires.writes at c.requires.reaching.bus.fits;
 }
 
-pub returns-in-Confadd : goal.returns-in-Confadd
-returns-in-Confadd c = record {
-  sound = λ setup sound. sound_registers sound (c.write_address.ensures.sound setup sound.registers);
-  board = λ setup history entry kept is.
-      let writes = entry_writes (ap (λ (dev : Dev). Device dev) c.in-Confadd.is) c.requires.writes is in
-      registers_move kept is (rw c.in-Confadd.is refl) (λ cell. refl)
-      (c.write_address.ensures.registers setup history entry kept.registers writes) c.write_address.ensures.south
-      (soft writes);
-}
+pub returns-in-Confadd-clause-board : goal.returns-in-Confadd-clause-board
+returns-in-Confadd-clause-board c = λ setup history entry kept is.
+    let writes = entry_writes (ap (λ (dev : Dev). Device dev) c.in-Confadd.is) c.requires.writes is in
+    registers_move kept is (rw c.in-Confadd.is refl) (λ cell. refl)
+    (c.write_address.ensures.registers setup history entry kept.registers writes) c.write_address.ensures.south
+    (soft writes)
 
-pub returns-in-Reset : goal.returns-in-Reset
-returns-in-Reset c = record {
-  sound = c.write_control.ensures.sound;
-  board = λ setup history entry kept is.
-      c.write_control.ensures.board setup history entry kept (rw c.in-Reset.is at is);
-}
+pub returns-in-Reset-clause-board : goal.returns-in-Reset-clause-board
+returns-in-Reset-clause-board c = λ setup history entry kept is.
+    c.write_control.ensures.board setup history entry kept (rw c.in-Reset.is at is)
 
-pub returns-in_default : goal.returns-in_default
-returns-in_default c = record {
-  sound = λ setup sound. sound_devices sound c.write.ensures.fitted;
-  board = λ setup history entry kept is.
-      chip_changed c.in_default.not-Confadd c.in_default.not-Reset kept is
-      (λ reaches. c.write.ensures.devices setup history entry kept.devices reaches c.requires.writes);
-}
+pub returns-in_default-clause-board : goal.returns-in_default-clause-board
+returns-in_default-clause-board c = λ setup history entry kept is.
+    chip_changed c.in_default.not-Confadd c.in_default.not-Reset kept is
+    (λ reaches. c.write.ensures.devices setup history entry kept.devices reaches c.requires.writes)

@@ -1,10 +1,10 @@
-use Rattle.std.proofs.Common.{ℕ, false, ◌+◌, ap, refl, subst, arith, get_or}
+use Rattle.std.proofs.Common.{ℕ, false, ◌+◌, ap, refl, subst, arith, get_or, take, reverse}
 use Rattle.board_prelude.proofs.Common.{take_all, length-map, One, Setup}
 use Rattle.board_stores.specs.declared.ports.PortCycle.{PortCycle}
 use Rattle.board_stores.specs.PortCycles.{port_accesses}
 use Rattle.board_chipset.specs.PortAccesses.{IsCycleStep}
-use Rattle.board_chipset.proofs.PortAccessSteps.{none_done, cycle_done, shifted, shift_most, all_fit, at_next, at_first}
-use Rattle.board_chipset.proofs.PortAccessSteps.{inside, item, at_item, on_bus, from_first}
+use Rattle.board_chipset.proofs.PortAccessSteps.{none_done, next_done, reversed, shifted, shift_most, all_fit, at_next}
+use Rattle.board_chipset.proofs.PortAccessSteps.{at_first, inside, item, at_item, on_bus, from_first}
 use Rattle.board_chipset.proofs.chipset.Chipset.cycles.Goals as goal
 
 none : PortCycle
@@ -63,13 +63,18 @@ loop-cycle-preserved c =
     let is = ap (λ (n : ℕ). c.loop-cycle.value + n) (shifted here read c.cycle-read.ensures.small) in
     record {
       setup = rw (c.cycle-read.ensures.setup) c.loop-cycle.invariant.setup;
-      done = cycle_done c.args.self.now.setup c.args.self.now c.loop-cycle.self c.cycle-read.new.self c.args.first
-          c.loop-cycle.value read _ c.loop-cycle.reset c.cycle-read.result.1 c.or-reset.result (port_accesses cycles) i
-          (get_or cycles i none).access (inside cycles i none within) (item cycles i none within)
-          c.loop-cycle.invariant.done
+      done =
+          rw (
+            reversed (port_accesses cycles) i (get_or cycles i none).access (inside cycles i none within),
+            item cycles i none within,
+            is,
+            c.or-reset.ensures.stronger,
+          )
+          (next_done c.args.self.now.setup c.args.self.now c.loop-cycle.self c.cycle-read.new.self c.args.first
+          (reverse (take i (port_accesses cycles))) (get_or cycles i none).access c.loop-cycle.value read
+          c.loop-cycle.reset c.cycle-read.result.1 c.loop-cycle.invariant.done
           (subst (λ (setup : Setup). IsCycleStep setup c.loop-cycle.self (get_or cycles i none).access
-          c.cycle-read.new.self read c.cycle-read.result.1) c.loop-cycle.invariant.setup c.cycle-read.ensures.step)
-          is c.or-reset.ensures.stronger;
+          c.cycle-read.new.self read c.cycle-read.result.1) c.loop-cycle.invariant.setup c.cycle-read.ensures.step));
       at = at_next here read _ c.cycle-read.ensures.small is;
     }
 

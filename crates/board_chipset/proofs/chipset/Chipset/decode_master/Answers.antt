@@ -1,23 +1,7 @@
-use Rattle.std.proofs.Common.{sym, refl}
-use Rattle.board_prelude.proofs.Common.{byte_of}
+use Rattle.std.proofs.Common.{sym}
 use Rattle.board_chipset.proofs.HeldTargets.{stands}
-use Rattle.board_chipset.proofs.Lefts.{state_of}
 use Rattle.board_chipset.proofs.MasterSteps.{no_smram, outside_smram}
 use Rattle.board_chipset.proofs.chipset.Chipset.decode_master.Goals as goal
-
-pub target_in-requires-clause-rom : goal.target_in-requires-clause-rom
-target_in-requires-clause-rom c = rw (c.rom.ensures.bytes) c.self.invariant.fits.rom
-
-pub returns-clause-part : goal.returns-clause-part
-returns-clause-part c = λ history left.
-    let setup = c.self.inside.setup in
-    let stand = c.regs-regs.ensures.stand setup history (state_of c.self.view_is left).registers in
-    rw (
-      ← c.self.view_is,
-      c.target_in.ensures.target setup stand.cards.0 (sym c.rom.ensures.bytes),
-      c.decode_master-area.ensures.area setup (byte_of setup history) stand,
-      c.decode_master-area.ensures.denial setup (byte_of setup history) stand,
-    ) refl
 
 pub returns-clause-no_smram : goal.returns-clause-no_smram
 returns-clause-no_smram c =

@@ -8,15 +8,6 @@ pub returns-clause-regs : goal.returns-clause-regs
 returns-clause-regs c = λ history left.
     rw (c.copy-regs.ensures.equal) (c.regs.ensures.stand _ history (left_in c.self.view_is left).registers)
 
-pub returns-clause-dram : goal.returns-clause-dram
-returns-clause-dram c = λ history left. (left_in c.self.view_is left).stores.dram
-
-pub returns-clause-contents : goal.returns-clause-contents
-returns-clause-contents c = λ history left. (left_in c.self.view_is left).stores.contents
-
-pub returns-clause-disk : goal.returns-clause-disk
-returns-clause-disk c = λ history left. c.into_disk.ensures.disk ∙ (left_in c.self.view_is left).devices.others.disk
-
 pub returns-clause-store : goal.returns-clause-store
 returns-clause-store c = λ history left.
     let is = left_in c.self.view_is left in

@@ -1,9 +1,6 @@
-use Rattle.board_chipset.proofs.Lefts.{state_of, left_as}
+use Rattle.board_chipset.proofs.Lefts.{left_as, state_of}
 use Rattle.board_chipset.proofs.chipset.Chipset.look.Goals as goal
 
-pub returns : goal.returns
-returns c = record {
-  answer = λ history left. rw (← c.self.view_is) (c.look.ensures.answer _ history (state_of c.self.view_is left));
-  left = λ history entry left event.
-      left_as c.self.view_is (c.look.ensures.board _ history entry (state_of c.self.view_is left) event);
-}
+pub returns-clause-left : goal.returns-clause-left
+returns-clause-left c = λ history entry left event.
+    left_as c.self.view_is (c.look.ensures.board _ history entry (state_of c.self.view_is left) event)

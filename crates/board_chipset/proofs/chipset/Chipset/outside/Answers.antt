@@ -6,13 +6,6 @@ pub answer-requires-clause-in_range : goal.answer-requires-clause-in_range
 answer-requires-clause-in_range c =
     (c.self.inside.setup.rom, can_do c.self.view_is refl c.self.invariant c.requires.in_range)
 
-pub invariant_of-self : goal.invariant_of-self
-invariant_of-self c = c.answer.ensures.sound c.self.inside.setup c.self.invariant
-
-pub returns-clause-answer : goal.returns-clause-answer
-returns-clause-answer c = λ history left.
-    rw (← c.self.view_is) (c.answer.ensures.answer _ history (state_of c.self.view_is left))
-
 pub returns-clause-left : goal.returns-clause-left
 returns-clause-left c = λ history entry left event reply.
     left_by (c.answer.ensures.board _ history entry (state_of c.self.view_is left) event)

@@ -8,13 +8,6 @@ access-requires-clause-kept c = (
   record { setup = c.self.inside.setup; sound = c.self.invariant; image = refl },
 )
 
-pub invariant_of-self : goal.invariant_of-self
-invariant_of-self c = c.access.ensures.sound c.self.inside.setup c.self.invariant
-
-pub returns-clause-answer : goal.returns-clause-answer
-returns-clause-answer c = λ history left.
-    rw (← c.self.view_is) (c.access.ensures.answer _ history (state_of c.self.view_is left))
-
 pub returns-clause-left : goal.returns-clause-left
 returns-clause-left c = λ history entry left event reply.
     left_by (c.access.ensures.board _ history entry (state_of c.self.view_is left) event reply)

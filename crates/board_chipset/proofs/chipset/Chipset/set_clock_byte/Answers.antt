@@ -1,13 +1,6 @@
-use Rattle.std.proofs.Common.{ap}
-use Rattle.board_devices.specs.Common.{DevicesValue, sectors_fitted}
 use Rattle.board_chipset.proofs.Lefts.{left_by, state_of}
 use Rattle.board_chipset.proofs.LoadSteps.{clock_set, some_clock_entries}
-use Rattle.board_chipset.proofs.StateSteps.{sound_devices}
 use Rattle.board_chipset.proofs.chipset.Chipset.set_clock_byte.Goals as goal
-
-pub invariant_of-self : goal.invariant_of-self
-invariant_of-self c =
-    sound_devices c.self.invariant (ap (λ (d : DevicesValue). sectors_fitted d.disk) c.set_clock_byte.ensures.others)
 
 pub returns-clause-left : goal.returns-clause-left
 returns-clause-left c = λ history later left puts.

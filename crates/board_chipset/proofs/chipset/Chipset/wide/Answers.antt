@@ -2,13 +2,6 @@ use Rattle.std.proofs.Common.{sym}
 use Rattle.board_chipset.proofs.Lefts.{left_by, state_of}
 use Rattle.board_chipset.proofs.chipset.Chipset.wide.Goals as goal
 
-pub invariant_of-self : goal.invariant_of-self
-invariant_of-self c = c.access.ensures.sound c.self.inside.setup c.self.invariant
-
-pub returns-clause-answer : goal.returns-clause-answer
-returns-clause-answer c = λ history left.
-    rw (← c.self.view_is) (c.access.ensures.answer _ history (state_of c.self.view_is left) (sym c.rom.ensures.bytes))
-
 pub returns-clause-left : goal.returns-clause-left
 returns-clause-left c = λ history entry left event reply.
     left_by

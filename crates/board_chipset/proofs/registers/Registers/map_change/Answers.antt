@@ -3,8 +3,8 @@ use Rattle.board_prelude.proofs.Common.{PortAccess, Config, Setup, Entry, Decode
 use Rattle.addr_decode.specs.declared.found.Found.{Found}
 use Rattle.addr_decode.specs.Found.{decoded_as}
 use Rattle.board_chipset.specs.Ports.{reached}
-use Rattle.board_chipset.proofs.ChangeSteps.{changes, by_device}
-use Rattle.board_chipset.proofs.PortSteps.{Reached, reads_only, target_reached, writes_at, writes_beside, beside_found}
+use Rattle.board_chipset.proofs.PortSteps.{Reached, reads_only, target_reached, writes_at, writes_found, changes}
+use Rattle.board_chipset.proofs.PortSteps.{by_device}
 use Rattle.board_chipset.proofs.registers.Registers.map_change.Goals as goal
 
 -- what was found was reached
@@ -41,7 +41,6 @@ pub returns-in_default : goal.returns-in_default
 returns-in_default c = record {
   change = λ setup history has fitted.
       let access = c.args.access.now in
-      changes (writes_beside setup history access
-      (beside_found setup history access c.find_port.result c.in_default.not-Device c.in_default.not-Register
-      (at setup history access (rw fitted at (c.find_port.ensures.decoded setup history has)) refl)));
+      changes (writes_found setup history access c.find_port.result c.in_default.not-Device c.in_default.not-Register
+      (at setup history access (rw fitted at (c.find_port.ensures.decoded setup history has)) refl));
 }
