@@ -15,19 +15,6 @@ pub state_of : {chipset : Running} {setup : Setup} {state : State} {history : Li
 unfolding IsLeftBy
 state_of same left = rw (← same) at left
 
--- the same of its own setup
-pub left_in : {chipset : Running} {setup : Setup} {state : State} {history : List Entry} →
-    record { setup = setup; state = state } ≡ chipset → IsLeftBy chipset history →
-    IsStateOf chipset.setup history state
-unfolding IsLeftBy
-left_in {chipset} {history = history} same left =
-    subst (λ (it : Running). IsStateOf chipset.setup history it.state) (sym same) left
-
-pub left_as : {chipset : Running} {setup : Setup} {state : State} {history : List Entry} →
-    record { setup = setup; state = state } ≡ chipset → IsStateOf setup history state → IsLeftBy chipset history
-unfolding IsLeftBy
-left_as same is = rw (← same) is
-
 pub can_do : {chipset : Running} {setup : Setup} {state : State} {rom : List ℕ} {event : Event} →
     record { setup = setup; state = state } ≡ chipset → setup.rom ≡ rom →
     IsSound setup state → IsInRange chipset.setup event → CanDo state rom event

@@ -331,16 +331,12 @@ pub changes : {setup : Setup} {history : List Entry} {event : Event} {written ad
 unfolding map_change_of
 changes {setup} writes = ap (map_write setup) (sym (change_is writes))
 
-reset_or_none : (setup : Setup) (hard : Bool) →
-    (if hard then Some HardReset else None) ≡ map_write setup (if hard then Some HardReset else None)
-reset_or_none setup hard = grind (arith, nat_tests)
-
 pub by_device : (setup : Setup) (history : List Entry) (access : PortAccess) (dev : Dev) (change : Option MapChange) →
     access.write ≡ true → Reached setup history access (Device dev) →
     (dev ≡ Reset → change ≡ (if is_hard_value (reset_control history) access.value then Some HardReset else None)) →
     ((dev ≡ Reset → ⊥) → change ≡ None) → change ≡ map_change_of setup history (Port access)
 by_device setup history access Reset change writes at control other =
-    control refl ∙ reset_or_none setup (is_hard_value (reset_control history) access.value)
+    control refl ∙ (grind (arith, nat_tests))
     ∙ changes (writes_at setup history access (Device Reset) writes at)
 by_device setup history access dev change writes at control other =
     other (λ same. absurd (cc)) ∙ changes (writes_at setup history access (Device dev) writes at)

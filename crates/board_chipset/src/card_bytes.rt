@@ -38,6 +38,7 @@ impl Chipset {
 
     /// Copies the bytes of a base of a card from an offset on. Refused exactly where they do not all lie in it
     /// (`card_size`); then nothing is copied.
+    #[tactic(auto, using(crate::proofs::CardLoadSteps::copied_out), unfolding(crate::specs::Chipset::IsLeftBy))]
     pub fn card_bytes(
         &self,
         dev: u8,

@@ -59,7 +59,7 @@ impl Chipset {
 
     /// Does an event that is in range, and returns the reply: the answer after the history so far. A look's reply has
     /// the version of the map modulo 2^32. It takes no memory.
-    #[tactic(auto, unfolding(crate::specs::Chipset::IsLeftBy))]
+    #[tactic(auto, using(crate::proofs::Exact::exactly), unfolding(crate::specs::Chipset::IsLeftBy))]
     pub fn step(&mut self, event: &Event) -> Reply
         requires in_range { IsInRange self.old.setup event.now }
         ensures setup { self.new.setup ≡ self.old.setup }
@@ -75,7 +75,7 @@ impl Chipset {
 
     /// The change of the memory map that an event would make now: a store to a register that the map depends on, or a
     /// hard reset. None where it would make none.
-    #[tactic(auto, unfolding(crate::specs::Chipset::IsLeftBy))]
+    #[tactic(auto, unfolding(crate::specs::Chipset::IsLeftBy, board_spec::specs::MapWrites::map_change_of))]
     pub fn map_change(&self, event: &Event) -> Option<MapChange>
         ensures change { (history : List Entry) → IsLeftBy self.now history
             → result ≡ map_change_of self.now.setup history event.now }

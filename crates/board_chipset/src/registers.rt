@@ -159,6 +159,7 @@ impl Registers {
     }
 
     /// The change of the map that an access at a port makes, with a disk fitted or without. None where it makes none.
+    #[tactic(auto, unfolding(board_spec::specs::MapWrites::map_change_of))]
     pub fn map_change(&self, access: &PortAccess, disk: bool) -> Option<MapChange>
         ensures change { (setup : Setup) (history : List Entry) → HasRegisters setup history self.now
             → disk ≡ is_some setup.disk → result ≡ map_change_of setup history (Port access.now) }

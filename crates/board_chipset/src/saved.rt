@@ -41,6 +41,7 @@ impl Chipset {
     /// version of the format; and then with the offset of the first field that is not whole or out of range, or of the
     /// first byte too many. Bytes over a setup of other sizes are refused at one of these. NoMemory says nothing of the
     /// bytes.
+    #[tactic(auto, using(crate::proofs::ChipsetLoads::own_version))]
     pub fn load_state(alloc: Global, setup: Setup, bytes: &[u8]) -> Result<Chipset, StateFault>
         ensures loaded { IfOk result (λ chipset. (chipset.setup ≡ setup) × IsChipset chipset
             × (chipset_bytes chipset ≡ bytes.now)) }

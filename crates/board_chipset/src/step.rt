@@ -10,6 +10,7 @@ use crate::{looks, memory, outside, ports, wide};
 use board_spec::{Event, Reply};
 
 /// Does an event, and returns the reply.
+#[tactic(auto, using(crate::proofs::Exact::modulo))]
 pub fn step(state: &mut State, rom: &[u8], event: &Event) -> Reply
     requires can { CanDo state.old rom.now event.now }
     ensures sound { StaysSound state.old state.new }

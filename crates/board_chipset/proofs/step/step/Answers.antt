@@ -1,5 +1,4 @@
 use Rattle.std.proofs.Common.{◌∙◌}
-use Rattle.board_chipset.proofs.Exact.{modulo}
 use Rattle.board_chipset.proofs.step.step.Goals as goal
 
 pub returns-in-Memory-clause-board : goal.returns-in-Memory-clause-board
@@ -20,11 +19,6 @@ pub returns-in-Look-clause-board : goal.returns-in-Look-clause-board
 returns-in-Look-clause-board c = λ setup history entry kept image event replied.
     c.look.ensures.board setup history entry kept (event ∙ c.in-Look.is)
 
-pub returns-in_default : goal.returns-in_default
-returns-in_default c = record {
-  sound = c.answer.ensures.sound;
-  answer =
-      λ setup history kept image. modulo setup history c.args.event.now c.reply-in_default.result c.in_default.not-Look
-      (rw (c.reply-in_default.ensures.reply) (c.answer.ensures.answer setup history kept));
-  board = λ setup history entry kept image event replied. c.answer.ensures.board setup history entry kept event;
-}
+pub returns-in_default-clause-board : goal.returns-in_default-clause-board
+returns-in_default-clause-board c = λ setup history entry kept image event replied.
+    c.answer.ensures.board setup history entry kept event

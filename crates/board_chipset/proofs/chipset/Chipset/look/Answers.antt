@@ -1,6 +1,6 @@
-use Rattle.board_chipset.proofs.Lefts.{left_as, state_of}
+use Rattle.board_chipset.proofs.Lefts.{left_by, state_of}
 use Rattle.board_chipset.proofs.chipset.Chipset.look.Goals as goal
 
 pub returns-clause-left : goal.returns-clause-left
 returns-clause-left c = λ history entry left event.
-    left_as c.self.view_is (c.look.ensures.board _ history entry (state_of c.self.view_is left) event)
+    rw (← c.self.view_is) (left_by (c.look.ensures.board _ history entry (state_of c.self.view_is left) event))

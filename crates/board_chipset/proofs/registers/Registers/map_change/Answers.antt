@@ -3,8 +3,7 @@ use Rattle.board_prelude.proofs.Common.{PortAccess, Config, Setup, Entry, Decode
 use Rattle.addr_decode.specs.declared.found.Found.{Found}
 use Rattle.addr_decode.specs.Found.{decoded_as}
 use Rattle.board_chipset.specs.Ports.{reached}
-use Rattle.board_chipset.proofs.PortSteps.{Reached, reads_only, target_reached, writes_at, writes_found, changes}
-use Rattle.board_chipset.proofs.PortSteps.{by_device}
+use Rattle.board_chipset.proofs.PortSteps.{Reached, target_reached, writes_at, writes_found, changes, by_device}
 use Rattle.board_chipset.proofs.registers.Registers.map_change.Goals as goal
 
 -- what was found was reached
@@ -13,11 +12,6 @@ at : (setup : Setup) (history : List Entry) (access : PortAccess) {found shown :
     Reached setup history access (decoded_as shown).target
 at setup history access is shown =
     target_reached setup history access _ (ap (λ (decoded : Decoded). decoded.target) (rw shown at is))
-
-pub returns-then-not-access : goal.returns-then-not-access
-returns-then-not-access c = record {
-  change = λ setup history has fitted. changes (reads_only setup history c.args.access.now c.if-not-access.true);
-}
 
 pub returns-in-Device : goal.returns-in-Device
 returns-in-Device c = record {
