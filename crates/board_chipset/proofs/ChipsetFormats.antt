@@ -1,7 +1,6 @@
 -- The state of a chipset is spelled and read back. What is read has no ranges of the map yet.
-use Rattle.board_prelude.proofs.Common.{nat_tests, Setup, FittedCard, IsSetup, IsRomSize, IsDisk, w8, to_le_bytes}
-use Rattle.std.proofs.Common.{◌≡◌, ℕ, ◌+◌, ◌*◌, ◌^◌, ◌<◌, ◌≤◌, List, ◌∷◌, [], length, Option, Some, None, is_some, refl}
-use Rattle.std.proofs.Common.{ap, arith, unwrap_or}
+use Rattle.board_prelude.proofs.Common.{nat_tests, Setup, FittedCard, IsSetup, w8, to_le_bytes}
+use Rattle.std.proofs.Common.{◌≡◌, ℕ, ◌+◌, ◌*◌, ◌^◌, ◌<◌, List, ◌∷◌, [], length, is_some, refl, ap, arith}
 use Rattle.std.specs.Int.{Width as Size, byte_len}
 use Rattle.byte_fields.specs.Fields.{within, flag_byte}
 use Rattle.byte_fields.proofs.Exactly.{exactly_format}
@@ -36,13 +35,6 @@ one_number wide value fits =
 one_byte : (value : ℕ) → value < 2 ^ 8 → IsFormat 1 (within w8 value value) (λ n. n ∷ []) (λ n. n ≡ value)
 one_byte value fits = grind (arith, nat_tests)
 
-rom_few : (size : ℕ) → IsRomSize size → size ≤ 0x8_0000
-rom_few size is = grind (arith, is)
-
-disk_few : (disk : Option (List ℕ)) → IsDisk disk → length (unwrap_or disk []) ≤ 0x200_0000
-disk_few None is = omega arith
-disk_few (Some bytes) is = omega (arith, is.2, is.3)
-
 size_format : (setup : Setup) → IsSetup setup → IsFormat 12 (size_fields setup) (λ done. size_bytes setup) Any
 unfolding size_fields size_bytes
 size_format setup fits =
@@ -50,8 +42,8 @@ size_format setup fits =
     (one_number wide16 setup.mib (omega (arith, fits.most_memory)) then λ mib good.
     one_byte (length setup.cards) (omega (arith, fits.cards.count)) then λ cards good.
     one_byte (flag_byte (is_some setup.disk)) (grind (arith, nat_tests)) then λ has_disk good.
-    one_number wide32 (length setup.rom) (omega (arith, rom_few (length setup.rom) fits.rom)) then λ rom good.
-    last_field (λ disk. tt) (one_number wide32 (disk_size setup) (omega (arith, disk_few setup.disk fits.disk))))
+    one_number wide32 (length setup.rom) (grind (arith, fits.rom)) then λ rom good.
+    last_field (λ disk. tt) (one_number wide32 (disk_size setup) (grind (arith, nat_tests, fits.disk))))
     (λ done any. (
       (setup.mib, refl) & (length setup.cards, refl) & (flag_byte (is_some setup.disk), refl)
           & (length setup.rom, refl) & (disk_size setup, refl),

@@ -39,8 +39,7 @@ closed_smram : {area : Area} (shadow dram rom : Bool) (row : ℕ) (claim : Optio
 closed_smram shadow dram rom row claim is = grind (arith, nat_tests)
 
 no_smram_at : (setup : Setup) (area : Area) (addr : ℕ) → IsNoSmram area → target_at setup area addr ≢ Smram
-no_smram_at setup areas.Smram addr other is = other
-no_smram_at setup _ addr other is = cc
+no_smram_at setup area addr other is = grind (arith, nat_tests)
 
 pub no_smram : (setup : Setup) (bytes : Bytes) (kind : Kind) (addr : ℕ) → master_target setup bytes kind addr ≢ Smram
 no_smram setup bytes kind addr =
@@ -72,15 +71,11 @@ off_dram setup bytes addr kind inside =
 
 off_cell : (setup : Setup) (area : Area) (addr at : ℕ) → IsOffDram area →
     first_cell (target_at setup area addr) addr ≡ Some (DramCell at) → ⊥
-off_cell setup areas.Rom addr at off is = cc
-off_cell setup (areas.Card dev base) addr at off is = grind (arith, nat_tests)
-off_cell setup areas.Abort addr at off is = cc
-off_cell setup _ addr at off is = off
+off_cell setup area addr at off is = grind (arith, nat_tests)
 
 -- a byte of DRAM stands at its own address
 own_address : (target : Target) (addr at : ℕ) → first_cell target addr ≡ Some (DramCell at) → addr ≡ at
-own_address (Card dev base off) addr at is = absurd (grind (arith, nat_tests))
-own_address _ addr at is = cc
+own_address target addr at is = grind (arith, nat_tests)
 
 pub outside_smram : (setup : Setup) (bytes : Bytes) (kind : Kind) (addr : ℕ) →
     IsOutsideSmram (master_target setup bytes kind addr) addr

@@ -59,9 +59,8 @@ all_write access cycles writes each =
 pub parts_none : (access : WideAccess) (parts : List Access) (replies : List Part) (cell : Cell) →
     is_write access.kind ≡ false → All (IsPart access) parts → parts_put parts replies cell ≡ None
 unfolding parts_put
-parts_none access [] replies cell reads each = refl
-parts_none access (part ∷ later) [] cell reads each = refl
 parts_none access (part ∷ later) (reply ∷ replies) cell reads each =
     let first = All-head (IsPart access) part later each in
     let here : is_write part.kind ≡ false = ap is_write first.kind ∙ reads in
     rw (here, parts_none access later replies cell reads (All-tail (IsPart access) part later each)) refl
+parts_none access _ _ cell reads each = refl

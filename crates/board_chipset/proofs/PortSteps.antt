@@ -6,11 +6,11 @@ use Rattle.board_prelude.proofs.Common.{Keyboard, Ata, Target, Card, Device, Con
 use Rattle.board_prelude.proofs.Common.{is_port_of, device_at, Setup, is_bit, config_address_port, reset_control_port}
 use Rattle.board_prelude.proofs.Common.{xbcs, is_config_port, config_register, Bytes, Window, io_claim, Decoded, nobody}
 use Rattle.board_prelude.proofs.Common.{card_port, config_port, unselected, by_channel, device_port, port_target_of}
-use Rattle.board_prelude.proofs.Common.{PortAccess, largest_of, Port, Entry, MapChange, Store, kept_address}
-use Rattle.board_prelude.proofs.Common.{config_address, register_of, byte_of, is_hard_reset, Cell, entry_put, byte_put}
-use Rattle.board_prelude.proofs.Common.{Event, Reset as HardReset, reset_control, is_hard_value, map_change_of}
-use Rattle.board_prelude.proofs.Common.{port_put, device_in, device_reached, device_value, port_value, value_at}
-use Rattle.board_prelude.proofs.Common.{bus_reply, port_answer, Bus}
+use Rattle.board_prelude.proofs.Common.{PortAccess, Port, Entry, MapChange, Store, kept_address, config_address}
+use Rattle.board_prelude.proofs.Common.{register_of, byte_of, is_hard_reset, Cell, entry_put, byte_put, Event}
+use Rattle.board_prelude.proofs.Common.{Reset as HardReset, reset_control, is_hard_value, map_change_of, port_put}
+use Rattle.board_prelude.proofs.Common.{device_in, device_reached, device_value, port_value, value_at, bus_reply}
+use Rattle.board_prelude.proofs.Common.{port_answer, Bus}
 use Rattle.board_base.specs.declared.target.Dev.TheVariants.{Confadd as AddressPort, Reset, Clock}
 use Rattle.device_spec.specs.PortTable.{first_with, port_devices}
 use Rattle.board_devices.specs.Events.{is_chip_port}
@@ -171,9 +171,6 @@ module _ (setup : Setup) (history : List Entry) (access : PortAccess) where
       ((register : ConfigRegister) → found ≡ FoundRegister register → ⊥) →
       Reached setup history access (decoded_as found).target → Writes setup history (Port access) None None None
   writes_found found device register is = writes_beside (grind (arith, nat_tests))
-
-pub fits_byte : (width : Width) (value : ℕ) → bytes_of width ≡ 1 → value ≤ largest_of width → value ≤ 0xFF
-fits_byte width value byte fits = grind (arith, nat_tests)
 
 -- ---- the configuration address, and the register that it names
 

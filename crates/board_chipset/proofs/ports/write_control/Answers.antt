@@ -1,14 +1,14 @@
+use Rattle.board_prelude.proofs.Common.{nat_tests}
 use Rattle.std.proofs.Common.{◌≡◌, ◌∙◌, true, refl, sym, arith}
 use Rattle.board_spec.specs.Registers.{is_hard_reset}
-use Rattle.board_chipset.proofs.PortSteps.{reached_in, entry_writes, fits_byte, puts_none, registers_move}
+use Rattle.board_chipset.proofs.PortSteps.{reached_in, entry_writes, puts_none, registers_move}
 use Rattle.board_chipset.proofs.StateSteps.{stores_stay}
 use Rattle.board_chipset.proofs.ports.write_control.Goals as goal
 
 pub overflow_cast-access : goal.overflow_cast-access
 overflow_cast-access c =
     let reaching = c.requires.reaching in
-    let small = fits_byte _ _ (reached_in reaching).1 (rw c.requires.writes at reaching.bus.fits) in
-    omega (arith, small)
+    grind (arith, nat_tests, (reached_in reaching).1, rw c.requires.writes at reaching.bus.fits)
 
 pub returns-then-write_control-clause-board : goal.returns-then-write_control-clause-board
 returns-then-write_control-clause-board c = λ setup history entry kept is.
