@@ -101,12 +101,9 @@ left_head left setup =
     let size : length (unwrap_or (option_map {T = List ℕ} (λ _. bytes) setup.disk) [])
     ≡ length (unwrap_or setup.disk []) =
     ap length (left_on left setup.disk) ∙ left_length left (unwrap_or setup.disk []) in
-    rw (size, is_there bytes setup.disk) refl
-  where
-    is_there : (bytes : List ℕ) (disk : Option (List ℕ)) →
-        is_some (option_map {T = List ℕ} (λ _. bytes) disk) ≡ is_some disk
-    is_there bytes None = refl
-    is_there bytes (Some own) = refl
+    let there : is_some (option_map {T = List ℕ} (λ _. bytes) setup.disk) ≡ is_some setup.disk =
+    grind (arith, nat_tests) in
+    rw (size, there) refl
 
 -- ---- all bytes of a DRAM were written
 

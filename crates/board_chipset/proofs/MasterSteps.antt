@@ -38,13 +38,9 @@ closed_smram : {area : Area} (shadow dram rom : Bool) (row : ℕ) (claim : Optio
     area ≡ closed_lines shadow dram rom row claim → IsNoSmram area
 closed_smram shadow dram rom row claim is = grind (arith, nat_tests)
 
-no_smram_at : (setup : Setup) (area : Area) (addr : ℕ) → IsNoSmram area → target_at setup area addr ≢ Smram
-no_smram_at setup area addr other is = grind (arith, nat_tests)
-
 pub no_smram : (setup : Setup) (bytes : Bytes) (kind : Kind) (addr : ℕ) → master_target setup bytes kind addr ≢ Smram
 no_smram setup bytes kind addr =
-    no_smram_at setup (master_area setup bytes addr kind) addr
-    (closed_smram _ _ _ _ _ (of_master setup bytes addr kind))
+    λ is. grind (arith, nat_tests, closed_smram _ _ _ _ _ (of_master setup bytes addr kind))
 
 -- ---- in its range nothing that answers is DRAM
 

@@ -1,9 +1,9 @@
 -- Events for the devices alone: they write no register and store nothing.
 use Rattle.board_prelude.proofs.Common.{nat_tests, and_from, le-leb, Ack, IsAnswer, IsInRange, outside_answer, Applied}
-use Rattle.board_prelude.proofs.Common.{Stimulus, stimulus_form, applied_by, event_applied, cases_Bool, eqb-true}
-use Rattle.board_prelude.proofs.Common.{All-head, All-tail, Event, Entry, Setup, FittedCard, IsCard, IsSetup, card_at}
-use Rattle.std.proofs.Common.{◌≡◌, ◌≤◌, true, List, [], ◌∷◌, None, refl, sym, ◌∙◌, subst, inl, inr, ℕ, ◌==◌, All, find}
-use Rattle.std.proofs.Common.{is_some, Bool, Option, Some, IfSome, arith}
+use Rattle.board_prelude.proofs.Common.{Stimulus, stimulus_form, applied_by, event_applied, All-head, All-tail, Event}
+use Rattle.board_prelude.proofs.Common.{Entry, Setup, FittedCard, IsCard, IsSetup, card_at}
+use Rattle.std.proofs.Common.{◌≡◌, ◌≤◌, true, List, [], ◌∷◌, None, refl, sym, ◌∙◌, subst, ℕ, ◌==◌, All, find, is_some}
+use Rattle.std.proofs.Common.{Bool, Option, Some, IfSome, arith}
 use Rattle.board_spec.specs.declared.stimulus.Stimulus.TheVariants as stimuli
 use Rattle.board_devices.specs.Common.{DevicesValue, AreDevicesOf, AreRoutesOf, Asks}
 use Rattle.board_chipset.specs.declared.state.State.{State}
@@ -28,10 +28,9 @@ outside_done {setup} {history} {entry} {event} is for_devices kept after =
 pub found_in : (cards : List FittedCard) (dev : ℕ) → All IsCard cards →
     IfSome (find (λ card. card.dev == dev) cards) (λ card. IsCard card × (card.dev ≡ dev))
 found_in [] dev each = tt
-found_in (first ∷ later) dev each = elim (cases_Bool (first.dev == dev)) [
-  | inl here ↦ rw here (All-head IsCard first later each, eqb-true _ _ here)
-  | inr not ↦ rw not (found_in later dev (All-tail IsCard first later each))
-]
+found_in (first ∷ later) dev each =
+    let rest = found_in later dev (All-tail IsCard first later each) in
+    grind (arith, nat_tests, All-head IsCard first later each)
 
 fitted_device : (found : Option FittedCard) (dev : ℕ) → IfSome found (λ card. IsCard card × (card.dev ≡ dev)) →
     is_some found ≡ true → (2 ≤ dev) × (dev ≤ 9)

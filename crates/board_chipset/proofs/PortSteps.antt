@@ -215,16 +215,9 @@ pub no_chip : (target : Target) → IsNoDevice target → is_chip (device_in tar
 no_chip target none = grind (arith, nat_tests)
 
 -- a device with ports of its own
-chip_in : (setup : Setup) (bytes : Bytes) (address : ℕ) (access : PortAccess) (dev : Dev) → dev ≢ AddressPort →
-    dev ≢ Reset → IsReached setup bytes address access.port access.width (Device dev) →
-    IsBeside setup address access.port access.width × (is_chip_port dev access.port (bytes_of access.width) ≡ true)
-chip_in setup bytes address access dev named control is = grind (arith, nat_tests)
-
 pub chip_reached : {state : State} {access : PortAccess} {dev : Dev} → Reaching state access (Device dev) →
     dev ≢ AddressPort → dev ≢ Reset → is_chip_port dev access.port (bytes_of access.width) ≡ true
-chip_reached {state} {access} {dev} reaching named control =
-    (chip_in reaching.kept.setup reaching.kept.sound.registers.bytes state.registers.address access dev named control
-    (reached_in reaching)).1
+chip_reached reaching named control = grind (arith, nat_tests, reached_in reaching)
 
 pub chip_value : (setup : Setup) (history : List Entry) (dev : Dev) (port : ℕ) (width : Width) → dev ≢ AddressPort →
     dev ≢ Reset → device_value setup history dev port width ≡ port_value setup history dev port width
@@ -283,8 +276,8 @@ pub chip_changed :
     AreDevicesOf setup (entry ∷ history) devices) →
     IsStateOf setup (entry ∷ history) (record old { devices = devices })
 chip_changed {setup} {history} {access} {dev} {entry} named control kept is after =
-    let beside = (chip_in setup (byte_of setup history) (config_address history) access dev named control
-    (entry_reached refl is)).0 in
+    let at : Reached setup history access (Device dev) = entry_reached refl is in
+    let beside : IsBeside setup (config_address history) access.port access.width = grind (arith, nat_tests, at) in
     let none : Writes setup history entry.event None None None =
     rw (is.event) (writes_beside setup history access beside) in
     devices_move kept none (puts_none is (λ cell. refl))
