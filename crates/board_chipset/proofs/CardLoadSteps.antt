@@ -1,7 +1,7 @@
 -- The state after bytes were written to a card from outside.
 use Rattle.std.proofs.Common.{◌≡◌, ◌≢◌, ℕ, zero, suc, ◌+◌, ◌-◌, ◌<◌, ◌≤◌, true, false, ◌&&◌, List, [], ◌∷◌, ◌++◌}
-use Rattle.std.proofs.Common.{length, take, drop, Option, Some, None, refl, sym, ◌∙◌, arith, ◌==◌, nat_le, nat_lt}
-use Rattle.std.proofs.Common.{if◌then◌else◌, slice_index, unwrap_or}
+use Rattle.std.proofs.Common.{length, take, drop, Option, Some, None, refl, sym, ◌∙◌, arith, ◌==◌, if◌then◌else◌}
+use Rattle.std.proofs.Common.{slice_index, unwrap_or}
 use Rattle.std.proofs.lemmas.Grind.{elements}
 use Rattle.std.proofs.lemmas.Option.{slice_get_past}
 use Rattle.board_prelude.proofs.Common.{eq-eqb, and_from, eqb-false, get_or-take, get_or-drop, nat_tests, Write, One}
@@ -90,16 +90,6 @@ module _ (dev base off : ℕ) (bytes : List ℕ) where
 abbrev over : (old bytes : List ℕ) (off : ℕ) → List ℕ
 over old bytes off = take off old ++ (bytes ++ drop (off + length bytes) old)
 
-over_length : (old bytes : List ℕ) (off : ℕ) → off + length bytes ≤ length old →
-    length (over old bytes off) ≡ length old
-over_length old bytes off fits = grind (arith, elements)
-
-over_byte : (old bytes : List ℕ) (off at : ℕ) → off + length bytes ≤ length old →
-    slice_index (over old bytes off) at
-    ≡ unwrap_or (if nat_le off at && nat_lt at (off + length bytes) then Some (slice_index bytes (at - off)) else None)
-    (slice_index old at)
-over_byte old bytes off at fits = grind (arith, nat_tests, elements)
-
 -- what `write_bytes` leaves
 pub record IsCopied (old : List (List ℕ)) (dev base off : ℕ) (bytes : List ℕ) (new : List (List ℕ)) : Type 0 where
   pub number : IsBaseNumber dev base
@@ -118,7 +108,7 @@ module _ {old new : List (List ℕ)} {dev base off : ℕ} {bytes : List ℕ} (is
       is.others d b number (λ one two. let both = and_from _ _ (eq-eqb dev d (sym one)) (eq-eqb base b (sym two)) in cc)
 
   sizes_stay : (d b : ℕ) → IsBaseNumber d b → length (held new d b) ≡ length (held old d b)
-  sizes_stay d b number = grind (arith, copied_here d b, copied_apart d b number, over_length (held old d b) bytes off)
+  sizes_stay d b number = grind (arith, elements, copied_here d b, copied_apart d b number)
 
   copied_byte : (d b at : ℕ) → IsBaseNumber d b →
       slice_index (held new d b) at ≡ unwrap_or (all_put (in_card dev base (CardCell d b at)) off bytes (length bytes))
@@ -126,8 +116,7 @@ module _ {old new : List (List ℕ)} {dev base off : ℕ} {bytes : List ℕ} (is
   copied_byte d b at number =
       let here = copied_here d b in
       let apart = copied_apart d b number in
-      let byte = over_byte (held old d b) bytes off at in
-      grind (arith, nat_tests)
+      grind (arith, nat_tests, elements)
 
 -- ---- the state after all of them
 

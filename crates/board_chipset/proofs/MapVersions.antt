@@ -24,11 +24,6 @@ counted setup change writes = grind (arith, nat_tests)
 abbrev pub version_by : Setup → Option MapChange → ℕ → ℕ
 version_by setup change version = if moves setup change then next_version version else version
 
-next_modulo : (moves : Bool) (version : ℕ) →
-    (if moves then next_version (version % version_count) else version % version_count)
-    ≡ (if moves then version + 1 else version) % version_count
-next_modulo moves version = grind (arith, nat_tests)
-
 -- the windows of the last change become those of a map write, and stay where there is none
 abbrev pub Follow : Setup → List Entry → Option MapChange → (old new : List Changed) → Type 0
 Follow setup history change old new = AreNextChanged setup history (map_write setup change) (new ≡ old) new
@@ -50,7 +45,7 @@ module _ (setup : Setup) (history : List Entry) (entry : Entry) (change : Option
 
   pub modulo_after : version_by setup change (version_of setup history % version_count)
       ≡ version_of setup (entry ∷ history) % version_count
-  modulo_after = rw version_after (next_modulo (moves setup change) (version_of setup history))
+  modulo_after = rw version_after (grind (arith, nat_tests))
 
   pub changed_after : (old new : List Changed) → AreLastChanged setup history old →
       Follow setup history change old new → AreLastChanged setup (entry ∷ history) new

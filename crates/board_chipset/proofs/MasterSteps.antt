@@ -1,10 +1,10 @@
 -- What a bus master reaches is neither SMRAM nor DRAM in its range.
-use Rattle.std.proofs.Common.{◌≡◌, ◌≢◌, ℕ, Bool, true, false, not, ◌&&◌, [], ◌∷◌, Option, Some, is_some, refl, ap, inl}
-use Rattle.std.proofs.Common.{inr, arith, unwrap_or, option_map}
-use Rattle.board_prelude.proofs.Common.{cases_Bool, and_left, and_right, nat_tests, Kind, Area, Target, Smram, Card}
-use Rattle.board_prelude.proofs.Common.{Setup, lies_in, smram_range, shadow_range, upper_memory, Bytes, Window}
-use Rattle.board_prelude.proofs.Common.{first_of, line_where, card_area, row_of, is_shadowed, memory_claim}
-use Rattle.board_prelude.proofs.Common.{is_smram_range, target_at, DramCell, first_cell, is_in_hole, is_bios_selected}
+use Rattle.std.proofs.Common.{◌≡◌, ◌≢◌, ℕ, Bool, true, false, not, ◌&&◌, [], ◌∷◌, Option, is_some, refl, arith}
+use Rattle.std.proofs.Common.{unwrap_or, option_map}
+use Rattle.board_prelude.proofs.Common.{cases_Bool, and_right, nat_tests, Kind, Area, Smram, Card, Setup, lies_in}
+use Rattle.board_prelude.proofs.Common.{smram_range, shadow_range, upper_memory, Bytes, Window, first_of, line_where}
+use Rattle.board_prelude.proofs.Common.{card_area, row_of, is_shadowed, memory_claim, is_smram_range, is_in_hole}
+use Rattle.board_prelude.proofs.Common.{is_bios_selected}
 use Rattle.board_base.specs.declared.target.Area.TheVariants as areas
 use Rattle.addr_decode.specs.Master.{master_area}
 use Rattle.board_chipset.specs.Masters.{IsOutsideSmram, master_target}
@@ -54,29 +54,13 @@ in_upper : (addr : ℕ) → lies_in smram_range addr ≡ true →
     (lies_in shadow_range addr ≡ false) × (lies_in upper_memory addr ≡ true)
 in_upper addr inside = (grind (arith, nat_tests), grind (arith, nat_tests))
 
-off_lines : {area : Area} (shadow dram rom : Bool) (row : ℕ) (claim : Option Window) →
-    area ≡ closed_lines shadow dram rom row claim → shadow ≡ false → dram ≡ false → IsOffDram area
-off_lines shadow dram rom row claim is no_shadow no_dram = grind (arith, nat_tests)
-
 pub off_dram : (setup : Setup) (bytes : Bytes) (addr : ℕ) (kind : Kind) → is_smram_range addr ≡ true →
     IsOffDram (master_area setup bytes addr kind)
 off_dram setup bytes addr kind inside =
     let upper = in_upper addr inside in
-    off_lines _ _ _ _ _ (of_master setup bytes addr kind) (and_right _ _ (and_left _ _ upper.0))
-    (and_left _ _ (and_left _ _ (ap not upper.1)))
-
-off_cell : (setup : Setup) (area : Area) (addr at : ℕ) → IsOffDram area →
-    first_cell (target_at setup area addr) addr ≡ Some (DramCell at) → ⊥
-off_cell setup area addr at off is = grind (arith, nat_tests)
-
--- a byte of DRAM stands at its own address
-own_address : (target : Target) (addr at : ℕ) → first_cell target addr ≡ Some (DramCell at) → addr ≡ at
-own_address target addr at is = grind (arith, nat_tests)
+    grind (arith, nat_tests, of_master setup bytes addr kind, upper)
 
 pub outside_smram : (setup : Setup) (bytes : Bytes) (kind : Kind) (addr : ℕ) →
     IsOutsideSmram (master_target setup bytes kind addr) addr
-outside_smram setup bytes kind addr = λ at is. elim (cases_Bool (is_smram_range addr)) [
-  | inl inside ↦
-      absurd (off_cell setup (master_area setup bytes addr kind) addr at (off_dram setup bytes addr kind inside) is)
-  | inr outside ↦ rw (← own_address (master_target setup bytes kind addr) addr at is) outside
-]
+outside_smram setup bytes kind addr = λ at is.
+    grind (arith, nat_tests, cases_Bool (is_smram_range addr), off_dram setup bytes addr kind)

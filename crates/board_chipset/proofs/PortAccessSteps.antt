@@ -1,5 +1,5 @@
 -- The cycles of an access to ports, done one after another.
-use Rattle.board_prelude.proofs.Common.{nat_tests, take_more, reverse-append, get_or-map, length-map, pow-le-pow_right}
+use Rattle.board_prelude.proofs.Common.{take_more, reverse-append, get_or-map, length-map, pow-le-pow_right}
 use Rattle.board_prelude.proofs.Common.{mod-eq_of_lt, PortAccess, bytes_of, some_bytes, Setup, IsBusAccess, drop_more}
 use Rattle.std.proofs.Common.{◌≡◌, ℕ, ◌+◌, ◌-◌, ◌*◌, ◌%◌, ◌^◌, ◌<◌, ◌≤◌, List, [], ◌∷◌, ◌++◌, length, get_or, take}
 use Rattle.std.proofs.Common.{drop, refl, ◌∙◌, ap, subst, arith, lit<, reverse, pow-add}
@@ -96,10 +96,6 @@ module _ {first value : ℕ} {cycle : PortAccess} {later : List PortAccess}
         rest = rw (so_far.rest.0) so_far.rest.1;
         small = rw (d, is) (placed read fits);
       }
-
-pub at_first : (first end : ℕ) (cycles : List PortAccess) → Follow first end cycles → end ≤ first + 4 →
-    IsAt first 0 cycles
-at_first first end cycles follow few = grind (arith, nat_tests)
 
 -- ---- cycles as the code keeps them
 

@@ -154,13 +154,7 @@ module _ (setup : Setup) (history : List Entry) (access : PortAccess) where
 
   pub writes_at : (target : Target) → access.write ≡ true → Reached setup history access target →
       Writes setup history (Port access) (control_at target access) (address_at target access) (store_at target access)
-  writes_at (Device AddressPort) writes at = grind (arith, nat_tests)
-  writes_at (Device Reset) writes at = grind (arith, nat_tests)
-  writes_at (Device dev) writes at = writes_beside at.0
-  writes_at (Config reg) writes at = grind (arith, nat_tests)
-  writes_at (Card dev base off) writes at = writes_beside at.0
-  writes_at Abort writes at = writes_beside at
-  writes_at _ writes at = absurd at
+  writes_at target writes at = grind (arith, nat_tests)
 
   pub writes_stored : (target : Target) → IsNoDevice target → IsNoRegister target →
       Reached setup history access target → Writes setup history (Port access) None None None

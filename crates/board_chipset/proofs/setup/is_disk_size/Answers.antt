@@ -9,9 +9,6 @@ decided size some whole = (
   λ is. let sectors = is.0 in let most = is.2 in let e = is.3 in grind (arith, nat_tests),
 )
 
-no_zero : (size : ℕ) → size ≡ 0 → not (size == 0) ≡ true → ⊥
-no_zero size is some = let f : not (0 == 0) ≡ true = rw is at some in cc
-
 pub returns-then-size-eq0 : goal.returns-then-size-eq0
 returns-then-size-eq0 c = elim c.if-size-ne0.branch [
   | then-size-ne0 w ↦
@@ -19,5 +16,5 @@ returns-then-size-eq0 c = elim c.if-size-ne0.branch [
       record { size = decided c.args.size w.if-size-ne0.true (eqb-true _ _ whole) }
   | else-size-ne0 w ↦
       let some : not (c.args.size == 0) ≡ true = sym w.value-is ∙ c.if-size-eq0.true in
-      absurd (no_zero c.args.size w.if-size-ne0.false some)
+      absurd (grind (arith, nat_tests, w.if-size-ne0.false, some))
 ]

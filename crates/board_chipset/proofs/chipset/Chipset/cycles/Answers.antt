@@ -1,10 +1,10 @@
 use Rattle.std.proofs.Common.{ℕ, false, ◌+◌, ap, refl, subst, arith, get_or, take, reverse}
-use Rattle.board_prelude.proofs.Common.{take_all, length-map, One, Setup}
+use Rattle.board_prelude.proofs.Common.{take_all, length-map, One, Setup, nat_tests}
 use Rattle.board_stores.specs.declared.ports.PortCycle.{PortCycle}
 use Rattle.board_stores.specs.PortCycles.{port_accesses}
 use Rattle.board_chipset.specs.PortAccesses.{IsCycleStep}
 use Rattle.board_chipset.proofs.PortAccessSteps.{none_done, next_done, reversed, shifted, shift_most, all_fit, at_next}
-use Rattle.board_chipset.proofs.PortAccessSteps.{at_first, inside, item, at_item, on_bus, from_first}
+use Rattle.board_chipset.proofs.PortAccessSteps.{inside, item, at_item, on_bus, from_first}
 use Rattle.board_chipset.proofs.chipset.Chipset.cycles.Goals as goal
 
 none : PortCycle
@@ -14,8 +14,7 @@ pub loop-cycle-init : goal.loop-cycle-init
 loop-cycle-init c = record {
   setup = refl;
   done = none_done c.args.self.now.setup c.args.self.now c.args.first;
-  at = at_first c.args.first c.requires.follow.0 (port_accesses c.args.cycles.now) c.requires.follow.1
-      c.requires.follow.2;
+  at = grind (arith, nat_tests, c.requires.follow.1, c.requires.follow.2);
 }
 
 pub cycle-read-requires : goal.cycle-read-requires
