@@ -13,7 +13,7 @@ use Rattle.board_chipset.specs.declared.registers.Registers.{Registers}
 use Rattle.board_chipset.specs.declared.state.State.{State}
 use Rattle.board_chipset.specs.Common.{HasRegisters, IsStateOf, Writes, WriteInTurn, WriteAll, IsClockWrite}
 use Rattle.board_chipset.specs.Common.{WriteClockByte}
-use Rattle.board_chipset.proofs.StateSteps.{quiet, soft, HavePut, stores_after, writes_none, stores_stay}
+use Rattle.board_chipset.proofs.StateSteps.{quiet, soft, HavePut, stores_after, stores_stay}
 use Rattle.board_base.specs.declared.target.Dev.TheVariants.{Clock as ClockChip}
 use Rattle.dram_store.specs.declared.dram.PastTheEnd.{PastTheEnd}
 use Rattle.dram_store.specs.Dram.{IsWritten}
@@ -104,16 +104,7 @@ module _ (addr : ℕ) (bytes : List ℕ) where
   unfolding WriteInTurn
   in_turn small [] each = tt
   in_turn small (entry ∷ earlier) each =
-      let is = each.0 in (
-        record {
-          writes = λ setup history. writes_none setup history entry.event
-              (λ access same. let e = is.event in cc);
-          passes = rw (is.event) tt;
-          puts = λ cell. rw (is.event, is.reply, is.in_dram)
-              (grind (arith, nat_tests, small (length earlier)));
-        },
-        in_turn small earlier each.1,
-      )
+      let is = each.0 in (grind (arith, nat_tests, small (length earlier)), in_turn small earlier each.1)
 
   -- there are such entries
   abbrev nth : ℕ → Entry

@@ -2,9 +2,8 @@
 use Rattle.std.proofs.Common.{◌≡◌, ◌≢◌, ℕ, Bool, true, false, not, ◌&&◌, [], ◌∷◌, Option, is_some, refl, arith}
 use Rattle.std.proofs.Common.{unwrap_or, option_map}
 use Rattle.board_prelude.proofs.Common.{cases_Bool, and_right, nat_tests, Kind, Area, Smram, Card, Setup, lies_in}
-use Rattle.board_prelude.proofs.Common.{smram_range, shadow_range, upper_memory, Bytes, Window, first_of, line_where}
-use Rattle.board_prelude.proofs.Common.{card_area, row_of, is_shadowed, memory_claim, is_smram_range, is_in_hole}
-use Rattle.board_prelude.proofs.Common.{is_bios_selected}
+use Rattle.board_prelude.proofs.Common.{upper_memory, Bytes, Window, first_of, line_where, card_area, row_of}
+use Rattle.board_prelude.proofs.Common.{is_shadowed, memory_claim, is_smram_range, is_in_hole, is_bios_selected}
 use Rattle.board_base.specs.declared.target.Area.TheVariants as areas
 use Rattle.addr_decode.specs.Master.{master_area}
 use Rattle.board_chipset.specs.Masters.{IsOutsideSmram, master_target}
@@ -50,15 +49,10 @@ IsOffDram (areas.Card dev base) = Unit {0}
 IsOffDram areas.Abort = Unit {0}
 IsOffDram _ = ⊥
 
-in_upper : (addr : ℕ) → lies_in smram_range addr ≡ true →
-    (lies_in shadow_range addr ≡ false) × (lies_in upper_memory addr ≡ true)
-in_upper addr inside = (grind (arith, nat_tests), grind (arith, nat_tests))
-
 pub off_dram : (setup : Setup) (bytes : Bytes) (addr : ℕ) (kind : Kind) → is_smram_range addr ≡ true →
     IsOffDram (master_area setup bytes addr kind)
 off_dram setup bytes addr kind inside =
-    let upper = in_upper addr inside in
-    grind (arith, nat_tests, of_master setup bytes addr kind, upper)
+    grind (arith, nat_tests, of_master setup bytes addr kind)
 
 pub outside_smram : (setup : Setup) (bytes : Bytes) (kind : Kind) (addr : ℕ) →
     IsOutsideSmram (master_target setup bytes kind addr) addr

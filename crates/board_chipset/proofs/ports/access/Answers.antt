@@ -59,6 +59,3 @@ pub returns-in-Nobody-clause-board : goal.returns-in-Nobody-clause-board
 returns-in-Nobody-clause-board c = λ setup history entry kept.
     c.at_nobody.ensures.board setup history entry kept
     (decoded (goal.at.returns-in-Nobody-clause-board c).After-find_port c.in-Nobody.is setup history kept)
-
-pub at_register-requires-clause-function : goal.at_register-requires-clause-function
-at_register-requires-clause-function c = rw c.in-Register.is at c.find_port.ensures.found

@@ -1,4 +1,0 @@
-use Rattle.board_chipset.proofs.state_bytes.contents.Goals as goal
-
-pub returns : goal.returns
-returns c = record { filled = c.load_state.ensures.loaded.bad }
