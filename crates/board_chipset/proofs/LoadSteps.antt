@@ -49,8 +49,7 @@ module _ (place : Cell → Option ℕ) (from : ℕ) (bytes : List ℕ) where
   unfolding stored_of
   stored history cell [] each = grind (arith, nat_tests)
   stored history cell (entry ∷ earlier) each =
-      rw (each.0.puts cell, stored history cell earlier each.1)
-      (grind (arith, nat_tests))
+      rw (each.0.puts cell, stored history cell earlier each.1) (grind (arith, nat_tests))
 
   others_stay : {setup : Setup} {history : List Entry} {registers : Registers} {devices : DevicesValue} →
       HasRegisters setup history registers → AreDevicesOf setup history devices →

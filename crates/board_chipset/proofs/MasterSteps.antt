@@ -51,8 +51,7 @@ IsOffDram _ = ⊥
 
 pub off_dram : (setup : Setup) (bytes : Bytes) (addr : ℕ) (kind : Kind) → is_smram_range addr ≡ true →
     IsOffDram (master_area setup bytes addr kind)
-off_dram setup bytes addr kind inside =
-    grind (arith, nat_tests, of_master setup bytes addr kind)
+off_dram setup bytes addr kind inside = grind (arith, nat_tests, of_master setup bytes addr kind)
 
 pub outside_smram : (setup : Setup) (bytes : Bytes) (kind : Kind) (addr : ℕ) →
     IsOutsideSmram (master_target setup bytes kind addr) addr

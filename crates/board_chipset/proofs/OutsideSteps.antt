@@ -1,5 +1,5 @@
 -- Events for the devices alone: they write no register and store nothing.
-use Rattle.board_prelude.proofs.Common.{nat_tests, and_from, le-leb, Ack, IsAnswer, IsInRange, outside_answer, Applied}
+use Rattle.board_prelude.proofs.Common.{nat_tests, and_from, le-leb, IsAnswer, IsInRange, outside_answer, Applied}
 use Rattle.board_prelude.proofs.Common.{Stimulus, stimulus_form, applied_by, event_applied, All-head, All-tail, Event}
 use Rattle.board_prelude.proofs.Common.{Entry, Setup, FittedCard, IsCard, IsSetup, card_at}
 use Rattle.std.proofs.Common.{◌≡◌, ◌≤◌, true, List, [], ◌∷◌, None, refl, sym, ◌∙◌, subst, ℕ, ◌==◌, All, find, is_some}
@@ -40,8 +40,7 @@ fitted_device found dev is some = grind (arith, nat_tests)
 
 pub applied_is : (event : Event) (said : Applied) → applied_by event ≡ Some said →
     event ≡ event_applied said.stimulus said.number said.on
-applied_is Ack said is = cc
-applied_is _ said is = cc
+applied_is event said is = grind (arith, nat_tests)
 
 -- it is for the devices, and what answers it is in the table
 pub applied_answer : (setup : Setup) (history : List Entry) (one : Stimulus) (number : ℕ) (on : Bool) →

@@ -248,8 +248,7 @@ module _ {setup : Setup} {history : List Entry} {access : PortAccess} {target : 
       IsEntryOf setup history access target entry → IsStateOf setup (entry ∷ history) (record old { stores = stores })
   write_stored writes device config put kept is =
       state_put kept (rw (is.event) (writes_stored setup history access target device config (entry_reached refl is)))
-      (passes is (no_chip target device))
-      (λ cell. puts is cell ∙ rw writes refl) put
+      (passes is (no_chip target device)) (λ cell. puts is cell ∙ rw writes refl) put
 
   -- a write of registers that moves no route
   pub registers_move : {old : State} {registers : Registers} → IsStateOf setup history old →

@@ -5,8 +5,7 @@ use Rattle.board_chipset.proofs.StateSteps.{soft}
 use Rattle.board_chipset.proofs.ports.write_device.Goals as goal
 
 pub write-requires-clause-port : goal.write-requires-clause-port
-write-requires-clause-port c =
-    chip_reached c.requires.reaching c.in_default.not-Confadd c.in_default.not-Reset
+write-requires-clause-port c = chip_reached c.requires.reaching c.in_default.not-Confadd c.in_default.not-Reset
 
 pub returns-in-Confadd-clause-board : goal.returns-in-Confadd-clause-board
 returns-in-Confadd-clause-board c = λ setup history entry kept is.

@@ -22,5 +22,4 @@ returns-else-store-clause-board c = λ setup history entry kept is.
     let writes = entry_writes refl c.requires.writes is in
     registers_move kept is refl (λ cell. refl)
     (c.store.ensures.registers setup history entry kept.registers writes)
-    (c.store.ensures.south (c.store.ensures.other c.if-store.false))
-    (soft writes)
+    (c.store.ensures.south (c.store.ensures.other c.if-store.false)) (soft writes)
