@@ -51,6 +51,7 @@ impl Board {
     /// The board of a setup, as after power-on. The memory is 1 to 512 MiB; the cards are at most eight in rising order
     /// of device, with at most 64 MiB of memory together. BadRom exactly where the ROM is not of 64, 128, 256 or
     /// 512 KiB, and BadDisk exactly where it is and the disk is not of 1 to 65,536 whole sectors.
+    #[tactic(auto, using(crate::proofs::Boards::not_refused))]
     pub fn open(alloc: Global, setup: Setup) -> Result<Board, BoardOpen>
         requires low { 1 ≤ setup.mib }
         requires high { setup.mib ≤ most_mib }

@@ -53,6 +53,7 @@ impl Replay {
     /// The board of a setup, as after power-on. The memory is 1 to 512 MiB; the cards are at most eight in rising order
     /// of device, with at most 64 MiB of memory together. BadRom exactly where the ROM is not of 64, 128, 256 or
     /// 512 KiB, and BadDisk exactly where it is and the disk is not of 1 to 65,536 whole sectors.
+    #[tactic(auto, using(crate::proofs::Boards::not_refused))]
     pub fn open(alloc: Global, setup: Setup) -> Result<Replay, BoardOpen>
         requires low { 1 ≤ setup.mib }
         requires high { setup.mib ≤ most_mib }
@@ -143,6 +144,7 @@ impl Replay {
     }
 
     /// What the board is fitted with, which is a setup that a board can have.
+    #[tactic(auto, using(crate::proofs::Boards::fitted))]
     pub fn setup(&self) -> &Setup
         ensures setup { result.now ≡ self.now.chipset.setup }
         ensures fitted { IsSetup self.now.chipset.setup }
@@ -171,6 +173,7 @@ impl Replay {
 
     /// The memory map of the registers as they stand. Its version is the number of map writes so far: the stores to a
     /// register that the map depends on, and the hard resets.
+    #[tactic(auto, using(board_chipset::proofs::Exact::few_versions, crate::proofs::Boards::few_versions))]
     pub fn map(&self) -> &FlatMap
         ensures stands { (history : List Entry) → HasPlayed self.now history
             → StandsFor self.now.chipset.setup (byte_of self.now.chipset.setup history) result.now.regs }

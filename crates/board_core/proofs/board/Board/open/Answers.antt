@@ -1,9 +1,5 @@
 use Rattle.std.proofs.Common.{arith}
-use Rattle.board_core.proofs.Boards.{not_refused}
 use Rattle.board_core.proofs.board.Board.open.Goals as goal
 
 pub invariant_of-result : goal.invariant_of-result
 invariant_of-result c = rw c.new.ensures.empty (record { room = omega arith; played = c.in_ok-replay.ensures.fresh })
-
-pub returns-clause-bad_disk : goal.returns-clause-bad_disk
-returns-clause-bad_disk c = not_refused c.in_ok-replay.ensures.bad_disk
