@@ -1,8 +1,7 @@
 -- A board that is fresh, and after a step.
 use Rattle.std.proofs.Common.{◌≡◌, Bool, not, ℕ, ◌+◌, ◌^◌, ◌<◌, List, ◌∷◌, length, refl, sym, ◌∙◌, ap, subst, arith}
 use Rattle.std.proofs.Common.{◌↔◌, Result, Ok, Err, ◌==◌, slice_index, slice_set}
-use Rattle.board_prelude.proofs.Common.{nat_tests, Entry, Setup, IsSetup, entries_by, IsLegal, version_of, IsAnswer}
-use Rattle.board_prelude.proofs.Common.{entry_limit}
+use Rattle.board_prelude.proofs.Common.{nat_tests, Entry, Setup, IsSetup, IsLegal, version_of, IsAnswer, entry_limit}
 use Rattle.std.proofs.lemmas.Grind.{elements}
 use Rattle.std.proofs.lemmas.List.Filters.{length-filter_both}
 use Rattle.board_chipset.specs.Common.{Running, IsLeftBy, version_count}
@@ -25,14 +24,6 @@ pub fitted : {replay : Playing} {history : List Entry} → HasPlayed replay hist
 fitted played = (state_of refl played.left).fits
 
 -- ---- the numbers of entries
-
-counted_after : (history : List Entry) (counts : List ℕ) (entry : Entry) → entry.actor < length counts →
-    entry.seq ≡ slice_index counts entry.actor + 1 → entry.actor < 256 →
-    ((who : ℕ) → who < 256 → slice_index counts who ≡ length (entries_by who history)) → (who : ℕ) → who < 256 →
-    slice_index (slice_set counts entry.actor entry.seq) who ≡ length (entries_by who (entry ∷ history))
-counted_after history counts entry within number below counted who below' =
-    let before = counted who below' in
-    grind (arith, nat_tests, elements)
 
 -- a processor has no more entries than the history
 pub count_fits : {replay : Playing} {history : List Entry} {actor at : ℕ} → at ≡ actor → actor < 256 →
@@ -69,5 +60,5 @@ stepped {replay} {history} {entry} all below few number played same answer left 
           (record { number = is_number; answer = answer }, played.legal);
       left = left;
       count = omega (arith, played.count);
-      counted = counted_after history replay.counts entry (omega arith) number below played.counted;
+      counted = λ who below'. let before = played.counted who below' in grind (arith, nat_tests, elements);
     }
