@@ -6,9 +6,9 @@ use Rattle.board_prelude.proofs.Common.{hour_byte, control_of, holds_time, time_
 use Rattle.board_prelude.proofs.Common.{alarm_rings, control_reset, written, data_byte, update_interrupts, after_write}
 use Rattle.board_prelude.proofs.Common.{after_reset, is_bit}
 use Rattle.device_spec.specs.Clock.{control_written, power_on}
-use Rattle.board_laws.specs.ClockLaws.{number_read, hour_read, Shows, IsShowable, ShowsTheMoment, HasAlarm}
-use Rattle.board_laws.specs.ClockLaws.{same_time_of_day, RingsAtItsTime, ReadingQuiets, ResetKeepsTheTime, MemoryKeeps}
-use Rattle.board_laws.specs.ClockLaws.{IsSound, StaysSound}
+use Rattle.board_laws.specs.ClockLaws.{number_read, hour_read, Shows, IsShowable, HasAlarm, same_time_of_day}
+use Rattle.board_laws.specs.ClockLaws.{RingsAtItsTime, ReadingQuiets, ResetKeepsTheTime, MemoryKeeps, IsSound}
+use Rattle.board_laws.specs.ClockLaws.{StaysSound}
 
 -- bytes with others at the seven places of the time and the calendar, and what stays
 record Timed (bytes after : List ℕ) (second minute hour weekday day month year : ℕ) : Type 0 where
@@ -26,10 +26,6 @@ record Timed (bytes after : List ℕ) (second minute hour weekday day month year
   control : get_or after 11 0 ≡ get_or bytes 11 0
   size : length after ≡ 128
 
-timed : (bytes : List ℕ) (s m h w d n y : ℕ) → length bytes ≡ 128 →
-    Timed bytes (set (set (set (set (set (set (set bytes 0 s) 2 m) 4 h) 6 w) 7 d) 8 n) 9 y) s m h w d n y
-timed bytes s m h w d n y size = grind (arith, get_or-set_at, get_or-set_other, length-set)
-
 abbrev Told : Clock → CivilTime → Type 0
 Told clock time =
     let c = control_of clock in
@@ -38,7 +34,7 @@ Told clock time =
     (number_byte c (time.year % 100))
 
 told : (clock : Clock) (time : CivilTime) → length clock.bytes ≡ 128 → Told clock time
-told clock time size = timed clock.bytes _ _ _ _ _ _ _ size
+told clock time size = grind (arith, get_or-set_at, get_or-set_other, length-set)
 
 pub reading_quiets : ReadingQuiets
 reading_quiets clock is_c = rw is_c (record { flags = refl; line = refl })
@@ -50,7 +46,7 @@ read_as control byte c n e f h = grind (arith, nat_tests)
 hour_read_as : (control byte c n : ℕ) → control ≡ c → byte ≡ hour_byte c n → n < 24 → hour_read control byte ≡ n
 hour_read_as control byte c n e f h = grind (arith, nat_tests)
 
-shows : (clock : Clock) (time : CivilTime) → length clock.bytes ≡ 128 → IsShowable time →
+pub shows : (clock : Clock) (time : CivilTime) → length clock.bytes ≡ 128 → IsShowable time →
     Shows (tell clock (put (time_bytes (control_of clock) time) clock.bytes)) time
 shows clock time size showable =
     let c = control_of clock in
@@ -64,9 +60,6 @@ shows clock time size showable =
       months = read_as _ _ c time.month is.control is.months showable.months;
       years = read_as _ _ c (time.year % 100) is.control is.years (omega arith);
     }
-
-pub shows_the_moment : ShowsTheMoment
-shows_the_moment clock time size let_in showable = rw let_in (shows clock time size showable)
 
 -- an alarm byte fits the bytes of its own time
 module _ (c a n alarm time : ℕ) where

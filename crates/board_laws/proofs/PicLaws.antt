@@ -73,13 +73,9 @@ pub interrupt_unmasked : (chip : Chip) (level : ℕ) → interrupt chip ≡ Some
 interrupt_unmasked chip level e =
     not-true (has chip.masked level) (and_parts (has (pending chip) level) _ (interrupt_first chip level e).asks).1
 
--- a requested level is one of the eight
-requested-small : (chip : Chip) (level : ℕ) → is_requested chip level ≡ true → level < 8
-unfolding pending levels_where
-requested-small chip level asks = grind (arith, nat_tests)
-
 pub interrupt-small : (chip : Chip) (level : ℕ) → interrupt chip ≡ Some level → level < 8
-interrupt-small chip level e = let first = interrupt_first chip level e in requested-small chip level first.asks
+unfolding pending levels_where
+interrupt-small chip level e = let first = interrupt_first chip level e in grind (arith, nat_tests, first.asks)
 
 -- ---- acknowledge
 
@@ -120,22 +116,19 @@ slave_in_service pair level e s manual =
 
 -- ---- spurious answers
 
-answer-at : (pair : Pair) (o : Option ℕ) → interrupt pair.master ≡ o → answer_of pair ≡ answer_at pair o
-unfolding answer_of
-answer-at pair o e = ap (answer_at pair) e
-
 spurious-by : (pair : Pair) (master slave : Option ℕ) → interrupt pair.master ≡ master → interrupt pair.slave ≡ slave →
     (answer_of pair).is_spurious ≡ true → IsSpuriousAt pair
-spurious-by pair None slave e s spurious = grind (arith, nat_tests, answer-at pair None e, after-at pair None e)
+unfolding answer_of
+spurious-by pair None slave e s spurious = grind (arith, nat_tests, ap (answer_at pair) e, after-at pair None e)
 spurious-by pair (Some level) slave e s spurious =
-    grind (arith, nat_tests, settled-slave, answer-at pair (Some level) e, after-at pair (Some level) e)
+    grind (arith, nat_tests, settled-slave, ap (answer_at pair) e, after-at pair (Some level) e)
 
 pub spurious_leaves : (pair : Pair) → (answer_of pair).is_spurious ≡ true → IsSpuriousAt pair
 spurious_leaves pair spurious = spurious-by pair _ _ refl refl spurious
 
 -- ---- a specific end of interrupt
 
-specific-end : (chip : Chip) (byte : ℕ) → is_bit byte 4 ≡ false → is_bit byte 3 ≡ false → byte / 32 ≡ 3 →
+pub specific-end : (chip : Chip) (byte : ℕ) → is_bit byte 4 ≡ false → is_bit byte 3 ≡ false → byte / 32 ≡ 3 →
     chip_after_write chip false byte ≡ record chip { in_service = without_level chip.in_service (byte % 8) }
 unfolding chip_after_write
 specific-end chip byte b4 b3 command = rw (b4, b3, command) refl
@@ -144,11 +137,6 @@ specific-end chip byte b4 b3 command = rw (b4, b3, command) refl
 pub without-one : (chip : Chip) (level : ℕ) → level < 8 →
     EndsOne chip (record chip { in_service = without_level chip.in_service level }) level
 without-one chip level small = grind (arith, nat_tests, has-levels_where)
-
-pub specific_end_one : (chip : Chip) (byte : ℕ) → is_bit byte 4 ≡ false → is_bit byte 3 ≡ false → byte / 32 ≡ 3 →
-    EndsOne chip (chip_after_write chip false byte) (byte % 8)
-specific_end_one chip byte b4 b3 command = rw (specific-end chip byte b4 b3 command)
-    (without-one chip (byte % 8) (omega arith))
 
 -- ---- the slave's request
 

@@ -34,10 +34,6 @@ place_at lowest place h g = ap (place_of lowest) (priorities lowest place h g) �
 
 -- ---- what INT stands for
 
-can-asks : (chip : Chip) (level : ℕ) → CanBeSelected chip level →
-    (is_requested chip level && not (blocks_itself chip level)) ≡ true
-can-asks chip level can = grind (arith, nat_tests, can.asks, can.unmasked, can.free)
-
 -- the search from a place on finds a level, where one that can be selected is still to come
 found : (d i : ℕ) (chip : Chip) (level : ℕ) → chip.lowest < 8 → CanBeSelected chip level →
     i + d ≡ place_of chip.lowest level → is_some (scan chip (drop i (priority_order chip.lowest))) ≡ true
@@ -46,7 +42,8 @@ found zero i chip level h can at_place =
     let is : get_or (priority_order chip.lowest) i 0 ≡ level = rw here (level_at chip.lowest level h can.inside) in
     let inside : i < length (priority_order chip.lowest) =
     rw (eight chip.lowest h) (omega (arith, place-small chip.lowest level)) in
-    rw (scan-found chip (priority_order chip.lowest) i inside (rw is (can-asks chip level can))) refl
+    rw (scan-found chip (priority_order chip.lowest) i inside
+    (rw is (grind (arith, nat_tests, can.asks, can.unmasked, can.free)))) refl
 found (suc d) i chip level h can at_place =
     let order = priority_order chip.lowest in
     let other = get_or order i 0 in

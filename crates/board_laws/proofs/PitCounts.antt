@@ -1,19 +1,11 @@
--- Whole counts of modes 0, 1, 4 and 5, and the pulse that loads.
+-- Whole counts of modes 0, 1, 4 and 5.
 use Rattle.std.proofs.Common.{◌≡◌, ℕ, zero, suc, ◌+◌, ◌-◌, ◌<◌, ◌≤◌, not, Bool, true, false, refl, ap, sym, ◌∙◌, arith}
 use Rattle.std.proofs.Common.{add-zero, add-suc}
 use Rattle.board_prelude.proofs.Common.{cases_lt, nat_tests, Mode, TerminalCount, OneShot, SoftwareStrobe}
-use Rattle.board_prelude.proofs.Common.{HardwareStrobe, CounterState, load, count_down, count_to_end, count_to_strobe}
+use Rattle.board_prelude.proofs.Common.{HardwareStrobe, CounterState, count_down, count_to_end, count_to_strobe}
 use Rattle.board_prelude.proofs.Common.{pulse_by_mode, pulse, pulses_of, IsAtLoad, phase, phase-self, is_periodic}
 use Rattle.board_prelude.proofs.Common.{cases_eq, common_steps}
-use Rattle.board_laws.specs.PitCounts.{PulseLoads, EndsOnce, CountsEndOnce, StrobesOnce, CountsStrobeOnce, out_at_load}
-
--- THE PULSE THAT LOADS
-
-pub pulse_loads : PulseLoads
-unfolding pulse pulse_by_mode load
-pulse_loads mode gate n c m e h = grind (arith, nat_tests)
-
--- ONE END
+use Rattle.board_laws.specs.PitCounts.{EndsOnce, CountsEndOnce, StrobesOnce, CountsStrobeOnce, out_at_load}
 
 -- OUT while the counter counts: 0 in modes 0 and 1, and 1 in modes 4 and 5
 abbrev level_of : Mode → Bool
@@ -43,11 +35,6 @@ record HasEnded (of_mode : Mode) (level : Bool) (c : CounterState) : Type 0 wher
   ended : is_ended of_mode c ≡ true
   out : c.out ≡ level
 
-ends : (mode : Mode) (gate : Bool) (n : ℕ) (c : CounterState) → is_periodic mode ≡ false → IsOn mode gate c →
-    IsAtLoad mode n (level_of mode) c → HasEnded mode (not (level_of mode)) (pulse gate (phase c 1 (level_of mode)))
-unfolding pulse pulse_by_mode count_to_end count_to_strobe count_down
-ends mode gate n c p on s = grind (arith, nat_tests)
-
 stays : (mode : Mode) (gate level : Bool) (c : CounterState) → is_periodic mode ≡ false → HasEnded mode level c →
     HasEnded mode true (pulse gate c)
 unfolding pulse pulse_by_mode count_to_end count_to_strobe count_down
@@ -70,10 +57,10 @@ module _ (mode : Mode) (gate : Bool) (n : ℕ) (c : CounterState) (p : is_period
 
   -- at the last pulse, and at each one after it
   at_end : HasEnded mode (not (level_of mode)) (pulses_of gate (suc n) c)
-  unfolding pulses_of
+  unfolding pulses_of pulse pulse_by_mode count_to_end count_to_strobe count_down
   at_end =
       let last : suc n - n ≡ 1 = omega arith in
-      rw (runs_down n (omega arith), last) (ends mode gate (suc n) c p on s)
+      rw (runs_down n (omega arith), last) (grind (arith, nat_tests))
 
   past_end : (k : ℕ) → HasEnded mode true (pulses_of gate (suc (suc (n + k))) c)
   unfolding pulses_of

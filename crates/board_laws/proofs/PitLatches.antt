@@ -1,11 +1,13 @@
--- A latched count stays until it is read.
-use Rattle.std.proofs.Common.{◌≡◌, ℕ, Bool, List, [], ◌∷◌, length, None, refl, ap, sym, ◌∙◌, arith}
-use Rattle.board_prelude.proofs.Common.{nat_tests}
+-- A latched count stays until it is read, and a read-back is one latch after another.
+use Rattle.std.proofs.Common.{◌≡◌, ℕ, Bool, List, [], ◌∷◌, length, None, refl, ap, sym, ◌∙◌, arith, true}
+use Rattle.board_prelude.proofs.Common.{nat_tests, access_numbered, status_byte, control, read_back_chosen}
+use Rattle.board_prelude.proofs.Common.{write_control}
 use Rattle.device_spec.specs.Pit.{Mode, Access, LowByte, HighByte, LowThenHigh, CounterState, low_byte, high_byte}
 use Rattle.device_spec.specs.Pit.{element_bytes, latch_count, latch_status, read_back, read, complete, take_low}
 use Rattle.device_spec.specs.Pit.{take_byte, write, gate_rises, gate_falls, load, count_down, count_to_end}
 use Rattle.device_spec.specs.Pit.{count_to_reload, count_half, count_to_strobe, pulse_by_mode, pulse}
 use Rattle.board_laws.specs.PitLaws.{after, Step, step_of, bytes_read, LatchedCountStays, LatchedCountIsRead}
+use Rattle.board_laws.specs.PitLaws.{ReadBackIsOneByOne, ReadBackIsLatch, ReadBackOfBoth}
 
 -- WHAT LEAVES THE LATCH OF THE COUNT ALONE
 
@@ -65,3 +67,30 @@ bytes_read-latched (b ∷ bs) c s h = rw (read-latched c b bs s h)
 
 pub latched_count_is_read : LatchedCountIsRead
 latched_count_is_read c steps h = bytes_read-latched (element_bytes c) _ refl (latched_count_stays c steps h)
+
+-- READING BACK
+
+pub one_by_one : ReadBackIsOneByOne
+unfolding write_control read_back_chosen read_back
+one_by_one true true true true true p = refl
+one_by_one _ true true true true p = refl
+one_by_one _ _ true true true p = refl
+one_by_one _ _ _ true true p = refl
+one_by_one _ _ _ _ true p = refl
+one_by_one _ _ _ _ _ p = refl
+
+pub is_latch : ReadBackIsLatch
+unfolding write_control read_back_chosen read_back control access_numbered
+is_latch = record { of_0 = λ p. refl; of_1 = λ p. refl; of_2 = λ p. refl }
+
+-- the two latches do not see one another
+commute : (c : CounterState) → latch_status (latch_count c) ≡ latch_count (latch_status c)
+unfolding latch_count latch_status element_bytes status_byte
+commute c = grind (arith, nat_tests)
+
+pub of_both : ReadBackOfBoth
+unfolding write_control read_back_chosen read_back
+of_both true true true p = (refl, grind (arith, nat_tests, commute))
+of_both a true true p = (refl, grind (arith, nat_tests, commute))
+of_both a b true p = (refl, grind (arith, nat_tests, commute))
+of_both a b c p = (refl, grind (arith, nat_tests, commute))

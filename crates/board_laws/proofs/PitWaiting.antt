@@ -1,7 +1,7 @@
 -- In modes 2 and 3 a count that is written waits for the next load.
 use Rattle.std.proofs.Common.{◌≡◌, ℕ, zero, suc, Bool, true, false, ◌⊎◌, inl, inr, Option, Some, unwrap_or, refl, arith}
-use Rattle.device_spec.proofs.Common.{nat_tests, Mode, RateGenerator, CounterState, is_periodic, load, count_down}
-use Rattle.device_spec.proofs.Common.{count_to_reload, half_end, count_half, pulse_by_mode, pulse, pulses_of}
+use Rattle.device_spec.proofs.Common.{nat_tests, Mode, CounterState, is_periodic, load, count_down, count_to_reload}
+use Rattle.device_spec.proofs.Common.{count_half, pulse_by_mode, pulse, pulses_of}
 use Rattle.board_prelude.proofs.Common.{Access, is_terminal_count, asks_for_load, complete, take_low, take_byte, write}
 use Rattle.board_laws.specs.PitCounts.{CountWaits, CountIsTaken}
 
@@ -25,11 +25,6 @@ abbrev Next : Bool → CounterState → ℕ → Bool → Option ℕ → Type 0
 Next gate c m null low = (pulse gate (waiting c m null low) ≡ waiting (pulse gate c) m null low)
     ⊎ HasTaken m (pulse gate (waiting c m null low))
 
--- where a period, or a half of one, ends
-abbrev last_of : Mode → CounterState → ℕ
-last_of RateGenerator c = 1
-last_of _ c = half_end c
-
 next_by : (mode : Mode) (gate : Bool) (c : CounterState) (n m : ℕ) (null : Bool) (low : Option ℕ) → c.mode ≡ mode →
     Runs n c → Next gate c m null low
 unfolding pulse pulse_by_mode count_to_reload count_half count_down load
@@ -52,10 +47,6 @@ taken_by x0 gate m c mode t = grind (arith, nat_tests)
 record GoesRound (mode : Mode) : Type 0 where
   ends : is_terminal_count mode ≡ false
   asks : asks_for_load mode true ≡ false
-
-goes_round : (mode : Mode) → is_periodic mode ≡ true → GoesRound mode
-unfolding asks_for_load
-goes_round x0 p = grind (arith, nat_tests)
 
 abbrev IsWaiting : CounterState → CounterState → Type 0
 IsWaiting c d = d ≡ waiting c (unwrap_or d.count 0) d.null_count d.low_written
@@ -89,9 +80,10 @@ after_write : (gate : Bool) (byte n k : ℕ) (c : CounterState) → is_periodic 
     IsWaiting c d
     × ((pulses_of gate k d ≡ waiting (pulses_of gate k c) (unwrap_or d.count 0) d.null_count d.low_written)
     ⊎ HasTaken (unwrap_or d.count 0) (pulses_of gate k d))
+unfolding asks_for_load
 after_write gate byte n k c p started count =
     let d = write byte c in
-    let is = waits_by c.access c.low_written byte n c (goes_round c.mode p) started count refl refl in
+    let is = waits_by c.access c.low_written byte n c (grind (arith, nat_tests)) started count refl refl in
     let on =
     goes_on gate n (unwrap_or d.count 0) d.null_count d.low_written c (record { periodic = p; count = count }) k in
     (is, rw (← is) at on)

@@ -13,11 +13,6 @@ unfolding port_target_of
 decoded-config setup bytes address disk port width is = grind (arith, nat_tests)
 
 module _ (setup : Setup) (before : List Entry) (reg : Reg) (old : ℕ) where
-  -- what a store does not reach stays
-  stored_elsewhere : (named : Reg) (width : Width) (value : ℕ) → ¬ IsNear named reg →
-      byte_with setup (Some (Store named width value)) reg old ≡ old
-  stored_elsewhere named width value far = grind (arith, nat_tests)
-
   -- an access to a configuration port that names a register
   answer_reaches : (access : PortAccess) (named : Reg) → is_config_port access.port ≡ true →
       config_register setup (config_address before) access.port ≡ Some named → IsNear named reg →
@@ -32,7 +27,8 @@ module _ (setup : Setup) (before : List Entry) (reg : Reg) (old : ℕ) where
       byte_with setup (option_map (λ at. Store at access.width access.value) found) reg old ≡ old
   store_stays access None is found far = refl
   store_stays access (Some named) is found far =
-      stored_elsewhere named access.width access.value (λ near. far (answer_reaches access named is found near))
+      let apart : ¬ IsNear named reg = λ near. far (answer_reaches access named is found near) in
+      grind (arith, nat_tests)
 
   access_stays : (access : PortAccess) → ¬ ReachesNear (port_answer setup before access) reg →
       byte_with setup (config_store setup (config_address before) (Port access)) reg old ≡ old

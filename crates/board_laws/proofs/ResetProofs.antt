@@ -1,14 +1,14 @@
 -- A hard reset puts registers and devices in their reset state, and keeps what is stored.
 use Rattle.std.proofs.Common.{◌≡◌, ℕ, Bool, true, false, List, ◌∷◌, Option, None, arith, take, drop, refl, unwrap_or}
-use Rattle.board_prelude.proofs.Common.{cond-true, nat_tests, false≢true, PortAccess, Device, bytes_of}
-use Rattle.board_prelude.proofs.Common.{triggers_at_reset, Levels, no_levels, levels_where, chip_at_reset}
-use Rattle.board_prelude.proofs.Common.{chip_after_inputs, latches_after, Pair, pair_at_reset, master_inputs}
-use Rattle.board_prelude.proofs.Common.{pair_after_lines, levels_where-same, has-levels_where, Event, Port, Reply}
-use Rattle.board_prelude.proofs.Common.{Entry, Setup, reset_control_port, control_written, resets_hard, control_after}
-use Rattle.board_prelude.proofs.Common.{is_hard_reset, reset_control, config_address, byte_of, Cell, port_put}
-use Rattle.board_prelude.proofs.Common.{entry_put, Bytes, device, port_target_of, wire_set, line_set, wire_of, irq_of}
-use Rattle.board_prelude.proofs.Common.{triggers_of, plain_of, timer_of, clock_of, disk_with, levels_of, elcr_of}
-use Rattle.board_prelude.proofs.Common.{pair_stepped, pair_reset_or_after, pair_of, port_answer, IsAnswer}
+use Rattle.board_prelude.proofs.Common.{cond-true, nat_tests, false≢true, PortAccess, bytes_of, triggers_at_reset}
+use Rattle.board_prelude.proofs.Common.{Levels, no_levels, levels_where, chip_at_reset, chip_after_inputs}
+use Rattle.board_prelude.proofs.Common.{latches_after, Pair, pair_at_reset, master_inputs, pair_after_lines}
+use Rattle.board_prelude.proofs.Common.{levels_where-same, has-levels_where, Event, Port, Reply, Entry, Setup}
+use Rattle.board_prelude.proofs.Common.{reset_control_port, control_written, resets_hard, control_after, is_hard_reset}
+use Rattle.board_prelude.proofs.Common.{reset_control, config_address, byte_of, Cell, entry_put, Bytes, device}
+use Rattle.board_prelude.proofs.Common.{port_target_of, wire_set, line_set, wire_of, irq_of, triggers_of, plain_of}
+use Rattle.board_prelude.proofs.Common.{timer_of, clock_of, disk_with, levels_of, elcr_of, pair_stepped}
+use Rattle.board_prelude.proofs.Common.{pair_reset_or_after, pair_of, port_answer, IsAnswer}
 use Rattle.board_base.specs.declared.target.Dev.TheVariants.{Reset as ResetPort}
 use Rattle.board_laws.specs.ResetLaws.{HardResetResets, HardResetKeeps}
 use Rattle.board_laws.proofs.StoredLaws.{stored-left}
@@ -69,15 +69,12 @@ decoded-reset setup before access bytes address disk hard =
     let size : bytes_of access.width ≡ 1 = grind (arith, nat_tests) in
     rw (port, size) refl
 
-no_put : (access : PortAccess) (cell : Cell) → port_put access (Device ResetPort) cell ≡ None
-no_put access cell = grind (arith, nat_tests)
-
 nothing_put : (setup : Setup) (before : List Entry) (event : Event) (reply : Reply) (cell : Cell) →
     IsAnswer setup before event reply → is_hard_reset before event ≡ true → entry_put event reply cell ≡ None
 unfolding port_answer
 nothing_put setup before (Port access) reply cell answer hard =
     rw (answer, decoded-reset setup before access (byte_of setup before) (config_address before) _ hard)
-    (no_put access cell)
+    (grind (arith, nat_tests))
 nothing_put setup before event reply cell answer hard = absurd (false≢true hard)
 
 module _ (before : List Entry) (event : Event) where

@@ -65,7 +65,7 @@ pub fn law_outside_bases()
 {}
 
 /// The SMRAM register after a write, bit by bit.
-#[tactic(auto, using(crate::proofs::SmramProofs::smram_by_bits))]
+#[tactic(auto, using(crate::proofs::RegisterBits::smram_by_bits))]
 pub fn law_smram()
     ensures bits { SmramByBits }
 {}
@@ -84,7 +84,7 @@ pub fn law_map_writes()
 {}
 
 /// Who answers at an address of memory, line by line of the memory map.
-#[tactic(auto, using(crate::proofs::AreaProofs::row_below_top, crate::proofs::AreaLines::who_answers))]
+#[tactic(auto, using(crate::proofs::AreaProofs::row_below_top, crate::proofs::AreaProofs::who_answers))]
 pub fn law_areas()
     ensures row { RowBelowTop }
     ensures answers { WhoAnswers }

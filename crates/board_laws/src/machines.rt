@@ -90,7 +90,7 @@ pub fn latched_count_stays()
 {}
 
 /// A read-back of several counters, or of count and status, equals the single latches.
-#[tactic(auto, using(crate::proofs::PitReadBacks::one_by_one, crate::proofs::PitReadBacks::is_latch, crate::proofs::PitReadBacks::of_both))]
+#[tactic(auto, using(crate::proofs::PitLatches::one_by_one, crate::proofs::PitLatches::is_latch, crate::proofs::PitLatches::of_both))]
 pub fn read_back_is_single_latches()
     ensures counters { ReadBackIsOneByOne }
     ensures latch { ReadBackIsLatch }

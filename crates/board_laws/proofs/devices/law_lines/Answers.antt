@@ -1,7 +1,13 @@
 use Rattle.board_laws.proofs.DeviceProofs.{lines_stay}
 use Rattle.board_spec.proofs.LineProofs.{first_levels}
-use Rattle.board_laws.proofs.Undriven.{undriven_lines}
+use Rattle.std.proofs.Common.{arith}
+use Rattle.board_prelude.proofs.Common.{nat_tests, levels_with}
 use Rattle.board_laws.proofs.devices.law_lines.Goals as goal
 
 pub returns : goal.returns
-returns c = record { stay = lines_stay; undriven = undriven_lines c.reserved_lines_rest.ensures; first = first_levels }
+unfolding levels_with
+returns c = record {
+  stay = lines_stay;
+  undriven = λ setup history. grind (arith, nat_tests, c.reserved_lines_rest.ensures);
+  first = first_levels;
+}

@@ -1,4 +1,4 @@
-use Rattle.board_laws.proofs.PulseProofs.{pulses_add}
+use Rattle.board_laws.proofs.DeviceProofs.{pulses_add}
 use Rattle.board_laws.proofs.devices.law_pulses.Goals as goal
 
 pub returns : goal.returns

@@ -1,5 +1,5 @@
-use Rattle.board_laws.proofs.ClockLaws.{shows_the_moment}
+use Rattle.board_laws.proofs.ClockLaws.{shows}
 use Rattle.board_laws.proofs.machines.shows_the_moment.Goals as goal
 
 pub returns : goal.returns
-returns c = record { law = shows_the_moment }
+returns c = record { law = λ clock time size let_in showable. rw let_in (shows clock time size showable) }
