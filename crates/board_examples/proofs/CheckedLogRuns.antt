@@ -1,16 +1,20 @@
--- The worked texts of logs.
+-- The worked texts of logs and maps.
 use Rattle.std.proofs.Common.{ℕ, ◌≡◌, ◌+◌, ◌≤◌, ◌==◌, true, List, [], ◌∷◌, ◌++◌, length, codes, refl, if◌then◌else◌}
-use Rattle.std.proofs.Common.{get_or, take, arith, inl, inr, sym, ap, ◌∙◌}
+use Rattle.std.proofs.Common.{get_or, take, arith, inl, inr, sym, ap, ◌∙◌, rules}
 use Rattle.board_prelude.proofs.Common.{digits, All-nil, Entry, line_feed, event_text, reply_text, line_text}
 use Rattle.board_prelude.proofs.Common.{lines_text, log_text, complete_is_whole}
 use Rattle.board_examples.specs.Common.{small_board, phases, look_last, LookLast, NoEntries, NoSuchVersion, EmptyLog}
 use Rattle.board_examples.specs.Common.{EmptyLogDiffers, CutLogDiffers, OpenLogDiffers, LongLogDiffers, order_lines}
-use Rattle.board_examples.specs.Common.{last_line}
+use Rattle.board_examples.specs.Common.{last_line, LookLastLogged, LookFirstLogged, ExpansionRomLogged}
+use Rattle.board_examples.specs.Common.{CutInPartsLogged, OverSmramLogged, MapAfterResetWritten}
 use Rattle.script_spec.specs.Common.{text_of_lines, IsOneLine, IsVersion, IsWellFormed, AreBegun, IsSomeLog, IsLogOf}
 use Rattle.script_spec.proofs.Common.{lacks, front, front-field, lacks-first, lacks-later, line_whole, lacks-line}
 use Rattle.script_spec.proofs.Common.{one_line, nothing_more}
 use Rattle.std.proofs.lemmas.List.Elements.{All-from_recursion}
 use Rattle.board_examples.proofs.OrderRuns.{orders}
+use Rattle.board_examples.specs.Logs.{VgaBesideSmramLogged, ConfigurationPortsLogged, TwoCardsLogged, XbcsLogged}
+use Rattle.board_examples.specs.Logs.{OutsideLogged}
+use Rattle.board_examples.specs.Targets.{DeviceLinesLogged, MemoryLinesLogged}
 
 -- some log begins with no lines
 some_begun : AreBegun IsSomeLog []
@@ -22,9 +26,6 @@ some_begun = record {
     log = record { known = inl refl; each = All-nil (IsWellFormed 1); text = refl };
   };
 }
-
-no_log : (version : ℕ) (entries : List Entry) → [] ≡ log_text version entries → ⊥
-no_log version entries e = cc
 
 -- the heading of a log has the version 1 or 2
 heading_byte : (version : ℕ) (entries : List Entry) → IsVersion version →
@@ -61,7 +62,7 @@ texts = (
     place = refl;
     begun = some_begun;
     leaves = λ this after one whole begun. nothing_more this after whole;
-    other = λ log. no_log log.version log.entries log.log.text;
+    other = λ log. cc (log.log.text);
   },
 )
 
@@ -135,7 +136,7 @@ differences = (
     place = refl;
     begun = record { later = log_text 1 look_last; text = order_log };
     leaves = λ this after one whole begun. nothing_more this after whole;
-    other = λ log. no_log 1 log.history log.text;
+    other = λ log. cc (log.text);
   },
   record {
     before = take 2 order_lines;
@@ -172,3 +173,14 @@ differences = (
     other = λ log. let e : 5 ≡ 4 = four_feeds _ log in omega arith;
   },
 )
+
+-- ---- computed from the definitions of their texts
+
+pub logged :
+    VgaBesideSmramLogged × ConfigurationPortsLogged × TwoCardsLogged × XbcsLogged × OutsideLogged × LookLastLogged ×
+    LookFirstLogged × ExpansionRomLogged × CutInPartsLogged × OverSmramLogged × DeviceLinesLogged × MemoryLinesLogged
+    × MapAfterResetWritten
+unfolding VgaBesideSmramLogged ConfigurationPortsLogged TwoCardsLogged XbcsLogged OutsideLogged LookLastLogged
+    LookFirstLogged ExpansionRomLogged CutInPartsLogged OverSmramLogged DeviceLinesLogged MemoryLinesLogged
+    MapAfterResetWritten digits event_text reply_text line_text lines_text
+logged = search rules

@@ -1,6 +1,8 @@
--- The histories of memory and ports without looks are computed from the definitions.
-use Rattle.std.proofs.Common.{ℕ, ◌≡◌, ◌%◌, ◌<◌, length, slice_index, arith, ◌/◌}
+-- The histories of memory and ports without looks are computed from the definitions, and so are the versions and what
+-- the lock law says of a history that breaks it.
+use Rattle.std.proofs.Common.{ℕ, ◌≡◌, ◌%◌, ◌<◌, length, slice_index, arith, ◌/◌, [], ◌∷◌, refl, inl, inr}
 use Rattle.board_prelude.proofs.Common.{length-map-range_with_len, get_or-map-range_with_len, reset as timer_reset}
+use Rattle.board_prelude.proofs.Common.{map_change_of, map_writes_of}
 use Rattle.board_prelude.specs.Common.{reset_byte, writable_bits, host_bridge, isa_bridge, ide_function, card_function}
 use Rattle.board_prelude.specs.Common.{byte_of, config_address, reset_control, row_of, area_of, denial_of, memory_claim}
 use Rattle.board_prelude.specs.Common.{memory_shut, rom_unselected, io_claim, io_shut, port_target_of, stored_of}
@@ -17,6 +19,8 @@ use Rattle.board_examples.specs.Common.{BasesByNumber, HostWritten, IsaWritten, 
 use Rattle.board_examples.specs.Common.{FunctionsToldApart, BridgesAfterReset, CardsAfterReset, CutInParts, OverSmram}
 use Rattle.board_examples.specs.Common.{PastTheMemory, WindowsByKind, ShutBeforeUnselected, large_rom}
 use Rattle.board_examples.proofs.Lines.{legal}
+use Rattle.board_examples.specs.Versions.{UnseenWrites, SeenWrites, AccessBreaksLock, PartBreaksLock, LookBreaksLock}
+use Rattle.board_examples.specs.Versions.{WordBreaksLock}
 
 pub rom_size : length counting_rom ≡ 0x1_0000
 unfolding counting_rom
@@ -49,6 +53,18 @@ unfolding ShadowingTheBios OneWindowForWrites MemoryAfterReset ConfigurationPort
     VgaWritten FunctionsToldApart BridgesAfterReset CardsAfterReset CutInParts OverSmram PastTheMemory WindowsByKind
     ShutBeforeUnselected byte_of config_address reset_control reset_byte writable_bits host_bridge isa_bridge
     ide_function card_function row_of area_of denial_of memory_claim memory_shut rom_unselected io_claim io_shut
-    stored_of memory_answer port_answer port_target_of parts_put parts_from part_answer wide_value device_value
-    plain_of timer_of clock_of timer_reset programmed out_of clock_power_on disk_with
+    stored_of memory_answer port_answer port_target_of parts_put parts_from part_answer wide_value device_value plain_of
+    timer_of clock_of timer_reset programmed out_of clock_power_on disk_with
 histories = (search (legal, rom_size, rom_byte, arith), search (legal, large_size, large_byte, arith), search legal)
+
+pub versions : UnseenWrites × SeenWrites × AccessBreaksLock × PartBreaksLock × LookBreaksLock × WordBreaksLock
+unfolding UnseenWrites SeenWrites AccessBreaksLock PartBreaksLock LookBreaksLock WordBreaksLock map_change_of
+    map_writes_of config_address reset_control
+versions = (
+  refl,
+  refl,
+  λ law. law.locked [] [] _ _ _ refl (refl, refl) tt refl refl,
+  λ law. law.locked [] [] _ _ _ refl (refl, refl) tt refl (inr (inl refl)),
+  λ law. law.locked [] [] _ _ _ refl (refl, refl) tt refl refl,
+  λ law. law.locked [] (_ ∷ _ ∷ _ ∷ []) _ _ _ refl (refl, refl) (refl, (refl, (refl, tt))) refl refl,
+)

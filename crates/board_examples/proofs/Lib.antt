@@ -2,13 +2,9 @@ mod Histories
 mod LookRuns
 mod Spans
 mod Lines
-mod LogTexts
 mod MapRuns
-mod DeviceRuns
 mod MachineRuns
-mod VersionRuns
 mod OrderRuns
-mod EventRuns
 mod SetupRuns
 mod LimitRuns
 mod CheckedLogRuns

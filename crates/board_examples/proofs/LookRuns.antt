@@ -1,5 +1,5 @@
 -- The histories with looks, and the spans that these see.
-use Rattle.std.proofs.Common.{ℕ, refl, arith, inr, rules}
+use Rattle.std.proofs.Common.{ℕ, refl, arith, rules}
 use Rattle.board_prelude.proofs.Common.{Window, reset_byte, writable_bits, host_bridge, isa_bridge, card_function}
 use Rattle.board_prelude.proofs.Common.{byte_of, config_address, reset_control, row_of, area_of, denial_of}
 use Rattle.board_prelude.proofs.Common.{memory_claim, memory_shut, rom_unselected, port_target_of, stored_of}
@@ -10,7 +10,7 @@ use Rattle.board_examples.specs.Common.{look_in_smm, LookInSmm, two_cards, two_c
 use Rattle.board_examples.specs.Common.{card_moved_under_the_rom}
 use Rattle.board_examples.specs.OutsideBases.{frame_board, outside_base, OutsideBaseRead}
 use Rattle.board_examples.proofs.Lines.{legal}
-use Rattle.board_examples.proofs.Spans.{far_span, first_span, covers-yes, covers-no}
+use Rattle.board_examples.proofs.Spans.{far_span, first_span, inner_span, covers-yes, covers-no}
 use Rattle.board_examples.specs.Basics.{TwoCardsAtOneAddress, CardMovedUnderTheRom}
 
 abbrev window : (dev base inside bits : ℕ) → Window
@@ -79,14 +79,8 @@ looks = (
   legal small_board (from_reset look_in_smm) (
     record {
       version = refl;
-      span = record {
-        above = omega arith;
-        below = omega arith;
-        last = omega arith;
-        same = λ x from to. grind (arith, nat_tests);
-        begins = inr (λ e. grind (arith, e));
-        ends = inr (λ e. grind (arith, e));
-      };
+      span = inner_span (omega arith) (λ x from to. grind (arith, nat_tests))
+          (λ e. grind (arith, e)) (λ e. grind (arith, e));
     },
     tt,
   ) refl,

@@ -11,20 +11,17 @@ use Rattle.board_examples.specs.Common.{LookAlone, LookTooEarly}
 use Rattle.board_examples.specs.Orders.{look_first}
 use Rattle.board_examples.proofs.Lines.{legal}
 use Rattle.board_examples.proofs.MapRuns.{IsPlain, area_is}
+use Rattle.board_examples.proofs.Spans.{inner_span}
 
 rom_span : IsSpan small_board (byte_of small_board (addressed ∷ [])) 0xF_0000 Read false 0xF_0000 0xF_FFFF RomArea
 unfolding byte_of config_address reset_control reset_byte writable_bits host_bridge isa_bridge ide_function
     card_function row_of area_of memory_claim
-rom_span = record {
-  above = omega arith;
-  below = omega arith;
-  last = omega arith;
-  same = λ x from to.
-      let plain : IsPlain (byte_of small_board (addressed ∷ [])) = search rules in
-      area_is _ plain x Read false ∙ grind (arith, nat_tests);
-  begins = inr (λ e. grind (arith, e));
-  ends = inr (λ e. grind (arith, e));
-}
+rom_span =
+    inner_span (omega arith)
+    (λ x from to.
+    let plain : IsPlain (byte_of small_board (addressed ∷ [])) = search rules in
+    area_is _ plain x Read false ∙ grind (arith, nat_tests))
+    (λ e. grind (arith, e)) (λ e. grind (arith, e))
 
 -- statements of two processors may change places, and the second alone is a front of the two
 either_order : (first second : Statement) (actor : ℕ) → first.actor ≡ 0 → second.actor ≡ 1 →
@@ -46,14 +43,8 @@ orders = (
       legal = legal small_board look_last (
         record {
           version = refl;
-          span = record {
-            above = omega arith;
-            below = omega arith;
-            last = omega arith;
-            same = λ x from to. grind (arith, nat_tests);
-            begins = inr (λ e. grind (arith, e));
-            ends = inr (λ e. grind (arith, e));
-          };
+          span = inner_span (omega arith) (λ x from to. grind (arith, nat_tests))
+              (λ e. grind (arith, e)) (λ e. grind (arith, e));
         },
         tt,
       ) refl;

@@ -1,13 +1,12 @@
--- The borders of a setup, from the definitions.
+-- The borders of setups and events, from the definitions.
 use Rattle.std.proofs.Common.{refl, arith, rules}
-use Rattle.board_prelude.proofs.Common.{All-nil, All-cons, All-head}
-use Rattle.board_examples.specs.Setups.{MemoryBorders, DiskBorders, CardBorders, CardListBorders, WindowBorders}
-use Rattle.board_examples.specs.Setups.{SetupBorders}
+use Rattle.board_prelude.proofs.Common.{All-nil, All-cons, All-head, weekday_of, days_since_1980, days_of_years}
+use Rattle.board_prelude.proofs.Common.{days_of_months}
+use Rattle.board_examples.specs.Setups.{DiskBorders, CardBorders, CardListBorders, SetupBorders}
 use Rattle.std.proofs.lemmas.List.Elements.{All-from_recursion}
 use Rattle.board_examples.proofs.Histories.{rom_size}
-
-memory : MemoryBorders
-memory = grind (arith, All-nil, rom_size)
+use Rattle.board_examples.specs.Events.{AccessBorders, WideBorders, OutsideBorders, MomentBorders, StatementBorders}
+use Rattle.board_examples.specs.Limits.{AreaBorders}
 
 disk : DiskBorders
 disk = record {
@@ -38,17 +37,18 @@ cards = record {
   falling = grind (arith, All-head);
 }
 
-windows : WindowBorders
-windows = grind (arith, All-nil, All-cons, rom_size)
-
 pub setup_borders : SetupBorders
 setup_borders = record {
-  memory = memory;
+  memory = grind (arith, All-nil, rom_size);
   rom = grind arith;
   disk = disk;
   base = grind arith;
   card = card;
   cards = cards;
-  windows = windows;
+  windows = grind (arith, All-nil, All-cons, rom_size);
   amounts = search rules;
 }
+
+pub borders : AccessBorders × WideBorders × OutsideBorders × MomentBorders × StatementBorders × AreaBorders
+unfolding weekday_of days_since_1980 days_of_years days_of_months
+borders = grind arith

@@ -4,8 +4,8 @@ use Rattle.std.proofs.Common.{List, flat_map, arith, eq-eqb, ne_eqb, inr, sym, �
 use Rattle.std.proofs.Math.Nat.{div-eq_of_lt-le}
 use Rattle.board_prelude.proofs.Common.{nat_tests, div-lt_iff_lt-mul, Kind, is_within, Setup, Bytes, Area, Window}
 use Rattle.board_prelude.proofs.Common.{is_covered, is_rom_selected, is_smram_range, row_of, area_of, memory_claim}
-use Rattle.board_prelude.proofs.Common.{IsSpan, top_of, xbcs, first_of, card_area, option_map, memory_windows}
-use Rattle.board_prelude.proofs.Common.{is_enabled_for}
+use Rattle.board_prelude.proofs.Common.{IsSpan, address_count, top_of, xbcs, first_of, card_area, option_map}
+use Rattle.board_prelude.proofs.Common.{memory_windows, is_enabled_for}
 use Rattle.board_base.specs.declared.target.Area.TheVariants.{Abort}
 
 pub covers-yes : (x k : ℕ) (window : Window) → window.inside / 2 ^ window.bits ≡ k → k * 2 ^ window.bits ≤ x →
@@ -17,6 +17,15 @@ pub covers-no : (x k : ℕ) (window : Window) → 0 < 2 ^ window.bits →
 covers-no x k window positive is before =
     let less : x / 2 ^ window.bits < k = (div-lt_iff_lt-mul {k = 2 ^ window.bits} {x = x} {y = k} positive).1 before in
     ne_eqb _ _ (λ same. omega (arith, is, same))
+
+-- a span where other areas answer before it and after it
+pub inner_span : {setup : Setup} {bytes : Bytes} {addr lo hi : ℕ} {kind : Kind} {smm : Bool} {area : Area} →
+    (lo ≤ addr) × (addr ≤ hi) × (hi < address_count) →
+    ((x : ℕ) → lo ≤ x → x ≤ hi → area_of setup bytes x kind smm ≡ area) →
+    area_of setup bytes (lo - 1) kind smm ≢ area → area_of setup bytes (hi + 1) kind smm ≢ area →
+    IsSpan setup bytes addr kind smm lo hi area
+inner_span place same before after =
+    record { above = place.0; below = place.1; last = place.2; same = same; begins = inr before; ends = inr after }
 
 -- ---- past the memory, and with XBCS as after a reset, the cards alone answer between 1 MiB and the last 64 KiB
 
@@ -45,14 +54,9 @@ pub far_span : {setup : Setup} {bytes : Bytes} {addr lo hi : ℕ} {kind : Kind} 
     IsFar bytes addr lo hi → ((x : ℕ) → lo ≤ x → x ≤ hi → claimed setup bytes x ≡ area) →
     area_of setup bytes (lo - 1) kind smm ≢ area → area_of setup bytes (hi + 1) kind smm ≢ area →
     IsSpan setup bytes addr kind smm lo hi area
-far_span {setup = setup} {bytes = bytes} {addr = addr} {lo = lo} {hi = hi} far same before after = record {
-  above = far.begins;
-  below = far.ends;
-  last = omega (arith, far.before_rom);
-  same = λ x from to. far_area setup bytes addr lo hi _ _ x far from to ∙ same x from to;
-  begins = inr before;
-  ends = inr after;
-}
+far_span {setup = setup} {bytes = bytes} {addr = addr} {lo = lo} {hi = hi} far same before after =
+    inner_span (far.begins, far.ends, omega (arith, far.before_rom))
+    (λ x from to. far_area setup bytes addr lo hi _ _ x far from to ∙ same x from to) before after
 
 -- in a window that is enabled and the first of all
 pub first_span : {setup : Setup} {bytes : Bytes} {addr lo hi : ℕ} {kind : Kind} {smm : Bool} (window : Window)

@@ -6,7 +6,7 @@ ghost use Rattle.board_examples.specs.Limits.{AmountBorders, AreaBorders};
 ghost use Rattle.board_examples.specs.Setups.{SetupBorders};
 
 /// Which events are in range.
-#[tactic(auto, using(crate::proofs::EventRuns::borders))]
+#[tactic(auto, using(crate::proofs::SetupRuns::borders))]
 pub fn borders()
     ensures accesses { AccessBorders }
     ensures wide { WideBorders }
@@ -14,7 +14,7 @@ pub fn borders()
 {}
 
 /// Which moments there are, and which statements a script can have.
-#[tactic(auto, using(crate::proofs::EventRuns::borders))]
+#[tactic(auto, using(crate::proofs::SetupRuns::borders))]
 pub fn statements()
     ensures moments { MomentBorders }
     ensures statements { StatementBorders }
@@ -27,7 +27,7 @@ pub fn setups()
 {}
 
 /// How much a script may ask for, and which areas a look of a log can name.
-#[tactic(auto, using(crate::proofs::LimitRuns::amount_borders, crate::proofs::EventRuns::borders))]
+#[tactic(auto, using(crate::proofs::LimitRuns::amount_borders, crate::proofs::SetupRuns::borders))]
 pub fn amounts()
     ensures borders { AmountBorders }
     ensures areas { AreaBorders }

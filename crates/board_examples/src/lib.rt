@@ -109,44 +109,44 @@ pub fn card_moved_under_the_rom()
 {}
 
 /// The log of `vga_beside_smram`.
-#[tactic(auto, using(crate::proofs::LogTexts::logged))]
+#[tactic(auto, using(crate::proofs::CheckedLogRuns::logged))]
 pub fn vga_beside_smram_logged()
     ensures log { VgaBesideSmramLogged }
 {}
 
 /// The log of `configuration_ports`.
-#[tactic(auto, using(crate::proofs::LogTexts::logged))]
+#[tactic(auto, using(crate::proofs::CheckedLogRuns::logged))]
 pub fn configuration_ports_logged()
     ensures log { ConfigurationPortsLogged }
 {}
 
 /// The log of `two_cards_at_one_address`.
-#[tactic(auto, using(crate::proofs::LogTexts::logged))]
+#[tactic(auto, using(crate::proofs::CheckedLogRuns::logged))]
 pub fn two_cards_logged()
     ensures log { TwoCardsLogged }
 {}
 
 /// The log of `xbcs_over_a_soft_reset`.
-#[tactic(auto, using(crate::proofs::LogTexts::logged))]
+#[tactic(auto, using(crate::proofs::CheckedLogRuns::logged))]
 pub fn xbcs_logged()
     ensures log { XbcsLogged }
 {}
 
 /// The log of events from outside the bus, with the replies of the devices.
-#[tactic(auto, using(crate::proofs::LogTexts::logged))]
+#[tactic(auto, using(crate::proofs::CheckedLogRuns::logged))]
 pub fn outside_logged()
     ensures log { OutsideLogged }
 {}
 
 /// Of two processors one opens a window and the other looks at it afterwards: the replay of the script.
-#[tactic(auto, using(crate::proofs::OrderRuns::orders, crate::proofs::LogTexts::logged))]
+#[tactic(auto, using(crate::proofs::OrderRuns::orders, crate::proofs::CheckedLogRuns::logged))]
 pub fn look_last()
     ensures history { LookLast }
     ensures log { LookLastLogged }
 {}
 
 /// The same script in the other order, which is legal and complete too.
-#[tactic(auto, using(crate::proofs::OrderRuns::orders, crate::proofs::LogTexts::logged))]
+#[tactic(auto, using(crate::proofs::OrderRuns::orders, crate::proofs::CheckedLogRuns::logged))]
 pub fn look_first()
     ensures history { LookFirst }
     ensures log { LookFirstLogged }
@@ -165,7 +165,7 @@ pub fn look_too_early()
 {}
 
 /// The flat map of a board of 8 MiB after reset, and its text.
-#[tactic(auto, using(crate::proofs::MapRuns::maps, crate::proofs::LogTexts::logged))]
+#[tactic(auto, using(crate::proofs::MapRuns::maps, crate::proofs::CheckedLogRuns::logged))]
 pub fn map_after_reset()
     ensures map { MapAfterReset }
     ensures text { MapAfterResetWritten }

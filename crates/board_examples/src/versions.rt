@@ -4,14 +4,14 @@ ghost use Rattle.board_examples.specs.Versions.{UnseenWrites, SeenWrites, Access
 ghost use Rattle.board_examples.specs.Versions.{LookBreaksLock, WordBreaksLock};
 
 /// Which writes raise the version of the map.
-#[tactic(auto, using(crate::proofs::VersionRuns::versions))]
+#[tactic(auto, using(crate::proofs::Histories::versions))]
 pub fn map_writes_counted()
     ensures unseen { UnseenWrites }
     ensures seen { SeenWrites }
 {}
 
 /// The lock law refuses each way to name SMRAM from outside SMM.
-#[tactic(auto, using(crate::proofs::VersionRuns::versions))]
+#[tactic(auto, using(crate::proofs::Histories::versions))]
 pub fn lock_law_broken()
     ensures access { AccessBreaksLock }
     ensures part { PartBreaksLock }
