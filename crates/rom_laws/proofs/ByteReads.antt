@@ -71,16 +71,14 @@ pub reaches_memory : (setup : Setup) (area : Area) (addr : ℕ) →
 reaches_memory setup (CardArea dev base) addr claim = claim dev base refl
 reaches_memory setup _ addr claim = tt
 
-start : (from : ℕ) → from ≡ from + 0
-start from = omega arith
-
 wide_byte : (width : Width) (byte_at : ℕ → ℕ) (from i : ℕ) → ((at : ℕ) → byte_at at < 256) → i < bytes_of width →
     byte (wide byte_at from width) i ≡ byte_at (from + i)
 wide_byte One byte_at from (suc i) below within = absurd (omega arith)
 wide_byte Two byte_at from (suc (suc i)) below within = absurd (omega arith)
 wide_byte Four byte_at from (suc (suc (suc (suc i)))) below within = absurd (omega arith)
 wide_byte _ byte_at from _ below within =
-    omega (arith, below from, below (from + 1), below (from + 2), below (from + 3), ap byte_at (start from))
+    let start : from ≡ from + 0 = omega arith in
+    omega (arith, below from, below (from + 1), below (from + 2), below (from + 3), ap byte_at start)
 
 all_ones : (width : Width) → largest_of width ≡ wide (λ at. 255) 0 width
 all_ones One = refl

@@ -1,20 +1,27 @@
--- The window of a card that claims an address has the size of its base, of 4 bytes or more.
+-- The window of a card that claims an address has the size of its base, of 4 bytes or more, and all bytes of an aligned
+-- access lie in one area.
 use Rattle.board_prelude.proofs.Common.{nat_tests, cases_Bool, ne_eqb, All-nil, All-cons, All-head, All-tail}
 use Rattle.board_prelude.proofs.Common.{All-append, enumerate_from, Base, MemoryBase, IoBase, OutsideBase, FittedCard}
 use Rattle.board_prelude.proofs.Common.{Setup, IsCard, IsCardList, IsExpansionRom, card_at, window_bits, Bytes, Window}
 use Rattle.board_prelude.proofs.Common.{is_covered, is_enabled_for, is_rom_on, memory_window, memory_windows}
 use Rattle.board_prelude.proofs.Common.{rom_window, rom_window_of, vga_window, memory_claim, Kind, lies_in}
 use Rattle.board_prelude.proofs.Common.{upper_memory, row_of, is_smram_range, is_shadowed, area_of, is_in_hole}
-use Rattle.board_prelude.proofs.Common.{is_bios_selected, is_smram_open}
+use Rattle.board_prelude.proofs.Common.{is_bios_selected, is_smram_open, common_steps, and_parts, eqb-true, Fetch}
+use Rattle.board_prelude.proofs.Common.{Width, One, bytes_of, IsBase, boundary, address_count, six_areas, base_value}
+use Rattle.board_prelude.proofs.Common.{rom_value}
 use Rattle.std.proofs.Common.{◌≡◌, ℕ, ◌+◌, ◌<◌, ◌≤◌, Bool, false, ◌&&◌, List, [], ◌∷◌, ◌++◌, length, Option, Some, None}
 use Rattle.std.proofs.Common.{inl, inr, refl, ap, subst, ◌∙◌, arith, ◌==◌, All, flat_map, slice_get, if◌then◌else◌}
-use Rattle.std.proofs.Common.{is_some, not, unwrap_or}
+use Rattle.std.proofs.Common.{is_some, not, unwrap_or, ◌-◌, ◌*◌, ◌/◌, ◌%◌, ◌^◌, true}
 use Rattle.board_base.specs.declared.target.Area.TheVariants.{Card as CardArea}
 use Rattle.board_chipset.proofs.HeldTargets.{IsClaim, claim_line}
 use Rattle.pci_bars.specs.Common.{IsBaseNumber}
 use Rattle.pci_bars.proofs.BaseLemmas.{is_base}
-use Rattle.pci_bars.proofs.WindowLemmas.{least_bits, All-find}
+use Rattle.pci_bars.proofs.WindowLemmas.{least_bits, All-find, quarter}
 use Rattle.addr_decode.proofs.CardLemmas.{find_at}
+use Rattle.std.proofs.lemmas.List.Elements.{All-contains, All-from_recursion, All-map}
+use Rattle.std.proofs.Math.Nat.{mul_assoc}
+use Rattle.addr_decode.specs.Edges.{fixed_edges, row_edges, first_address, window_edges, card_edges, edges_of}
+use Rattle.addr_decode.proofs.EdgeLaws.{areas_change_at_edges}
 
 -- a card with this number has a base with that one, which has 4 bytes or more
 pub record IsWindow (setup : Setup) (dev base : ℕ) : Type 0 where
@@ -27,9 +34,6 @@ OfCard setup window = IsWindow setup window.dev window.base
 -- a card that can be fitted, and is found by its number
 abbrev IsFound : Setup → FittedCard → Type 0
 IsFound setup card = IsCard card × (card_at setup card.dev ≡ Some card)
-
-all_found : (setup : Setup) → IsCardList setup.cards → All (IsFound setup) setup.cards
-all_found setup list k d within = (list.each k d within, find_at setup.cards list.rises k d within)
 
 module _ (setup : Setup) (bytes : Bytes) (card : FittedCard) (is : IsFound setup card) where
   base_window : (k : ℕ) (base : Base) → k < 6 → slice_get card.bases k ≡ Some base → IsWindow setup card.dev k
@@ -65,9 +69,6 @@ module _ (setup : Setup) (bytes : Bytes) (card : FittedCard) (is : IsFound setup
   rom_windows None none size = All-nil (OfCard setup)
   rom_windows (Some bits) some size = grind (arith, nat_tests)
 
-  vga_windows : All (OfCard setup) (vga_window card)
-  vga_windows = grind (arith, nat_tests)
-
   card_windows : All (OfCard setup) (memory_windows bytes card)
   card_windows =
       let bases : List Window =
@@ -81,7 +82,7 @@ module _ (setup : Setup) (bytes : Bytes) (card : FittedCard) (is : IsFound setup
       All-append (OfCard setup) (bases ++ rom) (vga_window card)
       (All-append (OfCard setup) bases rom
       (base_windows 0 card.bases (let few = is.0.count in omega arith)
-      (λ i. ap (slice_get card.bases) (omega arith))) of_rom) vga_windows
+      (λ i. ap (slice_get card.bases) (omega arith))) of_rom) (grind (arith, nat_tests))
 
 all_windows : (setup : Setup) (bytes : Bytes) (cards : List FittedCard) → All (IsFound setup) cards →
     All (OfCard setup) (flat_map (memory_windows bytes) cards)
@@ -97,7 +98,8 @@ unfolding memory_claim
 claiming setup bytes addr window list is =
     All-find (OfCard setup) (λ window. is_enabled_for 1 bytes window.dev && is_covered addr window)
     (flat_map (memory_windows bytes) setup.cards) window
-    (all_windows setup bytes setup.cards (all_found setup list)) is
+    (all_windows setup bytes setup.cards
+    (λ k d within. (list.each k d within, find_at setup.cards list.rises k d within))) is
 
 -- the area of a card is that of a window
 pub card_window : (setup : Setup) (bytes : Bytes) (addr : ℕ) (kind : Kind) (smm : Bool) (dev base : ℕ) →
@@ -111,3 +113,100 @@ card_window setup bytes addr kind smm dev base list is =
     (is_bios_selected bytes addr) (unwrap_or (row_of bytes addr) 0) (memory_claim setup bytes addr) dev base is in
     subst (λ (n : ℕ). IsWindow setup dev n) claim.3
     (subst (λ (n : ℕ). IsWindow setup n claim.0.base) claim.2 (claiming setup bytes addr claim.0 list claim.1))
+
+-- ---- edges
+
+abbrev IsEven : ℕ → Type 0
+IsEven edge = edge % 4 ≡ 0
+
+-- ---- the edges
+
+window_all : (window : Window) → 2 ≤ window.bits → All IsEven (window_edges window)
+window_all window above =
+    let size : 2 ^ window.bits ≡ 2 ^ (window.bits - 2) * 4 = quarter window.bits above in
+    let first : first_address window % 4 ≡ 0 =
+    first_even (window.inside / 2 ^ window.bits) (2 ^ window.bits) (2 ^ (window.bits - 2)) size in
+    All-from_recursion IsEven (window_edges window) (first, (omega arith, tt))
+  where
+    first_even : (n size fourth : ℕ) → size ≡ fourth * 4 → n * size % 4 ≡ 0
+    first_even n size fourth is = rw (is, ← mul_assoc n fourth 4) (omega arith)
+
+-- edges that are written out, by a test
+abbrev are_even : List ℕ → Bool
+are_even [] = true
+are_even (edge ∷ later) = (edge % 4 == 0) && are_even later
+
+all_even : (edges : List ℕ) → are_even edges ≡ true → All IsEven edges
+all_even [] are = All-nil IsEven
+all_even (edge ∷ later) are =
+    let both = and_parts (edge % 4 == 0) (are_even later) are in
+    All-cons IsEven edge later (eqb-true (edge % 4) 0 both.0) (all_even later both.1)
+
+fixed_even : All IsEven fixed_edges
+unfolding fixed_edges
+fixed_even = all_even fixed_edges refl
+
+module _ (bytes : Bytes) where
+  rows_even : All IsEven (row_edges bytes)
+  rows_even = All-map IsEven (boundary bytes) (0 ∷ 1 ∷ 2 ∷ 3 ∷ 4 ∷ 5 ∷ 6 ∷ 7 ∷ []) (λ k d within. omega arith)
+
+  base_even : (dev k : ℕ) (base : Base) → IsBase base →
+      All IsEven (flat_map window_edges (memory_window bytes dev k base))
+  base_even dev k (IoBase bits) fit = All-nil IsEven
+  base_even dev k (MemoryBase bits) fit =
+      window_all (record { dev = dev; base = k; inside = base_value bytes dev k; bits = bits }) (omega (arith, fit.0))
+  base_even dev k (OutsideBase bits) fit =
+      window_all (record { dev = dev; base = k; inside = base_value bytes dev k; bits = bits }) (omega (arith, fit.0))
+
+  bases_even : (dev k : ℕ) (bases : List Base) → All IsBase bases →
+      All IsEven
+      (flat_map (λ numbered. flat_map window_edges (memory_window bytes dev numbered.0 numbered.1))
+      (enumerate_from k bases))
+  bases_even dev k [] fit = All-nil IsEven
+  bases_even dev k (base ∷ later) fit =
+      All-append IsEven (flat_map window_edges (memory_window bytes dev k base)) _
+      (base_even dev k base (All-head IsBase base later fit))
+      (bases_even dev (k + 1) later (All-tail IsBase base later fit))
+
+  rom_even : (dev : ℕ) (rom : Option ℕ) → IsExpansionRom rom →
+      All IsEven (flat_map window_edges (rom_window_of bytes dev rom))
+  rom_even dev None fit = All-nil IsEven
+  rom_even dev (Some bits) fit =
+      window_all (record { dev = dev; base = 6; inside = rom_value bytes dev; bits = bits }) (omega (arith, fit.0))
+
+  cards_even : (cards : List FittedCard) → All IsCard cards → All IsEven (flat_map (card_edges bytes) cards)
+  cards_even [] fit = All-nil IsEven
+  cards_even (card ∷ later) fit =
+      let one = All-head IsCard card later fit in
+      All-append IsEven (card_edges bytes card) (flat_map (card_edges bytes) later)
+      (All-append IsEven _ (flat_map window_edges (rom_window bytes card))
+      (bases_even card.dev 0 card.bases one.each) (rom_even card.dev card.rom one.rom))
+      (cards_even later (All-tail IsCard card later fit))
+
+edges_even : (setup : Setup) (bytes : Bytes) → All IsCard setup.cards → All IsEven (edges_of setup bytes)
+unfolding edges_of
+edges_even setup bytes fit = grind (arith, nat_tests, common_steps, fixed_even, rows_even, cards_even)
+
+-- ---- the areas
+
+-- no multiple of 4 lies inside an aligned access
+none_inside : (addr i edge : ℕ) (width : Width) → addr % bytes_of width ≡ 0 → i < bytes_of width → edge % 4 ≡ 0 →
+    addr < edge → addr + i < edge
+none_inside addr i edge One aligned within even above = omega arith
+none_inside addr i edge _ aligned within even above = omega arith
+
+picked : (setup : Setup) (bytes : Bytes) (addr x : ℕ) (kind : Kind) (smm : Bool) →
+    six_areas setup bytes x ≡ six_areas setup bytes addr →
+    area_of setup bytes x kind smm ≡ area_of setup bytes addr kind smm
+picked setup bytes addr x Fetch smm same = grind (arith, nat_tests)
+picked setup bytes addr x _ smm same = grind (arith, nat_tests)
+
+pub same_area : (setup : Setup) (bytes : Bytes) (addr i : ℕ) (width : Width) (kind : Kind) (smm : Bool) →
+    All IsCard setup.cards → addr % bytes_of width ≡ 0 → i < bytes_of width → addr + i < address_count →
+    area_of setup bytes (addr + i) kind smm ≡ area_of setup bytes addr kind smm
+same_area setup bytes addr i width kind smm fit aligned within last =
+    picked setup bytes addr (addr + i) kind smm
+    (areas_change_at_edges setup bytes addr (addr + i) (omega arith) last
+    (λ edge is above.
+    none_inside addr i edge width aligned within
+    (All-contains IsEven (edges_of setup bytes) edge (edges_even setup bytes fit) is.listed) above))

@@ -22,11 +22,11 @@ use Rattle.board_records.specs.Replies.{wide_said, record_said}
 use Rattle.board_records.specs.RomReplies.{byte_by, byte_told, part_of, parts_said, reads_given, with_roms}
 use Rattle.rom_laws.specs.RomReads.{AreBytes, OnlyValueChanges, OtherRepliesStay, ReadsByteByByte, byte_access, byte_of}
 use Rattle.rom_laws.specs.RomReads.{byte_read}
-use Rattle.rom_laws.proofs.AlignedAreas.{same_area}
+use Rattle.rom_laws.proofs.CardWindows.{same_area}
 use Rattle.rom_laws.proofs.CardWindows.{IsWindow, card_window}
 use Rattle.rom_laws.proofs.ByteReads.{InMemory, byte_alone, moved, reaches_memory, target_moved, value_fits}
 use Rattle.rom_laws.proofs.PartBytes.{Moves, moves}
-use Rattle.rom_laws.proofs.ToldBytes.{value_told}
+use Rattle.rom_laws.proofs.PartBytes.{value_told}
 use Rattle.board_spec.specs.declared.event.Parts.TheVariants as parts
 use Rattle.board_spec.specs.declared.event.Reply.TheVariants as replies
 
@@ -142,10 +142,6 @@ module _ (setup : Setup) (before : List Entry) (roms : List (List ℕ)) (fits : 
   wide_is (parts.Two a b) value after = (refl, refl, refl)
   wide_is _ value after = (refl, refl, refl)
 
-  map_map : (accesses : List Access) → map of_part (map (part_answer setup before) accesses) ≡ map of_access accesses
-  unfolding part_said
-  map_map accesses = map-map of_part (part_answer setup before) accesses
-
   read_by_part : (said : EventRecord) (access : WideAccess) (they : Parts) (after : AfterStep) (k : ℕ) →
       said.addr ≡ access.addr → said.bytes ≡ access.bytes → access.addr + k < address_count → k < 8 →
       map of_part (parts_list they) ≡ map of_access (parts_of access) →
@@ -184,12 +180,12 @@ module _ (setup : Setup) (before : List Entry) (roms : List (List ℕ)) (fits : 
       IsInRange setup (Wide access) → IsAnswer setup before (Wide access) reply → k < access.bytes →
       byte (with_roms roms said (record_said reply after)).value k
       ≡ byte_read roms setup before access.kind access.smm (access.addr + k)
-  unfolding record_said wide_value area_of
+  unfolding record_said wide_value area_of part_said
   read_in_wide said access (replies.Parts they value) after k reads addr count legal answer within =
       let whole : ℕ = joined value_of (parts_of access) in
       let is : value ≡ Some whole = answer.value_is ∙ cond-false (is_write access.kind) None (Some whole) reads in
       let each : map of_part (parts_list they) ≡ map of_access (parts_of access) =
-      rw answer.each (map_map (parts_of access)) in
+      rw answer.each (map-map of_part (part_answer setup before) (parts_of access)) in
       let last : access.addr + k < address_count = omega (arith, legal.ends, within) in
       rw is
       (read_by_part said access they after k addr count last (omega (arith, legal.bytes, within)) each

@@ -1,8 +1,11 @@
--- The bytes of memory that a record asks for are those at its address, as many as it says.
+-- The bytes of memory that a record asks for are those at its address, as many as it says; and each byte that a step
+-- reads is the one that a read of that byte alone gives.
 use Rattle.board_prelude.proofs.Common.{common_steps, cases_Bool, nat_tests, Kind, Width, One, WideAccess, bytes_of}
-use Rattle.board_prelude.proofs.Common.{is_write, Event, Wide, Ack, Stimulus, stimulus_of_code, event_applied}
+use Rattle.board_prelude.proofs.Common.{is_write, Event, Wide, Ack, Stimulus, stimulus_of_code, event_applied, Target}
+use Rattle.board_prelude.proofs.Common.{Denial, Entry, Setup, IsSetup, IsAnswer, Memory, Parts, Reply, byte}
+use Rattle.board_prelude.proofs.Common.{memory_target, memory_denial}
 use Rattle.std.proofs.Common.{◌≡◌, ℕ, ◌==◌, Bool, true, false, if◌then◌else◌, Option, Some, None, option_map}
-use Rattle.std.proofs.Common.{option_and_then, refl, arith}
+use Rattle.std.proofs.Common.{option_and_then, refl, arith, ◌+◌, ◌<◌, List, sym, ap, subst, ◌∙◌}
 use Rattle.board_spec.specs.declared.event.Event.TheVariants.{Look as LookAt}
 use Rattle.board_spec.specs.declared.stimulus.Stimulus.TheVariants.{Pulses}
 use Rattle.uart_16550.specs.declared.com1.Happening.TheVariants.{Happens}
@@ -11,7 +14,25 @@ use Rattle.board_records.specs.Events.{access_said, applied_said, asked_by, aske
 use Rattle.board_records.specs.Events.{digits_said, direction_said, event_said, is_plain, kind_said, moment_said}
 use Rattle.board_records.specs.Events.{number_said, port_said, stimulus_said, width_said}
 use Rattle.board_records.specs.Numbers.{ack_event, look_event, memory_event, port_event, time_event}
-use Rattle.rom_laws.specs.RomReads.{read_by}
+use Rattle.rom_laws.specs.RomReads.{read_by, AreBytes, SaysRead, byte_read}
+use Rattle.board_base.specs.declared.access.Access.{Access}
+use Rattle.board_spec.specs.Common.{memory_answer}
+use Rattle.board_chipset.specs.Common.{Running}
+use Rattle.uart_16550.specs.Common.{Serial, uart_access}
+use Rattle.uart_16550.specs.declared.com1.SerialReply.{SerialReply}
+use Rattle.uart_16550.specs.declared.com1.SerialReply.TheVariants.{Board as OfBoard, Uart as OfUart}
+use Rattle.card_identity.specs.declared.identity.FittedIdentity.{FittedIdentity}
+use Rattle.board_records.specs.declared.reply.AfterStep.{AfterStep}
+use Rattle.board_records.specs.declared.reply.ReplyRecord.{ReplyRecord}
+use Rattle.board_records.specs.Identified.{fitted_record, is_config_read}
+use Rattle.board_records.specs.Replies.{blank, bus_said, part_said, record_said, serial_said, wide_said}
+use Rattle.board_records.proofs.Masters.{said_target}
+use Rattle.board_records.specs.Steps.{IsEventReply, after_step, reset_by}
+use Rattle.rom_laws.specs.StepReads.{StepReadsByteByByte}
+use Rattle.rom_laws.proofs.ByteReads.{InMemory}
+use Rattle.rom_laws.proofs.RomReads.{in_memory, reads_byte_by_byte}
+use Rattle.board_spec.specs.declared.event.Parts.TheVariants as parts
+use Rattle.board_spec.specs.declared.event.Reply.TheVariants as replies
 
 -- these bytes are those that a record says
 pub record IsReadSaid (said : EventRecord) (read : WideAccess) : Type 0 where
@@ -55,14 +76,6 @@ module _ (said : EventRecord) where
   whole_access kind =
       record { kind = kind; bytes = said.bytes; smm = said.smm == 1; addr = said.addr; value = said.value }
 
-  in_parts : (kind : Kind) → ReadsSaid said (Some (Wide (whole_access kind)))
-  in_parts kind =
-      by_read (is_write kind) (Wide (whole_access kind)) (whole_access kind) (record { addr = refl; bytes = refl }) refl
-
-  by_cycle : (kind : Kind) (width : Width) → bytes_of width ≡ said.bytes → ReadsSaid said (cycle_said said kind width)
-  unfolding cycle_said
-  by_cycle kind width is = grind (arith, nat_tests)
-
   width_is : (bytes : ℕ) (width : Width) → width_said bytes ≡ Some width → bytes_of width ≡ bytes
   unfolding width_said
   width_is bytes One says = grind (arith, nat_tests)
@@ -70,21 +83,19 @@ module _ (said : EventRecord) where
 
   by_width : (kind : Kind) (width : Option Width) → width_said said.bytes ≡ width →
       ReadsSaid said (option_and_then (cycle_said said kind) width)
+  unfolding cycle_said
   by_width kind None is = no_event
-  by_width kind (Some width) is = by_cycle kind width (width_is said.bytes width is)
+  by_width kind (Some width) is = grind (arith, nat_tests, width_is said.bytes width is)
 
   of_memory : (kind : Kind) → ReadsSaid said (access_said said kind)
   unfolding access_said
-  of_memory kind = either (said.bytes == 8) _ _ (in_parts kind) (by_width kind (width_said said.bytes) refl)
+  of_memory kind =
+      either (said.bytes == 8) _ _
+      (by_read (is_write kind) (Wide (whole_access kind)) (whole_access kind) (record { addr = refl; bytes = refl })
+      refl)
+      (by_width kind (width_said said.bytes) refl)
 
   -- ---- what reads no memory
-
-  of_port : (width : Width) (write : Bool) → ReadsSaid said (port_said said width write)
-  unfolding port_said
-  of_port width write = either _ _ _ (reads_none _ refl) no_event
-
-  of_ports : (width : Width) → ReadsSaid said (option_and_then (port_said said width) (direction_said said.kind))
-  of_ports width = followed (port_said said width) (direction_said said.kind) (of_port width)
 
   of_moment : (year month day hour minute second : ℕ) → ReadsSaid said (moment_said year month day hour minute second)
   unfolding moment_said
@@ -94,22 +105,22 @@ module _ (said : EventRecord) where
   no_read Pulses number on = refl
   no_read _ number on = refl
 
-  of_applied : (one : Stimulus) (number : ℕ) → ReadsSaid said (applied_said said one number)
-  of_applied one number = grind (arith, nat_tests)
-
   of_stimulus : (one : Stimulus) → ReadsSaid said (stimulus_said said one)
   unfolding stimulus_said
-  of_stimulus one = followed (applied_said said one) (number_said said one) (of_applied one)
+  of_stimulus one = followed (applied_said said one) (number_said said one) (λ number. grind (arith, nat_tests))
 
   of_digits : ReadsSaid said (digits_said said.value)
   unfolding digits_said
   of_digits = grind (arith, nat_tests, common_steps, of_moment)
 
   of_all : ReadsSaid said (asked_by said)
-  unfolding asked_by
+  unfolding asked_by port_said
   of_all =
       either (said.what == memory_event) _ _ (followed (access_said said) (kind_said said.kind) of_memory)
-      (either (said.what == port_event) _ _ (followed _ (width_said said.bytes) of_ports)
+      (either (said.what == port_event) _ _
+      (followed _ (width_said said.bytes)
+      (λ width. followed (port_said said width) (direction_said said.kind)
+      (λ write. either _ _ _ (reads_none _ refl) no_event)))
       (either (said.what == look_event) _ _
       (mapped (λ (kind : Kind). LookAt kind said.addr (said.smm == 1)) (kind_said said.kind)
       (λ kind. reads_none _ refl))
@@ -136,3 +147,90 @@ module _ (said : EventRecord) where
       read_by event ≡ Some read → IsReadSaid said read
   unfolding asked_said
   read_said event read asked reads = grind (arith, nat_tests, common_steps, cases_Bool, comes, of_event, happens)
+
+-- ---- the bytes of a step
+
+-- ---- a reply to a read of memory is no reply to one of configuration data
+
+no_config_part : (setup : Setup) (target : Target) (denial : Option Denial) → InMemory setup target →
+    ((part_said target denial).target == 7) ≡ false
+no_config_part setup target denial is = rw (said_target target denial) (grind (arith, nat_tests))
+
+of_cycle : (setup : Setup) (value : Option ℕ) (target : Target) (denial : Option Denial) (after : AfterStep) →
+    InMemory setup target → is_config_read (bus_said value target denial after) ≡ false
+unfolding bus_said blank
+of_cycle setup None target denial after is = refl
+of_cycle setup (Some value) target denial after is = rw (no_config_part setup target denial is) refl
+
+of_parts : (they : Parts) (value : Option ℕ) (after : AfterStep) → is_config_read (wide_said they value after) ≡ false
+unfolding wide_said blank
+of_parts they value after = grind (arith, nat_tests)
+
+-- ---- the step
+
+module _ (setup : Setup) (before : List Entry) (roms : List (List ℕ)) (fits : IsSetup setup)
+    (bytes : AreBytes setup roms)
+    (identities : List FittedIdentity) (said : EventRecord) (read : WideAccess) (after : AfterStep) (k : ℕ)
+    (within : k < read.bytes) where
+  abbrev IsTold : ReplyRecord → Type 0
+  IsTold told =
+      byte (fitted_record identities roms said told).value k
+      ≡ byte_read roms setup before read.kind read.smm (read.addr + k)
+
+  by_chipset : (event : Event) (reply : Reply) → SaysRead setup said event read → IsAnswer setup before event reply →
+      is_config_read (record_said reply after) ≡ false → IsTold (record_said reply after)
+  by_chipset event reply says answer none =
+      rw none
+      (reads_byte_by_byte setup before roms said event read reply after k fits bytes says answer within)
+
+  by_parts : (access : WideAccess) (reply : Reply) → SaysRead setup said (Wide access) read →
+      IsAnswer setup before (Wide access) reply → IsTold (record_said reply after)
+  unfolding record_said
+  by_parts access (replies.Parts they value) says answer =
+      by_chipset (Wide access) (replies.Parts they value) says answer (of_parts they value after)
+  by_parts access _ says answer = absurd answer
+
+  by_cycle : (access : Access) (reply : Reply) → SaysRead setup said (Memory access) read →
+      IsAnswer setup before (Memory access) reply → IsTold (record_said reply after)
+  unfolding record_said memory_answer
+  by_cycle access reply says answer =
+      by_chipset (Memory access) reply says answer
+      (ap (λ (it : Reply). is_config_read (record_said it after)) answer
+      ∙ of_cycle setup _ (memory_target setup before access) (memory_denial setup before access) after
+      (in_memory setup before roms fits bytes access))
+
+  reads_nothing : (event : Event) → read_by event ≡ None → SaysRead setup said event read → ⊥
+  reads_nothing event none says =
+      let some : ◌≡◌ {A = Option WideAccess} None (Some read) = sym none ∙ says.reads in absurd (cc)
+
+  by_reply : (serial : Serial Running) → serial.board.setup ≡ setup → (event : Event) (reply : SerialReply) →
+      SaysRead setup said event read → IsEventReply serial before event (uart_access event) reply →
+      IsTold (serial_said reply after)
+  unfolding serial_said
+  by_reply serial same (Memory access) (OfBoard reply) says answer =
+      by_cycle access reply says (subst (λ (it : Setup). IsAnswer it before (Memory access) reply) same answer)
+  by_reply serial same (Memory access) (OfUart value sent) says answer = absurd answer
+  by_reply serial same (Wide access) (OfBoard reply) says answer =
+      by_parts access reply says (subst (λ (it : Setup). IsAnswer it before (Wide access) reply) same answer)
+  by_reply serial same (Wide access) (OfUart value sent) says answer = absurd answer
+  by_reply serial same event reply says answer = absurd (reads_nothing event refl says)
+
+pub step_reads : StepReadsByteByByte
+step_reads old new said reply event read history k asks step left within =
+    let serial : Serial Running = old.behind.serial in
+    let fitted = step.holds in
+    let answered = fitted.step.answered history left in
+    let they : IsReadSaid said read = read_said said event read asks.asked asks.reads in
+    let says : SaysRead serial.board.setup said event read =
+    record {
+      range = fitted.step.can;
+      reads = asks.reads;
+      addr = they.addr;
+      bytes = they.bytes;
+      address = omega (arith, they.addr, asks.address);
+    } in
+    let after : AfterStep =
+    after_step serial.board.setup answered.goes_on.after (reset_by history (Happens event)) new.behind.serial.com1 in
+    rw (fitted.told, answered.told)
+    (by_reply serial.board.setup history old.roms asks.fits asks.bytes old.behind.identities said read after k within
+    serial refl event fitted.step.reply says answered.answer)

@@ -1,4 +1,4 @@
-use Rattle.rom_laws.proofs.StepReads.{step_reads}
+use Rattle.rom_laws.proofs.SaidReads.{step_reads}
 use Rattle.rom_laws.proofs.law_step_reads.Goals as goal
 
 pub returns : goal.returns
