@@ -11,7 +11,7 @@ use Rattle.script_spec.specs.Common.{text_of_lines, IsOneLine, IsVersion, IsWell
 use Rattle.script_spec.proofs.Common.{lacks, front, front-field, lacks-first, lacks-later, line_whole, lacks-line}
 use Rattle.script_spec.proofs.Common.{one_line, nothing_more}
 use Rattle.std.proofs.lemmas.List.Elements.{All-from_recursion}
-use Rattle.board_examples.proofs.OrderRuns.{orders}
+use Rattle.board_examples.proofs.LookRuns.{orders}
 use Rattle.board_examples.specs.Logs.{VgaBesideSmramLogged, ConfigurationPortsLogged, TwoCardsLogged, XbcsLogged}
 use Rattle.board_examples.specs.Logs.{OutsideLogged}
 use Rattle.board_examples.specs.Targets.{DeviceLinesLogged, MemoryLinesLogged}

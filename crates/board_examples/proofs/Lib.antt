@@ -4,7 +4,6 @@ mod Spans
 mod Lines
 mod MapRuns
 mod MachineRuns
-mod OrderRuns
 mod SetupRuns
 mod LimitRuns
 mod CheckedLogRuns

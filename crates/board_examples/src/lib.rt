@@ -139,27 +139,27 @@ pub fn outside_logged()
 {}
 
 /// Of two processors one opens a window and the other looks at it afterwards: the replay of the script.
-#[tactic(auto, using(crate::proofs::OrderRuns::orders, crate::proofs::CheckedLogRuns::logged))]
+#[tactic(auto, using(crate::proofs::LookRuns::orders, crate::proofs::CheckedLogRuns::logged))]
 pub fn look_last()
     ensures history { LookLast }
     ensures log { LookLastLogged }
 {}
 
 /// The same script in the other order, which is legal and complete too.
-#[tactic(auto, using(crate::proofs::OrderRuns::orders, crate::proofs::CheckedLogRuns::logged))]
+#[tactic(auto, using(crate::proofs::LookRuns::orders, crate::proofs::CheckedLogRuns::logged))]
 pub fn look_first()
     ensures history { LookFirst }
     ensures log { LookFirstLogged }
 {}
 
 /// The script stopped after its look: a history that is begun.
-#[tactic(auto, using(crate::proofs::OrderRuns::orders))]
+#[tactic(auto, using(crate::proofs::LookRuns::orders))]
 pub fn look_alone()
     ensures history { LookAlone }
 {}
 
 /// A look cannot see a write that comes after it.
-#[tactic(auto, using(crate::proofs::OrderRuns::orders))]
+#[tactic(auto, using(crate::proofs::LookRuns::orders))]
 pub fn look_too_early()
     ensures refused { LookTooEarly }
 {}
