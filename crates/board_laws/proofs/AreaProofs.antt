@@ -4,7 +4,7 @@ use Rattle.std.proofs.Common.{Bool, false, List, [], ◌∷◌, ◌++◌, None, 
 use Rattle.board_prelude.proofs.Common.{cases_lt, nat_tests, Bytes, boundary, top_of, row_of, All-head, All-tail, Kind}
 use Rattle.board_prelude.proofs.Common.{Setup, Window, memory_claim, area_of, first_of, line_where, card_area}
 use Rattle.board_prelude.proofs.Common.{is_bios_selected, is_smram_range, upper_memory, is_smram_open, is_shadowed}
-use Rattle.board_prelude.proofs.Common.{lies_in, is_in_hole}
+use Rattle.board_prelude.proofs.Common.{lies_in, is_in_hole, find-append}
 use Rattle.board_laws.specs.AreaLaws.{IsRow, HasRow, RowBelowTop, IsInSmram, IsInShadow, IsInDram, IsPastDram, claims}
 use Rattle.board_laws.specs.AreaLaws.{memory_windows_of, NoneClaims, WhoAnswers}
 use Rattle.board_base.specs.declared.target.Area.TheVariants.{Rom, Abort}
@@ -74,19 +74,17 @@ module _ (bytes : Bytes) (addr : ℕ) where
 
 -- ---- the cards
 
-find-first : (test : Window → Bool) (earlier later : List Window) (window : Window) →
-    All (λ it. test it ≡ false) earlier → test window ≡ true → find test (earlier ++ window ∷ later) ≡ Some window
-find-first test [] later window fail here = rw here refl
-find-first test (other ∷ earlier) later window fail here =
-    rw (All-head (λ it. test it ≡ false) other earlier fail)
-    (find-first test earlier later window (All-tail (λ it. test it ≡ false) other earlier fail) here)
-
 find-none : (test : Window → Bool) (windows : List Window) → All (λ it. test it ≡ false) windows →
     find test windows ≡ None
 find-none test [] fail = refl
 find-none test (other ∷ later) fail =
     rw (All-head (λ it. test it ≡ false) other later fail)
     (find-none test later (All-tail (λ it. test it ≡ false) other later fail))
+
+find-first : (test : Window → Bool) (earlier later : List Window) (window : Window) →
+    All (λ it. test it ≡ false) earlier → test window ≡ true → find test (earlier ++ window ∷ later) ≡ Some window
+find-first test earlier later window fail here =
+    rw (find-append test earlier (window ∷ later), find-none test earlier fail, here) refl
 
 claim-first : (setup : Setup) (bytes : Bytes) (addr : ℕ) (earlier later : List Window) (window : Window) →
     memory_windows_of setup bytes ≡ earlier ++ window ∷ later → NoneClaims bytes addr earlier →

@@ -1,17 +1,12 @@
 mod StoredLaws
 mod RegisterBits
 mod MapLawProofs
-mod WideDramProofs
 mod DenialProofs
 mod RegisterProofs
 mod DeviceProofs
 mod ResetProofs
-mod WireProofs
 mod AreaProofs
 mod PicLaws
-mod PicPlaces
-mod PairReads
 mod PitCounts
 mod PitLatches
-mod PitWaiting
 mod ClockLaws

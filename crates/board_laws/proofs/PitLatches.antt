@@ -2,7 +2,7 @@
 use Rattle.std.proofs.Common.{◌≡◌, ℕ, Bool, List, [], ◌∷◌, length, None, refl, ap, sym, ◌∙◌, arith, true}
 use Rattle.board_prelude.proofs.Common.{nat_tests, access_numbered, status_byte, control, read_back_chosen}
 use Rattle.board_prelude.proofs.Common.{write_control}
-use Rattle.device_spec.specs.Pit.{Mode, Access, LowByte, HighByte, LowThenHigh, CounterState, low_byte, high_byte}
+use Rattle.device_spec.specs.Pit.{Access, LowByte, HighByte, LowThenHigh, CounterState, low_byte, high_byte}
 use Rattle.device_spec.specs.Pit.{element_bytes, latch_count, latch_status, read_back, read, complete, take_low}
 use Rattle.device_spec.specs.Pit.{take_byte, write, gate_rises, gate_falls, load, count_down, count_to_end}
 use Rattle.device_spec.specs.Pit.{count_to_reload, count_half, count_to_strobe, pulse_by_mode, pulse}
@@ -11,15 +11,13 @@ use Rattle.board_laws.specs.PitLaws.{ReadBackIsOneByOne, ReadBackIsLatch, ReadBa
 
 -- WHAT LEAVES THE LATCH OF THE COUNT ALONE
 
-write-latch : (access : Access) (byte : ℕ) (c : CounterState) → c.access ≡ access →
-    (write byte c).count_latch ≡ c.count_latch
+write-latch : (byte : ℕ) (c : CounterState) → (write byte c).count_latch ≡ c.count_latch
 unfolding write take_byte take_low complete
-write-latch x0 byte c is = grind (arith, nat_tests)
+write-latch byte c = grind (arith, nat_tests)
 
-pulse-latch : (mode : Mode) (gate : Bool) (c : CounterState) → c.mode ≡ mode →
-    (pulse gate c).count_latch ≡ c.count_latch
+pulse-latch : (gate : Bool) (c : CounterState) → (pulse gate c).count_latch ≡ c.count_latch
 unfolding pulse pulse_by_mode load count_down count_to_end count_to_reload count_half count_to_strobe
-pulse-latch x0 gate c is = grind (arith, nat_tests)
+pulse-latch gate c = grind (arith, nat_tests)
 
 -- A LATCH THAT IS HELD
 

@@ -24,7 +24,7 @@ pub fn law_lines()
 }
 
 /// A line is at 1 where a card's INTA# is that is routed to it, and else only by the device of the line.
-#[tactic(auto, using(crate::proofs::WireProofs::wire_reaches_line, crate::proofs::WireProofs::line_has_driver))]
+#[tactic(auto, using(crate::proofs::DeviceProofs::wire_reaches_line, crate::proofs::DeviceProofs::line_has_driver))]
 pub fn law_wires()
     ensures reaches { WireReachesLine }
     ensures driver { LineHasDriver }

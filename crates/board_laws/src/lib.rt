@@ -71,7 +71,7 @@ pub fn law_smram()
 {}
 
 /// Of DRAM a wide read gives, and a wide write stores, the bytes from its address on.
-#[tactic(auto, using(crate::proofs::WideDramProofs::wide_reads, crate::proofs::WideDramProofs::wide_stored))]
+#[tactic(auto, using(crate::proofs::StoredLaws::wide_reads, crate::proofs::StoredLaws::wide_stored))]
 pub fn law_wide_dram()
     ensures reads { WideReads }
     ensures writes { WideStored }

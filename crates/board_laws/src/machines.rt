@@ -75,7 +75,7 @@ pub fn slave_is_latched()
 {}
 
 /// A read of one chip, which may poll it, leaves the other chip alone.
-#[tactic(auto, using(crate::proofs::PairReads::reads_leave))]
+#[tactic(auto, using(crate::proofs::PicLaws::reads_leave))]
 pub fn reads_leave_the_other()
     ensures { ReadsLeaveTheOther }
 {}
@@ -127,7 +127,7 @@ pub fn counts_strobe_once()
 {}
 
 /// In modes 2 and 3 a count that is written waits for the next load, and is in use from then on.
-#[tactic(auto, using(crate::proofs::PitWaiting::count_waits, crate::proofs::PitWaiting::count_is_taken))]
+#[tactic(auto, using(crate::proofs::PitCounts::count_waits, crate::proofs::PitCounts::count_is_taken))]
 pub fn count_waits()
     ensures waits { CountWaits }
     ensures taken { CountIsTaken }
