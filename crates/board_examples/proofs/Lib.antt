@@ -1,9 +1,5 @@
 mod Histories
 mod LookRuns
-mod Spans
 mod Lines
-mod MapRuns
-mod MachineRuns
 mod SetupRuns
-mod LimitRuns
 mod CheckedLogRuns

@@ -1,21 +1,218 @@
--- The histories with looks, the spans that these see, and both orders of the script for two processors.
-use Rattle.std.proofs.Common.{ℕ, refl, arith, rules, ◌≡◌, false, [], ◌∷◌, inl, inr, ◌∙◌}
-use Rattle.board_prelude.proofs.Common.{Window, reset_byte, writable_bits, host_bridge, isa_bridge, card_function}
-use Rattle.board_prelude.proofs.Common.{byte_of, config_address, reset_control, row_of, area_of, denial_of}
-use Rattle.board_prelude.proofs.Common.{memory_claim, memory_shut, rom_unselected, port_target_of, stored_of}
-use Rattle.board_prelude.proofs.Common.{port_answer, memory_answer, map_change_of, map_writes_of, ide_function}
-use Rattle.board_prelude.proofs.Common.{io_claim, io_shut, nat_tests, Read, IsSpan, events_by, statement_of}
-use Rattle.board_examples.specs.Common.{from_reset, rom_card_board, expansion_rom, ExpansionRom, small_board}
-use Rattle.board_examples.specs.Common.{look_in_smm, LookInSmm, two_cards, two_cards_at_one_address, moved_card}
-use Rattle.board_examples.specs.Common.{card_moved_under_the_rom, addressed, opened, sees_rom, look_last, LookLast}
-use Rattle.board_examples.specs.Common.{LookFirst, LookAlone, LookTooEarly}
+-- The spans that the worked examples look at, the flat maps, the histories with looks, and both orders of the script for
+-- two processors.
+use Rattle.std.proofs.Common.{ℕ, ◌≡◌, ◌+◌, ◌-◌, ◌*◌, ◌/◌, ◌^◌, ◌<◌, ◌≤◌, ◌≢◌, Bool, true, false, ◌∷◌, [], nat_lt, refl}
+use Rattle.std.proofs.Common.{List, flat_map, arith, eq-eqb, ne_eqb, inr, sym, ◌∙◌, suc, ◌&&◌, not, if◌then◌else◌, map}
+use Rattle.std.proofs.Common.{replicate, All, rules, inl}
+use Rattle.std.proofs.Math.Nat.{div-eq_of_lt-le}
+use Rattle.board_prelude.proofs.Common.{nat_tests, div-lt_iff_lt-mul, Kind, is_within, Setup, Bytes, Area, Window}
+use Rattle.board_prelude.proofs.Common.{is_covered, is_rom_selected, is_smram_range, row_of, area_of, memory_claim}
+use Rattle.board_prelude.proofs.Common.{IsSpan, address_count, top_of, xbcs, first_of, card_area, option_map}
+use Rattle.board_prelude.proofs.Common.{memory_windows, is_enabled_for, Fetch, Read, Write, bridge, pam, nibble}
+use Rattle.board_prelude.proofs.Common.{is_open, is_shadowed, is_smram_open, fdhc, drb, MapRange, IsRight}
+use Rattle.board_prelude.proofs.Common.{NeighboursDiffer, byte_of, reset_byte, writable_bits, host_bridge, isa_bridge}
+use Rattle.board_prelude.proofs.Common.{config_address, reset_control, card_function, denial_of, memory_shut}
+use Rattle.board_prelude.proofs.Common.{rom_unselected, port_target_of, stored_of, port_answer, memory_answer}
+use Rattle.board_prelude.proofs.Common.{map_change_of, map_writes_of, ide_function, io_claim, io_shut, events_by}
+use Rattle.board_prelude.proofs.Common.{statement_of}
+use Rattle.board_base.specs.declared.target.Area.TheVariants.{Abort, Dram, Rom, Smram}
+use Rattle.std.proofs.lemmas.List.Elements.{All-from_recursion}
+use Rattle.board_examples.specs.Common.{small_board, range, smram_range, smram_written, map_round, MapAfterReset}
+use Rattle.board_examples.specs.Common.{MapOpenAndClosed, MapClosedToData, MapOfSmm, from_reset, rom_card_board}
+use Rattle.board_examples.specs.Common.{expansion_rom, ExpansionRom, look_in_smm, LookInSmm, two_cards}
+use Rattle.board_examples.specs.Common.{two_cards_at_one_address, moved_card, card_moved_under_the_rom, addressed}
+use Rattle.board_examples.specs.Common.{opened, sees_rom, look_last, LookLast, LookFirst, LookAlone, LookTooEarly}
+use Rattle.board_examples.specs.Maps.{map_after_reset as ranges, IsMapAfter}
 use Rattle.board_examples.specs.OutsideBases.{frame_board, outside_base, OutsideBaseRead}
 use Rattle.board_examples.proofs.Lines.{legal}
-use Rattle.board_examples.proofs.Spans.{far_span, first_span, inner_span, covers-yes, covers-no}
 use Rattle.board_examples.specs.Basics.{TwoCardsAtOneAddress, CardMovedUnderTheRom}
-use Rattle.board_base.specs.declared.target.Area.TheVariants.{Rom as RomArea}
 use Rattle.board_examples.specs.Orders.{look_first}
-use Rattle.board_examples.proofs.MapRuns.{IsPlain, area_is}
+
+pub covers-yes : (x k : ℕ) (window : Window) → window.inside / 2 ^ window.bits ≡ k → k * 2 ^ window.bits ≤ x →
+    x < (k + 1) * 2 ^ window.bits → is_covered x window ≡ true
+covers-yes x k window is from to = eq-eqb _ _ (is ∙ sym (div-eq_of_lt-le {k = k} (2 ^ window.bits) from to))
+
+pub covers-no : (x k : ℕ) (window : Window) → 0 < 2 ^ window.bits →
+    window.inside / 2 ^ window.bits ≡ k → x < k * 2 ^ window.bits → is_covered x window ≡ false
+covers-no x k window positive is before =
+    let less : x / 2 ^ window.bits < k = (div-lt_iff_lt-mul {k = 2 ^ window.bits} {x = x} {y = k} positive).1 before in
+    ne_eqb _ _ (λ same. omega (arith, is, same))
+
+-- a span where other areas answer before it and after it
+pub inner_span : {setup : Setup} {bytes : Bytes} {addr lo hi : ℕ} {kind : Kind} {smm : Bool} {area : Area} →
+    (lo ≤ addr) × (addr ≤ hi) × (hi < address_count) →
+    ((x : ℕ) → lo ≤ x → x ≤ hi → area_of setup bytes x kind smm ≡ area) →
+    area_of setup bytes (lo - 1) kind smm ≢ area → area_of setup bytes (hi + 1) kind smm ≢ area →
+    IsSpan setup bytes addr kind smm lo hi area
+inner_span place same before after =
+    record { above = place.0; below = place.1; last = place.2; same = same; begins = inr before; ends = inr after }
+
+-- ---- past the memory, and with XBCS as after a reset, the cards alone answer between 1 MiB and the last 64 KiB
+
+pub record IsFar (bytes : Bytes) (addr lo hi : ℕ) : Type 0 where
+  pub begins : lo ≤ addr
+  pub ends : addr ≤ hi
+  pub past_memory : top_of bytes ≤ lo
+  pub past_bios : 0x10_0000 ≤ lo
+  pub before_rom : hi < 0xFFFF_0000
+  pub selected : bytes xbcs ≡ 3
+
+abbrev claimed : Setup → Bytes → ℕ → Area
+claimed setup bytes x = first_of (option_map card_area (memory_claim setup bytes x) ∷ []) Abort
+
+far_area : (setup : Setup) (bytes : Bytes) (addr lo hi : ℕ) (kind : Kind) (smm : Bool) (x : ℕ) →
+    IsFar bytes addr lo hi → lo ≤ x → x ≤ hi → area_of setup bytes x kind smm ≡ claimed setup bytes x
+unfolding area_of row_of
+far_area setup bytes addr lo hi kind smm x far from to =
+    let row : nat_lt x (top_of bytes) ≡ false = grind (arith, nat_tests) in
+    let smram : is_smram_range x ≡ false = grind (arith, nat_tests) in
+    let upper : is_within 0xA_0000 0xF_FFFF x ≡ false = grind (arith, nat_tests) in
+    let rom : is_rom_selected 0x03 x ≡ false = grind (arith, nat_tests) in
+    rw (row, smram, upper, far.selected, rom) refl
+
+pub far_span : {setup : Setup} {bytes : Bytes} {addr lo hi : ℕ} {kind : Kind} {smm : Bool} {area : Area} →
+    IsFar bytes addr lo hi → ((x : ℕ) → lo ≤ x → x ≤ hi → claimed setup bytes x ≡ area) →
+    area_of setup bytes (lo - 1) kind smm ≢ area → area_of setup bytes (hi + 1) kind smm ≢ area →
+    IsSpan setup bytes addr kind smm lo hi area
+far_span {setup = setup} {bytes = bytes} {addr = addr} {lo = lo} {hi = hi} far same before after =
+    inner_span (far.begins, far.ends, omega (arith, far.before_rom))
+    (λ x from to. far_area setup bytes addr lo hi _ _ x far from to ∙ same x from to) before after
+
+-- in a window that is enabled and the first of all
+pub first_span : {setup : Setup} {bytes : Bytes} {addr lo hi : ℕ} {kind : Kind} {smm : Bool} (window : Window)
+    (later : List Window) → flat_map (memory_windows bytes) setup.cards ≡ window ∷ later →
+    is_enabled_for 1 bytes window.dev ≡ true → IsFar bytes addr lo hi →
+    window.inside / 2 ^ window.bits * 2 ^ window.bits ≤ lo →
+    hi < (window.inside / 2 ^ window.bits + 1) * 2 ^ window.bits →
+    area_of setup bytes (lo - 1) kind smm ≢ card_area window →
+    area_of setup bytes (hi + 1) kind smm ≢ card_area window → IsSpan setup bytes addr kind smm lo hi (card_area window)
+unfolding memory_claim
+first_span window later windows on far first last before after =
+    far_span far (λ x from to. rw (
+      windows,
+      on,
+      covers-yes x (window.inside / 2 ^ window.bits) window refl (omega arith) (omega arith),
+    ) refl) before after
+
+-- ---- the flat map after reset and after a write to SMRAM, range by range: the register matters in its own range alone
+
+-- the registers are as after a reset, but for SMRAM
+pub record IsPlain (bytes : Bytes) : Type 0 where
+  pub first : bytes (drb 0) ≡ 1
+  pub last : bytes (drb 7) ≡ 1
+  pub hole : bytes fdhc ≡ 0
+  pub rom : bytes xbcs ≡ 3
+  pub bios : bytes (pam 0) ≡ 0
+  pub pams : map (λ k. bytes (bridge k)) (0x5A ∷ 0x5B ∷ 0x5C ∷ 0x5D ∷ 0x5E ∷ 0x5F ∷ []) ≡ replicate 6 0
+
+-- who answers then, by whether SMRAM is open
+abbrev pub plain_area : Bool → ℕ → Area
+plain_area opened x =
+    if is_smram_range x && opened then Smram else
+    if nat_lt x 0x80_0000 && not (is_within 0xA_0000 0xF_FFFF x) then Dram 0 else
+    if is_rom_selected 0x03 x then Rom else Abort
+
+nothing_open : (high : Bool) (kind : Kind) → is_open (nibble 0 high) kind ≡ false
+nothing_open high kind = grind (arith, nat_tests)
+
+module _ (bytes : Bytes) (plain : IsPlain bytes) where
+  pam_byte : (k : ℕ) → k < 6 → bytes (bridge (0x5A + k)) ≡ 0
+  pam_byte (suc (suc (suc (suc (suc (suc k)))))) less = absurd (omega arith)
+  pam_byte _ less = cc plain.pams
+
+  no_shadow : (x : ℕ) (kind : Kind) → is_shadowed bytes x kind ≡ false
+  no_shadow x kind = grind (arith, nat_tests, plain.bios, pam_byte ((x - 0xC_0000) / 0x8000), nothing_open)
+
+  pub area_is : (x : ℕ) (kind : Kind) (smm : Bool) →
+      area_of small_board bytes x kind smm ≡ plain_area (is_smram_open bytes kind smm) x
+  unfolding area_of row_of memory_claim
+  area_is x kind smm = rw (plain.last, plain.first, plain.hole, plain.rom, no_shadow x kind) (grind (arith, nat_tests))
+
+  -- the six areas of an address that go by whether SMRAM is open
+  abbrev by_smram : (Bool → Area) → List Area
+  by_smram areas =
+      map areas
+      (is_smram_open bytes Fetch false ∷ is_smram_open bytes Read false ∷ is_smram_open bytes Write false
+      ∷ is_smram_open bytes Fetch true ∷ is_smram_open bytes Read true ∷ is_smram_open bytes Write true ∷ [])
+
+  right : (lo hi : ℕ) (areas : Bool → Area) → ((x : ℕ) → lo ≤ x → x ≤ hi → (kind : Kind) (smm : Bool) →
+      plain_area (is_smram_open bytes kind smm) x ≡ areas (is_smram_open bytes kind smm)) →
+      IsRight small_board bytes (record { lo = lo; hi = hi; areas = by_smram areas })
+  right lo hi areas each = record {
+    at_each = λ x from to.
+        let is = λ (kind : Kind) (smm : Bool). area_is x kind smm ∙ each x from to kind smm in simp is;
+  }
+
+  low_dram : IsRight small_board bytes (range 0x0 0x9_FFFF (Dram 0))
+  low_dram = right _ _ (λ _. Dram 0) (λ x from to kind smm. grind (arith, nat_tests))
+
+  windows : IsRight small_board bytes (range 0xC_0000 0xE_FFFF Abort)
+  windows = right _ _ (λ _. Abort) (λ x from to kind smm. grind (arith, nat_tests))
+
+  bios : IsRight small_board bytes (range 0xF_0000 0xF_FFFF Rom)
+  bios = right _ _ (λ _. Rom) (λ x from to kind smm. grind (arith, nat_tests))
+
+  high_dram : IsRight small_board bytes (range 0x10_0000 0x7F_FFFF (Dram 0))
+  high_dram = right _ _ (λ _. Dram 0) (λ x from to kind smm. grind (arith, nat_tests))
+
+  nobody : IsRight small_board bytes (range 0x80_0000 0xFFFE_FFFF Abort)
+  nobody = right _ _ (λ _. Abort) (λ x from to kind smm. grind (arith, nat_tests))
+
+  top : IsRight small_board bytes (range 0xFFFF_0000 0xFFFF_FFFF Rom)
+  top = right _ _ (λ _. Rom) (λ x from to kind smm. grind (arith, nat_tests))
+
+  abbrev smram_area : Bool → Area
+  smram_area opened = if opened then Smram else Abort
+
+  smram : IsRight small_board bytes (record { lo = 0xA_0000; hi = 0xB_FFFF; areas = by_smram smram_area })
+  smram = right 0xA_0000 0xB_FFFF smram_area (λ x from to kind smm. grind (arith, nat_tests))
+
+  all_right : (middle : MapRange) → IsRight small_board bytes middle →
+      All (IsRight small_board bytes) (map_round middle)
+  all_right middle is =
+      All-from_recursion (IsRight small_board bytes) (map_round middle)
+      (low_dram, (is, (windows, (bios, (high_dram, (nobody, (top, tt)))))))
+
+after_reset : IsPlain (byte_of small_board [])
+unfolding byte_of reset_byte host_bridge isa_bridge
+after_reset = search rules
+
+after_write : (control : ℕ) → IsPlain (byte_of small_board (smram_written control))
+unfolding byte_of config_address reset_control reset_byte writable_bits host_bridge isa_bridge
+after_write control = search rules
+
+columns : (control : ℕ) (fetches accesses fetches_in_smm accesses_in_smm : Area) →
+    let middle : MapRange = smram_range fetches accesses fetches_in_smm accesses_in_smm in
+    IsRight small_board (byte_of small_board (smram_written control)) middle → NeighboursDiffer (map_round middle) →
+    IsMapAfter control middle
+columns control a b c d is least = record {
+  tiles = search (rules, arith);
+  right = all_right _ (after_write control) (smram_range a b c d) is;
+  least = least;
+}
+
+pub maps : MapAfterReset × MapOpenAndClosed × MapClosedToData × MapOfSmm
+unfolding MapAfterReset MapOpenAndClosed MapClosedToData MapOfSmm byte_of config_address reset_control reset_byte
+    writable_bits host_bridge isa_bridge
+maps = (
+  record {
+    tiles = search (rules, arith);
+    right =
+        let plain = after_reset in
+        All-from_recursion (IsRight small_board (byte_of small_board [])) ranges (
+          low_dram _ plain,
+          (
+            right _ plain _ _ (λ _. Abort) (λ x from to kind smm. grind (arith, nat_tests)),
+            (bios _ plain, (high_dram _ plain, (nobody _ plain, (top _ plain, tt)))),
+          ),
+        );
+    least = grind arith;
+  },
+  columns 0x68 _ _ _ _ (smram _ (after_write 0x68)) (grind arith),
+  columns 0x28 _ _ _ _ (smram _ (after_write 0x28)) (grind arith),
+  columns 0x08 _ _ _ _ (smram _ (after_write 0x08)) (grind arith),
+)
+
+-- ---- the histories with looks
 
 abbrev window : (dev base inside bits : ℕ) → Window
 window dev base inside bits = record { dev = dev; base = base; inside = inside; bits = bits }
@@ -92,7 +289,7 @@ looks = (
 
 -- ---- both orders
 
-rom_span : IsSpan small_board (byte_of small_board (addressed ∷ [])) 0xF_0000 Read false 0xF_0000 0xF_FFFF RomArea
+rom_span : IsSpan small_board (byte_of small_board (addressed ∷ [])) 0xF_0000 Read false 0xF_0000 0xF_FFFF Rom
 unfolding byte_of config_address reset_control reset_byte writable_bits host_bridge isa_bridge ide_function
     card_function row_of area_of memory_claim
 rom_span =

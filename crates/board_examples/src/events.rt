@@ -27,7 +27,7 @@ pub fn setups()
 {}
 
 /// How much a script may ask for, and which areas a look of a log can name.
-#[tactic(auto, using(crate::proofs::LimitRuns::amount_borders, crate::proofs::SetupRuns::borders))]
+#[tactic(auto, using(crate::proofs::SetupRuns::amount_borders, crate::proofs::SetupRuns::borders))]
 pub fn amounts()
     ensures borders { AmountBorders }
     ensures areas { AreaBorders }

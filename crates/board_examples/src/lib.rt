@@ -165,14 +165,14 @@ pub fn look_too_early()
 {}
 
 /// The flat map of a board of 8 MiB after reset, and its text.
-#[tactic(auto, using(crate::proofs::MapRuns::maps, crate::proofs::CheckedLogRuns::logged))]
+#[tactic(auto, using(crate::proofs::LookRuns::maps, crate::proofs::CheckedLogRuns::logged))]
 pub fn map_after_reset()
     ensures map { MapAfterReset }
     ensures text { MapAfterResetWritten }
 {}
 
 /// The columns of the map by SMRAME, DCLS and DOPEN.
-#[tactic(auto, using(crate::proofs::MapRuns::maps))]
+#[tactic(auto, using(crate::proofs::LookRuns::maps))]
 pub fn map_columns()
     ensures both { MapOpenAndClosed }
     ensures closed { MapClosedToData }

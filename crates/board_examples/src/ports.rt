@@ -16,7 +16,7 @@ pub fn words_at_byte_ports()
 {}
 
 /// Words and doublewords at the ports of the 8259A pair, the 8254, the keyboard controller and edge and level control.
-#[tactic(auto, using(crate::proofs::MachineRuns::devices))]
+#[tactic(auto, using(crate::proofs::Histories::devices))]
 pub fn words_at_chips()
     ensures history { WordsAtChips }
 {}
