@@ -1,5 +1,3 @@
 mod CardWindows
-mod ByteReads
-mod PartBytes
 mod RomReads
 mod SaidReads

@@ -1,34 +1,306 @@
 -- Each byte of a read is the one that a read of that byte alone gives.
-use Rattle.board_prelude.proofs.Common.{common_steps, nat_tests, cases_Bool, cond-false, Width, One, WideAccess}
-use Rattle.board_prelude.proofs.Common.{bytes_of, Area, Target, Card, Device, Config, Denial, Register, Entry, Setup}
-use Rattle.board_prelude.proofs.Common.{IsSetup, IsInRange, Memory, Wide, Parts, Reply, Bytes, byte, is_write}
-use Rattle.board_prelude.proofs.Common.{memory_target, memory_denial, parts_of, parts_list, joined, value_at, target_at}
-use Rattle.board_prelude.proofs.Common.{address_count, expansion_byte, IsPart, AreParts, IsAnswer}
-use Rattle.std.proofs.Common.{◌≡◌, ℕ, ◌+◌, ◌-◌, ◌%◌, ◌^◌, ◌<◌, Bool, true, false, List, [], ◌∷◌, ◌++◌, length, Option}
-use Rattle.std.proofs.Common.{Some, None, inl, inr, refl, sym, ap, ◌∙◌, arith, ◌==◌, map, if◌then◌else◌}
+use Rattle.board_prelude.proofs.Common.{common_steps, nat_tests, get_or_past, Width, One, bytes_of, largest_of, Entry}
+use Rattle.board_prelude.proofs.Common.{Setup, IsRomSize, Area, Target, Dram, Shadow, Smram, Rom, Card, Device, Config}
+use Rattle.board_prelude.proofs.Common.{Abort, byte, wide, window_bits, target_at, dram_byte, card_byte, value_at}
+use Rattle.board_prelude.proofs.Common.{cases_lt, cond-true, cond-false, ne_eqb, lt-ltb, le-ltb, All-head, All-tail}
+use Rattle.board_prelude.proofs.Common.{further, WideAccess, longest_at, part_at, joined, Covers, parts_from}
+use Rattle.board_prelude.proofs.Common.{AllByRecursion, cases_Bool, eq-eqb, w64, to_le_bytes, from_le_bytes, Denial}
+use Rattle.board_prelude.proofs.Common.{Register, IsSetup, IsInRange, Memory, Wide, Parts, Reply, Bytes, is_write}
+use Rattle.board_prelude.proofs.Common.{memory_target, memory_denial, parts_of, parts_list, address_count}
+use Rattle.board_prelude.proofs.Common.{expansion_byte, IsPart, AreParts, IsAnswer}
+use Rattle.std.proofs.Common.{◌≡◌, ℕ, suc, ◌+◌, ◌-◌, ◌*◌, ◌/◌, ◌%◌, ◌^◌, ◌<◌, ◌≤◌, List, [], length, inl, inr, refl, ap}
+use Rattle.std.proofs.Common.{◌∙◌, arith, slice_index, lit<, zero, false, ◌∷◌, ◌++◌, Some, ◌==◌, nat_lt, All, map, true}
+use Rattle.std.proofs.Common.{get_or, Option, None, sym, Bool, if◌then◌else◌}
+use Rattle.std.proofs.lemmas.Nat.{mod-pow-add, le_bytes_8}
+use Rattle.board_base.specs.declared.access.Width.TheVariants.{Two, Four}
+use Rattle.board_base.specs.declared.target.Area.TheVariants.{Rom as RomArea, Card as CardArea}
+use Rattle.pci_bars.specs.Common.{IsBaseNumber}
+use Rattle.pci_bars.specs.Contents.{slot_number}
+use Rattle.board_stores.proofs.ValueLemmas.{value_below, wide_below}
+use Rattle.rom_laws.proofs.CardWindows.{IsWindow, same_area, card_window}
+use Rattle.board_base.specs.declared.access.Access.{Access}
+use Rattle.board_records.specs.declared.reply.PartRecord.{PartRecord}
+use Rattle.board_records.specs.RomReplies.{part_of, byte_by, byte_told, is_given, parts_said, reads_given, with_roms}
+use Rattle.expansion_roms.specs.Roms.{given, byte_over, rom_byte}
+use Rattle.board_records.specs.declared.event.EventRecord.{EventRecord}
+use Rattle.board_records.specs.declared.reply.ReplyRecord.{ReplyRecord}
 use Rattle.std.proofs.lemmas.Simd.{map-map}
-use Rattle.board_spec.specs.Common.{area_of, memory_answer, part_answer, wide_value, Two, Four}
+use Rattle.board_spec.specs.Common.{area_of, memory_answer, part_answer, wide_value}
 use Rattle.board_spec.specs.Registers.{byte_of as register_byte}
 use Rattle.board_spec.proofs.PartLawProofs.{cut_into_parts}
-use Rattle.board_base.specs.declared.access.Access.{Access}
-use Rattle.board_base.specs.declared.target.Area.TheVariants.{Card as CardArea}
-use Rattle.expansion_roms.specs.Roms.{given, rom_byte}
-use Rattle.board_records.specs.declared.event.EventRecord.{EventRecord}
 use Rattle.board_records.specs.declared.reply.AfterStep.{AfterStep}
-use Rattle.board_records.specs.declared.reply.PartRecord.{PartRecord}
-use Rattle.board_records.specs.declared.reply.ReplyRecord.{ReplyRecord}
 use Rattle.board_records.specs.Replies.{no_part, of_part, target_said, with_denial, part_said, blank, bus_said}
 use Rattle.board_records.specs.Replies.{wide_said, record_said}
-use Rattle.board_records.specs.RomReplies.{byte_by, byte_told, part_of, parts_said, reads_given, with_roms}
 use Rattle.rom_laws.specs.RomReads.{AreBytes, OnlyValueChanges, OtherRepliesStay, ReadsByteByByte, byte_access, byte_of}
 use Rattle.rom_laws.specs.RomReads.{byte_read}
-use Rattle.rom_laws.proofs.CardWindows.{same_area}
-use Rattle.rom_laws.proofs.CardWindows.{IsWindow, card_window}
-use Rattle.rom_laws.proofs.ByteReads.{InMemory, byte_alone, moved, reaches_memory, target_moved, value_fits}
-use Rattle.rom_laws.proofs.PartBytes.{Moves, moves}
-use Rattle.rom_laws.proofs.PartBytes.{value_told}
 use Rattle.board_spec.specs.declared.event.Parts.TheVariants as parts
 use Rattle.board_spec.specs.declared.event.Reply.TheVariants as replies
+
+-- ---- what the byte after some others reaches
+
+abbrev pub moved : Target → (i : ℕ) → Target
+moved (Dram row) i = Dram row
+moved (Shadow row) i = Shadow row
+moved Smram i = Smram
+moved (Rom off) i = Rom (off + i)
+moved (Card dev base off) i = Card dev base (off + i)
+moved (Device dev) i = Device dev
+moved (Config reg) i = Config reg
+moved Abort i = Abort
+
+same_quarter : (addr i : ℕ) (width : Width) → addr % bytes_of width ≡ 0 → i < bytes_of width →
+    ((addr + i) / 4 ≡ addr / 4) × ((addr + i) % 4 ≡ addr % 4 + i)
+same_quarter addr i One aligned within = (omega arith, omega arith)
+same_quarter addr i _ aligned within = (omega arith, omega arith)
+
+window_moved : (addr i bits : ℕ) (width : Width) → 2 ≤ bits → addr % bytes_of width ≡ 0 → i < bytes_of width →
+    (addr + i) % 2 ^ bits ≡ addr % 2 ^ bits + i
+window_moved addr i bits width above aligned within =
+    let split : (place : ℕ) → place % 2 ^ bits ≡ place / 4 % 2 ^ (bits - 2) * 4 + place % 4 =
+    λ place. ap (λ n. place % 2 ^ n) (omega arith) ∙ mod-pow-add place (bits - 2) 2 in
+    let near = same_quarter addr i width aligned within in
+    let here : (addr + i) / 4 % 2 ^ (bits - 2) ≡ addr / 4 % 2 ^ (bits - 2) = ap (λ n. n % 2 ^ (bits - 2)) near.0 in
+    omega (arith, split addr, split (addr + i), near.1, here)
+
+rom_moved : (addr i size : ℕ) (width : Width) → IsRomSize size → addr % bytes_of width ≡ 0 → i < bytes_of width →
+    (addr + i) % size ≡ addr % size + i
+rom_moved addr i size width (inl is) aligned within = rw is (window_moved addr i 16 width (omega arith) aligned within)
+rom_moved addr i size width (inr (inl is)) aligned within =
+    rw is (window_moved addr i 17 width (omega arith) aligned within)
+rom_moved addr i size width (inr (inr (inl is))) aligned within =
+    rw is (window_moved addr i 18 width (omega arith) aligned within)
+rom_moved addr i size width (inr (inr (inr is))) aligned within =
+    rw is (window_moved addr i 19 width (omega arith) aligned within)
+
+pub target_moved : (setup : Setup) (area : Area) (addr i : ℕ) (width : Width) → IsRomSize (length setup.rom) →
+    ((dev base : ℕ) → area ≡ CardArea dev base → IsWindow setup dev base) → addr % bytes_of width ≡ 0 →
+    i < bytes_of width → target_at setup area (addr + i) ≡ moved (target_at setup area addr) i
+target_moved setup RomArea addr i width size claim aligned within =
+    ap Rom (rom_moved addr i (length setup.rom) width size aligned within)
+target_moved setup (CardArea dev base) addr i width size claim aligned within =
+    grind (arith, nat_tests, common_steps, window_moved, window_bits)
+target_moved setup _ addr i width size claim aligned within = refl
+
+-- ---- what is read there
+
+-- what an access to memory can reach, with a card's base where there is one
+abbrev pub InMemory : Setup → Target → Type 0
+InMemory setup (Card dev base off) = IsWindow setup dev base
+InMemory setup (Device dev) = ⊥
+InMemory setup (Config reg) = ⊥
+InMemory setup target = Unit {0}
+
+pub reaches_memory : (setup : Setup) (area : Area) (addr : ℕ) →
+    ((dev base : ℕ) → area ≡ CardArea dev base → IsWindow setup dev base) → InMemory setup (target_at setup area addr)
+reaches_memory setup (CardArea dev base) addr claim = claim dev base refl
+reaches_memory setup _ addr claim = tt
+
+wide_byte : (width : Width) (byte_at : ℕ → ℕ) (from i : ℕ) → ((at : ℕ) → byte_at at < 256) → i < bytes_of width →
+    byte (wide byte_at from width) i ≡ byte_at (from + i)
+wide_byte One byte_at from (suc i) below within = absurd (omega arith)
+wide_byte Two byte_at from (suc (suc i)) below within = absurd (omega arith)
+wide_byte Four byte_at from (suc (suc (suc (suc i)))) below within = absurd (omega arith)
+wide_byte _ byte_at from _ below within =
+    let start : from ≡ from + 0 = omega arith in
+    omega (arith, below from, below (from + 1), below (from + 2), below (from + 3), ap byte_at start)
+
+all_ones : (width : Width) → largest_of width ≡ wide (λ at. 255) 0 width
+all_ones One = refl
+all_ones _ = refl
+
+module _ (setup : Setup) (before : List Entry) (rom : (at : ℕ) → slice_index setup.rom at < 256) where
+  dram_below : (at : ℕ) → dram_byte setup before at < 256
+  dram_below at = value_below setup before setup.rom [] Smram at One refl rom tt
+
+  card_below : (dev base : ℕ) → IsBaseNumber dev base → (off : ℕ) → card_byte setup before dev base off < 256
+  card_below dev base number off =
+      value_below setup before setup.rom [] (Card dev base off) 0 One refl rom
+      (record { number = number; fits = λ other. inl (get_or_past [] (slot_number dev base) [] (omega arith)) })
+
+  pub value_fits : (target : Target) (place : ℕ) (width : Width) → InMemory setup target →
+      value_at setup before target place width < 256 ^ bytes_of width
+  value_fits (Rom off) place width is = wide_below (slice_index setup.rom) off width rom
+  value_fits (Card dev base off) place width is =
+      wide_below (λ at. card_byte setup before dev base at) off width (card_below dev base is.number)
+  value_fits (Device dev) place width is = absurd is
+  value_fits (Config reg) place width is = absurd is
+  value_fits Abort place width is = rw (all_ones width) (wide_below (λ at. 255) 0 width (λ at. lit< tt))
+  value_fits _ place width is = wide_below (dram_byte setup before) place width dram_below
+
+  pub byte_alone : (target : Target) (place i : ℕ) (width : Width) → InMemory setup target → i < bytes_of width →
+      byte (value_at setup before target place width) i ≡ value_at setup before (moved target i) (place + i) One
+  byte_alone (Rom off) place i width is within = wide_byte width (slice_index setup.rom) off i rom within
+  byte_alone (Card dev base off) place i width is within =
+      wide_byte width (λ at. card_byte setup before dev base at) off i (card_below dev base is.number) within
+  byte_alone (Device dev) place i width is within = absurd is
+  byte_alone (Config reg) place i width is within = absurd is
+  byte_alone Abort place i width is within =
+      rw (all_ones width) (wide_byte width (λ at. 255) 0 i (λ at. lit< tt) within)
+  byte_alone _ place i width is within = wide_byte width (dram_byte setup before) place i dram_below within
+
+-- ---- which part of a read moves a byte of it, that this byte is one of that part's value, and that it is the one told
+
+-- ---- a byte of a sum
+
+low_byte : (width : Width) (n above i : ℕ) → n < 256 ^ bytes_of width → i < bytes_of width →
+    byte (n + 256 ^ bytes_of width * above) i ≡ byte n i
+low_byte One n above (suc i) fits within = absurd (omega arith)
+low_byte Two n above (suc (suc i)) fits within = absurd (omega arith)
+low_byte Four n above (suc (suc (suc (suc i)))) fits within = absurd (omega arith)
+low_byte _ n above _ fits within = omega (arith, fits)
+
+above_low : (n above : ℕ) (width : Width) → n < 256 ^ bytes_of width →
+    (n + 256 ^ bytes_of width * above) / 256 ^ bytes_of width ≡ above
+above_low n above One fits = omega (arith, fits)
+above_low n above _ fits = omega (arith, fits)
+
+high_byte : (n above i : ℕ) (width : Width) → n < 256 ^ bytes_of width →
+    byte (n + 256 ^ bytes_of width * above) (bytes_of width + i) ≡ byte above i
+high_byte n above i width fits = grind (arith, nat_tests, common_steps, further, bytes_of, above_low)
+
+-- ---- the parts
+
+-- a part, of which P holds, moves byte k, and its own byte is the one of the values joined
+pub record Moves (access : WideAccess) (said : Access → PartRecord) (value : Access → ℕ) (rest : List PartRecord)
+    (P : Access → Type 0) (parts : List Access) (before k : ℕ) : Type 0 where
+  pub part : Access
+  pub place : ℕ
+  pub found : part_of (map said parts ++ rest) access.addr access.bytes before k ≡ Some (said part, place)
+  pub address : part.addr + place ≡ access.addr + k
+  pub within : place < bytes_of part.width
+  pub is : P part
+  pub value_is : byte (joined value parts) (k - before) ≡ byte (value part) place
+
+module _ (access : WideAccess) (said : Access → PartRecord) (value : Access → ℕ) (rest : List PartRecord) (P : Access →
+    Type 0) (fits : (part : Access) → P part → value part < 256 ^ bytes_of part.width) where
+  pub moves : (most before k : ℕ) (parts : List Access) → parts ≡ parts_from access most (access.addr + before)
+      (access.bytes - before) → All P parts → Covers (access.addr + before) (access.addr + access.bytes) parts →
+      before ≤ k → k < access.bytes → Moves access said value rest P parts before k
+  unfolding parts_from part_of
+  moves most before k [] are each covers from below =
+      let e : access.addr + before ≡ access.addr + access.bytes = covers in absurd (omega arith)
+  moves zero before k (part ∷ later) are each covers from below = absurd (cc)
+  moves (suc most) before k (part ∷ later) are each covers from below =
+      let left : ℕ = access.bytes - before in
+      let width : Width = longest_at (access.addr + before) left in
+      let some : (left == 0) ≡ false = ne_eqb left 0 (omega arith) in
+      let both = rw some at are in
+      let first : part ≡ part_at access (access.addr + before) width = cc in
+      let others : later ≡ parts_from access most (access.addr + before + bytes_of width) (left - bytes_of width) =
+      cc in
+      let start : part.addr ≡ access.addr + before = covers.0 in
+      let count : bytes_of part.width ≡ bytes_of width = ap (λ (it : Access). bytes_of it.width) first in
+      elim (cases_lt k (before + bytes_of width)) [
+        | inl here ↦ record {
+          part = part;
+          place = k - before;
+          found = cond-true (nat_lt k (before + bytes_of width)) _ _ (lt-ltb k (before + bytes_of width) here);
+          address = omega arith;
+          within = omega arith;
+          is = All-head P part later each;
+          value_is = low_byte part.width (value part) (joined value later) (k - before)
+              (fits part (All-head P part later each)) (omega arith);
+        }
+        | inr past ↦
+            let from' : access.addr + before + bytes_of width ≡ access.addr + (before + bytes_of width) = omega arith in
+            let left' : left - bytes_of width ≡ access.bytes - (before + bytes_of width) = omega arith in
+            let rest_is : later ≡ parts_from access most (access.addr + (before + bytes_of width))
+            (access.bytes - (before + bytes_of width)) =
+            rw (← from', ← left') others in
+            let end' : access.addr + before + bytes_of part.width ≡ access.addr + (before + bytes_of width) =
+            omega arith in
+            let next : Moves access said value rest P later (before + bytes_of width) k =
+            moves most (before + bytes_of width) k later rest_is (All-tail P part later each)
+            (rw end' at covers.1) past below in
+            let further_on : k - before ≡ bytes_of part.width + (k - (before + bytes_of width)) = omega arith in
+            record {
+              part = next.part;
+              place = next.place;
+              found = cond-false (nat_lt k (before + bytes_of width)) _ _ (le-ltb k (before + bytes_of width) past)
+                  ∙ next.found;
+              address = next.address;
+              within = next.within;
+              is = next.is;
+              value_is = ap (byte (value part + 256 ^ bytes_of part.width * joined value later)) further_on
+                  ∙ high_byte (value part) (joined value later) (k - (before + bytes_of width)) part.width
+                  (fits part (All-head P part later each))
+                  ∙ next.value_is;
+            }
+      ]
+
+-- ---- the value that is told
+
+-- ---- a number of eight bytes
+
+-- what holds of 0 to 7 holds of every number below 8
+below_eight : (P : ℕ → Type 0) → P 0 → P 1 → P 2 → P 3 → P 4 → P 5 → P 6 → P 7 → (k : ℕ) → k < 8 → P k
+below_eight P a b c d e f g h zero within = a
+below_eight P a b c d e f g h (suc zero) within = b
+below_eight P a b c d e f g h (suc (suc zero)) within = c
+below_eight P a b c d e f g h (suc (suc (suc zero))) within = d
+below_eight P a b c d e f g h (suc (suc (suc (suc zero)))) within = e
+below_eight P a b c d e f g h (suc (suc (suc (suc (suc zero))))) within = f
+below_eight P a b c d e f g h (suc (suc (suc (suc (suc (suc zero)))))) within = g
+below_eight P a b c d e f g h (suc (suc (suc (suc (suc (suc (suc zero))))))) within = h
+below_eight P a b c d e f g h (suc (suc (suc (suc (suc (suc (suc (suc k)))))))) within = absurd (omega arith)
+
+abbrev eight : (ℕ → ℕ) → List ℕ
+eight f = f 0 ∷ f 1 ∷ f 2 ∷ f 3 ∷ f 4 ∷ f 5 ∷ f 6 ∷ f 7 ∷ []
+
+small : (f : ℕ → ℕ) → ((k : ℕ) → f k < 256) → (i : ℕ) → get_or (eight f) i 0 < 256
+small f below i =
+    elim (cases_lt i 8) [
+      | inl here ↦
+          below_eight (λ k. get_or (eight f) k 0 < 256) (below 0) (below 1) (below 2) (below 3) (below 4) (below 5)
+          (below 6) (below 7) i here
+      | inr past ↦ rw (get_or_past (eight f) i 0 past) (lit< tt)
+    ]
+
+byte_in : (n k : ℕ) → k < 8 → byte n k ≡ get_or (to_le_bytes w64 n) k 0
+byte_in n =
+    below_eight (λ k. byte n k ≡ get_or (to_le_bytes w64 n) k 0) (omega arith) refl refl refl refl refl refl refl
+
+byte_of_eight : (f : ℕ → ℕ) → ((k : ℕ) → f k < 256) → (k : ℕ) → k < 8 → byte (from_le_bytes w64 (eight f)) k ≡ f k
+byte_of_eight f below k within =
+    grind (arith, nat_tests, common_steps, byte_in, from_le_bytes, w64, le_bytes_8, small, below_eight)
+
+-- ---- a byte that is told
+
+module _ (roms : List (List ℕ)) (bytes : (dev at : ℕ) → slice_index (given roms dev) at < 256) where
+  over_below : (dev off old : ℕ) → old < 256 → byte_over roms dev off old < 256
+  over_below dev off old below = grind (arith, nat_tests, bytes dev off)
+
+  by_below : (by : Option (PartRecord × ℕ)) (old : ℕ) → old < 256 → byte_by roms by old < 256
+  by_below None old below = below
+  by_below (Some by) old below = grind (arith, nat_tests, over_below by.0.unit (by.0.offset + by.1) old)
+
+  -- no part is of a ROM that was given bytes
+  abbrev pub AreOthers : List PartRecord → Type 0
+  AreOthers parts = AllByRecursion (λ part. is_given roms part ≡ false) parts
+
+  pub by_others : (parts : List PartRecord) (addr count before k old : ℕ) → AreOthers parts →
+      byte_by roms (part_of parts addr count before k) old ≡ old
+  unfolding part_of
+  by_others [] addr count before k old others = refl
+  by_others (part ∷ later) addr count before k old others =
+      let after : ℕ = before + bytes_of (longest_at (addr + before) (count - before)) in
+      grind (arith, nat_tests, by_others later addr count after k old)
+
+  pub value_told : (event : EventRecord) (said : ReplyRecord) (k : ℕ) → said.has_value ≡ 1 → k < 8 →
+      byte (with_roms roms event said).value k ≡ byte_told roms event said k
+  unfolding byte_told
+  value_told event said k some within =
+      elim (cases_Bool (reads_given roms said)) [
+        | inl reads ↦ rw reads (byte_of_eight (byte_told roms event said)
+            (λ k. by_below (part_of (parts_said said) event.addr event.bytes 0 k) (byte said.value k) (omega arith)) k
+            within)
+        | inr not_read ↦
+            let one : (said.has_value == 1) ≡ true = eq-eqb said.has_value 1 some in
+            let others : AreOthers (parts_said said) = grind (arith, nat_tests, rw one at not_read) in
+            rw not_read (sym (by_others (parts_said said) event.addr event.bytes 0 k (byte said.value k) others))
+      ]
+
+-- ---- the bytes of a read
 
 -- ---- the byte of a part, by its target
 

@@ -29,7 +29,7 @@ use Rattle.board_records.specs.Replies.{blank, bus_said, part_said, record_said,
 use Rattle.board_records.proofs.Masters.{said_target}
 use Rattle.board_records.specs.Steps.{IsEventReply, after_step, reset_by}
 use Rattle.rom_laws.specs.StepReads.{StepReadsByteByByte}
-use Rattle.rom_laws.proofs.ByteReads.{InMemory}
+use Rattle.rom_laws.proofs.RomReads.{InMemory}
 use Rattle.rom_laws.proofs.RomReads.{in_memory, reads_byte_by_byte}
 use Rattle.board_spec.specs.declared.event.Parts.TheVariants as parts
 use Rattle.board_spec.specs.declared.event.Reply.TheVariants as replies
