@@ -1,13 +1,12 @@
 -- The bytes of memory that a record asks for are those at its address, as many as it says; and each byte that a step
 -- reads is the one that a read of that byte alone gives.
 use Rattle.board_prelude.proofs.Common.{common_steps, cases_Bool, nat_tests, Kind, Width, One, WideAccess, bytes_of}
-use Rattle.board_prelude.proofs.Common.{is_write, Event, Wide, Ack, Stimulus, stimulus_of_code, event_applied, Target}
-use Rattle.board_prelude.proofs.Common.{Denial, Entry, Setup, IsSetup, IsAnswer, Memory, Parts, Reply, byte}
-use Rattle.board_prelude.proofs.Common.{memory_target, memory_denial}
+use Rattle.board_prelude.proofs.Common.{is_write, Event, Wide, Ack, Stimulus, stimulus_of_code, Target, Denial, Entry}
+use Rattle.board_prelude.proofs.Common.{Setup, IsSetup, IsAnswer, Memory, Parts, Reply, byte, memory_target}
+use Rattle.board_prelude.proofs.Common.{memory_denial}
 use Rattle.std.proofs.Common.{◌≡◌, ℕ, ◌==◌, Bool, true, false, if◌then◌else◌, Option, Some, None, option_map}
 use Rattle.std.proofs.Common.{option_and_then, refl, arith, ◌+◌, ◌<◌, List, sym, ap, subst, ◌∙◌}
 use Rattle.board_spec.specs.declared.event.Event.TheVariants.{Look as LookAt}
-use Rattle.board_spec.specs.declared.stimulus.Stimulus.TheVariants.{Pulses}
 use Rattle.uart_16550.specs.declared.com1.Happening.TheVariants.{Happens}
 use Rattle.board_records.specs.declared.event.EventRecord.{EventRecord}
 use Rattle.board_records.specs.Events.{access_said, applied_said, asked_by, asked_said, byte_said, cycle_said}
@@ -29,8 +28,7 @@ use Rattle.board_records.specs.Replies.{blank, bus_said, part_said, record_said,
 use Rattle.board_records.proofs.Masters.{said_target}
 use Rattle.board_records.specs.Steps.{IsEventReply, after_step, reset_by}
 use Rattle.rom_laws.specs.StepReads.{StepReadsByteByByte}
-use Rattle.rom_laws.proofs.RomReads.{InMemory}
-use Rattle.rom_laws.proofs.RomReads.{in_memory, reads_byte_by_byte}
+use Rattle.rom_laws.proofs.RomReads.{InMemory, in_memory, reads_byte_by_byte}
 use Rattle.board_spec.specs.declared.event.Parts.TheVariants as parts
 use Rattle.board_spec.specs.declared.event.Reply.TheVariants as replies
 
@@ -97,21 +95,13 @@ module _ (said : EventRecord) where
 
   -- ---- what reads no memory
 
-  of_moment : (year month day hour minute second : ℕ) → ReadsSaid said (moment_said year month day hour minute second)
-  unfolding moment_said
-  of_moment year month day hour minute second = either _ _ _ (reads_none _ refl) no_event
-
-  no_read : (one : Stimulus) (number : ℕ) (on : Bool) → read_by (event_applied one number on) ≡ None
-  no_read Pulses number on = refl
-  no_read _ number on = refl
-
   of_stimulus : (one : Stimulus) → ReadsSaid said (stimulus_said said one)
   unfolding stimulus_said
   of_stimulus one = followed (applied_said said one) (number_said said one) (λ number. grind (arith, nat_tests))
 
   of_digits : ReadsSaid said (digits_said said.value)
-  unfolding digits_said
-  of_digits = grind (arith, nat_tests, common_steps, of_moment)
+  unfolding digits_said moment_said
+  of_digits = grind (arith, nat_tests, common_steps)
 
   of_all : ReadsSaid said (asked_by said)
   unfolding asked_by port_said
@@ -134,19 +124,10 @@ module _ (said : EventRecord) where
 
   -- ---- an event, or a byte that COM1 receives
 
-  comes : (event : Event) → byte_said said ≡ Some (Happens event) → ⊥
-  unfolding byte_said
-  comes event is = grind (arith, nat_tests)
-
-  happens : (it : Option Event) (event : Event) → option_map (λ e. Happens e) it ≡ Some (Happens event) →
-      it ≡ Some event
-  happens None event is = absurd (cc)
-  happens (Some other) event is = cc
-
   pub read_said : (event : Event) (read : WideAccess) → asked_said said ≡ Some (Happens event) →
       read_by event ≡ Some read → IsReadSaid said read
-  unfolding asked_said
-  read_said event read asked reads = grind (arith, nat_tests, common_steps, cases_Bool, comes, of_event, happens)
+  unfolding asked_said byte_said
+  read_said event read asked reads = grind (arith, nat_tests, common_steps, cases_Bool, of_event)
 
 -- ---- the bytes of a step
 
