@@ -1,11 +1,10 @@
 -- The laws of the clock's machine.
-use Rattle.std.proofs.Common.{◌≡◌, ℕ, ◌%◌, ◌<◌, ◌≤◌, true, false, ◌&&◌, List, nat_le, ◌==◌, if◌then◌else◌, suc, length}
-use Rattle.std.proofs.Common.{get_or, set, refl, ◌∙◌, arith, get_or-set_other, get_or-set_same}
+use Rattle.std.proofs.Common.{◌≡◌, ℕ, ◌%◌, ◌<◌, false, ◌&&◌, List, nat_le, ◌==◌, if◌then◌else◌, suc, length, get_or}
+use Rattle.std.proofs.Common.{set, refl, ◌∙◌, arith, get_or-set_other, get_or-set_same}
 use Rattle.board_prelude.proofs.Common.{cases_eq, nat_tests, get_or-set_at, length-set, CivilTime, Clock, number_byte}
-use Rattle.board_prelude.proofs.Common.{hour_byte, control_of, holds_time, time_bytes, put, tell, byte_at, alarm_fits}
-use Rattle.board_prelude.proofs.Common.{alarm_rings, control_reset, written, data_byte, update_interrupts, after_write}
-use Rattle.board_prelude.proofs.Common.{after_reset, is_bit}
-use Rattle.device_spec.specs.Clock.{control_written, power_on}
+use Rattle.board_prelude.proofs.Common.{hour_byte, control_of, time_bytes, put, tell, alarm_fits, alarm_rings}
+use Rattle.board_prelude.proofs.Common.{control_reset, written, after_write, after_reset, is_bit}
+use Rattle.device_spec.specs.Clock.{power_on}
 use Rattle.board_laws.specs.ClockLaws.{number_read, hour_read, Shows, IsShowable, HasAlarm, same_time_of_day}
 use Rattle.board_laws.specs.ClockLaws.{RingsAtItsTime, ReadingQuiets, ResetKeepsTheTime, MemoryKeeps, IsSound}
 use Rattle.board_laws.specs.ClockLaws.{StaysSound}
@@ -102,19 +101,9 @@ pub reset_keeps_the_time : ResetKeepsTheTime
 reset_keeps_the_time clock size =
     grind (arith, nat_tests, length, control_of, get_or-set_other, get_or-set_same, control_reset, reset_bit)
 
-plain_written : (address old byte : ℕ) → 14 ≤ address → written address old byte ≡ byte
-plain_written address old byte h = grind (arith, nat_tests)
-
-plain_data : (clock : Clock) → 14 ≤ clock.index → data_byte clock ≡ byte_at clock clock.index
-plain_data clock h = grind (arith, nat_tests)
-
 pub memory_keeps : MemoryKeeps
 memory_keeps clock address byte size past_registers within =
-    grind (arith, nat_tests, plain_written, get_or, length, set, plain_data, get_or-set_same, get_or-set_other)
-
-written_stopped : (byte : ℕ) → holds_time (control_written byte) ≡ true →
-    update_interrupts (control_written byte) ≡ false
-written_stopped byte set_now = grind (arith, nat_tests)
+    grind (arith, nat_tests, get_or, length, set, get_or-set_same, get_or-set_other)
 
 sound_power_on : IsSound power_on
 unfolding power_on
@@ -131,7 +120,7 @@ sound_write : (clock : Clock) (port byte : ℕ) → IsSound clock → IsSound (a
 sound_write clock port byte was =
     let a = register_after clock.bytes 10 clock.index byte (omega (arith, was.size)) in
     let b = register_after clock.bytes 11 clock.index byte (omega (arith, was.size)) in
-    grind (arith, nat_tests, length-set, written_stopped)
+    grind (arith, nat_tests, length-set)
 
 sound_reset : (clock : Clock) → IsSound clock → IsSound (after_reset clock)
 sound_reset clock was =

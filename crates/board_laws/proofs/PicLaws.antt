@@ -5,12 +5,12 @@ use Rattle.std.proofs.Common.{length, drop, sym, length-append, ◌++◌}
 use Rattle.board_prelude.proofs.Common.{cases_Bool, agree_below_at, eqb-true, eq-eqb, and_parts, nat_tests, not-true}
 use Rattle.board_prelude.proofs.Common.{false≢true, Levels, has, levels_where, with_level, without_level, Chip, pending}
 use Rattle.board_prelude.proofs.Common.{priority_order, is_blocking, blocks_itself, is_requested, request, interrupt}
-use Rattle.board_prelude.proofs.Common.{acknowledged, acknowledged_if, chip_after_write, Pair, answer_of}
-use Rattle.board_prelude.proofs.Common.{pair_after_acknowledge, settled, pair_written, pair_read, pair_acknowledged}
-use Rattle.board_prelude.proofs.Common.{pair_acknowledged_at, has-levels_where, scan, request-is, is_bit, find}
-use Rattle.board_prelude.proofs.Common.{list_all, cases_lt, drop_of_length-le, get_or-append_seam, get_or_append_left}
-use Rattle.board_prelude.proofs.Common.{first_blocking, scan-found, scan-past, find-past, find-here, first_blocking-is}
-use Rattle.board_prelude.proofs.Common.{priority_order-small, first_selectable, chip_after_read}
+use Rattle.board_prelude.proofs.Common.{acknowledged_if, chip_after_write, Pair, answer_of, pair_after_acknowledge}
+use Rattle.board_prelude.proofs.Common.{pair_acknowledged, settled, pair_written, pair_read, has-levels_where, scan}
+use Rattle.board_prelude.proofs.Common.{request-is, is_bit, find, list_all, cases_lt, drop_of_length-le}
+use Rattle.board_prelude.proofs.Common.{get_or-append_seam, get_or_append_left, first_blocking, scan-found, scan-past}
+use Rattle.board_prelude.proofs.Common.{find-past, find-here, first_blocking-is, priority_order-small, first_selectable}
+use Rattle.board_prelude.proofs.Common.{chip_after_read}
 use Rattle.std.proofs.lemmas.Bool.{agree_below}
 use Rattle.board_laws.specs.PicLaws.{IsFirstInOrder, EndsOne, IsSpuriousAt, SlaveIsLatched, StaysLatched, place_of}
 use Rattle.board_laws.specs.PicLaws.{CanBeSelected, InterruptIsSelected, SelectedInterrupts, IsServedFirst}
@@ -69,12 +69,9 @@ found-first chip (x ∷ xs) level e =
           (found-first chip xs level (rw (not_here, open_level) at e))
     ]
 
-interrupt-request : (chip : Chip) (level : ℕ) → interrupt chip ≡ Some level → request chip ≡ Some level
-interrupt-request chip level e = grind (arith, nat_tests)
-
 pub interrupt_first : (chip : Chip) (level : ℕ) → interrupt chip ≡ Some level →
     IsFirstInOrder chip (priority_order chip.lowest) level
-interrupt_first chip level e = grind (arith, nat_tests, found-first, priority_order, request-is, interrupt-request)
+interrupt_first chip level e = grind (arith, nat_tests, found-first, priority_order, request-is)
 
 pub interrupt_unmasked : (chip : Chip) (level : ℕ) → interrupt chip ≡ Some level → has chip.masked level ≡ false
 interrupt_unmasked chip level e =
@@ -90,36 +87,18 @@ interrupt-small chip level e = let first = interrupt_first chip level e in grind
 with_level-has : (set : Levels) (level : ℕ) → level < 8 → has (with_level set level) level ≡ true
 with_level-has set level small = grind (arith, nat_tests, has-levels_where, eqb, has, eq-eqb)
 
-in_service-acknowledged : (chip : Chip) (level : ℕ) → level < 8 → chip.auto_eoi ≡ false →
-    has (acknowledged chip level).in_service level ≡ true
-in_service-acknowledged chip level small manual = rw manual (with_level-has chip.in_service level small)
-
--- the slave's INT changes nothing of what is in service
-settled-in_service : (pair : Pair) → (settled pair).master.in_service ≡ pair.master.in_service
-settled-in_service pair = grind (arith, nat_tests)
-
 pub settled-slave : (pair : Pair) → (settled pair).slave ≡ pair.slave
 settled-slave pair = grind (arith, nat_tests)
 
-after-at : (pair : Pair) (o : Option ℕ) → interrupt pair.master ≡ o →
-    pair_after_acknowledge pair ≡ pair_acknowledged_at pair o
-unfolding pair_after_acknowledge
-after-at pair o e = ap (pair_acknowledged_at pair) e
-
 pub acknowledged_in_service : (pair : Pair) (level : ℕ) → interrupt pair.master ≡ Some level →
     pair.master.auto_eoi ≡ false → has (pair_after_acknowledge pair).master.in_service level ≡ true
-acknowledged_in_service pair level e manual =
-    ap (λ (p : Pair). has p.master.in_service level) (after-at pair (Some level) e)
-    ∙ ap (λ set. has set level) (settled-in_service (pair_acknowledged pair level))
-    ∙ in_service-acknowledged pair.master level (interrupt-small pair.master level e) manual
+unfolding pair_after_acknowledge
+acknowledged_in_service pair level e manual = grind (arith, nat_tests, with_level-has, interrupt-small)
 
 pub slave_in_service : (pair : Pair) (level : ℕ) → interrupt pair.master ≡ Some 2 → interrupt pair.slave ≡ Some level →
     pair.slave.auto_eoi ≡ false → has (pair_after_acknowledge pair).slave.in_service level ≡ true
-slave_in_service pair level e s manual =
-    ap (λ (p : Pair). has p.slave.in_service level) (after-at pair (Some 2) e)
-    ∙ ap (λ (c : Chip). has c.in_service level) (settled-slave (pair_acknowledged pair 2))
-    ∙ ap (λ o. has (acknowledged_if pair.slave o).in_service level) s
-    ∙ in_service-acknowledged pair.slave level (interrupt-small pair.slave level s) manual
+unfolding pair_after_acknowledge
+slave_in_service pair level e s manual = grind (arith, nat_tests, settled-slave, with_level-has, interrupt-small)
 
 -- ---- spurious answers
 
@@ -147,9 +126,9 @@ slave-latched pair asks =
 
 acknowledged-latched : (pair : Pair) (o : Option ℕ) → interrupt pair.master ≡ o → SlaveIsLatched pair →
     SlaveIsLatched (pair_after_acknowledge pair)
-acknowledged-latched pair None e before = rw (after-at pair None e) before
-acknowledged-latched pair (Some level) e before =
-    rw (after-at pair (Some level) e) (slave-latched (pair_acknowledged pair level))
+unfolding pair_after_acknowledge
+acknowledged-latched pair None e before = rw e before
+acknowledged-latched pair (Some level) e before = rw e (slave-latched (pair_acknowledged pair level))
 
 pub stays_latched : StaysLatched
 stays_latched = record {

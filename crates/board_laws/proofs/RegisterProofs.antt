@@ -13,21 +13,15 @@ unfolding port_target_of
 decoded-config setup bytes address disk port width is = grind (arith, nat_tests)
 
 module _ (setup : Setup) (before : List Entry) (reg : Reg) (old : ℕ) where
-  -- an access to a configuration port that names a register
-  answer_reaches : (access : PortAccess) (named : Reg) → is_config_port access.port ≡ true →
-      config_register setup (config_address before) access.port ≡ Some named → IsNear named reg →
-      ReachesNear (port_answer setup before access) reg
-  unfolding port_answer
-  answer_reaches access named is found near =
-      grind (arith, nat_tests, decoded-config, byte_of, config_address, is_some, config_port)
-
   store_stays : (access : PortAccess) (found : Option Reg) → is_config_port access.port ≡ true →
       config_register setup (config_address before) access.port ≡ found →
       ¬ ReachesNear (port_answer setup before access) reg →
       byte_with setup (option_map (λ at. Store at access.width access.value) found) reg old ≡ old
+  unfolding port_answer
   store_stays access None is found far = refl
   store_stays access (Some named) is found far =
-      let apart : ¬ IsNear named reg = λ near. far (answer_reaches access named is found near) in
+      let apart : ¬ IsNear named reg = λ near.
+      far (grind (arith, nat_tests, decoded-config, byte_of, config_address, is_some, config_port)) in
       grind (arith, nat_tests)
 
   access_stays : (access : PortAccess) → ¬ ReachesNear (port_answer setup before access) reg →

@@ -1,23 +1,17 @@
 -- A hard reset puts registers and devices in their reset state, and keeps what is stored.
-use Rattle.std.proofs.Common.{◌≡◌, ℕ, Bool, true, false, List, ◌∷◌, Option, None, arith, take, drop, refl, unwrap_or}
+use Rattle.std.proofs.Common.{◌≡◌, ℕ, Bool, true, false, List, ◌∷◌, None, arith, take, drop, refl, unwrap_or}
 use Rattle.board_prelude.proofs.Common.{cond-true, nat_tests, false≢true, PortAccess, bytes_of, triggers_at_reset}
 use Rattle.board_prelude.proofs.Common.{Levels, no_levels, levels_where, chip_at_reset, chip_after_inputs}
 use Rattle.board_prelude.proofs.Common.{latches_after, Pair, pair_at_reset, master_inputs, pair_after_lines}
 use Rattle.board_prelude.proofs.Common.{levels_where-same, has-levels_where, Event, Port, Reply, Entry, Setup}
-use Rattle.board_prelude.proofs.Common.{reset_control_port, control_written, resets_hard, control_after, is_hard_reset}
-use Rattle.board_prelude.proofs.Common.{reset_control, config_address, byte_of, Cell, entry_put, Bytes, device}
-use Rattle.board_prelude.proofs.Common.{port_target_of, wire_set, line_set, wire_of, irq_of, triggers_of, plain_of}
-use Rattle.board_prelude.proofs.Common.{timer_of, clock_of, disk_with, levels_of, elcr_of, pair_stepped}
-use Rattle.board_prelude.proofs.Common.{pair_reset_or_after, pair_of, port_answer, IsAnswer}
+use Rattle.board_prelude.proofs.Common.{reset_control_port, control_written, is_hard_reset, reset_control}
+use Rattle.board_prelude.proofs.Common.{config_address, byte_of, Cell, entry_put, Bytes, device, port_target_of}
+use Rattle.board_prelude.proofs.Common.{wire_of, irq_of, triggers_of, plain_of, timer_of, clock_of, disk_with}
+use Rattle.board_prelude.proofs.Common.{levels_of, elcr_of, pair_stepped, pair_reset_or_after, pair_of, port_answer}
+use Rattle.board_prelude.proofs.Common.{IsAnswer}
 use Rattle.board_base.specs.declared.target.Dev.TheVariants.{Reset as ResetPort}
 use Rattle.board_laws.specs.ResetLaws.{HardResetResets, HardResetKeeps}
 use Rattle.board_laws.proofs.StoredLaws.{stored-left}
-
--- ---- the registers of the ports
-
-reset_value :
-    (control : ℕ) (written : Option ℕ) → resets_hard control written ≡ true → control_after control written ≡ 0
-reset_value control x1 hard = grind (arith, nat_tests)
 
 -- ---- the pair
 
@@ -55,7 +49,7 @@ pair-hard setup before entry hard =
 pub hard_reset_resets : HardResetResets
 unfolding byte_of config_address reset_control plain_of timer_of clock_of disk_with
 hard_reset_resets setup before entry hard =
-    grind (arith, nat_tests, cond-true, is_hard_reset, reset_value, control_written, triggers-reset, pair-hard)
+    grind (arith, nat_tests, cond-true, is_hard_reset, control_written, triggers-reset, pair-hard)
 
 -- ---- what stays
 
@@ -77,14 +71,7 @@ nothing_put setup before (Port access) reply cell answer hard =
     (grind (arith, nat_tests))
 nothing_put setup before event reply cell answer hard = absurd (false≢true hard)
 
-module _ (before : List Entry) (event : Event) where
-  wire-hard : (dev : ℕ) → is_hard_reset before event ≡ true → wire_set dev event ≡ None
-  wire-hard dev hard = grind (arith, nat_tests)
-
-  line-hard : (line : ℕ) → is_hard_reset before event ≡ true → line_set line event ≡ None
-  line-hard line hard = grind (arith, nat_tests)
-
 pub hard_reset_keeps : HardResetKeeps
 unfolding wire_of irq_of
 hard_reset_keeps setup before entry next hard =
-    grind (arith, nat_tests, stored-left, nothing_put, unwrap_or, wire_of, wire-hard, irq_of, line-hard)
+    grind (arith, nat_tests, stored-left, nothing_put, unwrap_or, wire_of, irq_of)
