@@ -6,11 +6,11 @@ use Rattle.board_prelude.proofs.Common.{cases_lt, cond-true, cond-false, ne_eqb,
 use Rattle.board_prelude.proofs.Common.{further, WideAccess, longest_at, part_at, joined, Covers, parts_from}
 use Rattle.board_prelude.proofs.Common.{AllByRecursion, cases_Bool, eq-eqb, w64, to_le_bytes, from_le_bytes, Denial}
 use Rattle.board_prelude.proofs.Common.{Register, IsSetup, IsInRange, Memory, Wide, Parts, Reply, Bytes, is_write}
-use Rattle.board_prelude.proofs.Common.{memory_target, memory_denial, parts_of, parts_list, address_count}
-use Rattle.board_prelude.proofs.Common.{expansion_byte, IsPart, AreParts, IsAnswer}
+use Rattle.board_prelude.proofs.Common.{memory_target, memory_denial, parts_of, parts_list, address_count, IsPart}
+use Rattle.board_prelude.proofs.Common.{AreParts, IsAnswer}
 use Rattle.std.proofs.Common.{◌≡◌, ℕ, suc, ◌+◌, ◌-◌, ◌*◌, ◌/◌, ◌%◌, ◌^◌, ◌<◌, ◌≤◌, List, [], length, inl, inr, refl, ap}
 use Rattle.std.proofs.Common.{◌∙◌, arith, slice_index, lit<, zero, false, ◌∷◌, ◌++◌, Some, ◌==◌, nat_lt, All, map, true}
-use Rattle.std.proofs.Common.{get_or, Option, None, sym, Bool, if◌then◌else◌}
+use Rattle.std.proofs.Common.{get_or, Option, None, sym}
 use Rattle.std.proofs.lemmas.Nat.{mod-pow-add, le_bytes_8}
 use Rattle.board_base.specs.declared.access.Width.TheVariants.{Two, Four}
 use Rattle.board_base.specs.declared.target.Area.TheVariants.{Rom as RomArea, Card as CardArea}
@@ -21,7 +21,7 @@ use Rattle.rom_laws.proofs.CardWindows.{IsWindow, same_area, card_window}
 use Rattle.board_base.specs.declared.access.Access.{Access}
 use Rattle.board_records.specs.declared.reply.PartRecord.{PartRecord}
 use Rattle.board_records.specs.RomReplies.{part_of, byte_by, byte_told, is_given, parts_said, reads_given, with_roms}
-use Rattle.expansion_roms.specs.Roms.{given, byte_over, rom_byte}
+use Rattle.expansion_roms.specs.Roms.{given, byte_over}
 use Rattle.board_records.specs.declared.event.EventRecord.{EventRecord}
 use Rattle.board_records.specs.declared.reply.ReplyRecord.{ReplyRecord}
 use Rattle.std.proofs.lemmas.Simd.{map-map}
@@ -309,15 +309,10 @@ by_denied : (roms : List (List ℕ)) (part : PartRecord) (denial : Option Denial
 by_denied roms part (Some (Register reg)) i old = refl
 by_denied roms part _ i old = refl
 
-none_left : (roms : List (List ℕ)) (dev off : ℕ) → (length (given roms dev) == 0) ≡ true →
-    rom_byte roms dev off ≡ expansion_byte dev off
-none_left roms dev off none = grind (arith, nat_tests)
-
 by_target : (roms : List (List ℕ)) (setup : Setup) (before : List Entry) (target : Target) (i place old : ℕ) →
     InMemory setup target → old ≡ value_at setup before (moved target i) place One →
     byte_by roms (Some (target_said target, i)) old ≡ byte_of roms setup before (moved target i) place
-by_target roms setup before (Card dev base off) i place old is alone =
-    grind (arith, nat_tests, none_left roms dev (off + i))
+by_target roms setup before (Card dev base off) i place old is alone = grind (arith, nat_tests)
 by_target roms setup before (Device dev) i place old is alone = absurd is
 by_target roms setup before (Config reg) i place old is alone = absurd is
 by_target roms setup before _ i place old is alone = alone
@@ -466,22 +461,16 @@ module _ (setup : Setup) (before : List Entry) (roms : List (List ℕ)) (fits : 
 
 -- ---- the laws
 
--- what an access reads where it reads any
-read_is : (writes : Bool) (whole read : WideAccess) → (if writes then None else Some whole) ≡ Some read →
-    (writes ≡ false) × (whole ≡ read)
-read_is true whole read is = absurd (cc)
-read_is false whole read is = (refl, cc)
-
 pub reads_byte_by_byte : ReadsByteByByte
 reads_byte_by_byte setup before roms said (Memory access) read reply after k fits bytes says answer within =
     let whole : WideAccess =
     record { kind = access.kind; bytes = bytes_of access.width; smm = access.smm; addr = access.addr; value = 0 } in
-    let is : (is_write access.kind ≡ false) × (whole ≡ read) = read_is _ whole read says.reads in
+    let is : (is_write access.kind ≡ false) × (whole ≡ read) = grind (arith, nat_tests, says.reads) in
     rw (answer, ← is.1)
     (read_whole setup before roms fits bytes said access after k is.0 (rw (← is.1) at says.addr)
     (rw (← is.1) at says.bytes) says.range.aligned (rw (← is.1) at says.address) (rw (← is.1) at within))
 reads_byte_by_byte setup before roms said (Wide access) read reply after k fits bytes says answer within =
-    let is : (is_write access.kind ≡ false) × (access ≡ read) = read_is _ access read says.reads in
+    let is : (is_write access.kind ≡ false) × (access ≡ read) = grind (arith, nat_tests, says.reads) in
     rw (← is.1)
     (read_in_wide setup before roms fits bytes said access reply after k is.0 (rw (← is.1) at says.addr)
     (rw (← is.1) at says.bytes) says.range answer (rw (← is.1) at within))
@@ -492,5 +481,4 @@ pub others_stay : OtherRepliesStay
 others_stay roms event reply none = grind (arith, nat_tests)
 
 pub value_changes : OnlyValueChanges
-value_changes roms event reply =
-    elim (cases_Bool (reads_given roms reply)) [ inl reads ↦ rw reads refl | inr other ↦ rw other refl ]
+value_changes roms event reply = grind (arith, nat_tests)

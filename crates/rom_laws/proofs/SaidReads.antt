@@ -1,6 +1,6 @@
 -- The bytes of memory that a record asks for are those at its address, as many as it says; and each byte that a step
 -- reads is the one that a read of that byte alone gives.
-use Rattle.board_prelude.proofs.Common.{common_steps, cases_Bool, nat_tests, Kind, Width, One, WideAccess, bytes_of}
+use Rattle.board_prelude.proofs.Common.{common_steps, cases_Bool, nat_tests, Kind, Width, WideAccess, bytes_of}
 use Rattle.board_prelude.proofs.Common.{is_write, Event, Wide, Ack, Stimulus, stimulus_of_code, Target, Denial, Entry}
 use Rattle.board_prelude.proofs.Common.{Setup, IsSetup, IsAnswer, Memory, Parts, Reply, byte, memory_target}
 use Rattle.board_prelude.proofs.Common.{memory_denial}
@@ -76,8 +76,7 @@ module _ (said : EventRecord) where
 
   width_is : (bytes : ℕ) (width : Width) → width_said bytes ≡ Some width → bytes_of width ≡ bytes
   unfolding width_said
-  width_is bytes One says = grind (arith, nat_tests)
-  width_is bytes _ says = grind (arith, nat_tests)
+  width_is bytes width says = grind (arith, nat_tests)
 
   by_width : (kind : Kind) (width : Option Width) → width_said said.bytes ≡ width →
       ReadsSaid said (option_and_then (cycle_said said kind) width)
