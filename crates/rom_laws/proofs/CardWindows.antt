@@ -6,9 +6,8 @@ use Rattle.board_prelude.proofs.Common.{Setup, IsCard, IsCardList, IsExpansionRo
 use Rattle.board_prelude.proofs.Common.{is_covered, is_enabled_for, is_rom_on, memory_window, memory_windows}
 use Rattle.board_prelude.proofs.Common.{rom_window, rom_window_of, vga_window, memory_claim, Kind, lies_in}
 use Rattle.board_prelude.proofs.Common.{upper_memory, row_of, is_smram_range, is_shadowed, area_of, is_in_hole}
-use Rattle.board_prelude.proofs.Common.{is_bios_selected, is_smram_open, common_steps, and_parts, eqb-true, Fetch}
-use Rattle.board_prelude.proofs.Common.{Width, One, bytes_of, IsBase, boundary, address_count, six_areas, base_value}
-use Rattle.board_prelude.proofs.Common.{rom_value}
+use Rattle.board_prelude.proofs.Common.{is_bios_selected, is_smram_open, common_steps, and_parts, eqb-true, Width}
+use Rattle.board_prelude.proofs.Common.{bytes_of, IsBase, boundary, address_count, six_areas, base_value, rom_value}
 use Rattle.std.proofs.Common.{◌≡◌, ℕ, ◌+◌, ◌<◌, ◌≤◌, Bool, false, ◌&&◌, List, [], ◌∷◌, ◌++◌, length, Option, Some, None}
 use Rattle.std.proofs.Common.{inl, inr, refl, ap, subst, ◌∙◌, arith, ◌==◌, All, flat_map, slice_get, if◌then◌else◌}
 use Rattle.std.proofs.Common.{is_some, not, unwrap_or, ◌-◌, ◌*◌, ◌/◌, ◌%◌, ◌^◌, true}
@@ -49,10 +48,7 @@ module _ (setup : Setup) (bytes : Bytes) (card : FittedCard) (is : IsFound setup
   window_at : (k : ℕ) (base : Base) → k < 6 → slice_get card.bases k ≡ Some base →
       All (OfCard setup) (memory_window bytes card.dev k base)
   window_at k (IoBase bits) below at = All-nil (OfCard setup)
-  window_at k (MemoryBase bits) below at =
-      All-cons (OfCard setup) _ [] (base_window k (MemoryBase bits) below at) (All-nil (OfCard setup))
-  window_at k (OutsideBase bits) below at =
-      All-cons (OfCard setup) _ [] (base_window k (OutsideBase bits) below at) (All-nil (OfCard setup))
+  window_at k base below at = All-cons (OfCard setup) _ [] (base_window k base below at) (All-nil (OfCard setup))
 
   base_windows : (k : ℕ) (bases : List Base) → k + length bases ≤ 6 →
       ((i : ℕ) → slice_get card.bases (k + i) ≡ slice_get bases i) → All (OfCard setup)
@@ -192,14 +188,12 @@ edges_even setup bytes fit = grind (arith, nat_tests, common_steps, fixed_even, 
 -- no multiple of 4 lies inside an aligned access
 none_inside : (addr i edge : ℕ) (width : Width) → addr % bytes_of width ≡ 0 → i < bytes_of width → edge % 4 ≡ 0 →
     addr < edge → addr + i < edge
-none_inside addr i edge One aligned within even above = omega arith
-none_inside addr i edge _ aligned within even above = omega arith
+none_inside addr i edge width aligned within even above = grind arith
 
 picked : (setup : Setup) (bytes : Bytes) (addr x : ℕ) (kind : Kind) (smm : Bool) →
     six_areas setup bytes x ≡ six_areas setup bytes addr →
     area_of setup bytes x kind smm ≡ area_of setup bytes addr kind smm
-picked setup bytes addr x Fetch smm same = grind (arith, nat_tests)
-picked setup bytes addr x _ smm same = grind (arith, nat_tests)
+picked setup bytes addr x kind smm same = grind (arith, nat_tests)
 
 pub same_area : (setup : Setup) (bytes : Bytes) (addr i : ℕ) (width : Width) (kind : Kind) (smm : Bool) →
     All IsCard setup.cards → addr % bytes_of width ≡ 0 → i < bytes_of width → addr + i < address_count →

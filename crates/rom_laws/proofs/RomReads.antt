@@ -5,9 +5,8 @@ use Rattle.board_prelude.proofs.Common.{Abort, byte, wide, window_bits, target_a
 use Rattle.board_prelude.proofs.Common.{cases_lt, cond-true, cond-false, ne_eqb, lt-ltb, le-ltb, All-head, All-tail}
 use Rattle.board_prelude.proofs.Common.{further, WideAccess, longest_at, part_at, joined, Covers, parts_from}
 use Rattle.board_prelude.proofs.Common.{AllByRecursion, cases_Bool, eq-eqb, w64, to_le_bytes, from_le_bytes, Denial}
-use Rattle.board_prelude.proofs.Common.{Register, IsSetup, IsInRange, Memory, Wide, Parts, Reply, Bytes, is_write}
-use Rattle.board_prelude.proofs.Common.{memory_target, memory_denial, parts_of, parts_list, address_count, IsPart}
-use Rattle.board_prelude.proofs.Common.{AreParts, IsAnswer}
+use Rattle.board_prelude.proofs.Common.{IsSetup, IsInRange, Memory, Wide, Parts, Reply, Bytes, is_write, memory_target}
+use Rattle.board_prelude.proofs.Common.{memory_denial, parts_of, parts_list, address_count, IsPart, AreParts, IsAnswer}
 use Rattle.std.proofs.Common.{◌≡◌, ℕ, suc, ◌+◌, ◌-◌, ◌*◌, ◌/◌, ◌%◌, ◌^◌, ◌<◌, ◌≤◌, List, [], length, inl, inr, refl, ap}
 use Rattle.std.proofs.Common.{◌∙◌, arith, slice_index, lit<, zero, false, ◌∷◌, ◌++◌, Some, ◌==◌, nat_lt, All, map, true}
 use Rattle.std.proofs.Common.{get_or, Option, None, sym}
@@ -306,8 +305,7 @@ module _ (roms : List (List ℕ)) (bytes : (dev at : ℕ) → slice_index (given
 
 by_denied : (roms : List (List ℕ)) (part : PartRecord) (denial : Option Denial) (i old : ℕ) →
     byte_by roms (Some (with_denial part denial, i)) old ≡ byte_by roms (Some (part, i)) old
-by_denied roms part (Some (Register reg)) i old = refl
-by_denied roms part _ i old = refl
+by_denied roms part denial i old = grind (arith, nat_tests)
 
 by_target : (roms : List (List ℕ)) (setup : Setup) (before : List Entry) (target : Target) (i place old : ℕ) →
     InMemory setup target → old ≡ value_at setup before (moved target i) place One →
@@ -386,13 +384,11 @@ module _ (setup : Setup) (before : List Entry) (roms : List (List ℕ)) (fits : 
       )
     where
       few : (width : Width) (k : ℕ) → k < bytes_of width → k < 8
-      few One k within = omega arith
-      few _ k within = omega arith
+      few width k within = grind arith
 
       ends : (width : Width) (addr k : ℕ) → addr % bytes_of width ≡ 0 → addr < address_count → k < bytes_of width →
           addr + k < address_count
-      ends One addr k aligned address within = omega arith
-      ends _ addr k aligned address within = omega arith
+      ends width addr k aligned address within = grind arith
 
   -- ---- a wide access
 

@@ -139,8 +139,7 @@ no_config_part setup target denial is = rw (said_target target denial) (grind (a
 of_cycle : (setup : Setup) (value : Option ℕ) (target : Target) (denial : Option Denial) (after : AfterStep) →
     InMemory setup target → is_config_read (bus_said value target denial after) ≡ false
 unfolding bus_said blank
-of_cycle setup None target denial after is = refl
-of_cycle setup (Some value) target denial after is = rw (no_config_part setup target denial is) refl
+of_cycle setup value target denial after is = grind (arith, nat_tests, no_config_part)
 
 of_parts : (they : Parts) (value : Option ℕ) (after : AfterStep) → is_config_read (wide_said they value after) ≡ false
 unfolding wide_said blank
