@@ -25,14 +25,11 @@ record Timed (bytes after : List ℕ) (second minute hour weekday day month year
   control : get_or after 11 0 ≡ get_or bytes 11 0
   size : length after ≡ 128
 
-abbrev Told : Clock → CivilTime → Type 0
-Told clock time =
+told : (clock : Clock) (time : CivilTime) → length clock.bytes ≡ 128 →
     let c = control_of clock in
     Timed clock.bytes (put (time_bytes c time) clock.bytes) (number_byte c time.second) (number_byte c time.minute)
     (hour_byte c time.hour) (number_byte c time.weekday) (number_byte c time.day) (number_byte c time.month)
     (number_byte c (time.year % 100))
-
-told : (clock : Clock) (time : CivilTime) → length clock.bytes ≡ 128 → Told clock time
 told clock time size = grind (arith, get_or-set_at, get_or-set_other, length-set)
 
 pub reading_quiets : ReadingQuiets

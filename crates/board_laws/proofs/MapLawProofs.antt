@@ -1,13 +1,8 @@
 -- Histories with the same map writes have the same map.
-use Rattle.board_prelude.proofs.Common.{nat_tests, Kind, MapChange, Setup, byte_of, registers_after, Bytes, area_of}
-use Rattle.board_prelude.proofs.Common.{SameMapBytes, map_writes_decide, map_bytes_decide}
+use Rattle.board_prelude.proofs.Common.{nat_tests, Kind, MapChange, byte_of, registers_after, area_of, SameMapBytes}
+use Rattle.board_prelude.proofs.Common.{map_writes_decide, map_bytes_decide}
 use Rattle.std.proofs.Common.{arith, ◌≡◌, ℕ, ◌∙◌, Bool, List, sym, ap}
 use Rattle.board_laws.specs.MapLaws.{MapWritesDecideMap}
-
--- two states of the registers under which the same areas answer
-abbrev SameAreas : Setup → (bytes other : Bytes) → Type 0
-SameAreas setup bytes other =
-    (addr : ℕ) (kind : Kind) (smm : Bool) → area_of setup bytes addr kind smm ≡ area_of setup other addr kind smm
 
 pub map_writes_decide_map : MapWritesDecideMap
 map_writes_decide_map setup history other cards writes =
@@ -16,7 +11,8 @@ map_writes_decide_map setup history other cards writes =
     map_writes_decide setup history reg is
     ∙ ap (λ (changes : List MapChange). registers_after setup changes reg) writes
     ∙ sym (map_writes_decide setup other reg is) in
-    let areas : SameAreas setup (byte_of setup history) (byte_of setup other) =
+    let areas : (addr : ℕ) (kind : Kind) (smm : Bool) →
+    area_of setup (byte_of setup history) addr kind smm ≡ area_of setup (byte_of setup other) addr kind smm =
     λ addr kind smm.
     (map_bytes_decide setup (byte_of setup history) (byte_of setup other) cards bytes addr kind smm).0 in
     record {
