@@ -1,6 +1,6 @@
 -- The worked texts of logs and maps.
-use Rattle.std.proofs.Common.{ℕ, ◌≡◌, ◌+◌, ◌≤◌, ◌==◌, true, List, [], ◌∷◌, ◌++◌, length, codes, refl, if◌then◌else◌}
-use Rattle.std.proofs.Common.{get_or, take, arith, inl, inr, sym, ap, ◌∙◌, rules}
+use Rattle.std.proofs.Common.{ℕ, ◌≡◌, ◌+◌, ◌==◌, true, List, [], ◌∷◌, ◌++◌, length, codes, refl, if◌then◌else◌, get_or}
+use Rattle.std.proofs.Common.{take, arith, inl, inr, sym, ap, ◌∙◌, rules}
 use Rattle.board_prelude.proofs.Common.{digits, All-nil, Entry, line_feed, event_text, reply_text, line_text}
 use Rattle.board_prelude.proofs.Common.{lines_text, log_text, complete_is_whole}
 use Rattle.board_examples.specs.Common.{small_board, phases, look_last, LookLast, NoEntries, NoSuchVersion, EmptyLog}
@@ -111,10 +111,6 @@ whole_log : text_of_lines order_lines ++ (last_line ++ line_feed ∷ []) ≡ log
 unfolding digits event_text reply_text line_text lines_text
 whole_log = refl
 
--- a line feed counts
-whole_feeds : (this after : List ℕ) → 1 ≤ feeds (this ++ line_feed ∷ after)
-whole_feeds this after = simp feeds-append (omega arith)
-
 abbrev whole_lines : List (List ℕ)
 whole_lines = order_lines ++ last_line ∷ []
 
@@ -159,7 +155,9 @@ differences = (
     place = refl;
     begun = record { later = last_line ++ line_feed ∷ []; text = rw whole_log order_log };
     leaves = λ this after one whole begun.
-        let same : 0 ≡ feeds (this ++ line_feed ∷ after) = ap feeds whole in omega (arith, whole_feeds this after);
+        let none : 0 ≡ feeds this + feeds (line_feed ∷ after) =
+        ap feeds whole ∙ feeds-append this (line_feed ∷ after) in
+        omega arith;
     other = λ log. let e : 3 ≡ 4 = four_feeds _ log in omega arith;
   },
   record {

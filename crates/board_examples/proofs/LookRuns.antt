@@ -7,13 +7,12 @@ use Rattle.std.proofs.Math.Nat.{div-eq_of_lt-le}
 use Rattle.board_prelude.proofs.Common.{nat_tests, div-lt_iff_lt-mul, Kind, is_within, Setup, Bytes, Area, Window}
 use Rattle.board_prelude.proofs.Common.{is_covered, is_rom_selected, is_smram_range, row_of, area_of, memory_claim}
 use Rattle.board_prelude.proofs.Common.{IsSpan, address_count, top_of, xbcs, first_of, card_area, option_map}
-use Rattle.board_prelude.proofs.Common.{memory_windows, is_enabled_for, Fetch, Read, Write, bridge, pam, nibble}
-use Rattle.board_prelude.proofs.Common.{is_open, is_shadowed, is_smram_open, fdhc, drb, MapRange, IsRight}
-use Rattle.board_prelude.proofs.Common.{NeighboursDiffer, byte_of, reset_byte, writable_bits, host_bridge, isa_bridge}
-use Rattle.board_prelude.proofs.Common.{config_address, reset_control, card_function, denial_of, memory_shut}
-use Rattle.board_prelude.proofs.Common.{rom_unselected, port_target_of, stored_of, port_answer, memory_answer}
-use Rattle.board_prelude.proofs.Common.{map_change_of, map_writes_of, ide_function, io_claim, io_shut, events_by}
-use Rattle.board_prelude.proofs.Common.{statement_of}
+use Rattle.board_prelude.proofs.Common.{memory_windows, is_enabled_for, Fetch, Read, Write, bridge, pam, is_shadowed}
+use Rattle.board_prelude.proofs.Common.{is_smram_open, fdhc, drb, MapRange, IsRight, NeighboursDiffer, byte_of}
+use Rattle.board_prelude.proofs.Common.{reset_byte, writable_bits, host_bridge, isa_bridge, config_address}
+use Rattle.board_prelude.proofs.Common.{reset_control, card_function, denial_of, memory_shut, rom_unselected}
+use Rattle.board_prelude.proofs.Common.{port_target_of, stored_of, port_answer, memory_answer, map_change_of}
+use Rattle.board_prelude.proofs.Common.{map_writes_of, ide_function, io_claim, io_shut, events_by, statement_of}
 use Rattle.board_base.specs.declared.target.Area.TheVariants.{Abort, Dram, Rom, Smram}
 use Rattle.std.proofs.lemmas.List.Elements.{All-from_recursion}
 use Rattle.board_examples.specs.Common.{small_board, range, smram_range, smram_written, map_round, MapAfterReset}
@@ -111,16 +110,13 @@ plain_area opened x =
     if nat_lt x 0x80_0000 && not (is_within 0xA_0000 0xF_FFFF x) then Dram 0 else
     if is_rom_selected 0x03 x then Rom else Abort
 
-nothing_open : (high : Bool) (kind : Kind) → is_open (nibble 0 high) kind ≡ false
-nothing_open high kind = grind (arith, nat_tests)
-
 module _ (bytes : Bytes) (plain : IsPlain bytes) where
   pam_byte : (k : ℕ) → k < 6 → bytes (bridge (0x5A + k)) ≡ 0
   pam_byte (suc (suc (suc (suc (suc (suc k)))))) less = absurd (omega arith)
   pam_byte _ less = cc plain.pams
 
   no_shadow : (x : ℕ) (kind : Kind) → is_shadowed bytes x kind ≡ false
-  no_shadow x kind = grind (arith, nat_tests, plain.bios, pam_byte ((x - 0xC_0000) / 0x8000), nothing_open)
+  no_shadow x kind = grind (arith, nat_tests, plain.bios, pam_byte ((x - 0xC_0000) / 0x8000))
 
   pub area_is : (x : ℕ) (kind : Kind) (smm : Bool) →
       area_of small_board bytes x kind smm ≡ plain_area (is_smram_open bytes kind smm) x
