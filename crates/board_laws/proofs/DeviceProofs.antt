@@ -58,15 +58,11 @@ pulses_add add setup before n m first second whole is_first is_second is_whole =
     record {
       timer = cc;
       levels =
-          rw (
-            second_timer,
-            first_timer,
-            levels-pulsed setup (first ∷ before) second m _ is_second,
-            levels-pulsed setup before first n _ is_first,
-            whole_timer,
-            levels-pulsed setup before whole (n + m) _ is_whole,
-            sum,
-          ) refl;
+          cc (
+            levels-pulsed setup (first ∷ before) second m (timer_of (second ∷ first ∷ before)) is_second,
+            levels-pulsed setup before first n (timer_of (second ∷ first ∷ before)) is_first,
+            levels-pulsed setup before whole (n + m) (timer_of (whole ∷ before)) is_whole,
+          );
       pair =
           rw (
             pair-pulsed setup (first ∷ before) second m is_second,
