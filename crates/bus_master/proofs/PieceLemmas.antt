@@ -13,16 +13,11 @@ use Rattle.bus_master.specs.declared.piece.Stretch.{Stretch}
 use Rattle.bus_master.specs.Common.{Cells, Moving, address_after, answered, ended, is_used_up, kind_of, master_value}
 use Rattle.bus_master.specs.Common.{next_moved, next_sector, ready_for, region_found, region_taken, sector_tested}
 use Rattle.bus_master.specs.Common.{table_tested, transferred, words_moved}
-use Rattle.bus_master.specs.Transfer.{size_of}
 use Rattle.bus_master.specs.Pieces.{AreNext, ComesToTheTransfer, Going, HasPassed, IfMove, IsDescriptor, IsEnd}
-use Rattle.bus_master.specs.Pieces.{IsMemory, IsMove, IsNext, IsStretch, Point, abort_at, all_done, described}
-use Rattle.bus_master.specs.Pieces.{going_at_start, is_missing, once_done, outcome, standing}
+use Rattle.bus_master.specs.Pieces.{IsMemory, IsMove, IsStretch, Point, abort_at, all_done, described, going_at_start}
+use Rattle.bus_master.specs.Pieces.{is_missing, once_done, outcome, standing}
 use Rattle.bus_master.proofs.WordLemmas.{all_copied, copied_is, reached_by, reached_here, ready_here, words_add}
 use Rattle.bus_master.proofs.WordLemmas.{words_stay}
-
--- a region has bytes
-size_left : (count : ℕ) → (size_of count == 0) ≡ false
-size_left count = grind (arith, nat_tests)
 
 -- some words, and then the others
 parted : (setup : Setup) (bytes : Bytes) (going : Going) (cells : Cells) (medium : Medium) (words : ℕ) →
@@ -114,7 +109,8 @@ module _ (setup : Setup) (bytes : Bytes) (going : Going) (cells : Cells) (medium
         ≡ next_moved setup bytes going.direction going.lba (standing after cells medium) =
         rw (
           described_first used first second,
-          ready_here setup bytes going.direction going.lba cells medium after.place (size_left count) passed.sector,
+          ready_here setup bytes going.direction going.lba cells medium after.place (grind (arith, nat_tests))
+              passed.sector,
         ) refl in
         record {
           here = refl;
@@ -188,17 +184,12 @@ module _ (setup : Setup) (bytes : Bytes) where
   abbrev outcome_at : Point → Moving
   outcome_at point = outcome setup bytes point.going point.cells point.medium
 
-  done_same : (piece : Piece) (point : Point) → IsNext setup bytes point.going point.cells point.medium piece →
-      outcome_at point ≡ outcome_at (once_done setup bytes piece point)
-  unfolding once_done
-  done_same piece point next = grind (arith, nat_tests)
-
   all_same : (pieces : List Piece) (point : Point) → AreNext setup bytes pieces point →
       outcome_at point ≡ outcome_at (all_done setup bytes pieces point)
-  unfolding AreNext all_done
+  unfolding AreNext all_done once_done
   all_same [] point next = refl
   all_same (piece ∷ later) point next =
-      done_same piece point next.0 ∙ all_same later (once_done setup bytes piece point) next.1
+      (grind (arith, nat_tests, next.0)) ∙ all_same later (once_done setup bytes piece point) next.1
 
 -- what is begun comes to the transfer
 pub comes_to_the_transfer : ComesToTheTransfer

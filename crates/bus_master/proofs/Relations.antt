@@ -61,18 +61,13 @@ module _ (setup : Setup) (bytes : Bytes) (direction : Direction) (lba : ℕ) (R 
   unfolding region_found
   found moving cells is = either (is_used_up moving.place) (descriptor moving cells is) is
 
-  next : {one other : Moving} → R one other →
-      R (next_moved setup bytes direction lba one) (next_moved setup bytes direction lba other)
-  unfolding next_moved ready_for answered
-  next is =
+  pub words_hold : (words : ℕ) {one other : Moving} → R one other →
+      R (words_moved setup bytes direction lba words one) (words_moved setup bytes direction lba words other)
+  unfolding words_moved next_moved ready_for answered
+  words_hold zero is = is
+  words_hold (suc words) is =
       then_holds (word_moved setup bytes direction lba) word
       (then_holds (λ ready. answered setup bytes (kind_of direction) ready.place.addr ready)
       (λ m others alike. ends _ m others alike)
       (then_holds (region_found setup bytes) found
-      (then_holds (sector_tested lba) sector (then_holds table_tested table is))))
-
-  pub words_hold : (words : ℕ) {one other : Moving} → R one other →
-      R (words_moved setup bytes direction lba words one) (words_moved setup bytes direction lba words other)
-  unfolding words_moved
-  words_hold zero is = is
-  words_hold (suc words) is = next (words_hold words is)
+      (then_holds (sector_tested lba) sector (then_holds table_tested table (words_hold words is)))))

@@ -1,14 +1,13 @@
 -- A bus master never reaches SMRAM: it changes no byte of it, and does the same whatever stands there.
 use Rattle.std.proofs.Common.{◌≡◌, ℕ, ◌+◌, ◌*◌, ◌%◌, ◌<◌, ◌≤◌, ◌⊎◌, true, false, Option, None, refl, ◌∙◌, arith}
-use Rattle.board_prelude.proofs.Common.{cases_Bool, nat_tests, Width, Write, Area, Target, bytes_of, Medium, word_at}
-use Rattle.board_prelude.proofs.Common.{Setup, Bytes, is_smram_range, target_at, Cell, DramCell, byte_put}
+use Rattle.board_prelude.proofs.Common.{cases_Bool, nat_tests, Width, Area, Target, bytes_of, Medium, Setup, Bytes}
+use Rattle.board_prelude.proofs.Common.{is_smram_range, target_at, Cell, DramCell, byte_put}
 use Rattle.board_base.specs.declared.access.Width.TheVariants.{Two, Four}
 use Rattle.bus_master.specs.declared.done.End.{End}
 use Rattle.bus_master.specs.declared.direction.Direction.{Direction}
 use Rattle.bus_master.specs.declared.direction.Direction.TheVariants.{ToMemory, ToDisk}
-use Rattle.bus_master.specs.Common.{Cells, put_in, Master, Moving, address_after, begun, direction_of, even}
-use Rattle.bus_master.specs.Common.{master_target, master_value, next_sector, next_word, region_taken, transferred}
-use Rattle.bus_master.specs.Common.{word_moved, is_in_smram}
+use Rattle.bus_master.specs.Common.{Cells, put_in, Master, Moving, address_after, begun, direction_of, master_value}
+use Rattle.bus_master.specs.Common.{region_taken, transferred, word_moved, is_in_smram}
 use Rattle.board_chipset.proofs.MasterSteps.{IsOffDram, off_dram}
 use Rattle.bus_master.proofs.Relations.{Keeps, with_cells, words_hold}
 
@@ -32,12 +31,6 @@ apart : (addr s : ℕ) → addr % 2 ≡ 0 → is_smram_range addr ≡ false → 
     (s < addr) ⊎ (addr + 2 ≤ s)
 apart addr s evens outside inside = grind (arith, nat_tests)
 
-write_keeps : (setup : Setup) (bytes : Bytes) (addr value s : ℕ) (cells : Cells) → addr % 2 ≡ 0 →
-    is_smram_range s ≡ true →
-    put_in setup (master_target setup bytes Write addr) addr Two value cells (DramCell s) ≡ cells (DramCell s)
-write_keeps setup bytes addr value s cells evens inside =
-    grind (arith, nat_tests, none_put, cases_Bool, off_put, off_dram, apart_put, apart)
-
 -- ---- a read does not depend on SMRAM
 
 -- outside SMRAM the bytes are the same
@@ -50,15 +43,6 @@ value_alike : (setup : Setup) (cells other : Cells) → AreAlike cells other →
 value_alike setup cells other alike bytes addr width aligned = grind (arith, nat_tests, cases_Bool, off_dram)
 
 -- ---- step by step: SMRAM is as at the start, and another transfer, whose bytes differ there alone, has come as far
-
-even_even : (n : ℕ) → even n % 2 ≡ 0
-even_even n = omega arith
-
-even_after : (n : ℕ) → n % 2 ≡ 0 → address_after n 2 % 2 ≡ 0
-even_after n is = omega arith
-
-four_after : (n step : ℕ) → n % 4 ≡ 0 → step % 4 ≡ 0 → address_after n step % 4 ≡ 0
-four_after n step is steps = omega arith
 
 -- an aligned place, the bytes of SMRAM, and the same but for them
 pub record Follows (start : Cells) (moving other : Moving) : Type 0 where
@@ -77,10 +61,10 @@ module _ (setup : Setup) (bytes : Bytes) (lba : ℕ) (start : Cells) where
   unfolding region_taken
   region_respects moving cells is =
       let table = moving.place.table in
-      let fours : address_after table 4 % 4 ≡ 0 = four_after table 4 is.fours refl in
+      let fours : address_after table 4 % 4 ≡ 0 = omega (arith, is.fours) in
       record {
-        evens = even_even (master_value setup bytes moving.cells table Four);
-        fours = four_after table 8 is.fours refl;
+        evens = omega arith;
+        fours = omega (arith, is.fours);
         kept = is.kept;
         alike = is.alike;
         same =
@@ -93,18 +77,16 @@ module _ (setup : Setup) (bytes : Bytes) (lba : ℕ) (start : Cells) where
   word_respects : (direction : Direction) → Keeps (Follows start) (word_moved setup bytes direction lba)
   unfolding word_moved
   word_respects ToMemory moving cells is = record {
-    evens = even_after moving.place.addr is.evens;
+    evens = omega (arith, is.evens);
     fours = is.fours;
     kept = λ addr inside.
-        write_keeps setup bytes moving.place.addr
-        (word_at moving.medium (next_sector lba moving.place) (next_word moving.place)) addr moving.cells is.evens
-        inside
+        (grind (arith, nat_tests, none_put, cases_Bool, off_put, off_dram, apart_put, apart, is.evens))
         ∙ is.kept addr inside;
     alike = λ cell out. rw (is.alike cell out) refl;
     same = refl;
   }
   word_respects ToDisk moving cells is = record {
-    evens = even_after moving.place.addr is.evens;
+    evens = omega (arith, is.evens);
     fours = is.fours;
     kept = is.kept;
     alike = is.alike;

@@ -6,10 +6,9 @@ use Rattle.ata_pio.specs.Words.{is_readable}
 use Rattle.board_chipset.specs.declared.store.Store.{Store}
 use Rattle.bus_master.specs.declared.done.End.{End}
 use Rattle.bus_master.specs.declared.done.End.TheVariants.{Shorter, Sector}
-use Rattle.bus_master.specs.Common.{Moving, TransferPlace, ◌and_then◌, address_after, answered}
-use Rattle.bus_master.specs.Common.{descriptor_read, is_used_up, master_value, medium_of, next_sector}
-use Rattle.bus_master.specs.Common.{ready_for, region_found, region_taken, sector_tested, table_tested, with_region}
-use Rattle.bus_master.specs.Common.{cells_of, StandsAt}
+use Rattle.bus_master.specs.Common.{Moving, TransferPlace, ◌and_then◌, address_after, answered, descriptor_read}
+use Rattle.bus_master.specs.Common.{is_used_up, master_value, medium_of, next_sector, ready_for, region_found}
+use Rattle.bus_master.specs.Common.{region_taken, sector_tested, table_tested, with_region, cells_of, StandsAt}
 use Rattle.bus_master.specs.Pieces.{abort_at}
 use Rattle.board_chipset.specs.Stores.{IsStoreOf}
 use Rattle.bus_master.proofs.HeldTargets.{master_value_same}
@@ -22,11 +21,6 @@ taken moving step is = rw (sym is) refl
 pub stands_skipped : {store : Store} {place : TransferPlace} {moving : Moving} {end : End} (step : Moving → Moving) →
     StandsAt moving store place (Some end) → StandsAt (moving and_then step) store place (Some end)
 stands_skipped step is = grind (arith, nat_tests)
-
-pub stands_taken : {store new : Store} {place after : TransferPlace} {end : Option End} {moving : Moving}
-    (step : Moving → Moving) → StandsAt moving store place None → StandsAt (step moving) new after end →
-    StandsAt (moving and_then step) new after end
-stands_taken step is next = grind (arith, nat_tests)
 
 module _ {store : Store} {place : TransferPlace} {moving : Moving} (is : StandsAt moving store place None) where
   -- ---- the table and the sector
@@ -60,17 +54,6 @@ module _ {store : Store} {place : TransferPlace} {moving : Moving} (is : StandsA
     answered_stands kind addr end ends = grind (arith, nat_tests)
 
     -- ---- the two halves of a descriptor
-
-    pub descriptor_fails_first : (end : End) → Some end ≡ abort_at setup bytes Read place.table →
-        StandsAt (descriptor_read setup bytes moving) store place (Some end)
-    unfolding answered
-    descriptor_fails_first end ends = grind (arith, nat_tests)
-
-    pub descriptor_fails_second : (end : End) → None ≡ abort_at setup bytes Read place.table →
-        Some end ≡ abort_at setup bytes Read (address_after place.table 4) →
-        StandsAt (descriptor_read setup bytes moving) store place (Some end)
-    unfolding answered
-    descriptor_fails_second end first ends = grind (arith, nat_tests)
 
     pub descriptor_stands : (after : TransferPlace) (base count : ℕ) → IsStoreOf setup bytes store →
         place.table % 4 ≡ 0 → after ≡ with_region base count place →

@@ -8,7 +8,7 @@ use Rattle.bus_master.specs.declared.direction.Direction.{Direction}
 use Rattle.bus_master.specs.Common.{Master, Moving, TransferPlace, direction_of, done_of, first_place, medium_of}
 use Rattle.bus_master.specs.Common.{transferred, with_medium, words_moved, cells_of, DiffersInSmramAlone, HasSameShape}
 use Rattle.bus_master.specs.Common.{transfer_of, EndedSo, StandsAt}
-use Rattle.bus_master.proofs.SmramLemmas.{AreAlike, hides_smram}
+use Rattle.bus_master.proofs.SmramLemmas.{hides_smram}
 
 module _ (setup : Setup) (bytes : Bytes) (master : Master) (lba count : ℕ) (direction : Direction) {store new : Store}
     {place after : TransferPlace} {end : End} where
@@ -28,9 +28,6 @@ pub disk_is : {moving : Moving} {store new : Store} {after : TransferPlace} {end
     HasSameShape store new → new.disk ≡ with_medium store.disk moving.medium
 disk_is {moving} {store} {new} is shape = grind (arith, nat_tests)
 
-alike : {store other : Store} → DiffersInSmramAlone store other → AreAlike (cells_of store) (cells_of other)
-alike differs h1 outside = grind (arith, nat_tests)
-
 module _ (setup : Setup) (bytes : Bytes) (master : Master) (lba count : ℕ) (store : Store)
     (aligned : master.table % 4 ≡ 0) where
   pub smram_kept : (addr : ℕ) → is_smram_range addr ≡ true →
@@ -47,4 +44,4 @@ module _ (setup : Setup) (bytes : Bytes) (master : Master) (lba count : ℕ) (st
   same_transfer {other} differs =
       rw differs.disk
       (hides_smram setup bytes master lba count (cells_of store) (cells_of other) (medium_of store.disk) aligned
-      (alike differs)).same
+      (λ h1 outside. grind (arith, nat_tests))).same

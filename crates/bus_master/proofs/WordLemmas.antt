@@ -1,8 +1,8 @@
 -- Words one after another.
 use Rattle.std.proofs.Common.{◌≡◌, ℕ, zero, suc, ◌+◌, ◌-◌, ◌*◌, ◌/◌, ◌%◌, ◌≤◌, ◌<◌, false, Option, Some, None, refl}
 use Rattle.std.proofs.Common.{sym, ap, ◌∙◌, arith, lit≤}
-use Rattle.board_prelude.proofs.Common.{ne_eqb, and_left, nat_tests, Kind, Width, Area, Denial, Disk, Medium, word_at}
-use Rattle.board_prelude.proofs.Common.{Setup, Bytes, Cell}
+use Rattle.board_prelude.proofs.Common.{ne_eqb, and_left, nat_tests, Kind, Width, Area, Denial, Medium, word_at, Setup}
+use Rattle.board_prelude.proofs.Common.{Bytes, Cell}
 use Rattle.board_base.specs.declared.target.Area.TheVariants.{Abort as NobodysArea}
 use Rattle.ata_pio.specs.Words.{with_word}
 use Rattle.addr_decode.specs.Common.{master_area, master_denial}
@@ -13,12 +13,11 @@ use Rattle.bus_master.specs.declared.direction.Direction.TheVariants.{ToMemory, 
 use Rattle.bus_master.specs.Common.{Cells, put_in, Moving, TransferPlace, ◌and_then◌, abort_in, address_after, answered}
 use Rattle.bus_master.specs.Common.{is_used_up, kind_of, master_target, master_value, medium_of, moved_on, next_moved}
 use Rattle.bus_master.specs.Common.{next_sector, next_word, ready_for, region_found, sector_tested, table_tested}
-use Rattle.bus_master.specs.Common.{with_medium, word_moved, words_moved, cells_of, HasSameShape, IsCell, CameOn}
-use Rattle.bus_master.specs.Common.{StandsAt}
+use Rattle.bus_master.specs.Common.{word_moved, words_moved, cells_of, HasSameShape, IsCell, CameOn, StandsAt}
 use Rattle.board_chipset.specs.Stores.{IsStoreOf}
 use Rattle.bus_master.specs.Pieces.{abort_at, copied, is_missing, went_on}
 use Rattle.bus_master.proofs.HeldTargets.{master_value_same}
-use Rattle.bus_master.proofs.StepLemmas.{stands_skipped, stands_taken, taken, answered_stands}
+use Rattle.bus_master.proofs.StepLemmas.{stands_skipped, taken, answered_stands}
 
 -- ---- a store with the same shape is one of the same board
 
@@ -26,14 +25,8 @@ pub same_store : {setup : Setup} {bytes : Bytes} {old new : Store} → IsStoreOf
     IsStoreOf setup bytes new
 same_store of same = grind (arith, nat_tests)
 
-pub own_medium : (disk : Option Disk) → disk ≡ with_medium disk (medium_of disk)
-own_medium disk = grind (arith, nat_tests)
-
 pub same_shape : (store : Store) → HasSameShape store store
 same_shape store = grind (arith, nat_tests)
-
-pub shape_after : {old now new : Store} → HasSameShape old now → HasSameShape now new → HasSameShape old new
-shape_after {old} {now} {new} first second = grind (arith, nat_tests)
 
 -- ---- one word
 
@@ -77,15 +70,11 @@ answers_in _ addr other denial denial' is = refl
 module _ (setup : Setup) (bytes : Bytes) (direction : Direction) (lba : ℕ) where
   -- ---- a transfer that has ended moves no more
 
-  stays : (moving : Moving) (end : End) → Some end ≡ moving.end → next_moved setup bytes direction lba moving ≡ moving
-  unfolding next_moved ready_for
-  stays moving end is = grind (arith, nat_tests)
-
   pub words_stay : (words : ℕ) (moving : Moving) (end : End) → Some end ≡ moving.end →
       words_moved setup bytes direction lba words moving ≡ moving
-  unfolding words_moved
+  unfolding words_moved next_moved ready_for
   words_stay zero moving end is = refl
-  words_stay (suc words) moving end is = rw (words_stay words moving end is) (stays moving end is)
+  words_stay (suc words) moving end is = rw (words_stay words moving end is) (grind (arith, nat_tests))
 
   pub words_add : (more words : ℕ) (moving : Moving) →
       words_moved setup bytes direction lba (more + words) moving
@@ -146,9 +135,13 @@ module _ (setup : Setup) (bytes : Bytes) (direction : Direction) (lba : ℕ) whe
           StandsAt (reached_by moving) store place end
       unfolding reached_by
       reached_stands end ends =
-          stands_taken (λ ready. answered setup bytes (kind_of direction) ready.place.addr ready) ready
-          (answered_stands ready setup bytes (kind_of direction) (ready_for setup bytes lba moving).place.addr end
-          (ends ∙ ap (λ (p : TransferPlace). abort_at setup bytes (kind_of direction) p.addr) ready.come))
+          grind (
+            arith,
+            nat_tests,
+            answered_stands ready setup bytes (kind_of direction)
+                (ready_for setup bytes lba moving).place.addr end
+                (ends ∙ ap (λ (p : TransferPlace). abort_at setup bytes (kind_of direction) p.addr) ready.come),
+          )
 
       pub ends_unanswered : {end : End} → Some end ≡ abort_at setup bytes (kind_of direction) place.addr →
           StandsAt (words_moved setup bytes direction lba 1 moving) store place (Some end)
@@ -180,46 +173,31 @@ module _ (setup : Setup) (bytes : Bytes) (direction : Direction) (lba : ℕ) whe
       unfolding next_moved reached_by
       next_word_is = rw reached_here refl
 
-  is_standing : (moving : Moving) {place : TransferPlace} {end : Option End} → moving.place ≡ place →
-      moving.end ≡ end → moving ≡ record { cells = moving.cells; medium = moving.medium; place = place; end = end }
-  is_standing moving is ends = rw (sym is, sym ends) refl
-
-  went_further : (words : ℕ) (place : TransferPlace) → moved_on (went_on words place) ≡ went_on (suc words) place
-  went_further words place = grind arith
-
   -- ---- the words of a stretch are copied one after another
-
-  word_place : (to : Direction) (moving : Moving) → (word_moved setup bytes to lba moving).place ≡ moved_on moving.place
-  unfolding word_moved
-  word_place to moving = grind (arith, nat_tests)
-
-  word_end : (to : Direction) (moving : Moving) → (word_moved setup bytes to lba moving).end ≡ moving.end
-  unfolding word_moved
-  word_end to moving = grind (arith, nat_tests)
 
   module _ (moving : Moving) where
     abbrev after : ℕ → Moving
     after words = copied setup bytes direction lba words moving
 
     copied_place : (words : ℕ) → (after (suc words)).place ≡ went_on (suc words) moving.place
-    unfolding copied
-    copied_place zero = word_place direction moving
+    unfolding copied word_moved
+    copied_place zero = grind (arith, nat_tests)
     copied_place (suc words) =
-        word_place direction (after (suc words)) ∙ ap moved_on (copied_place words)
-        ∙ went_further (suc words) moving.place
+        (grind (arith, nat_tests)) ∙ ap moved_on (copied_place words)
+        ∙ (grind arith)
 
     copied_end : (words : ℕ) → (after words).end ≡ moving.end
-    unfolding copied
+    unfolding copied word_moved
     copied_end zero = refl
-    copied_end (suc words) = word_end direction (after words) ∙ copied_end words
+    copied_end (suc words) = (grind (arith, nat_tests)) ∙ copied_end words
 
     pub copied_is : {place : TransferPlace} → place ≡ moving.place → None ≡ moving.end → (words : ℕ) → 1 ≤ words →
         after words
         ≡ record { cells = (after words).cells; medium = (after words).medium; place = went_on words place; end = None }
     copied_is come ends zero some = absurd (omega arith)
     copied_is come ends (suc words) some =
-        is_standing (after (suc words)) (copied_place words ∙ sym (ap (went_on (suc words)) come))
-        (copied_end (suc words) ∙ sym ends)
+        rw (sym (copied_place words ∙ sym (ap (went_on (suc words)) come)), sym (copied_end (suc words) ∙ sym ends))
+        refl
 
   -- the first word is reached at once, and nothing comes before a later one
   module _ (moving : Moving) {place : TransferPlace} (come : place ≡ (reached_by moving).place)

@@ -1,10 +1,9 @@
-use Rattle.std.proofs.Common.{◌≡◌, ◌%◌, Option, sym, ap, ◌∙◌}
-use Rattle.board_prelude.proofs.Common.{Disk, Medium, Setup, Bytes, DramCell}
+use Rattle.std.proofs.Common.{◌≡◌, ◌%◌, Option, sym, ap, ◌∙◌, arith}
+use Rattle.board_prelude.proofs.Common.{Disk, Medium, Setup, Bytes, DramCell, nat_tests}
 use Rattle.bus_master.specs.Common.{Master, Moving, TransferPlace, done_of, end_of, first_place, medium_of, with_medium}
 use Rattle.bus_master.specs.Common.{cells_of, transfer_of, EndedSo}
 use Rattle.board_chipset.specs.Stores.{IsStoreOf}
 use Rattle.bus_master.proofs.TransferLemmas.{all_moved, disk_is, done_is, same_transfer, smram_kept}
-use Rattle.bus_master.proofs.WordLemmas.{own_medium}
 use Rattle.bus_master.proofs.WayLemmas.{memory_kept, sectors_kept}
 use Rattle.bus_master.proofs.registers.BusMaster.transfer.Goals as goal
 
@@ -49,7 +48,7 @@ returns-clause-to_memory c = λ way.
     disk_is (moved c sound.0 sound.1 sound.2) c.transfer-end.ensures.shape
     ∙ ap (λ (medium : Medium). with_medium store.disk medium)
     (sectors_kept sound.0 sound.1 c.args.self.now c.args.lba c.args.count (cells_of store) (medium_of store.disk) way)
-    ∙ sym (own_medium store.disk)
+    ∙ sym (grind (arith, nat_tests))
 
 pub returns-clause-to_disk : goal.returns-clause-to_disk
 returns-clause-to_disk c = λ way cell there.

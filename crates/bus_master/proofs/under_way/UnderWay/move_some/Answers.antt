@@ -3,7 +3,8 @@ use Rattle.bus_master.specs.Common.{TransferPlace}
 use Rattle.bus_master.specs.Pieces.{copied}
 use Rattle.bus_master.proofs.HeldTargets.{cards_fitted}
 use Rattle.bus_master.proofs.WordLemmas.{all_copied, ends_unanswered, one_word, reached_by, reached_stands, same_shape}
-use Rattle.bus_master.proofs.WordLemmas.{same_store, shape_after}
+use Rattle.bus_master.proofs.WordLemmas.{same_store}
+use Rattle.board_prelude.proofs.Common.{nat_tests}
 use Rattle.bus_master.proofs.under_way.UnderWay.move_some.Goals as goal
 
 pub answering-requires : goal.answering-requires
@@ -48,7 +49,7 @@ loop-preserved c =
     let addr = ap (λ (p : TransferPlace). p.addr) c.self.view_is in
     let sound = c.requires.sound in
     record {
-      shape = shape_after on.shape c.move_word.ensures.shape;
+      shape = grind (arith, nat_tests, on.shape, c.move_word.ensures.shape);
       addr = omega (arith, addr_is, on.addr);
       left = omega (arith, left_is, on.left, c.stretch-words.ensures.left, c.loop-test.true);
       moved = omega (arith, moved_is, on.moved);

@@ -1,6 +1,7 @@
 use Rattle.std.proofs.Common.{◌≡◌, ◌/◌, Err, ap, arith, rules}
 use Rattle.bus_master.specs.Common.{TransferPlace, words_moved}
-use Rattle.bus_master.proofs.WordLemmas.{came_further, came_to_end, same_store, shape_after}
+use Rattle.bus_master.proofs.WordLemmas.{came_further, came_to_end, same_store}
+use Rattle.board_prelude.proofs.Common.{nat_tests}
 use Rattle.bus_master.proofs.under_way.UnderWay.move_words.Goals as goal
 
 pub loop-self-preserved : goal.loop-self-preserved
@@ -9,7 +10,7 @@ loop-self-preserved c =
     let moved = c.in_ok-move_some.ensures in
     let now = ap (λ (p : TransferPlace). p.moved) c.self.view_is in
     record {
-      shape = shape_after on.shape moved.shape;
+      shape = grind (arith, nat_tests, on.shape, moved.shape);
       most = omega (arith, moved.most, now, c.loop-self-test.true);
       whole = moved.whole;
       sector = moved.sector;

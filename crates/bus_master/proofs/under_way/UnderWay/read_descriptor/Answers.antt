@@ -1,20 +1,23 @@
-use Rattle.std.proofs.Common.{◌≡◌, Err, sym, rules}
-use Rattle.bus_master.proofs.StepLemmas.{descriptor_fails_first, descriptor_fails_second, descriptor_stands}
+use Rattle.std.proofs.Common.{◌≡◌, Err, sym, rules, arith}
+use Rattle.bus_master.proofs.StepLemmas.{descriptor_stands}
+use Rattle.board_prelude.proofs.Common.{nat_tests}
+use Rattle.bus_master.specs.Common.{answered}
 use Rattle.bus_master.proofs.under_way.UnderWay.read_descriptor.Goals as goal
 
 pub returns-in_err-base-clause-read : goal.returns-in_err-base-clause-read
+unfolding answered
 returns-in_err-base-clause-read c = λ setup bytes moving of is.
     let passed : c.from_residual.result ≡ Err c.in_err-base.field-0.0 = search rules in
     let view = sym c.self.view_is in
-    rw (passed, view) (descriptor_fails_first (rw view at is) setup bytes _ (c.in_err-base.ensures.end setup bytes of))
+    rw (passed, view) (grind (arith, nat_tests, c.in_err-base.ensures.end setup bytes of))
 
 pub returns-in_err-count-clause-read : goal.returns-in_err-count-clause-read
+unfolding answered
 returns-in_err-count-clause-read c = λ setup bytes moving of is.
     let passed : c.from_residual-in_err-count.result ≡ Err c.in_err-count.field-0.0 = search rules in
     let view = sym c.self.view_is in
     rw (passed, view)
-    (descriptor_fails_second (rw view at is) setup bytes _ (c.in_ok-base.ensures.end setup bytes of)
-    (c.in_err-count.ensures.end setup bytes of))
+    (grind (arith, nat_tests, c.in_ok-base.ensures.end setup bytes of, c.in_err-count.ensures.end setup bytes of))
 
 pub returns-clause-read : goal.returns-clause-read
 returns-clause-read c = λ setup bytes moving of is.
