@@ -21,20 +21,14 @@ IsBaseIn room base = IsBase base × (memory_size base ≤ room)
 room_to : (room : ℕ) (base : Base) → IsBaseIn room base → has_room room base ≡ true
 room_to room base is = grind (arith, nat_tests)
 
-room_from : (room : ℕ) (base : Base) → has_room room base ≡ true → IsBaseIn room base
-room_from room base is = grind (arith, nat_tests)
-
 byte_said : (base : Base) → IsBase base → (base_byte base < 2 ^ 8) × (base_of_byte (base_byte base) ≡ base)
 byte_said base is = grind (arith, nat_tests)
-
-byte_told : (n : ℕ) → n ≡ base_byte (base_of_byte n)
-byte_told n = grind (arith, nat_tests)
 
 base_told : (room n : ℕ) (base : Base) → n < 2 ^ 8 → base_in room n ≡ Some base →
     (n ≡ base_byte base) × IsBaseIn room base
 base_told room n base below is =
     let told = where_ok (has_room room (base_of_byte n)) (base_of_byte n) base is in
-    rw (← told.1) (byte_told n, room_from room (base_of_byte n) told.0)
+    rw (← told.1) (grind (arith, nat_tests), grind (arith, nat_tests, told.0))
 
 base_format : (room : ℕ) → IsFormat 1 (base_field room) (λ base. base_byte base ∷ []) (IsBaseIn room)
 base_format room =

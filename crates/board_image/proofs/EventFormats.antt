@@ -8,7 +8,7 @@ use Rattle.std.proofs.Math.Nat.{one-le-pow}
 use Rattle.board_base.specs.declared.access.Width.TheVariants.{Two, Four}
 use Rattle.board_base.specs.declared.access.Access.{Access}
 use Rattle.board_image.specs.Common.{kind_byte, tag_byte, memory_bytes, port_bytes, wide_bytes, kind_of, kind_field}
-use Rattle.board_image.specs.Common.{width_of, width_field, tag_of, tag_field, most_value, is_wide_size, is_wide_place}
+use Rattle.board_image.specs.Common.{width_of, width_field, tag_of, most_value, is_wide_size, is_wide_place}
 use Rattle.board_image.specs.Common.{memory_fields, port_fields, wide_fields, Reading}
 use Rattle.board_spec.specs.declared.stimulus.Stimulus.TheVariants.{Wire}
 use Rattle.image_writer.specs.declared.tag.Tag.{Tag}
@@ -39,7 +39,7 @@ stimulus_tells n tag told =
     let found = mapped (stimulus_of_code n) tag told in
     code_found n found.0 found.1 ∙ ap tag_byte found.2
 
-tag_tells : Tells tag_of tag_byte
+pub tag_tells : Tells tag_of tag_byte
 tag_tells =
     row tag_byte 1 tags.Memory refl (row tag_byte 2 tags.Port refl (row tag_byte 3 tags.Look refl
     (row tag_byte 4 tags.Ack refl (row tag_byte 6 tags.Time refl (row tag_byte 10 tags.Wide refl stimulus_tells)))))
@@ -49,12 +49,9 @@ stimulus_said : (one : Stimulus) →
 stimulus_said Wire = (omega arith, refl)
 stimulus_said _ = (omega arith, refl)
 
-tag_said : (tag : Tag) → Any tag → (tag_byte tag < 2 ^ 8) × (tag_of (tag_byte tag) ≡ Some tag)
+pub tag_said : (tag : Tag) → Any tag → (tag_byte tag < 2 ^ 8) × (tag_of (tag_byte tag) ≡ Some tag)
 tag_said (tags.Stimulus one) any = stimulus_said one
 tag_said _ any = (omega arith, refl)
-
-pub tag_format : IsFormat 1 tag_field (λ tag. tag_byte tag ∷ []) Any
-tag_format = byte_format tag_byte Any tag_said (λ n tag below is. (tag_tells n tag is, tt))
 
 -- ---- accesses
 
@@ -70,9 +67,6 @@ CanSpellMemory access =
 
 abbrev pub CanSpellPort : PortAccess → Type 0
 CanSpellPort access = (access.port < 2 ^ 16) × IsBusAccess access.write access.port access.width access.value
-
-most_fits : (writes : Bool) (width : Width) → most_value writes (bytes_of width) < 2 ^ 32
-most_fits writes width = grind arith
 
 value_to : (writes : Bool) (place : ℕ) (width : Width) (value : ℕ) → IsBusAccess writes place width value →
     Ranges 0 (most_value writes (bytes_of width)) value
@@ -92,7 +86,7 @@ memory_format =
     width_format then λ width any.
     where_format wide32 (λ addr. addr % bytes_of width == 0) then λ addr good.
     last_field (λ value. record { kind = kind; addr = addr; width = width; smm = smm; value = value })
-    (within_format wide32 0 (most_value (is_write kind) (bytes_of width)) (most_fits (is_write kind) width)))
+    (within_format wide32 0 (most_value (is_write kind) (bytes_of width)) (grind arith)))
     (λ access can. (
       (access.kind, tt) & (access.smm, tt) & (access.width, tt)
           & (access.addr, (can.0, eq-eqb (access.addr % bytes_of access.width) 0 can.1.aligned))
@@ -109,7 +103,7 @@ port_format =
     width_format then λ width any.
     where_format wide16 (λ port. port % bytes_of width == 0) then λ port good.
     last_field (λ value. record { write = write; port = port; width = width; value = value })
-    (within_format wide32 0 (most_value write (bytes_of width)) (most_fits write width)))
+    (within_format wide32 0 (most_value write (bytes_of width)) (grind arith)))
     (λ access can. (
       (access.write, tt) & (access.width, tt)
           & (access.port, (can.0, eq-eqb (access.port % bytes_of access.width) 0 can.1.aligned))
@@ -123,26 +117,12 @@ port_format =
 abbrev IsWideSize : ℕ → Type 0
 IsWideSize bytes = (bytes ≡ 2) ⊎ (bytes ≡ 4) ⊎ (bytes ≡ 8)
 
-size_to : (bytes : ℕ) → IsWideSize bytes → (bytes < 2 ^ 8) × (is_wide_size bytes ≡ true)
-size_to bytes is = grind (arith, nat_tests)
-
 size_from : (bytes : ℕ) → is_wide_size bytes ≡ true → IsWideSize bytes
 size_from bytes is = grind (arith, nat_tests)
-
-wide_most_fits : (writes : Bool) (bytes : ℕ) → IsWideSize bytes → most_value writes bytes < 2 ^ 64
-wide_most_fits writes bytes size = grind arith
-
-place_to : (bytes addr : ℕ) → (bytes ≡ 8) ⊎ (addr % bytes ≢ 0) → addr + bytes ≤ 0x1_0000_0000 → IsWideSize bytes →
-    (addr < 2 ^ 32) × (is_wide_place bytes addr ≡ true)
-place_to bytes addr wide ends size = grind (arith, nat_tests)
 
 place_from : (bytes addr : ℕ) → is_wide_place bytes addr ≡ true →
     ((bytes ≡ 8) ⊎ (addr % bytes ≢ 0)) × (addr + bytes ≤ 0x1_0000_0000)
 place_from bytes addr is = grind (arith, nat_tests)
-
-wide_fits_to : (writes : Bool) (bytes value : ℕ) → FitsBytes writes bytes value →
-    Ranges 0 (most_value writes bytes) value
-wide_fits_to writes bytes value fits = grind arith
 
 wide_fits_from : (writes : Bool) (bytes value : ℕ) → Ranges 0 (most_value writes bytes) value →
     FitsBytes writes bytes value
@@ -160,11 +140,11 @@ wide_format =
     where_format wide32 (is_wide_place bytes) then λ addr placed.
     last_field (λ value. record { kind = kind; bytes = bytes; smm = smm; addr = addr; value = value })
     (within_format wide64 0 (most_value (is_write kind) bytes)
-    (wide_most_fits (is_write kind) bytes (size_from bytes good.1))))
+    (grind (arith, size_from bytes good.1))))
     (λ access is. (
-      (access.kind, tt) & (access.smm, tt) & (access.bytes, size_to access.bytes is.bytes)
-          & (access.addr, place_to access.bytes access.addr is.wide is.ends is.bytes)
-          & (access.value, wide_fits_to (is_write access.kind) access.bytes access.value is.fits),
+      (access.kind, tt) & (access.smm, tt) & (access.bytes, grind (arith, nat_tests, is.bytes))
+          & (access.addr, grind (arith, nat_tests, is.wide, is.ends, is.bytes))
+          & (access.value, grind (arith, is.fits)),
       refl,
     ))
     (λ t. (

@@ -204,10 +204,6 @@ head_of saved = record {
   steps = length saved.steps;
 }
 
-same_head : (head other : Head) → head.mib ≡ other.mib → head.cards ≡ other.cards → head.has_disk ≡ other.has_disk →
-    head.rom_size ≡ other.rom_size → head.disk_size ≡ other.disk_size → head.steps ≡ other.steps → head ≡ other
-same_head head other a b c d e f = rw (← a, ← b, ← c, ← d, ← e, ← f) refl
-
 abbrev saved_spelled : Saved → List ℕ
 saved_spelled saved = image_bytes saved.setup saved.steps
 
@@ -221,10 +217,6 @@ disk_of_head (Some bytes) is = is
 disk_of_setup : (disk : Option (List ℕ)) → HasDiskSize (is_some disk) (length (unwrap_or disk [])) → IsDisk disk
 disk_of_setup None is = tt
 disk_of_setup (Some bytes) is = is
-
-grouped : (head cards rom disk steps : List ℕ) →
-    head ++ ((cards ++ (rom ++ disk)) ++ steps) ≡ head ++ (cards ++ (rom ++ (disk ++ steps)))
-grouped head cards rom disk steps = simp append_assoc
 
 saved_format : IsFormat 38_328_826 saved_fields saved_spelled IsSaved
 unfolding saved_fields image_bytes head_bytes size_bytes
@@ -250,12 +242,11 @@ saved_format =
     let fit = t.2.1 in
     let saved : Saved = record { setup = setup; steps = t.2.2.0 } in
     let same : head_of saved ≡ t.0 =
-    same_head (head_of saved) t.0 fit.mib fit.cards.0 fit.disk fit.rom fit.disk_size t.2.2.1.0 in
+    rw (← fit.mib, ← fit.cards.0, ← fit.disk, ← fit.rom, ← fit.disk_size, ← t.2.2.1.0) refl in
     let head : IsHead (head_of saved) = rw same t.1 in
     let most : setup.mib ≤ most_mib = omega (arith, head.mib.1) in (
       assumption (most, head, fit.cards, disk_of_setup setup.disk head.disk),
-      sym (grouped (head_spelled (head_of saved)) (flat_map card_bytes setup.cards) setup.rom (disk_bytes setup)
-          (flat_map step_bytes t.2.2.0))
+      sym (simp append_assoc)
           ∙ ap (λ (head : Head). head_spelled head ++ (setup_spelled setup ++ flat_map step_bytes t.2.2.0)) same,
     ))
 

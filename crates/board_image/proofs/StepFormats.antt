@@ -11,17 +11,15 @@ use Rattle.image_writer.specs.declared.tag.Tag.{Tag}
 use Rattle.image_writer.specs.declared.tag.Tag.TheVariants as tags
 use Rattle.board_image.specs.Common.{tag_of_event, look_bytes, moment_bytes, applied_bytes, field_bytes, step_bytes}
 use Rattle.board_image.specs.Common.{FitsField, IsImageStep, can_have, look_fields, moment_fields, applied_fields}
-use Rattle.board_image.specs.Common.{event_fields, step_fields}
+use Rattle.board_image.specs.Common.{event_fields, step_fields, tag_byte}
 use Rattle.byte_fields.proofs.Formats.{IsFormat, format_as, fields_format, ◌then◌, ◌&◌, last_field, made_format}
 use Rattle.byte_fields.proofs.Formats.{done_format}
 use Rattle.byte_fields.proofs.Numbers.{flag_format, wide8, wide16, wide32, byte_within, where_format, within_format}
-use Rattle.board_image.proofs.EventFormats.{kind_format, tag_format, CanSpellMemory, CanSpellPort, memory_format}
-use Rattle.board_image.proofs.EventFormats.{port_format, wide_format, wider}
+use Rattle.byte_fields.proofs.Numbers.{Any, byte_format}
+use Rattle.board_image.proofs.EventFormats.{kind_format, CanSpellMemory, CanSpellPort, memory_format, port_format}
+use Rattle.board_image.proofs.EventFormats.{wide_format, wider, tag_said, tag_tells}
 
 -- ---- moments
-
-few_days : (year month : ℕ) → days_in_month year month < 2 ^ 8
-few_days year month = grind (arith, nat_tests)
 
 moment_format : IsFormat 7 moment_fields moment_bytes IsMoment
 unfolding moment_fields moment_bytes
@@ -29,7 +27,7 @@ moment_format =
     fields_format
     (within_format wide16 1980 2099 (omega arith) then λ year good.
     byte_within 1 12 (omega arith) then λ month good.
-    byte_within 1 (days_in_month year month) (few_days year month) then λ day good.
+    byte_within 1 (days_in_month year month) (grind (arith, nat_tests)) then λ day good.
     byte_within 0 23 (omega arith) then λ hour good.
     byte_within 0 59 (omega arith) then λ minute good.
     last_field (λ second. moment_of year month day hour minute second) (byte_within 0 59 (omega arith)))
@@ -96,11 +94,6 @@ module _ (one : Stimulus) (number : ℕ) (on : Bool) where
   number_again =
       ap (λ (said : Option Applied). option_map_or (λ said. said.number) said 0) (applied_again one number on)
 
-  level_again : (stimulus_form one).has_level ≡ true → level_of (event_applied one number on) ≡ on
-  level_again is =
-      ap (λ (said : Option Applied). option_map_or (λ said. said.on) said false) (applied_again one number on)
-      ∙ ap (λ (has_level : Bool). has_level && on) is
-
 tag_again : (one : Stimulus) (number : ℕ) (on : Bool) → tag_of_event (event_applied one number on) ≡ tags.Stimulus one
 tag_again stimuli.Wire number on = refl
 tag_again _ number on = refl
@@ -120,7 +113,11 @@ applied_format setup one true is =
     last_field (λ on. event_applied one number on) flag_format)
     (λ event can. ((number_of event, can.0) & (level_of event, tt), can.1))
     (λ t. (
-      rw (number_again one t.0 t.2.0, level_again one t.0 t.2.0 is) (t.1, refl),
+      rw (
+        number_again one t.0 t.2.0,
+        ap (λ (said : Option Applied). option_map_or (λ said. said.on) said false)
+            (applied_again one t.0 t.2.0) ∙ ap (λ (has_level : Bool). has_level && t.2.0) is,
+      ) (t.1, refl),
       bytes_again one t.0 t.2.0 ∙ rw is refl,
     ))) (omega arith)
 applied_format setup one false is =
@@ -199,7 +196,7 @@ unfolding step_fields IsGoodEvent
 step_format setup =
     fields_format
     (byte_within 0 7 (omega arith) then λ actor good.
-    tag_format then λ tag any.
+    (byte_format tag_byte Any tag_said (λ n tag below is. (tag_tells n tag is, tt))) then λ tag any.
     last_field (λ event. record { actor = actor; event = event }) (event_format setup tag))
     (λ step is. (
       (step.actor, (omega arith, is.actor)) & (tag_of_event step.event, tt)

@@ -1,8 +1,7 @@
-use Rattle.std.proofs.Common.{◌≡◌, ◌-◌, ◌+◌, ℕ, ◌++◌, List, [], ◌∷◌, length, ap, ◌∙◌, arith, map, sum_by}
+use Rattle.std.proofs.Common.{◌≡◌, ◌+◌, ◌++◌, [], ◌∷◌, length, ap, ◌∙◌, arith, map}
 use Rattle.board_prelude.proofs.Common.{err_from_is_err_and, length_push, memory_size}
 use Rattle.std.proofs.lemmas.List.{map_push}
 use Rattle.std.proofs.lemmas.List.Sums.{sum_by_push}
-use Rattle.pci_bars.specs.declared.spec.BaseSpec.{BaseSpec}
 use Rattle.pci_bars.specs.Bases.{base_of}
 use Rattle.board_image.specs.ImageFields.{bases_fields}
 use Rattle.byte_fields.proofs.Loops.{goes_on, stops, is_done}
@@ -20,12 +19,6 @@ returns-in_err-base-clause-took c =
 pub push-requires : goal.push-requires
 push-requires c = (omega arith, omega arith)
 
-room_left : (room now : ℕ) (bases : List BaseSpec) (base : BaseSpec) →
-    now ≡ room - sum_by memory_size (map base_of bases) →
-    now - memory_size (base_of base) ≡ room - sum_by memory_size (map base_of (bases ++ base ∷ []))
-room_left room now bases base is =
-    rw (is, map_push base_of bases base, sum_by_push memory_size (map base_of bases) (base_of base)) (omega arith)
-
 pub loop-preserved : goal.loop-preserved
 loop-preserved c =
     let base = c.in_ok-base.field-0 in
@@ -37,7 +30,12 @@ loop-preserved c =
           (base_of base) (bases_fields c.args.count c.args.room.now c.args.fields.now) c.loop-test.true
           c.in_ok-base.ensures.took c.loop.invariant.read);
       room = rw (c.push.ensures.items, c.in_ok-base.ensures.room)
-          (room_left c.args.room.now c.loop.room c.loop.bases.items base c.loop.invariant.room);
+          (rw (
+            c.loop.invariant.room,
+            map_push base_of c.loop.bases.items base,
+            sum_by_push memory_size
+                (map base_of c.loop.bases.items) (base_of base),
+          ) (omega arith));
       count = rw c.push.ensures.items (length_push c.loop.bases.items base ∙ ap (λ n. n + 1) c.loop.invariant.count);
     }
 
