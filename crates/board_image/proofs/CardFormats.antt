@@ -62,11 +62,10 @@ bases_from (base ∷ later) room good =
 bases_format : (room count : ℕ) → count ≤ 6 → IsFormat 6 (bases_fields count room) (map base_byte)
     (λ bases. (length bases ≡ count) × AreBasesIn room bases)
 bases_format room count few =
-    format_as 6 (map base_byte) (λ bases. (length bases ≡ count) × AreBasesIn room bases)
-    (many_format bases_loop base_format room count) (omega arith)
-    (λ bases is. (is.0, bases_to bases room (recursion_from_All IsBase bases is.1.0) is.1.1))
+    format_as 6 _ (λ bases. (length bases ≡ count) × AreBasesIn room bases) (many_format bases_loop base_format room
+    count) (omega arith) (λ bases is. (is.0, bases_to _ _ (recursion_from_All IsBase bases is.1.0) is.1.1))
     (λ bases good.
-    let all = bases_from bases room good.1 in
+    let all = bases_from _ _ good.1 in
     (good.0, (All-from_recursion IsBase bases all.0, all.1)))
     (λ bases good. flat_map_single base_byte bases)
 
@@ -172,12 +171,11 @@ two_or_more (card ∷ later) all = (omega (arith, all.0.first), two_or_more late
 pub cards_format : (count room : ℕ) →
     IsFormat (10 * count) (cards_fields count 1 room) (flat_map card_bytes) (AreCardsOf count room)
 cards_format count room =
-    format_as (10 * count) (flat_map card_bytes) (AreCardsOf count room)
-    (many_format cards_loop card_format (1, room) count) (omega arith)
+    format_as _ _ _ (many_format cards_loop card_format (1, room) count) (omega arith)
     (λ cards are.
     let all = recursion_from_All IsCard cards are.1 in
-    (are.0, cards_to cards 1 room all (two_or_more cards all) are.2 are.3))
+    (are.0, cards_to _ 1 _ all (two_or_more _ all) are.2 are.3))
     (λ cards good.
-    let are = cards_from cards 1 room (omega arith) good.1 in
+    let are = cards_from _ 1 _ (omega arith) good.1 in
     (good.0, All-from_recursion IsCard cards are.each, are.rise, are.fit))
     (λ cards good. refl)

@@ -41,8 +41,7 @@ stimulus_tells n tag told =
 
 pub tag_tells : Tells tag_of tag_byte
 tag_tells =
-    row tag_byte 1 tags.Memory refl (row tag_byte 2 tags.Port refl (row tag_byte 3 tags.Look refl
-    (row tag_byte 4 tags.Ack refl (row tag_byte 6 tags.Time refl (row tag_byte 10 tags.Wide refl stimulus_tells)))))
+    row _ 1 _ refl (row _ 2 _ refl (row _ 3 _ refl (row _ 4 _ refl (row _ 6 _ refl (row _ 10 _ refl stimulus_tells)))))
 
 stimulus_said : (one : Stimulus) →
     (tag_byte (tags.Stimulus one) < 2 ^ 8) × (tag_of (tag_byte (tags.Stimulus one)) ≡ Some (tags.Stimulus one))

@@ -185,11 +185,10 @@ steps_from setup (step ∷ later) good = (good.0, steps_from setup later good.1)
 steps_format : (setup : Setup) (count : ℕ) → count ≤ most_statements → IsFormat 4_250_000 (steps_fields setup count)
     (flat_map step_bytes) (λ steps. (length steps ≡ count) × All (IsImageStep setup) steps)
 steps_format setup count few =
-    format_as 4_250_000 (flat_map step_bytes) (λ steps. (length steps ≡ count) × All (IsImageStep setup) steps)
+    format_as _ _ (λ steps. (length steps ≡ count) × All (IsImageStep setup) steps)
     (many_format steps_loop step_format setup count) (omega (arith, few))
-    (λ steps are. (are.0, steps_to setup steps (recursion_from_All (IsImageStep setup) steps are.1)))
-    (λ steps good. (good.0, All-from_recursion (IsImageStep setup) steps (steps_from setup steps good.1)))
-    (λ steps good. refl)
+    (λ steps are. (are.0, steps_to _ _ (recursion_from_All (IsImageStep setup) steps are.1)))
+    (λ steps good. (good.0, All-from_recursion (IsImageStep setup) steps (steps_from _ _ good.1))) (λ steps good. refl)
 
 -- ---- the whole
 
@@ -223,16 +222,15 @@ unfolding saved_fields image_bytes head_bytes size_bytes
 saved_format =
     fields_format
     (head_format then λ head is.
-    setup_format head is then λ setup fit.
-    last_field (λ steps. record { setup = setup; steps = steps }) (steps_format setup head.steps is.steps.1))
-    (λ saved is.
+    setup_format _ is then λ setup fit.
+    last_field (λ steps. record { setup = setup; steps = steps }) (steps_format setup _ is.steps.1)) (λ saved is.
     let setup = saved.setup in
     let cards = is.fitted.cards in
     let head : IsHead (head_of saved) = record {
       mib = (is.fitted.some_memory, is.few_mib);
       cards = (omega arith, cards.count);
       rom = is.fitted.rom;
-      disk = disk_of_head setup.disk is.fitted.disk;
+      disk = disk_of_head _ is.fitted.disk;
       steps = (omega arith, is.count);
     } in
     let fitted : IsFitted (head_of saved) setup = assumption in
@@ -245,7 +243,7 @@ saved_format =
     rw (← fit.mib, ← fit.cards.0, ← fit.disk, ← fit.rom, ← fit.disk_size, ← t.2.2.1.0) refl in
     let head : IsHead (head_of saved) = rw same t.1 in
     let most : setup.mib ≤ most_mib = omega (arith, head.mib.1) in (
-      assumption (most, head, fit.cards, disk_of_setup setup.disk head.disk),
+      assumption (most, head, fit.cards, disk_of_setup _ head.disk),
       sym (simp append_assoc)
           ∙ ap (λ (head : Head). head_spelled head ++ (setup_spelled setup ++ flat_map step_bytes t.2.2.0)) same,
     ))
@@ -291,9 +289,8 @@ pub image_taken : (bytes rest : List ℕ) (saved : Saved) → AreBytes bytes →
     IsImage saved.setup saved.steps × (bytes ≡ image_bytes saved.setup saved.steps)
 unfolding image_fields
 image_taken bytes rest saved are is =
-    let first = then_ok (saved_fields bytes) (λ (saved : Saved). λ left. then_read (ended left) (λ done. gives saved))
-    saved rest is in
-    let end = end_ok first.0.0 saved first.0.1 rest first.2 in
+    let first = then_ok _ (λ (saved : Saved). λ left. then_read (ended left) (λ done. gives saved)) saved _ is in
+    let end = end_ok _ saved _ _ first.2 in
     let told = saved_format.taken bytes first.0.0 first.0.1 are first.1 in
     rw (← end.1) (told.1, rw (end.0, append-nil (saved_spelled first.0.0)) at told.0)
 
@@ -302,12 +299,11 @@ pub image_bad : (bytes : List ℕ) (left : ℕ) → AreBytes bytes → image_fie
     (left ≤ length bytes) × (length bytes ≤ left + 38_328_826)
 unfolding image_fields
 image_bad bytes left are is =
-    elim (then_err (saved_fields bytes) (λ (saved : Saved). λ left. then_read (ended left) (λ done. gives saved)) left
-    is) [
+    elim (then_err _ (λ (saved : Saved). λ left. then_read (ended left) (λ done. gives saved)) _ is) [
       | inl early ↦ saved_format.bad bytes left are early
       | inr late ↦
           let told = saved_format.taken bytes late.0.0 late.0.1 are late.1 in
-          let same = end_bad late.0.0 late.0.1 left late.2 in
+          let same = end_bad _ _ _ late.2 in
           let few = saved_format.size late.0.0 told.1 in
           let whole : length bytes ≡ length (saved_spelled late.0.0) + length late.0.1 =
           ap length told.0 ∙ length-append (saved_spelled late.0.0) late.0.1 in

@@ -4,9 +4,8 @@ use Rattle.board_base.specs.declared.target.Area.TheVariants.{Card as CardArea, 
 use Rattle.board_base.specs.declared.target.Area.TheVariants.{Rom as RomArea, Card as CardArea, Rom as RomArea}
 use Rattle.board_base.specs.declared.target.Area.TheVariants.{Card as CardArea}
 use Rattle.board_prelude.proofs.Common.{nat_tests, bytes_of, Kind, Width, Area, Target, Dram, Shadow, Smram, Card}
-use Rattle.board_prelude.proofs.Common.{Setup, lies_in, upper_memory, Bytes, row_of, is_smram_range, is_shadowed}
-use Rattle.board_prelude.proofs.Common.{memory_claim, target_at, Cell, is_in_hole, is_bios_selected}
-use Rattle.std.proofs.Common.{◌≡◌, ℕ, ◌%◌, false, not, ◌&&◌, List, length, sym, refl, arith, is_some, unwrap_or}
+use Rattle.board_prelude.proofs.Common.{Setup, Bytes, memory_claim, target_at, Cell}
+use Rattle.std.proofs.Common.{◌≡◌, ℕ, ◌%◌, List, sym, refl, arith}
 use Rattle.pci_bars.specs.Cards.{AreFitted}
 use Rattle.pci_bars.proofs.WindowLemmas.{IsSized, memory_claim_sized, lies_in_window}
 use Rattle.addr_decode.specs.Master.{master_area}
@@ -20,13 +19,7 @@ use Rattle.board_chipset.specs.Stores.{IsStoreOf}
 claimed : (setup : Setup) (bytes : Bytes) (addr : ℕ) (kind : Kind) (dev base : ℕ) →
     master_area setup bytes addr kind ≡ CardArea dev base → IsClaim (memory_claim setup bytes addr) dev base
 unfolding master_area
-claimed setup bytes addr kind dev base is =
-    claim_line
-    (is_smram_range addr && is_some (row_of bytes addr) && false)
-    (is_some (row_of bytes addr) && is_shadowed bytes addr kind)
-    (not (lies_in upper_memory addr) && is_some (row_of bytes addr) && not (is_in_hole bytes addr))
-    (is_bios_selected bytes addr)
-    (unwrap_or (row_of bytes addr) 0) (memory_claim setup bytes addr) dev base is
+claimed setup bytes addr kind dev base is = claim_line _ _ _ _ _ _ _ _ is
 
 module _ {setup : Setup} {bytes : Bytes} {store : Store} (is : IsStoreOf setup bytes store) where
   pub cards_fitted : AreFitted store.regs.cards.items
@@ -35,21 +28,19 @@ module _ {setup : Setup} {bytes : Bytes} {store : Store} (is : IsStoreOf setup b
   held_in : (addr : ℕ) (width : Width) (area : Area) → addr % bytes_of width ≡ 0 →
       ((dev base : ℕ) → area ≡ CardArea dev base → IsClaim (memory_claim setup bytes addr) dev base) →
       IsHeld setup.rom store.contents (target_at setup area addr) width
-  held_in addr width RomArea aligned claim = rom_within addr (length setup.rom) width is.rom_size aligned
+  held_in addr width RomArea aligned claim = rom_within _ _ _ is.rom_size aligned
   held_in addr width (CardArea dev base) aligned claim =
       let by = claim dev base refl in
       let sized : IsSized setup by.0 =
-      memory_claim_sized setup bytes store.regs.cards.items addr by.0 cards_fitted.each is.registers.cards by.1 in
-      lies_in_base setup store.contents by.0 dev base addr width sized by.2 by.3
-      (lies_in_window setup store.contents by.0 addr width sized is.contents aligned)
+      memory_claim_sized _ _ _ _ _ cards_fitted.each is.registers.cards by.1 in
+      lies_in_base _ _ _ _ _ _ _ sized by.2 by.3 (lies_in_window _ _ _ _ _ sized is.contents aligned)
   held_in addr width _ aligned claim = tt
 
   pub held : (addr : ℕ) (kind : Kind) (width : Width) → addr % bytes_of width ≡ 0 →
       IsHeld store.rom.items store.contents (master_target setup bytes kind addr) width
   held addr kind width aligned =
       rw is.rom
-      (held_in addr width (master_area setup bytes addr kind) aligned
-      (λ dev base card. claimed setup bytes addr kind dev base card))
+      (held_in _ _ _ aligned (λ dev base card. claimed _ _ _ _ _ _ card))
 
 -- ---- a read looks at bytes that there can be alone
 

@@ -14,8 +14,8 @@ use Rattle.bus_master.specs.Common.{Cells, Moving, address_after, answered, ende
 use Rattle.bus_master.specs.Common.{next_moved, next_sector, ready_for, region_found, region_taken, sector_tested}
 use Rattle.bus_master.specs.Common.{table_tested, transferred, words_moved}
 use Rattle.bus_master.specs.Pieces.{AreNext, ComesToTheTransfer, Going, HasPassed, IfMove, IsDescriptor, IsEnd}
-use Rattle.bus_master.specs.Pieces.{IsMemory, IsMove, IsStretch, Point, abort_at, all_done, described, going_at_start}
-use Rattle.bus_master.specs.Pieces.{is_missing, once_done, outcome, standing}
+use Rattle.bus_master.specs.Pieces.{IsMemory, IsMove, IsStretch, Point, abort_at, all_done, described, is_missing}
+use Rattle.bus_master.specs.Pieces.{once_done, outcome, standing}
 use Rattle.bus_master.proofs.WordLemmas.{all_copied, copied_is, reached_by, reached_here, ready_here, words_add}
 use Rattle.bus_master.proofs.WordLemmas.{words_stay}
 
@@ -143,19 +143,17 @@ module _ (setup : Setup) (bytes : Bytes) (going : Going) (cells : Cells) (medium
   move_is whole here answers areas =
       let start = standing going cells medium in
       let reached : reached_by setup bytes going.direction going.lba start ≡ start =
-      reached_here setup bytes going.direction going.lba cells medium going.place
-      (ne_eqb going.place.left 0 (λ (e : going.place.left ≡ 0). omega (arith, e, is.left, is.some))) passed.sector
-      answers in
+      reached_here _ _ _ _ cells _ _ (ne_eqb going.place.left 0
+      (λ (e : going.place.left ≡ 0). omega (arith, e, is.left, is.some))) passed.sector answers in
       record {
         area = λ i below. rw is.addr (areas i below ∙ sym here);
         same =
-            parted setup bytes going cells medium stretch.words is.most
+            parted setup bytes going cells medium _ is.most
             ∙ ap (words_moved setup bytes going.direction going.lba (going.words - stretch.words))
-            (all_copied setup bytes going.direction going.lba start {place = going.place} (rw reached refl)
-            (rw reached refl) stretch.words is.left whole (omega (arith, is.word, is.within)) answers areas
-            stretch.words is.some (omega arith)
+            (all_copied _ _ _ going.lba _ {place = going.place} (rw reached refl) (rw reached refl) _ is.left whole
+            (omega (arith, is.word, is.within)) answers areas _ is.some (omega arith)
             ∙ rw reached
-            (copied_is setup bytes going.direction going.lba start refl refl stretch.words is.some));
+            (copied_is setup bytes going.direction going.lba start refl refl _ is.some));
       }
 
 -- ---- SMRAM
@@ -195,5 +193,4 @@ module _ (setup : Setup) (bytes : Bytes) where
 pub comes_to_the_transfer : ComesToTheTransfer
 unfolding outcome transferred
 comes_to_the_transfer setup bytes master lba count cells medium pieces end next ended =
-    rw (sym (all_same setup bytes pieces
-    (record { going = going_at_start master lba count; cells = cells; medium = medium }) next)) at ended
+    rw (sym (all_same _ _ _ _ next)) at ended

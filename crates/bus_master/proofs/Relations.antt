@@ -66,8 +66,6 @@ module _ (setup : Setup) (bytes : Bytes) (direction : Direction) (lba : ℕ) (R 
   unfolding words_moved next_moved ready_for answered
   words_hold zero is = is
   words_hold (suc words) is =
-      then_holds (word_moved setup bytes direction lba) word
-      (then_holds (λ ready. answered setup bytes (kind_of direction) ready.place.addr ready)
+      then_holds _ word (then_holds (λ ready. answered setup bytes (kind_of direction) ready.place.addr ready)
       (λ m others alike. ends _ m others alike)
-      (then_holds (region_found setup bytes) found
-      (then_holds (sector_tested lba) sector (then_holds table_tested table (words_hold words is)))))
+      (then_holds _ found (then_holds _ sector (then_holds _ table (words_hold words is)))))

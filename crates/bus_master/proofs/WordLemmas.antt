@@ -5,7 +5,7 @@ use Rattle.board_prelude.proofs.Common.{ne_eqb, and_left, nat_tests, Kind, Width
 use Rattle.board_prelude.proofs.Common.{Bytes, Cell}
 use Rattle.board_base.specs.declared.target.Area.TheVariants.{Abort as NobodysArea}
 use Rattle.ata_pio.specs.Words.{with_word}
-use Rattle.addr_decode.specs.Common.{master_area, master_denial}
+use Rattle.addr_decode.specs.Common.{master_area}
 use Rattle.board_chipset.specs.declared.store.Store.{Store}
 use Rattle.bus_master.specs.declared.done.End.{End}
 use Rattle.bus_master.specs.declared.direction.Direction.{Direction}
@@ -138,16 +138,14 @@ module _ (setup : Setup) (bytes : Bytes) (direction : Direction) (lba : ℕ) whe
           grind (
             arith,
             nat_tests,
-            answered_stands ready setup bytes (kind_of direction)
-                (ready_for setup bytes lba moving).place.addr end
-                (ends ∙ ap (λ (p : TransferPlace). abort_at setup bytes (kind_of direction) p.addr) ready.come),
+            answered_stands ready _ _ _
+                _ _ (ends ∙ ap (λ (p : TransferPlace). abort_at setup bytes (kind_of direction) p.addr) ready.come),
           )
 
       pub ends_unanswered : {end : End} → Some end ≡ abort_at setup bytes (kind_of direction) place.addr →
           StandsAt (words_moved setup bytes direction lba 1 moving) store place (Some end)
       unfolding words_moved next_moved reached_by
-      ends_unanswered {end} ends =
-          stands_skipped (word_moved setup bytes direction lba) (reached_stands (Some end) ends)
+      ends_unanswered {end} ends = stands_skipped (word_moved setup bytes direction lba) (reached_stands _ ends)
 
     pub one_word : {old : TransferPlace} {most : ℕ} {end : End} → 1 ≤ most →
         StandsAt (words_moved setup bytes direction lba 1 moving) store place (Some end) →
@@ -223,8 +221,7 @@ module _ (setup : Setup) (bytes : Bytes) (direction : Direction) (lba : ℕ) whe
           (and_left _ _ (ne_eqb (next_word (went_on words place)) 0
           (λ (e : next_word (went_on words place) ≡ 0). omega (arith, e, whole, within))))
           (rw (areas words below)
-          (answers_in (master_area setup bytes place.addr (kind_of direction)) place.addr _
-          (master_denial setup bytes place.addr (kind_of direction)) _ answers)))
+          (answers_in _ _ _ _ _ answers)))
 
       pub all_copied : (words : ℕ) → 1 ≤ words → words ≤ most →
           words_moved setup bytes direction lba words moving

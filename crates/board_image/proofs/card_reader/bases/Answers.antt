@@ -1,20 +1,16 @@
-use Rattle.std.proofs.Common.{◌≡◌, ◌+◌, ◌++◌, [], ◌∷◌, length, ap, ◌∙◌, arith, map}
+use Rattle.std.proofs.Common.{◌≡◌, ◌+◌, ◌++◌, [], ◌∷◌, ap, ◌∙◌, arith, map}
 use Rattle.board_prelude.proofs.Common.{err_from_is_err_and, length_push, memory_size}
 use Rattle.std.proofs.lemmas.List.{map_push}
 use Rattle.std.proofs.lemmas.List.Sums.{sum_by_push}
 use Rattle.pci_bars.specs.Bases.{base_of}
-use Rattle.board_image.specs.ImageFields.{bases_fields}
 use Rattle.byte_fields.proofs.Loops.{goes_on, stops, is_done}
-use Rattle.board_image.proofs.ImageLoops.{base_field, room_after, bases_in, bases_loop}
+use Rattle.board_image.proofs.ImageLoops.{bases_loop}
 use Rattle.board_image.proofs.card_reader.bases.Goals as goal
 
 pub returns-in_err-base-clause-took : goal.returns-in_err-base-clause-took
 returns-in_err-base-clause-took c =
     let p = err_from_is_err_and c.from_residual.result c.from_residual.ensures.1 in
-    rw p.1 (stops base_field room_after bases_in bases_loop (map base_of c.loop.bases.items) c.loop.room c.args.count
-    c.loop.counter c.loop.fields (length c.base.new.fields)
-    (bases_fields c.args.count c.args.room.now c.args.fields.now) c.loop-test.true c.in_err-base.ensures.took
-    c.loop.invariant.read)
+    rw p.1 (stops _ _ _ bases_loop _ _ _ _ _ _ _ c.loop-test.true c.in_err-base.ensures.took c.loop.invariant.read)
 
 pub push-requires : goal.push-requires
 push-requires c = (omega arith, omega arith)
@@ -25,10 +21,8 @@ loop-preserved c =
     let pushed : map base_of c.push.new.self.items ≡ map base_of c.loop.bases.items ++ base_of base ∷ [] =
     rw c.push.ensures.items (map_push base_of c.loop.bases.items base) in
     record {
-      read = rw (pushed, c.in_ok-base.ensures.room) (goes_on base_field room_after bases_in bases_loop
-          (map base_of c.loop.bases.items) c.loop.room c.args.count c.loop.counter c.loop.fields c.base.new.fields
-          (base_of base) (bases_fields c.args.count c.args.room.now c.args.fields.now) c.loop-test.true
-          c.in_ok-base.ensures.took c.loop.invariant.read);
+      read = rw (pushed, c.in_ok-base.ensures.room) (goes_on _ _ _ bases_loop _ _ _ _ _ _ (base_of base) _
+          c.loop-test.true c.in_ok-base.ensures.took c.loop.invariant.read);
       room = rw (c.push.ensures.items, c.in_ok-base.ensures.room)
           (rw (
             c.loop.invariant.room,
@@ -40,7 +34,4 @@ loop-preserved c =
     }
 
 pub returns-clause-took : goal.returns-clause-took
-returns-clause-took c =
-    is_done base_field room_after bases_in bases_loop (map base_of c.loop.bases.items) c.loop.room c.args.count
-    c.loop.counter c.loop.fields (bases_fields c.args.count c.args.room.now c.args.fields.now) c.loop-test.false
-    c.loop.invariant.read
+returns-clause-took c = is_done _ _ _ bases_loop _ _ _ _ _ _ c.loop-test.false c.loop.invariant.read

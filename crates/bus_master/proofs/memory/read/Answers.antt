@@ -8,8 +8,7 @@ target_in-target-requires-clause-cards c = (cards_fitted c.requires.reached.of).
 pub read_from-requires-clause-held : goal.read_from-requires-clause-held
 read_from-requires-clause-held c =
     let reached = c.requires.reached in
-    held_at reached c.args.width c.requires.aligned c.target_in-target.result
-    (c.target_in-target.ensures.target reached.setup reached.of.registers.cards.0
+    held_at reached _ c.requires.aligned _ (c.target_in-target.ensures.target reached.setup reached.of.registers.cards.0
     (sym reached.of.rom ∙ sym c.deref.ensures.value))
 
 pub returns : goal.returns

@@ -13,9 +13,8 @@ of_store c setup bytes = transfer_of setup bytes c.args.self.now c.args.lba c.ar
 moved : (c : goal.After-moved) (setup : Setup) (bytes : Bytes) → IsStoreOf setup bytes c.args.store.now →
     EndedSo (of_store c setup bytes) c.transfer-end.new.store c.transfer-end.new.self c.transfer-end.result
 moved c setup bytes of =
-    all_moved setup bytes c.args.self.now c.args.lba c.args.count c.direction.result
-    (c.begin-under_way.ensures.first ∙ ap (λ (master : Master). first_place master.table) c.self.view_is)
-    c.direction.ensures.direction (λ moving is. c.transfer-end.ensures.moved setup bytes moving of is)
+    all_moved _ _ _ _ _ _ (c.begin-under_way.ensures.first ∙ ap (λ (master : Master). first_place master.table)
+    c.self.view_is) c.direction.ensures.direction (λ moving is. c.transfer-end.ensures.moved setup bytes moving of is)
 
 pub returns-clause-done : goal.returns-clause-done
 returns-clause-done c = λ setup bytes of. done_is (moved c setup bytes of) c.moved.ensures.moved

@@ -18,9 +18,8 @@ returns-in_err-area-clause-moved c = λ setup bytes moving of is.
     let passed : c.from_residual-in_err-area.result ≡ Err c.in_err-area.field-0.0 = search rules in
     let addr = ap (λ (p : TransferPlace). p.addr) c.self.view_is in
     rw passed
-    (one_word setup bytes c.args.direction c.args.lba moving c.requires.most
-    (ends_unanswered setup bytes c.args.direction c.args.lba moving
-    (c.in_ok-make_ready.ensures.ready setup bytes moving of is)
+    (one_word _ _ _ _ _ c.requires.most
+    (ends_unanswered _ _ _ _ _ (c.in_ok-make_ready.ensures.ready setup bytes moving of is)
     (rw (c.kind.ensures.kind, addr) at (c.in_err-area.ensures.end setup bytes of.registers))))
 
 pub loop-init : goal.loop-init
@@ -33,8 +32,7 @@ loop-init c =
       left = omega arith;
       moved = omega arith;
       stands = λ setup bytes moving of is.
-          reached_stands setup bytes c.args.direction c.args.lba moving
-          (c.in_ok-make_ready.ensures.ready setup bytes moving of is) None
+          reached_stands _ _ _ _ _ (c.in_ok-make_ready.ensures.ready setup bytes moving of is) _
           (rw (c.kind.ensures.kind, addr) at (c.in_ok-area.ensures.end setup bytes of.registers));
     }
 

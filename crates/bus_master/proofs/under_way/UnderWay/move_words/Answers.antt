@@ -15,8 +15,7 @@ loop-self-preserved c =
       whole = moved.whole;
       sector = moved.sector;
       stands = λ setup bytes moving of is.
-          came_further setup bytes c.args.direction c.args.lba (c.loop-self.self.moved / 2) moving
-          (moved.moved setup bytes
+          came_further _ _ _ _ _ _ (moved.moved setup bytes
           (words_moved setup bytes c.args.direction c.args.lba (c.loop-self.self.moved / 2) moving)
           (same_store of on.shape) (on.stands setup bytes moving of is))
           (omega (arith, on.whole));

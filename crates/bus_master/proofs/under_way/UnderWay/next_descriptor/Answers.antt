@@ -1,6 +1,5 @@
 use Rattle.std.proofs.Common.{ap}
 use Rattle.bus_master.specs.Common.{TransferPlace}
-use Rattle.bus_master.specs.Pieces.{going_from}
 use Rattle.bus_master.proofs.PieceLemmas.{ends_at_base}
 use Rattle.bus_master.proofs.under_way.UnderWay.next_descriptor.Goals as goal
 
@@ -13,5 +12,4 @@ returns-in-Ok-clause-next c = λ setup bytes direction lba words cells medium st
 pub returns-in-Err-clause-next : goal.returns-in-Err-clause-next
 returns-in-Err-clause-next c = λ setup bytes direction lba words cells medium stands passed.
     let table = ap (λ (p : TransferPlace). p.table) c.self.view_is in
-    ends_at_base setup bytes (going_from c.args.self.now direction lba words) cells medium passed c.in-Err.end
-    c.requires.used (rw table at (c.in-Err.ensures.end setup bytes stands))
+    ends_at_base _ _ _ cells _ passed _ c.requires.used (rw table at (c.in-Err.ensures.end setup bytes stands))

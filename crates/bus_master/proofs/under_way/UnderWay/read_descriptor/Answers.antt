@@ -22,7 +22,6 @@ returns-in_err-count-clause-read c = λ setup bytes moving of is.
 pub returns-clause-read : goal.returns-clause-read
 returns-clause-read c = λ setup bytes moving of is.
     let view = sym c.self.view_is in
-    descriptor_stands (rw view at is) setup bytes c.take_region.new.self c.in_ok-base.base c.in_ok-count.count of
-    c.self.invariant.table (rw view at c.take_region.ensures.taken) (c.in_ok-base.ensures.end setup bytes of)
-    (c.in_ok-count.ensures.end setup bytes of) (c.in_ok-base.ensures.value setup bytes of)
-    (c.in_ok-count.ensures.value setup bytes of)
+    descriptor_stands (rw view at is) _ _ _ _ _ of c.self.invariant.table (rw view at c.take_region.ensures.taken)
+    (c.in_ok-base.ensures.end setup bytes of) (c.in_ok-count.ensures.end setup bytes of)
+    (c.in_ok-base.ensures.value setup bytes of) (c.in_ok-count.ensures.value setup bytes of)
