@@ -141,5 +141,4 @@ zero_at banks at each zeros =
 
 pub zero_banks : (banks : List (List ℕ)) → All IsBank banks → All IsZero banks →
     concat banks ≡ replicate (length banks * bank_size) 0
-zero_banks banks each zeros =
-    rw (← banks_length banks each) (all_zeros (concat banks) (λ at. zero_at banks at each zeros))
+zero_banks banks each zeros = rw (← banks_length _ each) (all_zeros _ (λ at. zero_at _ at each zeros))

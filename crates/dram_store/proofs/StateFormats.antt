@@ -60,9 +60,7 @@ module _ (kept bytes : List ℕ) (number : ℕ) (total : Result (List ℕ × Lis
     read_on =
         let at : ℕ = number * memory_page in
         let rest : bank_size - (number + 1) * memory_page ≡ bank_size - at - memory_page = omega arith in
-        rw rest
-        (zeros_go_on memory_page (bank_size - at) (front_at kept at) page bytes after total (omega arith) (omega arith)
-        so_far read)
+        rw rest (zeros_go_on _ _ _ page _ _ _ (omega arith) (omega arith) so_far read)
 
     pub page_kept : (new : List ℕ) → length page ≡ memory_page → new ≡ front_at kept (number * memory_page) ++ page →
         IsRead new ((number + 1) * memory_page) after total
@@ -87,8 +85,7 @@ module _ (kept bytes : List ℕ) (number : ℕ) (total : Result (List ℕ × Lis
   pub pages_done : number ≡ 256 → total ≡ Ok (bank_of kept, bytes)
   pages_done all =
       let at : number * memory_page ≡ bank_size = omega arith in
-      zeros_end memory_page (bank_size - number * memory_page) (front_at kept (number * memory_page)) bytes total
-      (omega arith) so_far
+      zeros_end _ _ _ _ _ (omega arith) so_far
       ∙ rw at refl
 
 -- ---- the banks of a DRAM

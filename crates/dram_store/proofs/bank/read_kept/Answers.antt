@@ -1,18 +1,15 @@
-use Rattle.std.proofs.Common.{◌≡◌, ◌*◌, length, arith, ◌-◌}
+use Rattle.std.proofs.Common.{◌≡◌, length, arith}
 use Rattle.board_prelude.proofs.Common.{err_from_is_err_and}
 use Rattle.byte_fields.specs.Pages.{memory_page}
-use Rattle.dram_store.proofs.StateFormats.{kept_length, page_kept, page_skipped, pages_done, front_at}
+use Rattle.dram_store.proofs.StateFormats.{kept_length, page_kept, page_skipped, pages_done}
 use Rattle.dram_store.proofs.bank.read_kept.Goals as goal
 use Rattle.dram_store.proofs.bank.read_kept.Goals.{in-Some, in_default}
-use Rattle.dram_store.specs.Bank.{bank_size}
 use Rattle.byte_fields.proofs.PageFormats.{zeros_stop}
 
 pub returns-in_err-bytes-clause-took : goal.returns-in_err-bytes-clause-took
 returns-in_err-bytes-clause-took c =
     let p = err_from_is_err_and c.from_residual.result c.from_residual.ensures.1 in
-    rw p.1 (zeros_stop memory_page (bank_size - c.loop-page.page * memory_page)
-    (front_at c.loop-page.kept.items (c.loop-page.page * memory_page)) _ _ _ (omega arith) (omega arith)
-    c.loop-page.invariant.read c.in_err-bytes.ensures.took)
+    rw p.1 (zeros_stop _ _ _ _ _ _ (omega arith) (omega arith) c.loop-page.invariant.read c.in_err-bytes.ensures.took)
 
 pub loop-page-preserved : goal.loop-page-preserved
 loop-page-preserved c =
@@ -24,13 +21,10 @@ loop-page-preserved c =
           let took = rw w.in-Some.is at c.in_ok-bytes.ensures.took in
           let size : length page ≡ memory_page = rw w.in-Some.is at c.in_ok-bytes.ensures.whole in
           let put = w.put_page.ensures in
-          let long = kept_length kept w.put_page.new.kept.items page (c.loop-page.page * memory_page) so_far.before size
-          put.bytes in
+          let long = kept_length _ _ _ _ so_far.before size put.bytes in
           rw w.kept-is
           record {
-            read =
-                page_kept kept _ c.loop-page.page _ so_far.read page _ so_far.before c.loop-page-test.true took _ size
-                put.bytes;
+            read = page_kept _ _ _ _ so_far.read _ _ so_far.before c.loop-page-test.true took _ size put.bytes;
             before = omega arith;
             pages = omega arith;
             room = omega arith;
@@ -39,7 +33,7 @@ loop-page-preserved c =
           rw w.kept-is
           record {
             read =
-                page_skipped kept _ c.loop-page.page _ so_far.read _ so_far.before c.loop-page-test.true
+                page_skipped _ _ _ _ so_far.read _ so_far.before c.loop-page-test.true
                 (rw w.in_default.is at c.in_ok-bytes.ensures.took);
             before = omega arith;
             pages = so_far.pages;
@@ -49,5 +43,4 @@ loop-page-preserved c =
 
 pub returns-clause-took : goal.returns-clause-took
 returns-clause-took c =
-    pages_done c.loop-page.kept.items _ c.loop-page.page _ c.loop-page.invariant.read
-    (omega (arith, c.loop-page-test.false, c.loop-page.auto.page-end))
+    pages_done _ _ _ _ c.loop-page.invariant.read (omega (arith, c.loop-page-test.false, c.loop-page.auto.page-end))

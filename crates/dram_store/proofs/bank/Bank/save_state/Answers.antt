@@ -12,7 +12,6 @@ returns c =
     ∙ ap (λ (n : ℕ). replicate {A = ℕ} ((bank_size - n) / memory_page) 0) same in
     record {
       saved =
-          rw (← c.self.view_is)
-          (bank_saved c.self.inside.kept.items _ _ _ _ c.self.invariant.pages c.self.invariant.within
+          rw (← c.self.view_is) (bank_saved _ _ _ _ _ c.self.invariant.pages c.self.invariant.within
           (rw c.deref.ensures.value at c.in_ok-push_memory.ensures.added) zeros c.in_ok-push_bytes.ensures.added);
     }

@@ -4,6 +4,5 @@ use Rattle.dram_store.proofs.dram.Dram.load_state.Goals as goal
 
 pub returns : goal.returns
 returns c = record {
-  loaded = loads_with (dram_format c.args.mib) c.args.fields.now _ c.read_state.result c.are_bytes.ensures.bytes
-      c.read_state.ensures.filled;
+  loaded = loads_with (dram_format c.args.mib) _ _ _ c.are_bytes.ensures.bytes c.read_state.ensures.filled;
 }

@@ -9,21 +9,19 @@ pub returns-in-Some : goal.returns-in-Some
 returns-in-Some c =
     let lookup = rw c.deref.ensures.value at c.in-Some.ensures.lookup in
     let value : c.read.result ≡ wide (λ at. dram_at c.args.self.now at) c.args.addr c.args.width =
-    rw (← c.self.view_is)
-    (c.read.ensures.value ∙ rw (lookup.3.1 []) (read_here c.self.inside.banks.items c.args.addr c.args.width
-    c.self.invariant.each lookup.3.0 c.requires.aligned)) in
+    rw (← c.self.view_is) (c.read.ensures.value ∙ rw (lookup.3.1 [])
+    (read_here _ _ _ c.self.invariant.each lookup.3.0 c.requires.aligned)) in
     record {
       value = value;
-      stored = λ setup history is. value ∙ read_stored setup history c.args.self.now c.args.addr c.args.width is;
+      stored = λ setup history is. value ∙ read_stored _ _ _ c.args.addr c.args.width is;
     }
 
 pub returns-in-None : goal.returns-in-None
 returns-in-None c =
-    let past = past_banks c.self.inside.banks.items c.args.addr c.self.invariant.each
-    (rw c.deref.ensures.value at c.in-None.ensures.lookup.3) in
+    let past = past_banks _ _ c.self.invariant.each (rw c.deref.ensures.value at c.in-None.ensures.lookup.3) in
     let value : c.largest.result ≡ wide (λ at. dram_at c.args.self.now at) c.args.addr c.args.width =
     rw (← c.self.view_is) (c.largest.ensures.largest ∙ (grind (arith, nat_tests))) in
     record {
       value = value;
-      stored = λ setup history is. value ∙ read_stored setup history c.args.self.now c.args.addr c.args.width is;
+      stored = λ setup history is. value ∙ read_stored _ _ _ c.args.addr c.args.width is;
     }
