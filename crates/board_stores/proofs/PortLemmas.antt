@@ -76,8 +76,6 @@ bus_cycles access (cycle ∷ later) fits each =
     All-cons (λ (cycle : PortAccess). IsBusAccess cycle.write cycle.port cycle.width cycle.value) cycle later
     (record {
       aligned = is.aligned;
-      fits =
-          rw (is.write, is.value)
-          (cycle_fits access.write access.width cycle.width access.value (256 ^ (cycle.port - access.port)) fits);
+      fits = rw (is.write, is.value) (cycle_fits _ _ cycle.width _ (256 ^ (cycle.port - access.port)) fits);
     })
     (bus_cycles access later fits (All-tail (IsCycleOf access) cycle later each))

@@ -48,8 +48,7 @@ unfolding parts_put
 put_at cycles i d old mid new within first rest =
     let one : i + 1 ≡ suc i = omega arith in
     rw (drop-cons cycles i d within)
-    (put_then (memory_put (get_or cycles i d).access (get_or cycles i d).answer.target)
-    (cycles_put (drop (suc i) cycles)) old mid new first (rw one at rest))
+    (put_then _ _ _ _ _ first (rw one at rest))
 
 -- ---- the cycles that are left can still be done
 

@@ -41,8 +41,7 @@ loop-cycle-preserved c =
 pub returns : goal.returns
 returns c = record {
   value = λ setup history kept image answered.
-      whole_value (value_of setup history) c.args.cycles.now c.loop-cycle.cycle-index c.loop-cycle.value
-      c.loop-cycle.shift (drop_all c.loop-cycle.cycle-index c.args.cycles.now (omega arith))
+      whole_value _ _ _ _ _ (drop_all c.loop-cycle.cycle-index c.args.cycles.now (omega arith))
       (c.loop-cycle.invariant.value setup history kept image)
-      ∙ joined_parts setup history c.args.cycles.now answered;
+      ∙ joined_parts _ _ _ answered;
 }

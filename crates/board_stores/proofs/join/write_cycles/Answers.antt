@@ -12,11 +12,10 @@ loop-cycle-preserved c =
     record {
       ready = (
         ready.0,
-        λ k d within. ready_after ready.0 now.contents new.contents _ c.write.ensures.put.sizes (ready.1 k d within),
+        λ k d within. ready_after _ _ _ _ c.write.ensures.put.sizes (ready.1 k d within),
       );
       put = λ last rest.
-          c.loop-cycle.invariant.put last
-          (put_at cycles c.loop-cycle.cycle-index _ now new last c.loop-cycle-test.true c.write.ensures.put rest);
+          c.loop-cycle.invariant.put last (put_at _ _ _ _ _ _ c.loop-cycle-test.true c.write.ensures.put rest);
     }
 
 pub returns : goal.returns

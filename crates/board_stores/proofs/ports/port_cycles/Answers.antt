@@ -52,8 +52,7 @@ loop-preserved c =
 
 pub returns-clause-cycles : goal.returns-clause-cycles
 returns-clause-cycles c =
-    whole c.args.access.now c.as_wide-wide.result c.loop.invariant.parts c.loop.counter c.loop.done
-    (port_accesses c.loop.cycles.items) c.as_wide-wide.ensures.wide c.loop.invariant.are
+    whole _ _ _ _ _ _ c.as_wide-wide.ensures.wide c.loop.invariant.are
     (omega arith) c.loop.invariant.on
 
 pub returns-clause-covers : goal.returns-clause-covers
