@@ -95,8 +95,7 @@ levels-pulsed setup before entry count timer is =
 -- the lines after pulses
 levels-after : (setup : Setup) (before : List Entry) (entry : Entry) (count : ℕ) → entry.event ≡ Pulses count →
     levels_of setup (entry ∷ before) ≡ levels_with setup before (pulses count (timer_of before))
-levels-after setup before entry count is =
-    rw (timer-pulsed before entry count is) (levels-pulsed setup before entry count _ is)
+levels-after setup before entry count is = rw (timer-pulsed before entry _ is) (levels-pulsed setup before entry _ _ is)
 
 pub elcr-same : (history other : List Entry) → triggers_of history ≡ triggers_of other → elcr_of history ≡ elcr_of other
 elcr-same history other same = rw same refl
@@ -135,8 +134,7 @@ unfolding pair_of levels_where triggers_of
 pair_has_seen again setup [] =
     ap (λ (l : List Bool). pair_after_lines (pair_at_reset levels_at_power_on) l (elcr_of [])) (first_levels setup)
     ∙ refl
-pair_has_seen again setup (entry ∷ before) =
-    seen_stepped again setup before entry entry.event refl (pair_has_seen again setup before)
+pair_has_seen again setup (entry ∷ before) = seen_stepped again _ _ entry _ refl (pair_has_seen again setup before)
 
 -- ---- an entry that moves no line
 

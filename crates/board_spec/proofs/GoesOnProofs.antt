@@ -3,8 +3,8 @@ use Rattle.std.proofs.Common.{◌≡◌, ◌≢◌, ℕ, suc, ◌+◌, ◌≤◌
 use Rattle.std.proofs.Common.{sym, ap, subst, arith}
 use Rattle.device_spec.proofs.Common.{nat_tests, drop_of_length-le, take-append-le, drop-append-le, length-append}
 use Rattle.device_spec.proofs.Common.{length-take, take_all, recursion_from_All, cases_eq, cases_lt}
-use Rattle.board_spec.specs.Common.{AllByRecursion, entries_by, statements_of, events_by, BeginsWith, IsWholePhase}
-use Rattle.board_spec.specs.Common.{IsFrontOfPhase, HasPhases, HasPhasesSoFar, IsAddressed, in_file_order, BegunGoesOn}
+use Rattle.board_spec.specs.Common.{AllByRecursion, entries_by, events_by, BeginsWith, IsWholePhase, IsFrontOfPhase}
+use Rattle.board_spec.specs.Common.{HasPhases, HasPhasesSoFar, IsAddressed, in_file_order, BegunGoesOn}
 use Rattle.board_spec.specs.declared.event.Event.{Event}
 use Rattle.board_spec.specs.declared.event.Entry.{Entry}
 use Rattle.board_spec.specs.declared.event.Statement.{Statement}
@@ -156,7 +156,7 @@ next_so_far [] statements addressed begun open_still = absurd (open_still begun)
 next_so_far (phase ∷ later) statements addressed (inl front) open_still =
     elim (cases_lt (length statements) (length phase)) [
       | inl short ↦
-          let next = next_of statements phase (all_left phase (in_file_order later) addressed) front.each short in
+          let next = next_of _ _ (all_left _ _ addressed) front.each short in
           record {
             statement = next.statement;
             addressed = next.addressed;
@@ -166,24 +166,22 @@ next_so_far (phase ∷ later) statements addressed (inl front) open_still =
             });
           }
       | inr full ↦
-          let whole = whole_front phase statements front full in
-          let nothing : drop (length phase) statements ≡ [] = nothing_left phase statements front full in
-          past_phase phase later statements full whole
+          let whole = whole_front _ _ front full in
+          let nothing : drop (length phase) statements ≡ [] = nothing_left _ _ front full in
+          past_phase _ _ _ full whole
           (subst (NextSoFar later) (sym nothing)
-          (next_so_far later [] (all_right phase (in_file_order later) addressed) (none_so_far later)
+          (next_so_far later [] (all_right _ _ addressed) (none_so_far later)
           (λ complete. open_still (whole, subst (HasPhases later) (sym nothing) complete))))
     ]
 next_so_far (phase ∷ later) statements addressed (inr whole) open_still =
     let full : length phase ≤ length statements = omega (arith, whole.0.size, length-take (length phase) statements) in
-    past_phase phase later statements full whole.0
-    (next_so_far later (drop (length phase) statements) (all_right phase (in_file_order later) addressed) whole.1
+    past_phase _ _ _ full whole.0 (next_so_far later (drop (length phase) statements) (all_right _ _ addressed) whole.1
     (λ complete. open_still (whole.0, complete)))
 
 pub begun_goes_on : BegunGoesOn
 unfolding entry_made
 begun_goes_on setup phases history addressed legal begun open_still =
-    let next = next_so_far phases (statements_of history)
-    (recursion_from_All (λ (statement : Statement). IsAddressed statement.event)
+    let next = next_so_far _ _ (recursion_from_All (λ (statement : Statement). IsAddressed statement.event)
     (in_file_order phases) addressed) begun open_still in
     let answered = some_answer setup history next.statement.event next.addressed in
     let entry : Entry =

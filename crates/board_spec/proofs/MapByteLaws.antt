@@ -189,10 +189,8 @@ module _ (setup : Setup) (bytes other : Bytes) (same : SameMapBytes setup bytes 
       rom_unselected setup bytes addr ≡ rom_unselected setup other addr
   unfolding rom_unselected
   not_selected_same addr list =
-      ap (λ windows. first_window (is_enabled_for 1 bytes) addr windows) (unselected_same setup.cards (rom_cards list))
-      ∙ first_same (is_enabled_for 1 bytes) (is_enabled_for 1 other) addr _
-      (of_all (unselected_windows other) (λ card fitted. search (of_choice, All-nil, of_rom)) setup.cards fitted_cards)
-      enabled_same
+      ap (λ windows. first_window (is_enabled_for 1 bytes) addr windows) (unselected_same _ (rom_cards list)) ∙
+      first_same _ _ addr _ (of_all _ (λ card fitted. search (of_choice, All-nil, of_rom)) _ fitted_cards) enabled_same
 
   -- ---- areas and denials
 

@@ -47,6 +47,5 @@ pub map_writes_decide : MapWritesDecide
 unfolding byte_of map_change_of map_writes_of registers_after
 map_writes_decide setup [] reg is = refl
 map_writes_decide setup (entry ∷ before) reg is =
-    changed_step setup (register_change setup before entry.event) (map_writes_of setup before) reg
-    (byte_of setup before reg) is
+    changed_step _ (register_change setup before entry.event) _ _ _ is
     (map_writes_decide setup before reg is)

@@ -70,16 +70,14 @@ whole_is_front phase part whole = record {
 
 shorter_so_far : (phases : List (List Statement)) (statements : List Statement) (last : Statement) →
     HasPhasesSoFar phases (statements ++ last ∷ []) → HasPhasesSoFar phases statements
-shorter_so_far [] statements last whole =
-    absurd (omega (arith, ap length whole, length-append statements (last ∷ [])))
-shorter_so_far (phase ∷ later) statements last (inl front) = inl (shorter_phase phase statements (last ∷ []) front)
+shorter_so_far [] statements last whole = absurd (omega (arith, ap length whole, length-append statements (last ∷ [])))
+shorter_so_far (phase ∷ later) statements last (inl front) = inl (shorter_phase _ _ _ front)
 shorter_so_far (phase ∷ later) statements last (inr whole) =
     elim (cases_lt (length statements) (length phase)) [
       | inl short ↦
           let all : take (length phase) (statements ++ last ∷ []) ≡ statements ++ last ∷ [] =
           take_all (length phase) _ (omega (arith, length-append statements (last ∷ []))) in
-          inl (shorter_phase phase statements (last ∷ [])
-          (whole_is_front phase (statements ++ last ∷ []) (subst (IsWholePhase phase) all whole.0)))
+          inl (shorter_phase _ _ _ (whole_is_front _ _ (subst (IsWholePhase phase) all whole.0)))
       | inr full ↦
           inr (
             subst (IsWholePhase phase) (take-append-le (length phase) statements (last ∷ []) full) whole.0,
@@ -90,5 +88,4 @@ shorter_so_far (phase ∷ later) statements last (inr whole) =
 
 pub front_is_begun : FrontIsBegun
 front_is_begun phases entry before begun =
-    shorter_so_far phases (statements_of before) (statement_of entry)
-    (subst (HasPhasesSoFar phases) (statements-newest entry before) begun)
+    shorter_so_far _ _ _ (subst (HasPhasesSoFar phases) (statements-newest entry before) begun)

@@ -18,8 +18,7 @@ bounded : (phases : List (List Statement)) (statements : List Statement) → Has
 bounded [] statements nothing = omega (arith, ap length nothing)
 bounded (phase ∷ later) statements (inl front) = simp length-append (omega (arith, front.size))
 bounded (phase ∷ later) statements (inr whole) =
-    simp length-append
-    (omega (arith, cut_length phase statements whole.0, bounded later (drop (length phase) statements) whole.1))
+    simp length-append (omega (arith, cut_length _ _ whole.0, bounded later (drop (length phase) statements) whole.1))
 
 complete_when_full : (phases : List (List Statement)) (statements : List Statement) → HasPhasesSoFar phases statements →
     length statements ≡ length (in_file_order phases) → HasPhases phases statements
@@ -51,9 +50,7 @@ pub begun_is_bounded : BegunIsBounded
 begun_is_bounded phases history begun = rw (← (stated history)) (bounded phases (statements_of history) begun)
 
 pub whole_is_complete : WholeIsComplete
-whole_is_complete phases history begun full =
-    complete_when_full phases (statements_of history) begun (stated history ∙ full)
+whole_is_complete phases history begun full = complete_when_full _ _ begun (stated history ∙ full)
 
 pub complete_is_whole : CompleteIsWhole
-complete_is_whole phases history complete =
-    sym (stated history) ∙ full_when_complete phases (statements_of history) complete
+complete_is_whole phases history complete = sym (stated history) ∙ full_when_complete _ _ complete

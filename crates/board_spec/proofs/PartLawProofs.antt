@@ -151,15 +151,13 @@ joined-made access from d (width ∷ later) here =
 
 pub cut_into_parts : CutIntoParts
 cut_into_parts access legal =
-    let cut = is_cut access legal in
+    let cut = is_cut _ legal in
     subst (AreParts access) (sym cut.parts) (record {
       least = subst (λ (n : ℕ). 2 ≤ n) (sym (length-made access access.addr cut.widths)) cut.least;
       most = subst (λ (n : ℕ). n ≤ 4) (sym (length-made access access.addr cut.widths)) cut.most;
-      covers =
-          covers-made access access.addr (access.addr + access.bytes) cut.widths
-          (ap (λ (n : ℕ). access.addr + n) cut.total_is);
-      each = each-made access access.addr cut.widths legal.fits cut.aligned;
+      covers = covers-made access _ _ _ (ap (λ (n : ℕ). access.addr + n) cut.total_is);
+      each = each-made access _ _ legal.fits cut.aligned;
       value =
-          joined-made access access.addr 0 cut.widths (omega arith)
+          joined-made access _ 0 cut.widths (omega arith)
           ∙ (rw (div-one access.value, cut.total_is) (mod-eq_of_lt (grind (arith, some_power, legal.fits))));
     })

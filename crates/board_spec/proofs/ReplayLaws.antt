@@ -1,10 +1,11 @@
 -- Every event has one answer, and every list of statements one replay.
-use Rattle.std.proofs.Common.{◌≡◌, ℕ, ◌+◌, Bool, List, [], ◌∷◌, ◌++◌, refl, sym, ◌∙◌, ap, length, append_assoc, ◌≤◌, map}
-use Rattle.std.proofs.Common.{reverse, arith}
+use Rattle.std.proofs.Common.{◌≡◌, ℕ, ◌+◌, Bool, List, [], ◌∷◌, ◌++◌, refl, sym, ◌∙◌, ap, length, append_assoc, ◌≤◌}
+use Rattle.std.proofs.Common.{map, reverse, arith}
 use Rattle.device_spec.proofs.Common.{length-map, append-nil, reverse-reverse, reverse-append, recursion_from_All}
 use Rattle.board_spec.specs.Common.{AllByRecursion, Kind, WideAccess, Setup, byte_of, version_of, parts_of, parts_list}
-use Rattle.board_spec.specs.Common.{IsWideAccess, part_answer, wide_value, IsLookAnswer, entries_by, IsNext, IsLegal, statement_of}
-use Rattle.board_spec.specs.Common.{statements_of, IsAddressed, SomeAnswer, OneAnswer, SomeReplay, OneReplay}
+use Rattle.board_spec.specs.Common.{IsWideAccess, part_answer, wide_value, IsLookAnswer, entries_by, IsNext, IsLegal}
+use Rattle.board_spec.specs.Common.{statement_of, statements_of, IsAddressed, SomeAnswer, OneAnswer, SomeReplay}
+use Rattle.board_spec.specs.Common.{OneReplay}
 use Rattle.board_spec.specs.declared.event.Event.{Event}
 use Rattle.board_spec.specs.declared.event.Event.TheVariants.{Wide, Look as LookAt}
 use Rattle.board_spec.specs.declared.event.Look.{Look}
@@ -48,8 +49,7 @@ parts_counted setup before access wide =
 
 pub some_answer : SomeAnswer
 some_answer setup before (Wide access) addressed =
-    let some = some_parts (map (part_answer setup before) (parts_of access))
-    (parts_counted setup before access addressed) in
+    let some = some_parts _ (parts_counted setup before _ addressed) in
     record {
       reply = InParts some.parts (wide_value setup before access);
       answer = record { value_is = refl; each = some.same };
@@ -72,8 +72,7 @@ one_answer setup before (Wide access) (InParts parts value) (InParts parts' valu
     grind (arith, l.value_is ∙ sym r.value_is, l.each ∙ sym r.each)
 one_answer setup before (Wide access) (InParts parts value) _ l r = absurd r
 one_answer setup before (Wide access) _ right l r = absurd l
-one_answer setup before (LookAt kind addr smm) (Saw left) (Saw right) l r =
-    one_look setup before kind addr smm left right l r
+one_answer setup before (LookAt kind addr smm) (Saw left) (Saw right) l r = one_look _ _ _ _ _ _ _ l r
 one_answer setup before (LookAt kind addr smm) (Saw left) _ l r = absurd r
 one_answer setup before (LookAt kind addr smm) _ right l r = absurd l
 one_answer setup before _ left right l r = l ∙ sym r
@@ -146,5 +145,4 @@ newest_first history = sym (ap reverse (map-reverse history) ∙ reverse-reverse
 
 pub one_replay : OneReplay
 one_replay setup statements left right l r =
-    same_history setup left right l.legal r.legal
-    (newest_first left ∙ ap reverse (l.same ∙ sym r.same) ∙ sym (newest_first right))
+    same_history _ _ _ l.legal r.legal (newest_first left ∙ ap reverse (l.same ∙ sym r.same) ∙ sym (newest_first right))
