@@ -252,11 +252,10 @@ pub many_format : {S A : Type 0} {n : ℕ} {one : S → Reading A} {next : S →
     ((s : S) → IsFormat n (one s) spelled (IsGood s)) → (s : S) (count : ℕ) → IsFormat (n * count) (many s count)
     (flat_map spelled) (AreMany next IsGood s count)
 many_format {n = n} {next = next} {spelled = spelled} {IsGood = IsGood} loop each s zero =
-    format_as (n * 0) (flat_map spelled) (AreMany next IsGood s 0) (read_as (loop.none s) (done_format []))
-    (omega arith) (λ values are. nil_from_length values are.0) (λ values none. rw none (refl, tt))
-    (λ values none. rw none refl)
+    format_as _ _ _ (read_as (loop.none s) (done_format [])) (omega arith) (λ values are. nil_from_length values are.0)
+    (λ values none. rw none (refl, tt)) (λ values none. rw none refl)
 many_format {n = n} {next = next} {spelled = spelled} {IsGood = IsGood} loop each s (suc count) =
-    format_as (n * suc count) (flat_map spelled) (AreMany next IsGood s (suc count))
+    format_as _ _ _
     (read_as (loop.more s count)
     (fields_format
     (each s then λ value good. last_field (λ later. value ∷ later) (many_format loop each (next s value) count))

@@ -140,9 +140,8 @@ Ranges low high n = (low ≤ n) × (n ≤ high)
 pub within_format : {size : Size} {limit : ℕ} → IsWide size limit → (low high : ℕ) → high < limit →
     IsFormat (byte_len size) (within size low high) (to_le_bytes size) (Ranges low high)
 within_format {size} {limit} wide low high fits =
-    format_as (byte_len size) (to_le_bytes size) (Ranges low high)
-    (where_format wide (λ n. nat_le low n && nat_le n high)) (omega arith) (λ n is. grind (arith, nat_tests))
-    (λ n good. grind (arith, nat_tests)) (λ n good. refl)
+    format_as _ _ _ (where_format wide (λ n. nat_le low n && nat_le n high)) (omega arith)
+    (λ n is. grind (arith, nat_tests)) (λ n good. grind (arith, nat_tests)) (λ n good. refl)
 
 pub byte_within : (low high : ℕ) → high < 2 ^ 8 → IsFormat 1 (within w8 low high) (λ n. n ∷ []) (Ranges low high)
 byte_within low high fits = as_byte (within_format wide8 low high fits) (λ n good. omega arith)
@@ -182,9 +181,8 @@ pub flag_where_format : (allowed : Bool) →
     IsFormat 1 (flag_where allowed) (λ flag. flag_byte flag ∷ []) (λ flag. flag_byte flag ≤ flag_byte allowed)
 unfolding flag_where
 flag_where_format allowed =
-    fields_format (last_field _ (byte_within 0 (flag_byte allowed) (grind arith)))
-    (λ flag few. ((flag_byte flag, (omega arith, few)), flag_is flag))
-    (λ t. rw (flag_again allowed t.0 t.1.1) (t.1.1, refl))
+    fields_format (last_field _ (byte_within 0 _ (grind arith)))
+    (λ flag few. ((flag_byte flag, (omega arith, few)), flag_is flag)) (λ t. rw (flag_again _ _ t.1.1) (t.1.1, refl))
 
 -- ---- numbers that may be absent
 
@@ -209,6 +207,5 @@ unfolding optional
 optional_format {limit = limit} {spelled = spelled} format low high few =
     fields_format
     (flag_format then λ there any.
-    last_field _ (format (bound_where there low) (bound_where there high) (grind arith)))
-    (λ o is. let told = optional_to low high o is in ((is_some o, tt) & (unwrap_or o 0, told.0), told.1))
-    (λ t. some_from spelled low high t.0 t.2.0 t.2.1)
+    last_field _ (format (bound_where there low) (bound_where there high) (grind arith))) (λ o is. let told =
+    optional_to _ _ o is in ((is_some o, tt) & (unwrap_or o 0, told.0), told.1)) (λ t. some_from spelled _ _ _ _ t.2.1)

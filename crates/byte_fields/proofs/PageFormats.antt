@@ -32,15 +32,13 @@ IsWhere plain false page = page ≡ plain
 where_format : (plain : List ℕ) (differs : Bool) →
     IsFormat (length plain) (page_where differs plain) (where_bytes differs) (IsWhere plain differs)
 where_format plain true =
-    read_as (λ bytes. grind arith)
-    (cut_format {says = λ front. cond (bytes_eq front plain) None (Some front)} (λ page. page) (IsOther plain)
-    (λ page good. (good.0, rw good.1 refl))
+    read_as (λ bytes. grind arith) (cut_format {says = λ front. cond (bytes_eq front plain) None (Some front)}
+    (λ page. page) _ (λ page good. (good.0, rw good.1 refl))
     (λ front page long are is.
     let told : (bytes_eq front plain ≡ false) × (front ≡ page) = grind arith in
     (told.1, rw (← told.1) (long, told.0))))
 where_format plain false =
-    format_as (length plain) (where_bytes false) (IsWhere plain false) (done_format plain) (omega arith)
-    (λ page good. good) (λ page good. good) (λ page good. refl)
+    format_as _ _ _ (done_format plain) (omega arith) (λ page good. good) (λ page good. good) (λ page good. refl)
 
 where_to : (same : Bool) (plain page : List ℕ) → bytes_eq page plain ≡ same → length page ≡ length plain →
     IsWhere plain (not same) page
@@ -58,8 +56,7 @@ unfolding page_field
 page_format plain =
     fields_format (flag_format then λ differs any. whole_field (where_format plain differs))
     (λ page long.
-    ((not (bytes_eq page plain), tt) & (page, where_to (bytes_eq page plain) plain page refl long), refl))
-    (λ t. where_from t.0 plain t.2.0 t.2.1)
+    ((not (bytes_eq page plain), tt) & (page, where_to _ _ _ refl long), refl)) (λ t. where_from _ _ _ t.2.1)
 
 -- ---- page after page
 

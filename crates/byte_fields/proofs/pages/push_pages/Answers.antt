@@ -14,7 +14,5 @@ loop-done-preserved c = record {
 
 pub returns : goal.returns
 returns c = record {
-  added =
-      push_ends c.args.size c.loop-done.done _ c.args.plain.now c.args.bytes.now _ c.requires.same
-      c.loop-done-test.false c.loop-done.invariant.added;
+  added = push_ends _ _ _ _ _ _ c.requires.same c.loop-done-test.false c.loop-done.invariant.added;
 }
