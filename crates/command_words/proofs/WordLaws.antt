@@ -1,15 +1,14 @@
 -- The words that ask for a command are those that a user writes.
-use Rattle.std.proofs.Common.{◌≡◌, ℕ, ◌%◌, inl, inr, eqb, leb, cond, Bool, true, false, List, [], ◌∷◌, Option, Some}
-use Rattle.std.proofs.Common.{None, refl, sym, ap, ◌∙◌, subst, arith, codes, decimal, bytes_eq}
-use Rattle.std.proofs.lemmas.Bool.{cases_Bool, leb-true, le-leb, eqb-true, eq-eqb, and_parts}
+use Rattle.std.proofs.Common.{◌≡◌, ℕ, Bool, true, false, List, [], ◌∷◌, Some, refl, sym, ap, ◌∙◌, subst, arith, codes}
+use Rattle.std.proofs.Common.{decimal}
+use Rattle.std.proofs.lemmas.Bool.Decides.{nat_tests}
 use Rattle.script_spec.specs.Common.{IsDecimal, parse_decimal, parse_hex}
+use Rattle.script_spec.proofs.Chains.{by_word}
 use Rattle.script_spec.proofs.Common.{some_is, guarded, then_said, word_is, decimal_read, decimal_back}
-use Rattle.make_script.specs.Laws.{most_rounds}
 use Rattle.command_words.specs.declared.transfer.Transfer.{Transfer}
 use Rattle.command_words.specs.Words.{Command, Replay, Run, Map, Check, Make, Dma, Save, Resume, Serial, Blame}
 use Rattle.command_words.specs.Words.{IsTransfer, IsCommand, direction_word, AreWordsOf, with_name, with_names}
-use Rattle.command_words.specs.Words.{is_round_count, make_of, is_transfer, direction_of, dma_of, command_of}
-use Rattle.command_words.specs.Words.{WordsDecide, OneCommand}
+use Rattle.command_words.specs.Words.{make_of, is_transfer, direction_of, dma_of, command_of, WordsDecide, OneCommand}
 
 abbrev Asks : List (List ℕ) → Command → Type 0
 Asks words command = IsCommand command × AreWordsOf words command
@@ -19,65 +18,34 @@ Asks words command = IsCommand command × AreWordsOf words command
 -- with the name of one file, and with those of two
 one_read : (verb : List ℕ) (named : List ℕ → Command) → ((name : List ℕ) → Asks (verb ∷ name ∷ []) (named name)) →
     (words : List (List ℕ)) (command : Command) → with_name named words ≡ Some command → Asks (verb ∷ words) command
-one_read verb named each [] command e = absurd (cc e)
 one_read verb named each (name ∷ []) command e =
     subst (Asks (verb ∷ name ∷ [])) (some_is (named name) command e) (each name)
-one_read verb named each (name ∷ other ∷ rest) command e = absurd (cc e)
+one_read verb named each _ command e = absurd cc
 
 two_read : (verb : List ℕ) (named : List ℕ → List ℕ → Command) →
     ((name other : List ℕ) → Asks (verb ∷ name ∷ other ∷ []) (named name other)) → (words : List (List ℕ))
     (command : Command) → with_names named words ≡ Some command → Asks (verb ∷ words) command
-two_read verb named each [] command e = absurd (cc e)
-two_read verb named each (name ∷ []) command e = absurd (cc e)
 two_read verb named each (name ∷ other ∷ []) command e =
     subst (Asks (verb ∷ name ∷ other ∷ [])) (some_is (named name other) command e) (each name other)
-two_read verb named each (name ∷ other ∷ more ∷ rest) command e = absurd (cc e)
+two_read verb named each _ command e = absurd cc
 
 make_read : (words : List (List ℕ)) (command : Command) → make_of words ≡ Some command
     → Asks (codes "make" ∷ words) command
 unfolding make_of
-make_read [] command e = absurd (cc e)
-make_read (word ∷ []) command e =
-    let count = then_said (parse_decimal word) (λ count. cond (is_round_count count) (Some (Make count)) None) command
-    e in
-    let few = guarded (is_round_count count.0) (Some (Make count.0)) command count.2 in
-    let ends = and_parts (leb 1 count.0) (leb count.0 most_rounds) few.0 in
-    subst (Asks (codes "make" ∷ word ∷ [])) (some_is (Make count.0) command few.1) (
-      (leb-true 1 count.0 ends.0, leb-true count.0 most_rounds ends.1),
-      ap (λ (last : List ℕ). codes "make" ∷ last ∷ []) (decimal_read word count.0 count.1).0,
-    )
-make_read (word ∷ more ∷ rest) command e = absurd (cc e)
+make_read (word ∷ []) command e = grind (arith, nat_tests, then_said, decimal_read)
+make_read _ command e = absurd cc
 
 transfer_is : (transfer : Transfer) → is_transfer transfer ≡ true → IsTransfer transfer
-transfer_is transfer e =
-    let three = and_parts _ (leb transfer.count 256) e in
-    let two = and_parts _ (leb 1 transfer.count) three.0 in
-    let one = and_parts (eqb (transfer.table % 4) 0) (leb transfer.lba 65_535) two.0 in
-    record {
-      aligned = eqb-true (transfer.table % 4) 0 one.0;
-      sector = leb-true transfer.lba 65_535 one.1;
-      some = leb-true 1 transfer.count two.1;
-      most = leb-true transfer.count 256 three.1;
-    }
+transfer_is transfer e = grind (arith, nat_tests)
 
 direction_read : (word : List ℕ) (to_memory : Bool) → direction_of word ≡ Some to_memory
     → word ≡ direction_word to_memory
 unfolding direction_of
-direction_read word to_memory e = elim (cases_Bool (bytes_eq word (codes "in"))) [
-  | inl one ↦ word_is word (codes "in") one ∙ ap direction_word (some_is true to_memory (rw (one) at e))
-  | inr one ↦
-      let out = guarded (bytes_eq word (codes "out")) (Some false) to_memory (rw (one) at e) in
-      word_is word (codes "out") out.0 ∙ ap direction_word (some_is false to_memory out.1)
-]
+direction_read word to_memory e = grind (arith, nat_tests, word_is)
 
 dma_read : (words : List (List ℕ)) (command : Command) → dma_of words ≡ Some command
     → Asks (codes "dma" ∷ words) command
 unfolding dma_of
-dma_read [] command e = absurd (cc e)
-dma_read (_ ∷ []) command e = absurd (cc e)
-dma_read (_ ∷ _ ∷ []) command e = absurd (cc e)
-dma_read (_ ∷ _ ∷ _ ∷ []) command e = absurd (cc e)
-dma_read (_ ∷ _ ∷ _ ∷ _ ∷ []) command e = absurd (cc e)
 dma_read (script ∷ direction ∷ table ∷ lba ∷ count ∷ []) command e =
     let to_memory = then_said (direction_of direction) _ command e in
     let address = then_said (parse_hex 8 table) _ command to_memory.2 in
@@ -101,33 +69,25 @@ dma_read (script ∷ direction ∷ table ∷ lba ∷ count ∷ []) command e =
             (decimal_read count sectors.0 sectors.1).0,
       ),
     )
-dma_read (_ ∷ _ ∷ _ ∷ _ ∷ _ ∷ _ ∷ _) command e = absurd (cc e)
+dma_read _ command e = absurd cc
 
 -- ---- the verbs
 
--- the command of one verb, or that of the verbs that come after it
-verb_read : (verb text : List ℕ) (words : List (List ℕ)) (command : Command) {own others : Option Command} →
-    (own ≡ Some command → Asks (text ∷ words) command) → (others ≡ Some command → Asks (verb ∷ words) command) →
-    cond (bytes_eq verb text) own others ≡ Some command → Asks (verb ∷ words) command
-verb_read verb text words command own others e = elim (cases_Bool (bytes_eq verb text)) [
-  | inl is ↦ subst (λ (first : List ℕ). Asks (first ∷ words) command) (sym (word_is verb text is)) (own (rw (is) at e))
-  | inr is ↦ others (rw (is) at e)
-]
-
 all_read : (words : List (List ℕ)) (command : Command) → command_of words ≡ Some command → Asks words command
 unfolding command_of
-all_read [] command e = absurd (cc e)
+all_read [] command e = absurd cc
 all_read (verb ∷ words) command e =
-    verb_read verb (codes "replay") words command (one_read (codes "replay") Replay (λ _. (tt, refl)) words command)
-    (verb_read verb (codes "run") words command (one_read (codes "run") Run (λ _. (tt, refl)) words command)
-    (verb_read verb (codes "map") words command (one_read (codes "map") Map (λ _. (tt, refl)) words command)
-    (verb_read verb (codes "check") words command (two_read (codes "check") Check (λ _ _. (tt, refl)) words command)
-    (verb_read verb (codes "make") words command (make_read words command)
-    (verb_read verb (codes "dma") words command (dma_read words command)
-    (verb_read verb (codes "save") words command (one_read (codes "save") Save (λ _. (tt, refl)) words command)
-    (verb_read verb (codes "resume") words command (two_read (codes "resume") Resume (λ _ _. (tt, refl)) words command)
-    (verb_read verb (codes "serial") words command (two_read (codes "serial") Serial (λ _ _. (tt, refl)) words command)
-    (verb_read verb (codes "blame") words command (one_read (codes "blame") Blame (λ _. (tt, refl)) words command)
+    let P : List ℕ → Type 0 = λ v. Asks (v ∷ words) command in
+    by_word P verb (codes "replay") _ _ command (one_read (codes "replay") Replay (λ _. (tt, refl)) words command)
+    (by_word P verb (codes "run") _ _ command (one_read (codes "run") Run (λ _. (tt, refl)) words command)
+    (by_word P verb (codes "map") _ _ command (one_read (codes "map") Map (λ _. (tt, refl)) words command)
+    (by_word P verb (codes "check") _ _ command (two_read (codes "check") Check (λ _ _. (tt, refl)) words command)
+    (by_word P verb (codes "make") _ _ command (make_read words command)
+    (by_word P verb (codes "dma") _ _ command (dma_read words command)
+    (by_word P verb (codes "save") _ _ command (one_read (codes "save") Save (λ _. (tt, refl)) words command)
+    (by_word P verb (codes "resume") _ _ command (two_read (codes "resume") Resume (λ _ _. (tt, refl)) words command)
+    (by_word P verb (codes "serial") _ _ command (two_read (codes "serial") Serial (λ _ _. (tt, refl)) words command)
+    (by_word P verb (codes "blame") _ _ command (one_read (codes "blame") Blame (λ _. (tt, refl)) words command)
     (λ none. absurd (cc none))))))))))) e
 
 -- ---- back
@@ -135,9 +95,7 @@ all_read (verb ∷ words) command e =
 made_back : (rounds : ℕ) → IsCommand (Make rounds)
     → command_of (codes "make" ∷ decimal rounds ∷ []) ≡ Some (Make rounds)
 unfolding command_of make_of
-made_back rounds there =
-    let small : IsDecimal rounds = omega (arith, there.1) in
-    rw (decimal_back rounds small, le-leb 1 rounds there.0, le-leb rounds most_rounds there.1) refl
+made_back rounds there = grind (arith, nat_tests, decimal_back)
 
 direction_back : (to_memory : Bool) → direction_of (direction_word to_memory) ≡ Some to_memory
 unfolding direction_of
@@ -145,13 +103,7 @@ direction_back true = refl
 direction_back false = refl
 
 transfer_back : (transfer : Transfer) → IsTransfer transfer → is_transfer transfer ≡ true
-transfer_back transfer there =
-    rw (
-      eq-eqb (transfer.table % 4) 0 there.aligned,
-      le-leb transfer.lba 65_535 there.sector,
-      le-leb 1 transfer.count there.some,
-      le-leb transfer.count 256 there.most,
-    ) refl
+transfer_back transfer there = grind (arith, nat_tests)
 
 dma_back :
     (script digits : List ℕ) (transfer : Transfer) → IsTransfer transfer → parse_hex 8 digits ≡ Some transfer.table →
