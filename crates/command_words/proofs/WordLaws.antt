@@ -1,14 +1,14 @@
 -- The words that ask for a command are those that a user writes.
-use Rattle.std.proofs.Common.{◌≡◌, ℕ, Bool, true, false, List, [], ◌∷◌, Some, refl, sym, ap, ◌∙◌, subst, arith, codes}
+use Rattle.std.proofs.Common.{◌≡◌, ℕ, Bool, true, false, List, [], ◌∷◌, Some, refl, sym, ◌∙◌, subst, arith, codes}
 use Rattle.std.proofs.Common.{decimal}
 use Rattle.std.proofs.lemmas.Bool.Decides.{nat_tests}
-use Rattle.script_spec.specs.Common.{IsDecimal, parse_decimal, parse_hex}
+use Rattle.script_spec.specs.Common.{parse_decimal, parse_hex}
 use Rattle.script_spec.proofs.Chains.{by_word}
 use Rattle.script_spec.proofs.Common.{some_is, guarded, then_said, word_is, decimal_read, decimal_back}
 use Rattle.command_words.specs.declared.transfer.Transfer.{Transfer}
 use Rattle.command_words.specs.Words.{Command, Replay, Run, Map, Check, Make, Dma, Save, Resume, Serial, Blame}
-use Rattle.command_words.specs.Words.{IsTransfer, IsCommand, direction_word, AreWordsOf, with_name, with_names}
-use Rattle.command_words.specs.Words.{make_of, is_transfer, direction_of, dma_of, command_of, WordsDecide, OneCommand}
+use Rattle.command_words.specs.Words.{IsTransfer, IsCommand, direction_word, AreWordsOf, with_name, with_names, make_of}
+use Rattle.command_words.specs.Words.{is_transfer, direction_of, dma_of, command_of, WordsDecide, OneCommand}
 
 abbrev Asks : List (List ℕ) → Command → Type 0
 Asks words command = IsCommand command × AreWordsOf words command
@@ -54,21 +54,11 @@ dma_read (script ∷ direction ∷ table ∷ lba ∷ count ∷ []) command e =
     let transfer : Transfer =
     record { to_memory = to_memory.0; table = address.0; lba = sector.0; count = sectors.0 } in
     let is = guarded (is_transfer transfer) (Some (Dma script transfer)) command sectors.2 in
-    subst (Asks (codes "dma" ∷ script ∷ direction ∷ table ∷ lba ∷ count ∷ []))
-    (some_is (Dma script transfer) command is.1) (
-      transfer_is transfer is.0,
-      (
-        table,
-        address.1,
-        ap (λ (word : List ℕ). codes "dma" ∷ script ∷ word ∷ table ∷ lba ∷ count ∷ [])
-            (direction_read direction to_memory.0 to_memory.1)
-            ∙ ap (λ (word : List ℕ). codes "dma" ∷ script ∷ direction_word to_memory.0 ∷ table ∷ word ∷ count ∷ [])
-            (decimal_read lba sector.0 sector.1).0
-            ∙ ap (λ (word : List ℕ). codes "dma" ∷ script ∷ direction_word to_memory.0 ∷ table ∷ decimal sector.0 ∷ word
-            ∷ [])
-            (decimal_read count sectors.0 sectors.1).0,
-      ),
-    )
+    let first = direction_read direction to_memory.0 to_memory.1 in
+    let second = (decimal_read lba sector.0 sector.1).0 in
+    let third = (decimal_read count sectors.0 sectors.1).0 in
+    rw (← some_is (Dma script transfer) command is.1)
+    (transfer_is transfer is.0, (table, address.1, λ i. codes "dma" ∷ script ∷ first i ∷ table ∷ second i ∷ third i ∷ []))
 dma_read _ command e = absurd cc
 
 -- ---- the verbs
@@ -111,15 +101,7 @@ dma_back :
     ≡ Some (Dma script transfer)
 unfolding dma_of
 dma_back script digits transfer there address =
-    let sector : IsDecimal transfer.lba = omega (arith, there.sector) in
-    let sectors : IsDecimal transfer.count = omega (arith, there.most) in
-    rw (
-      direction_back transfer.to_memory,
-      address,
-      decimal_back transfer.lba sector,
-      decimal_back transfer.count sectors,
-      transfer_back transfer there,
-    ) refl
+    grind (arith, nat_tests, direction_back, decimal_back, transfer_back)
 
 as_words : (words written : List (List ℕ)) (command : Command) → words ≡ written → command_of written ≡ Some command →
     command_of words ≡ Some command
