@@ -49,20 +49,10 @@ ended version before [] bits tail e = (refl, some_is _ tail e)
 ended version before (_ ∷ _) bits tail e = absurd cc
 
 -- a field is an expansion ROM, or a base
-record IsRomNext (version : ℕ) (before : List Base) (field : List ℕ) (next : Tail) : Type 0 where
-  pub bits : ℕ
-  pub read : parse_rom_bits version field ≡ Some bits
-  pub is : next ≡ closed before bits
-
-record IsBaseNext (before : List Base) (field : List ℕ) (next : Tail) : Type 0 where
-  pub base : Base
-  pub read : parse_base field ≡ Some base
-  pub is : next ≡ fresh (before ++ base ∷ [])
-  pub room : length before < 6
-
 field_read : (version : ℕ) (before : List Base) (field : List ℕ) (next : Tail)
     → with_field version (fresh before) field ≡ Some next
-    → IsRomNext version before field next ⊎ IsBaseNext before field next
+    → ((bits : ℕ) × (parse_rom_bits version field ≡ Some bits) × (next ≡ closed before bits))
+    ⊎ ((base : Base) × (parse_base field ≡ Some base) × (next ≡ fresh (before ++ base ∷ [])) × (length before < 6))
 unfolding with_field with_rom with_base
 field_read version before field next e = grind (arith, nat_tests)
 
@@ -73,10 +63,6 @@ record IsTail (version : ℕ) (before : List Base) (fields : List (List ℕ)) (t
   pub rom : IsRomForm version tail.rom
   pub count : length tail.bases ≤ 6
 
-words_more : (before : List Base) (base : Base) (field : List ℕ) (fields words : List (List ℕ)) → field ≡ base_word base
-    → map base_word (before ++ base ∷ []) ++ fields ≡ words → map base_word before ++ field ∷ fields ≡ words
-words_more before base field fields words is more = rw is (rw (map-append, append_assoc) at more)
-
 tail_read : (version : ℕ) (before : List Base) (fields : List (List ℕ)) (tail : Tail) → length before ≤ 6
     → All IsBaseForm before → with_fields version (fresh before) fields ≡ Some tail → IsTail version before fields tail
 unfolding with_fields
@@ -86,16 +72,16 @@ tail_read version before (field ∷ fields) tail few each e =
     let s = then_said (with_field version (fresh before) field) _ tail e in
     elim (field_read version before field s.0 s.1) [
       | inl rom ↦
-          let end = ended version before fields rom.bits tail (rw rom.is at s.2) in
-          let read = rom_read version field rom.bits rom.read in
+          let end = ended version before fields rom.0 tail (rw rom.2 at s.2) in
+          let read = rom_read version field rom.0 rom.1 in
           rw (← end.1, end.0, read.0) (record { words = refl; each = each; rom = read.1; count = few })
       | inr base ↦
-          let read = base_read field base.base base.read in
-          let later = tail_read version (before ++ base.base ∷ []) fields tail
-          (omega (arith, length-append before (base.base ∷ []), base.room))
-          (All-push IsBaseForm before base.base each read.1) (rw base.is at s.2) in
+          let read = base_read field base.0 base.1 in
+          let later = tail_read version (before ++ base.0 ∷ []) fields tail
+          (omega (arith, length-append before (base.0 ∷ []), base.3))
+          (All-push IsBaseForm before base.0 each read.1) (rw base.2 at s.2) in
           record {
-            words = words_more before base.base field fields _ read.0 later.words;
+            words = rw read.0 (rw (map-append, append_assoc) at later.words);
             each = later.each;
             rom = later.rom;
             count = later.count;
@@ -143,19 +129,10 @@ unfolding with_fields
 tail_back version before [] None few each form = ap (λ (b : List Base). Some (fresh b)) (sym (append-nil before))
 tail_back version before [] (Some bits) few each form = simp (rom_back, append-nil)
 tail_back version before (base ∷ more) rom few each form =
-    grind (
-      arith,
-      nat_tests,
-      next_back,
-      All-head,
-      length-append,
-      All-tail,
-      append_assoc,
-      tail_back version (before ++
-          base ∷ []) more rom (omega (arith, few, length-append before (base ∷ [])))
-          (All-tail IsBaseForm base more each)
-          form,
-    )
+    let room = length-append before (base ∷ []) in
+    let forms = All-tail IsBaseForm base more each in
+    let later = tail_back version (before ++ base ∷ []) more rom (omega arith) forms form in
+    grind (arith, nat_tests, next_back, All-head, All-tail, append_assoc)
 
 pub fitted_back : (version dev : ℕ) (vga : Bool) (bases : List Base) (rom : Option ℕ)
     → IsCardForm version (record { dev = dev; vga = vga; bases = bases; rom = rom })

@@ -1,8 +1,8 @@
 -- Parts of a chain that said something, and fields that spell words.
 use Rattle.board_prelude.proofs.Common.{nat_tests, option_and_then, option_map, AllZip, join_with_byte}
 use Rattle.board_prelude.proofs.Common.{bytes_eq-Decides, space}
-use Rattle.std.proofs.Common.{arith, ◌≡◌, Bool, true, cond, Option, Some, None, suc, List, [], ◌∷◌, length, get_or}
-use Rattle.std.proofs.Common.{drop, ap, unwrap_or, ℕ, ◌++◌, inl, refl, subst, bytes_eq}
+use Rattle.std.proofs.Common.{arith, ◌≡◌, Bool, true, cond, Option, Some, None, suc, List, [], ◌∷◌, length, get_or, ap}
+use Rattle.std.proofs.Common.{unwrap_or, ℕ, ◌++◌, inl, refl, subst, bytes_eq}
 use Rattle.script_spec.specs.Common.{StandsFor}
 
 pub some_is : {A : Type 0} (x y : A) → ◌≡◌ {A = Option A} (Some x) (Some y) → x ≡ y
@@ -26,9 +26,6 @@ then_read said f y read e = let s = then_said said f y e in (s.0, read s.0 s.1, 
 
 pub same_head : {X : Type 0} (x y : X) (xs ys : List X) → x ∷ xs ≡ y ∷ ys → x ≡ y
 same_head x y xs ys e = ap (λ l. get_or l 0 x) e
-
-pub same_tail : {X : Type 0} (x y : X) (xs ys : List X) → x ∷ xs ≡ y ∷ ys → xs ≡ ys
-same_tail x y xs ys e = ap (λ l. drop 1 l) e
 
 pub not_nil : {X : Type 0} (x : X) (xs : List X) → [] ≡ x ∷ xs → ⊥
 not_nil x xs e = let lengths : 0 ≡ suc (length xs) = ap length e in omega (arith, lengths)

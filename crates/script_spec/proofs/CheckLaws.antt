@@ -37,20 +37,12 @@ pub compared : (lines : List (List ℕ)) (rest : List ℕ) (others : List (List 
     All IsOneLine others → text_of_lines lines ++ rest ≡ text_of_lines others ++ after →
     Compared lines rest others after
 compared [] rest [] after each all same = inl refl
-compared [] rest (line ∷ others) after each all same = inr (inl (record {
-  this = line;
-  more = others;
-  is = refl;
-  one = All-head IsOneLine line others all;
-  whole = same ∙ line_parts line (text_of_lines others) after;
-}))
-compared (line ∷ lines) rest [] after each all same = inr (inr (record {
-  this = line;
-  more = lines;
-  is = refl;
-  one = All-head IsOneLine line lines each;
-  whole = sym same ∙ line_parts line (text_of_lines lines) rest;
-}))
+compared [] rest (line ∷ others) after each all same =
+    let whole = same ∙ line_parts line (text_of_lines others) after in
+    inr (inl (record { this = line; more = others; is = refl; one = All-head IsOneLine line others all; whole = whole }))
+compared (line ∷ lines) rest [] after each all same =
+    let whole = sym same ∙ line_parts line (text_of_lines lines) rest in
+    inr (inr (record { this = line; more = lines; is = refl; one = All-head IsOneLine line lines each; whole = whole }))
 compared (line ∷ lines) rest (other ∷ others) after each all same =
     let cut = rw (line_parts line (text_of_lines lines) rest, line_parts other (text_of_lines others) after) at same in
     let lack = lacks-line line (All-head IsOneLine line lines each) in
@@ -66,19 +58,14 @@ module _ (IsText : List ℕ → Type 0) where
   -- where longer lines begin a text, so do their first ones
   begun_front : (lines : List (List ℕ)) (this : List ℕ) (more : List (List ℕ))
       → AreBegun IsText (lines ++ this ∷ more) → AreBegun IsText (lines ++ this ∷ [])
-  begun_front lines this more begun = record {
-    later = text_of_lines more ++ begun.later;
-    text = rw (
-      ← append_assoc lines (this ∷ []) more,
-      flat_map-append,
-      append_assoc (text_of_lines (lines ++ this ∷ [])) (text_of_lines more) begun.later,
-    ) at begun.text;
-  }
+  begun_front lines this more begun =
+      let cut = append_assoc lines (this ∷ []) more in
+      let join = append_assoc (text_of_lines (lines ++ this ∷ [])) (text_of_lines more) begun.later in
+      record { later = text_of_lines more ++ begun.later; text = rw (← cut, flat_map-append, join) at begun.text }
 
-  module _ (bytes : List ℕ) (line place : ℕ) (one : LeavesAt IsText bytes line) (two : LeavesAt IsText bytes place)
-    where
-      not_longer : GoesOn one.before one.rest two.before two.rest → ⊥
-      not_longer on = grind (arith, nat_tests, begun_front)
+  not_longer : (bytes : List ℕ) (line place : ℕ) (one : LeavesAt IsText bytes line) (two : LeavesAt IsText bytes place)
+      → GoesOn one.before one.rest two.before two.rest → ⊥
+  not_longer bytes line place one two on = grind (arith, nat_tests, begun_front)
 
   one_leaving : (bytes : List ℕ) (line place : ℕ) → LeavesAt IsText bytes line → LeavesAt IsText bytes place
       → line ≡ place

@@ -65,11 +65,6 @@ abbrev AreLines : (version : ℕ) → List Item → List (List ℕ) → (number 
 AreLines version before lines number (Ok items) = AreRead version before lines items × (lacks_setup items ≡ false)
 AreLines version before lines number (Err end) = Stops version before lines number end
 
-after_line : (version : ℕ) (line : List ℕ) (later : List (List ℕ)) (before items ends : List Item) →
-    AreRead version before (line ∷ []) items → AreRead version items later ends
-    → AreRead version before (line ∷ later) ends
-after_line version line later before items ends given read = grind (arith, nat_tests)
-
 later_are : (version number : ℕ) (line : List ℕ) (later : List (List ℕ)) (before items : List Item) →
     AreRead version before (line ∷ []) items → (result : Result (List Item) (ℕ × ℕ)) →
     AreLines version items later (number + 1) result → AreLines version before (line ∷ later) number result
@@ -79,7 +74,7 @@ later_are version number line later before items one (Err end) stops = record {
   rest = stops.rest;
   cut = ap (λ ls. line ∷ ls) stops.cut;
   items = stops.items;
-  read = after_line version line stops.good before items stops.items one stops.read;
+  read = grind (arith, nat_tests, stops.read);
   bad = stops.bad;
   place = let e : end.0 ≡ length stops.good + (number + 1) = stops.place in omega (arith, e);
 }
@@ -158,11 +153,9 @@ line_decided version before items line (inr one) =
 bad_line : (version : ℕ) (before : List Item) (line : List ℕ) (why : ℕ) → IsBadLine version before line why →
     judged_line version before line ≡ Err why
 bad_line version before line why (inl long) = rw (lt-ltb most_bytes (length line) long.0, long.1) refl
-bad_line version before line why (inr (inl none)) = rw (
-  read_so version before line none.0.short none.0.read,
-  no_form version line (parse_line version line) refl none.0.none,
-  none.1,
-) refl
+bad_line version before line why (inr (inl none)) =
+    let absent = no_form version line (parse_line version line) refl none.0.none in
+    rw (read_so version before line none.0.short none.0.read, absent, none.1) refl
 bad_line version before line why (inr (inr refused)) =
     rw (item_so version before line refused.item refused.short refused.read refused.has, refused.least) refl
 

@@ -1,25 +1,25 @@
 -- Fields are read as an event exactly where they spell it.
-use Rattle.std.proofs.Common.{◌≡◌, ℕ, ◌*◌, ◌%◌, ◌^◌, ◌<◌, ◌⊎◌, Bool, true, false, Some, List, [], ◌∷◌, refl, ap, ◌∙◌}
-use Rattle.std.proofs.Common.{arith, codes, decimal, if◌then◌else◌}
-use Rattle.board_prelude.proofs.Common.{nat_tests, option_map, Kind, Write, Width, WideAccess, Moment, bytes_of, Event}
-use Rattle.board_prelude.proofs.Common.{Memory, Wide, Port, Ack, Time, Pulses, Wire, Line, BadSector, Stimulus}
-use Rattle.board_prelude.proofs.Common.{stimulus_form, applied, event_applied, is_write, FitsBytes, hex_number}
-use Rattle.board_prelude.proofs.Common.{size_text, width_text, kind_text, level_text, moment_text}
+use Rattle.std.proofs.Common.{◌≡◌, ℕ, ◌*◌, ◌^◌, ◌<◌, Bool, true, false, Some, List, [], ◌∷◌, refl, ap, arith, codes}
+use Rattle.std.proofs.Common.{decimal, if◌then◌else◌}
+use Rattle.board_prelude.proofs.Common.{nat_tests, option_map, Kind, Write, Width, Moment, bytes_of, Event, Memory}
+use Rattle.board_prelude.proofs.Common.{Wide, Port, Ack, Time, Pulses, Wire, Line, BadSector, Stimulus, stimulus_form}
+use Rattle.board_prelude.proofs.Common.{applied, event_applied, is_write, FitsBytes, hex_number, size_text, width_text}
+use Rattle.board_prelude.proofs.Common.{kind_text, moment_text}
 use Rattle.board_spec.specs.declared.event.Event.TheVariants.{Look as LookAt}
 use Rattle.board_spec.specs.declared.stimulus.Stimulus.TheVariants as stimuli
-use Rattle.script_spec.specs.Common.{Item, IsDecimal, IsWideForm, IsMomentForm, IsEventForm, IsSize, parse_size}
-use Rattle.script_spec.specs.Common.{parse_width, parse_kind, parse_smm, memory_event, parse_read, parse_write}
-use Rattle.script_spec.specs.Common.{parse_in, parse_out, parse_look, parse_ack, parse_number, parse_two_numbers}
-use Rattle.script_spec.specs.Common.{parse_given, parse_stimulus_item, ask, stimulus_item, parse_only_moment}
-use Rattle.script_spec.specs.Common.{parse_time_item, parse_by_verb, parse_statement_words, parse_hex, parse_decimal}
+use Rattle.script_spec.specs.Common.{Item, IsDecimal, IsMomentForm, IsEventForm, IsSize, parse_size, parse_width}
+use Rattle.script_spec.specs.Common.{parse_kind, parse_smm, memory_event, parse_read, parse_write, parse_in, parse_out}
+use Rattle.script_spec.specs.Common.{parse_look, parse_ack, parse_number, parse_two_numbers, parse_given}
+use Rattle.script_spec.specs.Common.{parse_stimulus_item, ask, parse_only_moment, parse_time_item, parse_by_verb}
+use Rattle.script_spec.specs.Common.{parse_statement_words, parse_hex, parse_decimal}
 use Rattle.script_spec.specs.Events.{read_event, write_event, in_event, out_event, look_event}
 use Rattle.script_spec.proofs.Chains.{some_is, then_read, Spells, Reads, same, same_as, word_is}
 use Rattle.script_spec.proofs.Digits.{digits_of_decimal}
 use Rattle.script_spec.proofs.NumberTexts.{decimal_read, hex_read, is_plain, plain_is, plain-digits, decimal_back}
 use Rattle.script_spec.proofs.NumberTexts.{hex_back}
 use Rattle.script_spec.proofs.Moments.{moment_back, plain_moment, moment_read}
-use Rattle.script_spec.proofs.Words.{smm_words, written_words, access_words, given_words, applied_words, event_words}
-use Rattle.script_spec.proofs.Words.{zero_text, one_text}
+use Rattle.script_spec.proofs.Words.{smm_words, written_words, access_words, applied_words, event_words, zero_text}
+use Rattle.script_spec.proofs.Words.{one_text}
 
 -- ---- letters
 
@@ -53,20 +53,6 @@ smm_read flags smm e = grind (arith, nat_tests, same_as, word_is)
 
 -- ---- what is spelled is read: accesses
 
-read_back : (version : ℕ) (kind : Kind) (bytes addr : ℕ) (smm : Bool) (words : List (List ℕ)) → IsSize version bytes
-    → addr < 2 ^ 32 → Reads words (size_text bytes ∷ hex_number 4 addr ∷ smm_words smm)
-    → parse_read version kind words ≡ Some (memory_event version kind bytes addr 0 smm)
-unfolding parse_read read_event
-read_back version kind bytes addr smm words size small reads = grind (arith, nat_tests, smm_back, size_back, hex_back 4)
-
-write_back : (version bytes addr value : ℕ) (smm : Bool) (words : List (List ℕ)) → IsSize version bytes
-    → addr < 2 ^ 32 → value < 256 ^ bytes
-    → Reads words (size_text bytes ∷ hex_number 4 addr ∷ hex_number bytes value ∷ smm_words smm)
-    → parse_write version words ≡ Some (memory_event version Write bytes addr value smm)
-unfolding parse_write write_event
-write_back version bytes addr value smm words size small fits reads =
-    grind (arith, nat_tests, smm_back, size_back, hex_back 4, hex_back bytes)
-
 -- the verb stands for itself alone
 with_verb : (version actor : ℕ) (verb : List ℕ) (words : List (List ℕ)) (item : Item) → is_plain verb ≡ true
     → ((rest : List (List ℕ)) → Reads rest words → parse_by_verb version actor verb rest ≡ Some item)
@@ -78,48 +64,15 @@ access_back : (version actor : ℕ) (kind : Kind) (bytes addr value : ℕ) (smm 
     → IsSize version bytes → addr < 2 ^ 32 → FitsBytes (is_write kind) bytes value
     → Reads fields (access_words kind bytes addr value smm)
     → parse_statement_words version actor fields ≡ Some (ask actor (memory_event version kind bytes addr value smm))
-unfolding parse_by_verb
+unfolding parse_by_verb parse_read read_event parse_write write_event
 access_back version actor Write bytes addr value smm fields size small fits =
     with_verb version actor (codes "w") _ _ refl
-    (λ rest reads. ap (option_map (ask actor)) (write_back version bytes addr value smm rest size small fits reads))
-    fields
+    (λ rest reads. grind (arith, nat_tests, smm_back, size_back, hex_back 4, hex_back bytes)) fields
 access_back version actor kind bytes addr value smm fields size small none =
     with_verb version actor (kind_text kind) _ _ refl
-    (λ rest reads. rw none (ap (option_map (ask actor)) (read_back version kind bytes addr smm rest size small reads)))
-    fields
+    (λ rest reads. grind (arith, nat_tests, smm_back, size_back, hex_back 4)) fields
 
-narrow_event : (version : ℕ) (kind : Kind) (width : Width) (addr value : ℕ) (smm : Bool)
-    → (version ≡ 2 → addr % bytes_of width ≡ 0)
-    → memory_event version kind (bytes_of width) addr value smm
-    ≡ Memory (record { kind = kind; addr = addr; width = width; smm = smm; value = value })
-unfolding memory_event
-narrow_event version kind width addr value smm aligned = grind (arith, nat_tests)
-
-wide_event : (version : ℕ) (access : WideAccess) → IsWideForm version access
-    → memory_event version access.kind access.bytes access.addr access.value access.smm ≡ Wide access
-unfolding memory_event
-wide_event version access form = grind (arith, nat_tests)
-
-width_size : (version : ℕ) (width : Width) → IsSize version (bytes_of width)
-width_size version width = grind (arith, nat_tests)
-
-wide_size : (version bytes : ℕ) → version ≡ 2 → (bytes ≡ 2) ⊎ (bytes ≡ 4) ⊎ (bytes ≡ 8) → IsSize version bytes
-wide_size version bytes second sizes = grind (arith, nat_tests)
-
--- ---- ports and looks
-
-in_back : (width : Width) (port : ℕ) (words : List (List ℕ)) → port < 2 ^ 16
-    → Reads words (width_text width ∷ hex_number 2 port ∷ [])
-    → parse_in words ≡ Some (Port (record { write = false; port = port; width = width; value = 0 }))
-unfolding parse_in in_event
-in_back width port words small reads = grind (arith, nat_tests, width_back, hex_back 2)
-
-out_back : (width : Width) (port value : ℕ) (words : List (List ℕ)) → port < 2 ^ 16 → value < 256 ^ bytes_of width
-    → Reads words (width_text width ∷ hex_number 2 port ∷ hex_number (bytes_of width) value ∷ [])
-    → parse_out words ≡ Some (Port (record { write = true; port = port; width = width; value = value }))
-unfolding parse_out out_event
-out_back width port value words small fits reads =
-    grind (arith, nat_tests, width_back, hex_back 2, hex_back (bytes_of width))
+-- ---- ports
 
 port_back : (version actor : ℕ) (write : Bool) (width : Width) (port value : ℕ) (fields : List (List ℕ))
     → port < 2 ^ 16 → FitsBytes write (bytes_of width) value
@@ -127,18 +80,13 @@ port_back : (version actor : ℕ) (write : Bool) (width : Width) (port value : �
     ∷ written_words write (bytes_of width) value [])
     → parse_statement_words version actor fields
     ≡ Some (ask actor (Port (record { write = write; port = port; width = width; value = value })))
-unfolding parse_by_verb
+unfolding parse_by_verb parse_in in_event parse_out out_event
 port_back version actor true width port value fields small fits =
     with_verb version actor (codes "out") _ _ refl
-    (λ rest reads. ap (option_map (ask actor)) (out_back width port value rest small fits reads)) fields
+    (λ rest reads. grind (arith, nat_tests, width_back, hex_back 2, hex_back (bytes_of width))) fields
 port_back version actor false width port value fields small none =
     with_verb version actor (codes "in") _ _ refl
-    (λ rest reads. rw none (ap (option_map (ask actor)) (in_back width port rest small reads))) fields
-
-look_back : (kind : Kind) (addr : ℕ) (smm : Bool) (words : List (List ℕ)) → addr < 2 ^ 32
-    → Reads words (kind_text kind ∷ hex_number 4 addr ∷ smm_words smm) → parse_look words ≡ Some (LookAt kind addr smm)
-unfolding parse_look look_event
-look_back kind addr smm words small reads = grind (arith, nat_tests, smm_back, kind_back, hex_back 4)
+    (λ rest reads. grind (arith, nat_tests, width_back, hex_back 2)) fields
 
 -- ---- stimuli
 
@@ -152,41 +100,13 @@ pub two_back : (m n : ℕ) (words : List (List ℕ)) → IsDecimal m → IsDecim
 unfolding parse_two_numbers
 two_back m n words small few reads = grind (arith, nat_tests, number_is, decimal_back)
 
-abbrev level_of : Bool → ℕ
-level_of on = if on then 1 else 0
-
-given_back : (one : Stimulus) (number : ℕ) (on : Bool) (words : List (List ℕ)) → IsDecimal number
-    → Reads words (given_words (stimulus_form one).has_level (decimal number) (level_text on))
-    → parse_given one words ≡ Some (number, (if (stimulus_form one).has_level then level_of on else 0))
-unfolding parse_given parse_number
-given_back one number on words small reads =
-    grind (arith, nat_tests, two_back, zero_text, one_text, number_is, decimal_back)
-
-pub by_stimulus : (version actor : ℕ) (one : Stimulus) (words : List (List ℕ)) (given : ℕ × ℕ)
-    → parse_given one words ≡ Some given
-    → parse_by_verb version actor (stimulus_form one).word words ≡ Some (stimulus_item actor one given.0 given.1)
-unfolding parse_by_verb parse_stimulus_item
-by_stimulus version actor one words given e = grind (arith, nat_tests)
-
-word_plain : (one : Stimulus) → is_plain (stimulus_form one).word ≡ true
-word_plain one = grind (arith, nat_tests)
-
-level_item : (actor : ℕ) (one : Stimulus) (number : ℕ) (on : Bool)
-    → stimulus_item actor one number (if (stimulus_form one).has_level then level_of on else 0)
-    ≡ ask actor (event_applied one number on)
-level_item actor one number on = grind (arith, nat_tests)
-
 applied_back : (version actor : ℕ) (one : Stimulus) (number : ℕ) (on : Bool) (fields : List (List ℕ))
     → IsDecimal number → Reads fields (applied_words (applied one number on))
     → parse_statement_words version actor fields ≡ Some (ask actor (event_applied one number on))
+unfolding parse_given parse_number parse_by_verb parse_stimulus_item
 applied_back version actor one number on fields small =
-    with_verb version actor (stimulus_form one).word _ _ (word_plain one)
-    (λ rest reads. by_stimulus version actor one rest _ (given_back one number on rest small reads)
-    ∙ ap Some (level_item actor one number on)) fields
-
-ack_back : (words : List (List ℕ)) → Reads words [] → parse_ack words ≡ Some Ack
-unfolding parse_ack
-ack_back words reads = grind (arith, nat_tests)
+    with_verb version actor (stimulus_form one).word _ _ (grind (arith, nat_tests))
+    (λ rest reads. grind (arith, nat_tests, two_back, zero_text, one_text, number_is, decimal_back)) fields
 
 time_back : (moment : Moment) (words : List (List ℕ)) → IsMomentForm moment → Reads words (moment_text moment ∷ [])
     → parse_only_moment words ≡ Some moment
@@ -198,24 +118,22 @@ time_back moment _ form reads = grind arith
 
 pub event_back : (version actor : ℕ) (event : Event) (fields : List (List ℕ)) → IsEventForm version event
     → Reads fields (event_words event) → parse_statement_words version actor fields ≡ Some (ask actor event)
-unfolding parse_by_verb parse_time_item
+unfolding parse_by_verb parse_time_item parse_look look_event parse_ack memory_event
 event_back version actor (Memory access) fields form reads =
-    access_back version actor access.kind (bytes_of access.width) access.addr access.value access.smm fields
-    (width_size version access.width) form.addr form.value reads
-    ∙ ap (λ (e : Event). Some (ask actor e))
-    (narrow_event version access.kind access.width access.addr access.value access.smm form.aligned)
+    let read = access_back version actor access.kind (bytes_of access.width) access.addr access.value access.smm fields
+    (grind (arith, nat_tests)) form.addr form.value reads in
+    grind (arith, nat_tests, form.aligned)
 event_back version actor (Wide access) fields form reads =
-    access_back version actor access.kind access.bytes access.addr access.value access.smm fields
-    (wide_size version access.bytes form.second form.bytes) form.addr form.value reads
-    ∙ ap (λ (e : Event). Some (ask actor e)) (wide_event version access form)
+    let read = access_back version actor access.kind access.bytes access.addr access.value access.smm fields
+    (grind (arith, nat_tests, form.second, form.bytes)) form.addr form.value reads in
+    grind (arith, nat_tests, form.wide)
 event_back version actor (Port access) fields form reads =
     port_back version actor access.write access.width access.port access.value fields form.port form.value reads
 event_back version actor (LookAt kind addr smm) fields form reads =
     with_verb version actor (codes "look") _ _ refl
-    (λ rest reads. ap (option_map (ask actor)) (look_back kind addr smm rest form reads)) fields reads
+    (λ rest reads. grind (arith, nat_tests, smm_back, kind_back, hex_back 4)) fields reads
 event_back version actor Ack fields form reads =
-    with_verb version actor (codes "ack") _ _ refl
-    (λ rest reads. ap (option_map (ask actor)) (ack_back rest reads)) fields reads
+    with_verb version actor (codes "ack") _ _ refl (λ rest reads. grind (arith, nat_tests)) fields reads
 event_back version actor (Time moment) fields form reads =
     with_verb version actor (codes "moment") _ _ refl
     (λ rest reads. ap (option_map (λ m. ask actor (Time m))) (time_back moment rest form reads)) fields reads
@@ -312,11 +230,6 @@ look_read version (kind ∷ addr ∷ flags) event e =
     let a = then_read (parse_hex 8 addr) _ event (hex_read 4 addr) k.2 in
     rw (← some_is _ event a.2) ((same (codes "look"), (same_as _ _ k.1, (a.1.0, s.1))), omega (arith, a.1.1))
 look_read version _ event e = absurd cc
-
-pub ack_read : (version : ℕ) (words : List (List ℕ)) (event : Event) → parse_ack words ≡ Some event
-    → IsRead version (codes "ack" ∷ words) event
-unfolding parse_ack
-ack_read version words event e = grind (arith, nat_tests)
 
 pub time_read : (version : ℕ) (words : List (List ℕ)) (moment : Moment) → parse_only_moment words ≡ Some moment
     → IsRead version (codes "moment" ∷ words) (Time moment)

@@ -2,7 +2,7 @@
 use Rattle.board_prelude.proofs.Common.{nat_tests, digits, false≢true, All-nil, All-cons, weekday_of, days_since_1980}
 use Rattle.board_prelude.proofs.Common.{days_of_years, days_of_months, IsPermutation, option_map, Rises, find}
 use Rattle.std.proofs.Common.{ℕ, ◌≡◌, ◌<◌, Bool, true, false, List, [], ◌∷◌, map, All, Result, Ok, Err, refl, arith}
-use Rattle.std.proofs.Common.{subst, sym, Some}
+use Rattle.std.proofs.Common.{subst, sym, Some, ap, drop}
 use Rattle.script_spec.specs.Common.{is_cpus, is_memory, is_rom, is_disk, SetCpus, SetMemory, SetRom, SetDisk, cards_of}
 use Rattle.script_spec.specs.Common.{phase_items, lines_of, text_of_lines, Item, number_after, parse_two_digits}
 use Rattle.script_spec.specs.Common.{after_mark, parse_moment_part, parse_year, parse_date, parse_time, whole_moment}
@@ -17,7 +17,7 @@ use Rattle.script_spec.specs.Common.{IsBound, bounds, AreBounds, TwoProcessors, 
 use Rattle.script_spec.proofs.ReadingExists.{run_of, text_said}
 use Rattle.std.proofs.lemmas.List.Sorted.{IsPermutation-refl}
 use Rattle.script_spec.specs.Events.{read_event, write_event, in_event, out_event, look_event}
-use Rattle.script_spec.proofs.Chains.{same_head, same_tail}
+use Rattle.script_spec.proofs.Chains.{same_head}
 use Rattle.script_spec.proofs.Decision.{judged, judged_lines, AreJudged, judged_is}
 use Rattle.script_spec.specs.ExampleEntries.{NameBorders, EntryBorders}
 
@@ -38,7 +38,7 @@ each_bad : (texts : List BadText) →
 each_bad [] e = All-nil IsBadText
 each_bad (text ∷ texts) e =
     All-cons IsBadText text texts (is_bad (text_of_lines text.lines) text.line text.why (same_head _ _ _ _ e))
-    (each_bad texts (same_tail _ _ _ _ e))
+    (each_bad texts (ap (λ l. drop 1 l) e))
 
 -- ---- the numbers of a script
 
@@ -63,7 +63,7 @@ each_bound (row ∷ rows) good bad =
       good = some_script bytes (judge bytes) (judged_is (lines_of bytes)) (same_head _ _ _ _ good);
       bad = is_bad (text_of_lines (with_line row.place row.bad)) row.place row.why (same_head _ _ _ _ bad);
     })
-    (each_bound rows (same_tail _ _ _ _ good) (same_tail _ _ _ _ bad))
+    (each_bound rows (ap (λ l. drop 1 l) good) (ap (λ l. drop 1 l) bad))
 
 -- ---- good texts
 
@@ -88,17 +88,8 @@ says : (bytes : List ℕ) (script : Script) (items : List Item) → is_good (jud
     → cards_of items ≡ script.cards → Rises script.cards → run_of items ≡ phase_items script.phases
     → IsScriptText bytes script
 says bytes script items good version is cpus memory rom disk cards rises phases =
-    judged_so bytes script (judge bytes) (judged_is (lines_of bytes)) good version (subst (IsSaidBy script) (sym is) (
-    record {
-      cpus = cpus;
-      memory = memory;
-      rom = rom;
-      disk = disk;
-      cards = subst (IsPermutation (cards_of items)) cards (IsPermutation-refl (cards_of items));
-      rises = rises;
-      phases = phases;
-    }
-    ))
+    judged_so bytes script (judge bytes) (judged_is (lines_of bytes)) good version (subst (IsSaidBy script) (sym is)
+    (assumption (subst (IsPermutation (cards_of items)) cards (IsPermutation-refl (cards_of items)))))
 
 -- ---- the worked texts
 

@@ -1,8 +1,8 @@
 -- What holds of items that were read.
 use Rattle.board_prelude.proofs.Common.{nat_tests, option_map, find, not-false, none-some, most_statements, most_phases}
 use Rattle.board_prelude.proofs.Common.{most_pulses, most_card_memory, memory_of_cards}
-use Rattle.std.proofs.Common.{arith, ℕ, ◌≡◌, ◌≤◌, Bool, true, false, ◌&&◌, Some, None, List, [], ◌∷◌, inl, inr, length}
-use Rattle.std.proofs.Common.{filter, sum_by}
+use Rattle.std.proofs.Common.{arith, ℕ, ◌≡◌, ◌≤◌, Bool, true, false, ◌&&◌, Some, None, List, [], ◌∷◌, length, filter}
+use Rattle.std.proofs.Common.{sum_by}
 use Rattle.script_spec.specs.Common.{Item, IsForm, Reason, reasons, is_phase, is_misplaced, is_repeated, lacks_setup}
 use Rattle.script_spec.specs.Common.{is_in_range, is_placed, is_there, passes_limits, least_reason, AreRead}
 use Rattle.script_spec.specs.Common.{is_statement, pulses_of, cards_of}
@@ -48,9 +48,8 @@ AreGood version (item ∷ before) = IsForm version item × NoReason before item 
 pub read_good : (version : ℕ) (lines : List (List ℕ)) (before items : List Item) → AreRead version before lines items →
     AreGood version before → AreGood version items
 read_good version [] before items read good = rw read good
-read_good version (line ∷ later) before items (inl skipped) good = read_good version later before items skipped.1 good
-read_good version (line ∷ later) before items (inr one) good =
-    read_good version later (one.0 ∷ before) items one.2 (one.1.has.form, no_reason before one.0 one.1.none, good)
+read_good version (line ∷ later) before items read good =
+    grind (arith, nat_tests, no_reason, read_good version later)
 
 -- what a search finds is good
 pub found_good : (version : ℕ) (items : List Item) (test : Item → Bool) (item : Item) → AreGood version items →

@@ -1,16 +1,15 @@
 -- Each line of a form is read as what it says.
-use Rattle.std.proofs.Common.{◌≡◌, ℕ, ◌≤◌, true, false, Some, List, [], ◌∷◌, inl, inr, refl, ap, ◌∙◌, arith, decimal}
-use Rattle.std.proofs.Common.{bytes_eq}
+use Rattle.std.proofs.Common.{◌≡◌, ℕ, true, false, Some, List, [], ◌∷◌, inl, inr, arith, decimal, bytes_eq}
 use Rattle.board_prelude.proofs.Common.{nat_tests, AllDigits, cases_Bool, Stimulus, stimulus_form}
-use Rattle.script_spec.specs.Common.{Item, SetCpus, SetMemory, SetRom, SetDisk, FitCard, BeginPhase, Ask, AskLevel}
-use Rattle.script_spec.specs.Common.{IsDecimal, IsName, IsForm, IsLevelForm, HasForm, fields_of, stimulus_item}
+use Rattle.script_spec.specs.Common.{Item, Ask, AskLevel, IsDecimal, IsName, IsForm, IsLevelForm, HasForm, fields_of}
 use Rattle.script_spec.specs.Common.{parse_given, parse_statement_words, parse_statement, parse_by_key, parse_item}
-use Rattle.script_spec.specs.Common.{parse_number, parse_two_numbers, is_name, parse_name, parse_phase}
+use Rattle.script_spec.specs.Common.{parse_number, parse_two_numbers, is_name, parse_name, parse_phase, parse_by_verb}
+use Rattle.script_spec.specs.Common.{parse_stimulus_item}
 use Rattle.script_spec.proofs.Digits.{digits_of_decimal}
 use Rattle.script_spec.proofs.Chains.{word_is}
 use Rattle.script_spec.proofs.NumberTexts.{decimal_back}
 use Rattle.script_spec.proofs.ItemWords.{item_words, AreFields, fields_said}
-use Rattle.script_spec.proofs.EventTexts.{event_back, number_is, by_stimulus}
+use Rattle.script_spec.proofs.EventTexts.{event_back, number_is}
 use Rattle.script_spec.proofs.CardTexts.{fitted_back}
 
 -- ---- statements
@@ -29,23 +28,12 @@ unfolding parse_item parse_by_key parse_statement
 number_first version n words item small read = grind (arith, nat_tests, no_word, decimal_back)
 
 -- a level that is neither 0 nor 1
-high_item : (n : ℕ) (one : Stimulus) (number level : ℕ) → 2 ≤ level
-    → stimulus_item n one number level ≡ AskLevel n one number level
-high_item n one number level high = grind (arith, nat_tests)
-
-high_given : (one : Stimulus) (number level : ℕ) → (stimulus_form one).has_level ≡ true → IsDecimal number
-    → IsDecimal level → parse_given one (decimal number ∷ decimal level ∷ []) ≡ Some (number, level)
-unfolding parse_given parse_two_numbers
-high_given one number level known small few = grind (arith, nat_tests, decimal_back)
-
 level_back : (version n : ℕ) (one : Stimulus) (number level : ℕ) → IsLevelForm n one number level
     → parse_item version (item_words (AskLevel n one number level)) ≡ Some (AskLevel n one number level)
-unfolding parse_statement_words
+unfolding parse_statement_words parse_by_verb parse_stimulus_item parse_given parse_two_numbers
 level_back version n one number level form =
     number_first version n ((stimulus_form one).word ∷ decimal number ∷ decimal level ∷ []) _ form.who
-    (by_stimulus version n one (decimal number ∷ decimal level ∷ []) (number, level)
-    (high_given one number level form.what form.which form.few)
-    ∙ ap (λ (i : Item). Some i) (high_item n one number level form.high))
+    (grind (arith, nat_tests, decimal_back, form.what, form.which, form.few, form.high))
 
 -- ---- all lines
 
@@ -56,20 +44,14 @@ name_back name form = grind (arith, nat_tests)
 item_back : (version : ℕ) (fields : List (List ℕ)) (item : Item) → IsForm version item → AreFields fields item
     → parse_item version fields ≡ Some item
 unfolding parse_item parse_by_key parse_number parse_name parse_phase
-item_back version fields (SetCpus count) form are = rw (are, decimal_back count form) refl
-item_back version fields (SetMemory mib) form are = rw (are, decimal_back mib form) refl
-item_back version fields (SetRom name) form are = rw (are, name_back name form) refl
-item_back version fields (SetDisk name) form are = rw (are, name_back name form) refl
-item_back version fields (FitCard card) form are =
-    rw (are, fitted_back version card.dev card.vga card.bases card.rom form) refl
-item_back version fields BeginPhase form are = rw are refl
+item_back version fields (AskLevel actor one number level) form are =
+    rw are (level_back version actor one number level form)
 item_back version [] (Ask statement) form are = absurd are
 item_back version (key ∷ words) (Ask statement) form are =
     rw (number_is statement.actor key form.0 are.0)
     (number_first version statement.actor words (Ask statement) form.0
     (event_back version statement.actor statement.event words form.1 are.1))
-item_back version fields (AskLevel actor one number level) form are =
-    rw are (level_back version actor one number level form)
+item_back version fields item form are = grind (arith, nat_tests, decimal_back, name_back, fitted_back)
 
 -- a line that has a form is read as the item that it says
 pub line_back : (version : ℕ) (line : List ℕ) (item : Item) → HasForm version line item

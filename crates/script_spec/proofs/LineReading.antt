@@ -2,10 +2,10 @@
 use Rattle.std.proofs.Common.{ℕ, ◌≡◌, Option, Some, None, List, sym, ◌∙◌, Bool, true, [], ◌∷◌, refl, ap, subst, arith}
 use Rattle.std.proofs.Common.{codes, decimal}
 use Rattle.script_spec.specs.Common.{Item, HasForm, parse_line, OneItem, SetCpus, SetMemory, SetRom, SetDisk, FitCard}
-use Rattle.script_spec.specs.Common.{IsDecimal, IsName, IsForm, IsEventForm, fields_of, parse_decimal, parse_card, ask}
-use Rattle.script_spec.specs.Common.{parse_given, stimulus_item, parse_stimulus_item, parse_only_moment}
-use Rattle.script_spec.specs.Common.{parse_time_item, parse_by_verb, parse_statement_words, is_name, parse_name}
-use Rattle.script_spec.specs.Common.{parse_phase, parse_statement, parse_by_key, parse_item}
+use Rattle.script_spec.specs.Common.{IsDecimal, IsName, IsForm, fields_of, parse_decimal, parse_card, ask, parse_given}
+use Rattle.script_spec.specs.Common.{stimulus_item, parse_stimulus_item, parse_only_moment, parse_time_item}
+use Rattle.script_spec.specs.Common.{parse_by_verb, parse_statement_words, is_name, parse_name, parse_phase}
+use Rattle.script_spec.specs.Common.{parse_statement, parse_by_key, parse_item, parse_ack}
 use Rattle.script_spec.proofs.Chains.{some_is, guarded, then_said, mapped, Reads, same, same_as, by_word}
 use Rattle.script_spec.proofs.ItemBack.{line_back}
 use Rattle.board_prelude.proofs.Common.{nat_tests, option_map, Fetch, Read, Event, Time, Stimulus, stimulus_form}
@@ -14,8 +14,8 @@ use Rattle.std.proofs.lemmas.List.Splits.{join_with_byte-slice_split}
 use Rattle.script_spec.proofs.NumberTexts.{decimal_read}
 use Rattle.script_spec.proofs.Words.{given_words, applied_words, applied_is, zero_text, one_text}
 use Rattle.script_spec.proofs.ItemWords.{AreFields, fields_say}
-use Rattle.script_spec.proofs.EventTexts.{IsRead, read_read, write_read, in_read, out_read, look_read, ack_read}
-use Rattle.script_spec.proofs.EventTexts.{time_read, number_read, two_read}
+use Rattle.script_spec.proofs.EventTexts.{IsRead, read_read, write_read, in_read, out_read, look_read, time_read}
+use Rattle.script_spec.proofs.EventTexts.{number_read, two_read}
 use Rattle.script_spec.proofs.CardTexts.{card_read}
 
 -- fields say an item of a form
@@ -25,10 +25,6 @@ IsSaid version fields item = IsForm version item × AreFields fields item
 same_all : (texts : List (List ℕ)) → Reads texts texts
 same_all [] = tt
 same_all (text ∷ texts) = (same text, same_all texts)
-
-applied_form : (version : ℕ) (one : Stimulus) (number : ℕ) (on : Bool) → IsDecimal number
-    → IsEventForm version (event_applied one number on)
-applied_form version one number on small = grind (arith, nat_tests)
 
 -- an item made of what was found
 made_item : {X : Type 0} (P : Item → Type 0) (found : Option X) (make : X → Item) (item : Item)
@@ -60,7 +56,7 @@ module _ (version n : ℕ) (actor : List ℕ) (said : parse_decimal actor ≡ So
       (ask n (event_applied one number on))) (sym is)
       (ask_read (applied_words (applied one number on)) (event_applied one number on) (
         rw (applied_is one number on) (same_all (applied_words (applied one number on))),
-        applied_form version one number on small,
+        grind (arith, nat_tests),
       ))
 
   level_read : (one : Stimulus) (number level : ℕ) → (stimulus_form one).has_level ≡ true → IsDecimal number →
@@ -69,25 +65,19 @@ module _ (version n : ℕ) (actor : List ℕ) (said : parse_decimal actor ≡ So
   level_read one number level known small few =
       grind (arith, nat_tests, applied_read, zero_text, one_text, decimal_read)
 
-  -- what the fields of a stimulus give, they say
-  given_read : (one : Stimulus) (words : List (List ℕ)) (given : ℕ × ℕ) → parse_given one words ≡ Some given
-      → IsSaid version (actor ∷ (stimulus_form one).word ∷ words) (stimulus_item n one given.0 given.1)
-  unfolding parse_given
-  given_read one words given e = grind (arith, nat_tests, two_read, number_read, level_read, applied_read)
-
   stimulus_read : (verb : List ℕ) (words : List (List ℕ)) (item : Item) → parse_stimulus_item n verb words ≡ Some item
       → IsSaid version (actor ∷ verb ∷ words) item
-  unfolding parse_stimulus_item
+  unfolding parse_stimulus_item parse_given
   stimulus_read verb words item e =
       let one = then_said (stimulus_of_word verb) _ item e in
       let given = then_said (parse_given one.0 words) _ item one.2 in
       rw (word_found verb one.0 one.1)
       (subst (IsSaid version (actor ∷ (stimulus_form one.0).word ∷ words)) (some_is _ item given.2)
-      (given_read one.0 words given.0 given.1))
+      (grind (arith, nat_tests, two_read, number_read, level_read, applied_read, given.1)))
 
   verb_read : (verb : List ℕ) (words : List (List ℕ)) (item : Item) → parse_by_verb version n verb words ≡ Some item
       → IsSaid version (actor ∷ verb ∷ words) item
-  unfolding parse_by_verb parse_time_item
+  unfolding parse_by_verb parse_time_item parse_ack
   verb_read verb words item =
       let P : List ℕ → Type 0 = λ v. IsSaid version (actor ∷ v ∷ words) item in
       by_word P verb (codes "r") _ _ item (asks _ words _ item (λ event. read_read version Read words event refl))
@@ -96,7 +86,7 @@ module _ (version n : ℕ) (actor : List ℕ) (said : parse_decimal actor ≡ So
       (by_word P verb (codes "in") _ _ item (asks _ words _ item (in_read version words))
       (by_word P verb (codes "out") _ _ item (asks _ words _ item (out_read version words))
       (by_word P verb (codes "look") _ _ item (asks _ words _ item (look_read version words))
-      (by_word P verb (codes "ack") _ _ item (asks _ words _ item (ack_read version words))
+      (by_word P verb (codes "ack") _ _ item (asks _ words _ item (λ event e. grind (arith, nat_tests)))
       (by_word P verb (codes "moment") _ _ item
       (made_item (IsSaid version (actor ∷ codes "moment" ∷ words)) (parse_only_moment words) (λ m. ask n (Time m)) item
       (λ m e. ask_read (codes "moment" ∷ words) (Time m) (time_read version words m e)))
@@ -124,11 +114,6 @@ name_read (field ∷ []) name e =
     (ap (λ (f : List ℕ). f ∷ []) is, rw is at (name_is field g.0))
 name_read _ name e = absurd cc
 
-phase_read : (version : ℕ) (words : List (List ℕ)) (item : Item) → parse_phase words ≡ Some item
-    → IsSaid version (codes "phase" ∷ words) item
-unfolding parse_phase
-phase_read version words item e = grind (arith, nat_tests)
-
 -- a key, and what its words say
 key_read : {X : Type 0} (version : ℕ) (key : List ℕ) (words : List (List ℕ)) (found : Option X) (make : X → Item)
     (item : Item) (IsGood : X → Type 0) (texts : X → List (List ℕ))
@@ -139,10 +124,10 @@ key_read version key words found make item IsGood texts read has = grind (arith,
 
 with_read : (version : ℕ) (key : List ℕ) (words : List (List ℕ)) (item : Item)
     → parse_by_key version key words ≡ Some item → IsSaid version (key ∷ words) item
-unfolding parse_by_key
+unfolding parse_by_key parse_phase
 with_read version key words item =
     let P : List ℕ → Type 0 = λ k. IsSaid version (k ∷ words) item in
-    by_word P key (codes "phase") _ _ item (phase_read version words item)
+    by_word P key (codes "phase") _ _ item (λ e. grind (arith, nat_tests))
     (by_word P key (codes "cpus") _ _ item
     (key_read version _ words _ SetCpus item IsDecimal (λ n. decimal n ∷ []) (number_read words) (λ n is. (is, refl)))
     (by_word P key (codes "memory") _ _ item
@@ -167,10 +152,8 @@ pub read_says : (version : ℕ) (line : List ℕ) (item : Item) → parse_line v
     → HasForm version line item
 read_says version line item e =
     let said = fields_read version (fields_of line) item e in
-    record {
-      form = said.0;
-      says = rw (join_with_byte-slice_split space line) at (fields_say (fields_of line) item said.1);
-    }
+    let joined = fields_say (fields_of line) item said.1 in
+    record { form = said.0; says = rw (join_with_byte-slice_split space line) at joined }
 
 -- ---- so it says at most one thing
 

@@ -57,16 +57,11 @@ line_pieces version n entry formed =
     (lacks-append 0x3D (decimal entry.seq) (space ∷ event) (lacks-decimal 0x3D entry.seq (inr (omega arith)) formed.seq)
     (lacks-plain 0x3D event refl (event_plain entry.event)))
     refl in
-    rw (
-      seven_parts (decimal n) (space ∷ decimal entry.actor) (codes ".") (decimal entry.seq) (space ∷ event)
-          (codes " = ") reply,
-      cut_field space (decimal n) rest (lacks-word space (decimal n) refl (decimal_word n)),
-      cut_field 0x2E (decimal entry.actor) later
-          (lacks-decimal 0x2E entry.actor (inl (omega arith)) (omega (arith, formed.actor))),
-      later_parts (decimal entry.seq) event reply,
-      cut_field 0x3D (asked ++ space ∷ []) (space ∷ reply) lack,
-      but_last_push asked space,
-    ) refl
+    let lacking = lacks-decimal 0x2E entry.actor (inl (omega arith)) (omega (arith, formed.actor)) in
+    let number = cut_field space (decimal n) rest (lacks-word space (decimal n) refl (decimal_word n)) in
+    let actor = cut_field 0x2E (decimal entry.actor) later lacking in
+    let statement = cut_field 0x3D (asked ++ space ∷ []) (space ∷ reply) lack in
+    rw (seven_parts, number, actor, later_parts, statement, but_last_push) refl
 
 pub actor_said : (actor : ℕ) → actor < 0x100 → parse_actor (decimal actor) ≡ Some actor
 unfolding parse_actor
@@ -95,12 +90,10 @@ entry_in version line = do
 pub entry_read : (version n : ℕ) (entry : Entry) → IsWellFormed version entry
     → entry_in version (line_text n entry) ≡ Some entry
 unfolding entry_in
-entry_read version n entry formed = rw (
-  line_pieces version n entry formed,
-  actor_said entry.actor formed.actor,
-  line_back version (asked_text entry.seq entry.event) (ask entry.seq entry.event) (asked_said version entry formed),
-  reply_read entry.event entry.reply formed.shape,
-) refl
+entry_read version n entry formed =
+    let item = line_back version _ (ask entry.seq entry.event) (asked_said version entry formed) in
+    let reply = reply_read entry.event entry.reply formed.shape in
+    rw (line_pieces version n entry formed, actor_said entry.actor formed.actor, item, reply) refl
 
 -- ---- lines
 
@@ -161,18 +154,14 @@ from_some None = record { actor = 0; seq = 0; event = Ack; reply = outside_answe
 abbrev entry_of : (version : ℕ) → List ℕ → Entry
 entry_of version line = from_some (entry_in version line)
 
-entry_is : (version n : ℕ) (entry : Entry) → IsWellFormed version entry → entry_of version (line_text n entry) ≡ entry
-entry_is version n entry formed = ap from_some (entry_read version n entry formed)
-
 history_read : (version : ℕ) (history : List Entry) → All (IsWellFormed version) history →
     map (entry_of version) (log_lines history) ≡ reverse history
 history_read version [] each = refl
-history_read version (entry ∷ before) each = simp (
-  map-append,
-  reverse-append (entry ∷ []) before,
-  history_read version before (All-tail (IsWellFormed version) entry before each),
-  entry_is version (length before + 1) entry (All-head (IsWellFormed version) entry before each),
-)
+history_read version (entry ∷ before) each =
+    let this = ap from_some (entry_read version (length before + 1) entry
+    (All-head (IsWellFormed version) entry before each)) in
+    let rest = history_read version before (All-tail (IsWellFormed version) entry before each) in
+    simp (map-append, reverse-append (entry ∷ []) before, rest, this)
 
 same_history : (version : ℕ) (left right : List Entry) → All (IsWellFormed version) left →
     All (IsWellFormed version) right → lines_text left ≡ lines_text right → left ≡ right
@@ -192,14 +181,10 @@ same_version : (version other : ℕ) (left right : List Entry) → IsVersion ver
 same_version version other left right one two same =
     grind (arith, nat_tests, versions_differ left right, versions_differ right left)
 
-same_rest : (version : ℕ) (left right : List Entry) → IsVersion version →
-    log_text version left ≡ log_text version right → lines_text left ≡ lines_text right
-unfolding digits
-same_rest version left right given same = grind (arith, nat_tests)
-
 pub log_says_all : LogSaysAll
+unfolding digits
 log_says_all bytes version other left right one two =
     let texts = sym one.text ∙ two.text in
     let same = same_version version other left right one.known two.known texts in
     let whole = rw same at texts in
-    (same, same_history other left right (rw same at one.each) two.each (same_rest other left right two.known whole))
+    (same, same_history other left right (rw same at one.each) two.each (grind (arith, nat_tests, two.known)))

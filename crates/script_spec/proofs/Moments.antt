@@ -1,7 +1,6 @@
 -- A field is read as a moment exactly where it spells one.
 use Rattle.board_prelude.proofs.Common.{nat_tests, Moment, moment_of, two_digits, moment_text}
-use Rattle.std.proofs.Common.{◌≡◌, ℕ, ◌+◌, ◌*◌, ◌/◌, ◌%◌, ◌<◌, true, Some, List, [], ◌∷◌, ◌++◌, refl, sym, ap, ◌∙◌}
-use Rattle.std.proofs.Common.{arith}
+use Rattle.std.proofs.Common.{◌≡◌, ℕ, ◌+◌, ◌*◌, ◌/◌, ◌%◌, ◌<◌, true, Some, List, [], ◌∷◌, ◌++◌, sym, ap, ◌∙◌, arith}
 use Rattle.script_spec.specs.Common.{IsMomentForm, parse_two_digits, after_mark, parse_moment_part, parse_year, Three}
 use Rattle.script_spec.specs.Common.{parse_date, parse_time, whole_moment, parse_moment}
 use Rattle.script_spec.proofs.NumberTexts.{is_plain}
@@ -128,15 +127,4 @@ moment_read field moment e =
     let text : field ≡ two_digits (d.0.first / 100) ++ (two_digits (d.0.first % 100) ++ 0x2D ∷ (two_digits d.0.second
     ++ 0x2D ∷ (two_digits d.0.third ++ 0x54 ∷ (two_digits t.0.first ++ 0x3A ∷ (two_digits t.0.second
     ++ 0x3A ∷ (two_digits t.0.third ++ [])))))) = cc (d.1.text_is, t.1.text_is, end.0) in
-    rw (← end.1) (
-      text,
-      record {
-        year = d.1.year;
-        month = d.1.month;
-        day = d.1.day;
-        weekday = refl;
-        hour = t.1.hour;
-        minute = t.1.minute;
-        second = t.1.second;
-      },
-    )
+    rw (← end.1) (text, assumption (d.1, t.1))

@@ -1,8 +1,8 @@
 -- Fields are read as numbers exactly where they spell them.
 use Rattle.script_spec.proofs.Chains.{then_read, some_is, guarded, Spells}
 use Rattle.std.proofs.Common.{Bool, true, ◌≡◌, ℕ, zero, suc, ◌+◌, ◌*◌, ◌/◌, ◌%◌, ◌^◌, ◌<◌, ◌≤◌, false, not, eqb, leb}
-use Rattle.std.proofs.Common.{◌&&◌, Some, List, [], ◌∷◌, length, get_or, refl, sym, ap, ◌∙◌, arith, pow-suc, lit<}
-use Rattle.std.proofs.Common.{decimal, ◌-◌, subst, leb-true, eqb-true, lt-ltb, le-leb, eq-eqb}
+use Rattle.std.proofs.Common.{◌&&◌, Some, List, [], ◌∷◌, length, refl, sym, ap, ◌∙◌, arith, pow-suc, lit<, decimal, ◌-◌}
+use Rattle.std.proofs.Common.{subst, leb-true, eqb-true, lt-ltb, le-leb, eq-eqb}
 use Rattle.board_prelude.proofs.Common.{nat_tests, AllZip, AllDigits, digits_value, pow-le-pow_right, byte, hex_digit}
 use Rattle.board_prelude.proofs.Common.{hex_number, list_all, and_parts, is_within}
 use Rattle.std.specs.Char.{digit_value as value_of_digit}
@@ -29,10 +29,6 @@ unfolding number_after
 digits high n [] e = (tt, some_is high n e)
 digits high n (c ∷ cs) e = grind (arith, nat_tests, ten, digits (high * 10 + value_of_digit c) n cs)
 
-no_zero : (field : List ℕ) → has_leading_zero field ≡ false → 1 ≤ length field → get_or field 0 0 ≡ 48
-    → length field ≡ 1
-no_zero field e some first = grind (arith, nat_tests)
-
 parts : (a b c : Bool) → (a && b && not c) ≡ true → (a ≡ true) × (b ≡ true) × (c ≡ false)
 parts a b c test = grind (arith, nat_tests)
 
@@ -43,14 +39,9 @@ decimal_read field n e =
     let test = parts (leb 1 (length field)) (leb (length field) 9) (has_leading_zero field) g.0 in
     let some = leb-true 1 (length field) test.0 in
     let read = digits 0 n field g.1 in
-    let small : digits_value 10 field < 1_000_000_000 =
-    omega (
-      arith,
-      digits_value-lt 10 field read.0,
-      pow-le-pow_right {n = 10} (lit< tt)
-          (leb-true (length field) 9 test.1),
-    ) in
-    let text = decimal-digits_value own field read.0 (omega (arith, some)) (no_zero field test.2 some)
+    let most = pow-le-pow_right {n = 10} (lit< tt) (leb-true (length field) 9 test.1) in
+    let small : digits_value 10 field < 1_000_000_000 = omega (arith, digits_value-lt 10 field read.0) in
+    let text = decimal-digits_value own field read.0 (omega (arith, some)) (λ first. grind (arith, nat_tests, test.2))
     (omega (arith, small)) in
     (sym text ∙ ap decimal read.1, rw read.1 at small)
 
@@ -59,9 +50,6 @@ decimal_read field n e =
 digit_stands : (c d : ℕ) → parse_digit 16 c ≡ Some d → StandsFor c (hex_digit d) × (d < 16)
 digit_stands c d e = grind (arith, nat_tests)
 
-pub quotient : (n p : ℕ) → n / (p * 256) ≡ n / p / 256
-quotient n p = sym (div-div-eq-div-mul n p 256)
-
 -- two digits are a byte
 two_digits : (h a b q : ℕ) → a < 16 → b < 16 → q ≡ (h * 16 + a) * 16 + b
     → (q / 256 ≡ h) × ((q % 256 / 16 % 16 ≡ a) × (q % 256 % 16 ≡ b))
@@ -69,9 +57,6 @@ two_digits h a b q la lb is = (omega arith, (omega arith, omega arith))
 
 pub digit_again : (n d : ℕ) → n % 16 ≡ d → hex_digit n ≡ hex_digit d
 digit_again n d is = let e : d % 16 ≡ d = omega (arith, is) in rw (is, e) refl
-
-below_power : (n p : ℕ) → 0 < p → n / p ≡ 0 → n < p
-below_power n p some none = grind (arith, nat_tests)
 
 -- so many digits after those that made `high`
 hex_digits : (k high n : ℕ) (field : List ℕ) → length field ≡ k + k → number_after 16 high field ≡ Some n
@@ -84,7 +69,7 @@ hex_digits (suc k) high n (c ∷ d ∷ cs) long e =
     let later = hex_digits k ((high * 16 + s.0) * 16 + t.0) n cs (omega (arith, long)) t.2 in
     let parts = two_digits high s.0 t.0 (n / 256 ^ k) s.1.1 t.1.1 later.0 in
     let whole : n / 256 ^ suc k ≡ n / 256 ^ k / 256 =
-    ap (λ (p : ℕ). n / p) (pow-suc 256 k) ∙ quotient n (256 ^ k) in (
+    ap (λ (p : ℕ). n / p) (pow-suc 256 k) ∙ (sym (div-div-eq-div-mul n (256 ^ k) 256)) in (
       whole ∙ parts.0,
       (
         rw (digit_again (byte n k / 16) s.0 parts.1.0) s.1.0,
@@ -99,7 +84,7 @@ hex_read k field n e =
     let g = guarded (eqb (length field) (2 * k)) (parse_digits 0x10 field) n e in
     let long : length field ≡ k + k = omega (arith, eqb-true (length field) (2 * k) g.0) in
     let read = hex_digits k 0 n field long g.1 in
-    (read.1, below_power n (256 ^ k) (some_power k) read.0)
+    (read.1, grind (arith, nat_tests, some_power k, read.0))
 
 -- ---- texts without capitals A to F stand for themselves alone
 
@@ -158,7 +143,8 @@ hex_after (suc k) high n [] is spells = absurd spells
 hex_after (suc k) high n (c ∷ []) is spells = absurd spells.1
 hex_after (suc k) high n (c ∷ d ∷ cs) is spells =
     let b : ℕ = byte n k in
-    let above : high ≡ n / 256 ^ k / 256 = is ∙ ap (λ (p : ℕ). n / p) (pow-suc 256 k) ∙ quotient n (256 ^ k) in
+    let above : high ≡ n / 256 ^ k / 256 = is ∙ ap (λ (p : ℕ). n / p) (pow-suc 256 k) ∙
+    (sym (div-div-eq-div-mul n (256 ^ k) 256)) in
     let first : parse_digit 16 c ≡ Some (b / 16) = hex_digit_read c (b / 16) (omega arith) spells.0 in
     let low : hex_digit b ≡ hex_digit (b % 16) = digit_again b (b % 16) refl in
     let second : parse_digit 16 d ≡ Some (b % 16) = hex_digit_read d (b % 16) (omega arith)

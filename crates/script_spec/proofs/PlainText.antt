@@ -1,10 +1,10 @@
 -- The bytes of the log's words: spaces, letters, digits and a few marks, but no line feed and no `=`.
 use Rattle.std.proofs.Common.{ℕ, zero, suc, ◌≡◌, ◌/◌, ◌%◌, Bool, true, false, ◌||◌, eqb, Option, List, [], ◌∷◌, ◌++◌}
-use Rattle.std.proofs.Common.{refl, sym, ap, ◌∙◌, arith, decimal}
-use Rattle.board_prelude.proofs.Common.{nat_tests, digits, list_all, ne_eqb, and_from, and_parts, true≢false, Reg, Dev}
-use Rattle.board_prelude.proofs.Common.{Area, Target, Denial, byte, is_within, space, hex_number, hex_offset}
-use Rattle.board_prelude.proofs.Common.{register_text, base_text, area_text, device_text, target_text, denial_text}
-use Rattle.board_prelude.proofs.Common.{Moment, moment_text, two_digits, value_text}
+use Rattle.std.proofs.Common.{refl, ◌∙◌, arith, decimal}
+use Rattle.board_prelude.proofs.Common.{nat_tests, digits, list_all, and_from, and_parts, Reg, Area, Target, Denial}
+use Rattle.board_prelude.proofs.Common.{byte, is_within, space, hex_number, hex_offset, register_text, base_text}
+use Rattle.board_prelude.proofs.Common.{area_text, target_text, denial_text, Moment, moment_text, two_digits}
+use Rattle.board_prelude.proofs.Common.{value_text}
 use Rattle.script_spec.specs.Grammar.{is_name_byte}
 use Rattle.std.specs.Fmt.{digits_onto, digit_glyph}
 use Rattle.std.proofs.lemmas.List.Folds.{list_all-append}
@@ -56,15 +56,12 @@ base_word_text dev base = simp (word-append, decimal_word)
 offset_word : (off : ℕ) → is_word (hex_offset off) ≡ true
 offset_word off = grind (arith, nat_tests)
 
-device_word : (dev : Dev) → is_word (device_text dev) ≡ true
-device_word dev = grind (arith, nat_tests, decimal_word)
-
 pub area_word : (area : Area) → is_word (area_text area) ≡ true
 area_word area = grind (arith, nat_tests, decimal_word, base_word_text)
 
 pub target_word : (target : Target) → is_word (target_text target) ≡ true
 target_word (targets.Card dev base off) = simp (word-append, base_word_text, hex_number_word)
-target_word (targets.Device dev) = device_word dev
+target_word (targets.Device dev) = grind (arith, nat_tests, decimal_word)
 target_word target = grind (arith, nat_tests, decimal_word, offset_word, register_word)
 
 pub denial_word : (denial : Option Denial) → is_word (denial_text denial) ≡ true
@@ -93,9 +90,6 @@ are_words texts = list_all is_word texts
 abbrev pub is_plain : List ℕ → Bool
 is_plain bytes = list_all (λ b. eqb b space || is_word_byte b) bytes
 
-pub plain-append : (xs ys : List ℕ) → is_plain xs ≡ true → is_plain ys ≡ true → is_plain (xs ++ ys) ≡ true
-plain-append xs ys one two = simp (list_all-append, and_from)
-
 pub plain-word : (xs : List ℕ) → is_word xs ≡ true → is_plain xs ≡ true
 plain-word [] word = refl
 plain-word (c ∷ cs) word = grind (arith, nat_tests, plain-word cs (and_parts (is_word_byte c) (is_word cs) word).1)
@@ -105,7 +99,4 @@ pub lacks-plain : (mark : ℕ) (xs : List ℕ) → (eqb mark space || is_word_by
 lacks-plain mark [] outside plain = refl
 lacks-plain mark (c ∷ cs) outside plain =
     let parts = and_parts (eqb c space || is_word_byte c) (is_plain cs) plain in
-    rw (
-      ne_eqb c mark (λ same. true≢false (sym parts.0 ∙ ap (λ (b : ℕ). eqb b space || is_word_byte b) same ∙ outside)),
-      lacks-plain mark cs outside parts.1,
-    ) refl
+    grind (arith, nat_tests, lacks-plain mark cs outside parts.1)

@@ -3,22 +3,19 @@ use Rattle.board_prelude.proofs.Common.{nat_tests, common_steps, option_map, fin
 use Rattle.board_prelude.proofs.Common.{or_parts, or_right, and_parts, All-nil, All-cons, All-head, All-tail}
 use Rattle.board_prelude.proofs.Common.{All-append, sum_by-cons, sum_by-append, All-permutation, Statement, Setup}
 use Rattle.board_prelude.proofs.Common.{FittedCard, IsExpansionRom, IsCard, Rises, memory_size, memory_of_cards}
-use Rattle.board_prelude.proofs.Common.{IsScripted, is_rom_in_range, Event, card_at, IsInRange, IsScriptSector}
-use Rattle.board_prelude.proofs.Common.{IsInVersion}
+use Rattle.board_prelude.proofs.Common.{IsScripted, is_rom_in_range, Event, card_at, IsInRange}
 use Rattle.std.proofs.Common.{ℕ, ◌≡◌, ◌+◌, ◌-◌, ◌*◌, ◌<◌, ◌≤◌, Bool, true, false, not, ◌&&◌, cond, Option, Some, None}
 use Rattle.std.proofs.Common.{List, [], ◌∷◌, ◌++◌, length, map, reverse, All, filter, flat_map, refl, sym, ap, ◌∙◌}
-use Rattle.std.proofs.Common.{get_or, arith, is_some, ◌==◌}
-use Rattle.std.specs.List.{sum_by}
+use Rattle.std.proofs.Common.{get_or, arith, is_some, ◌==◌, sum_by}
 use Rattle.std.proofs.lemmas.List.Elements.{All-filter}
 use Rattle.std.proofs.lemmas.List.Sums.{length-filter}
 use Rattle.std.proofs.lemmas.List.Sorted.{IsPermutation-reverse, sum_by-IsPermutation, list_any-IsPermutation}
 use Rattle.board_base.proofs.CalendarLemmas.{is_within_parts}
 use Rattle.script_spec.specs.Common.{Item, SetCpus, SetMemory, SetRom, SetDisk, FitCard, BeginPhase, Ask, IsForm}
 use Rattle.script_spec.specs.Common.{is_phase, is_statement, is_setup, is_cpus, is_memory, is_rom, is_disk}
-use Rattle.script_spec.specs.Common.{is_cpus_above, has_card, cards_of, pulses_of, pulses_of_event, is_card_there}
-use Rattle.script_spec.specs.Common.{Script, IsVersion, phase_items, IsSaidBy, IsDiskName, statements_in}
-use Rattle.script_spec.specs.Common.{IsInRangeScript, ScriptsAreInRange, IsEventForm, is_event_in_range}
-use Rattle.script_spec.specs.Common.{is_event_placed}
+use Rattle.script_spec.specs.Common.{is_cpus_above, has_card, cards_of, pulses_of, is_card_there, Script, IsVersion}
+use Rattle.script_spec.specs.Common.{phase_items, IsSaidBy, IsDiskName, statements_in, IsInRangeScript}
+use Rattle.script_spec.specs.Common.{ScriptsAreInRange, IsEventForm, is_event_in_range, is_event_placed}
 use Rattle.script_spec.proofs.GoodItems.{NoReason, AreGood, read_good, found_good, IsWithinLimits, within_limits}
 use Rattle.script_spec.proofs.ScriptLaws.{count_of}
 
@@ -30,12 +27,6 @@ pub event_in_range : (version : ℕ) (setup : Setup) (before : List Item) (event
     is_event_in_range event ≡ true → is_event_placed event ≡ true → is_card_there before event ≡ true →
     HasCards before setup → IsInRange setup event
 event_in_range version setup before event form range place there cards = grind (arith, nat_tests)
-
-pub sector_in_range : (event : Event) → is_event_in_range event ≡ true → IsScriptSector event
-sector_in_range event range = grind (arith, nat_tests)
-
-pub event_in_version : (version : ℕ) (event : Event) → IsEventForm version event → IsInVersion version event
-event_in_version version event form = grind (arith, nat_tests)
 
 -- ---- processors
 
@@ -58,10 +49,6 @@ abbrev pub OnAsk : (Statement → Type 0) → Item → Type 0
 OnAsk P (Ask statement) = P statement
 OnAsk P _ = Unit {0}
 
-has_card_more : (item : Item) (before : List Item) (dev : ℕ) → has_card before dev ≡ true →
-    has_card (item ∷ before) dev ≡ true
-has_card_more item before dev has = grind (arith, nat_tests)
-
 scripted : (version cpus : ℕ) (setup : Setup) (before : List Item) (item : Item) →
     ((actor : ℕ) → list_any (is_cpus_above actor) before ≡ true → actor < cpus) → HasCards before setup →
     IsForm version item → NoReason before item → OnAsk (IsScripted setup version cpus) item
@@ -71,8 +58,8 @@ scripted version cpus setup before (Ask statement) above cards form none =
     record {
       actor = above statement.actor there.0;
       event = event_in_range version setup before statement.event form.1 none.range none.aligned there.1 cards;
-      sector = sector_in_range statement.event none.range;
-      said = event_in_version version statement.event form.1;
+      sector = grind (arith, nat_tests, none.range);
+      said = grind (arith, nat_tests, form.1);
     }
 scripted version cpus setup before _ above cards form none = tt
 
@@ -83,7 +70,7 @@ all_scripted version cpus setup [] above cards good = All-nil (OnAsk (IsScripted
 all_scripted version cpus setup (item ∷ before) above cards good =
     let above_before = λ (actor : ℕ) (any : list_any (is_cpus_above actor) before ≡ true).
     above actor (or_right (is_cpus_above actor item) (list_any (is_cpus_above actor) before) any) in
-    let cards_before : HasCards before setup = λ dev has. cards dev (has_card_more item before dev has) in
+    let cards_before : HasCards before setup = λ dev has. cards dev (grind (arith, nat_tests)) in
     All-cons (OnAsk (IsScripted setup version cpus)) item before
     (scripted version cpus setup before item above_before cards_before good.0 good.1)
     (all_scripted version cpus setup before above_before cards_before good.2)
@@ -128,18 +115,8 @@ three a b c test = grind (arith, nat_tests)
 all_cards : (version : ℕ) (items : List Item) → AreGood version items → All IsCard (cards_of items)
 all_cards version [] good = All-nil IsCard
 all_cards version (FitCard card ∷ before) good =
-    grind (
-      arith,
-      nat_tests,
-      three,
-      is_within_parts,
-      All-cons,
-      rom_there,
-      all_cards version before good.2,
-      common_steps,
-      All-nil,
-      and_parts,
-    )
+    let rest = all_cards version before good.2 in
+    grind (arith, nat_tests, common_steps, three, is_within_parts, All-nil, All-cons, rom_there, and_parts)
 all_cards version (_ ∷ before) good = all_cards version before good.2
 
 -- devices that rise up to 9 are few
@@ -175,28 +152,26 @@ sum_kept : (f : Item → ℕ) (items : List Item) → ((item : Item) → is_setu
 sum_kept f [] none = refl
 sum_kept f (item ∷ before) none = grind (arith, nat_tests, sum_by-cons, sum_kept f before none)
 
-sum_asks : (f : Item → ℕ) (g : Statement → ℕ) (phase : List Statement) →
-    ((statement : Statement) → f (Ask statement) ≡ g statement) → sum_by f (map Ask phase) ≡ sum_by g phase
-sum_asks f g phase same = grind (arith, nat_tests, common_steps, sum_by-cons)
+sum_asks : (f : Item → ℕ) (phase : List Statement) →
+    sum_by f (map Ask phase) ≡ sum_by (λ statement. f (Ask statement)) phase
+sum_asks f phase = grind (arith, nat_tests, common_steps, sum_by-cons)
 
-sum_phases : (f : Item → ℕ) (g : Statement → ℕ) (phases : List (List Statement)) →
-    ((statement : Statement) → f (Ask statement) ≡ g statement) →
-    sum_by f (phase_items phases) ≡ length phases * f BeginPhase + sum_by g (flat_map (λ phase. phase) phases)
-sum_phases f g [] same = omega arith
-sum_phases f g (phase ∷ later) same =
-    grind (arith, nat_tests, sum_by-cons, sum_by-append, sum_asks, sum_phases f g later same)
+sum_phases : (f : Item → ℕ) (phases : List (List Statement)) → sum_by f (phase_items phases)
+    ≡ length phases * f BeginPhase + sum_by (λ statement. f (Ask statement)) (flat_map (λ phase. phase) phases)
+sum_phases f [] = omega arith
+sum_phases f (phase ∷ later) = grind (arith, nat_tests, sum_by-cons, sum_by-append, sum_asks, sum_phases f later)
 
 -- a sum over all items is one over the phases, where setup lines count nothing
-sum_items : (f : Item → ℕ) (g : Statement → ℕ) (items : List Item) (phases : List (List Statement)) →
-    ((item : Item) → is_setup item ≡ true → f item ≡ 0) → ((statement : Statement) → f (Ask statement) ≡ g statement) →
-    reverse (filter (λ item. not (is_setup item)) items) ≡ phase_items phases →
-    sum_by f items ≡ length phases * f BeginPhase + sum_by g (flat_map (λ phase. phase) phases)
-sum_items f g items phases none same is =
+sum_items : (f : Item → ℕ) (items : List Item) (phases : List (List Statement)) →
+    ((item : Item) → is_setup item ≡ true → f item ≡ 0) →
+    reverse (filter (λ item. not (is_setup item)) items) ≡ phase_items phases → sum_by f items
+    ≡ length phases * f BeginPhase + sum_by (λ statement. f (Ask statement)) (flat_map (λ phase. phase) phases)
+sum_items f items phases none is =
     let kept : List Item = filter (λ item. not (is_setup item)) items in
     sym (sum_kept f items none)
     ∙ sym (sum_by-IsPermutation f kept (reverse kept) (IsPermutation-reverse kept))
     ∙ ap (sum_by f) is
-    ∙ sum_phases f g phases same
+    ∙ sum_phases f phases
 
 sum_of_same : {X : Type 0} (n : ℕ) (xs : List X) → sum_by (λ x. n) xs ≡ length xs * n
 sum_of_same n [] = omega arith
@@ -221,13 +196,11 @@ in_range items script good version said =
     let cards = All-permutation IsCard (cards_of items) script.cards said.cards (all_cards script.version items good) in
     let kept : List Item = filter (λ item. not (is_setup item)) items in
     let phases : List (List Statement) = script.phases in
-    let sum = λ (f : Item → ℕ) (g : Statement → ℕ). sum_items f g items phases in
-    let statements = sum (λ item. cond {A = ℕ} (is_statement item) 1 0) (λ statement. 1)
-    (λ item setup. grind (arith, nat_tests)) (λ statement. refl) said.phases in
-    let phase_count = sum (λ item. cond {A = ℕ} (is_phase item) 1 0) (λ statement. 0)
-    (λ item setup. grind (arith, nat_tests)) (λ statement. refl) said.phases in
-    let pulses = sum pulses_of (λ statement. pulses_of_event statement.event) (λ item setup. grind (arith, nat_tests))
-    (λ statement. refl) said.phases in
+    let sum = λ (f : Item → ℕ) (none : (item : Item) → is_setup item ≡ true → f item ≡ 0).
+    sum_items f items phases none said.phases in
+    let statements = sum (λ item. cond {A = ℕ} (is_statement item) 1 0) (λ item setup. grind (arith, nat_tests)) in
+    let phase_count = sum (λ item. cond {A = ℕ} (is_phase item) 1 0) (λ item setup. grind (arith, nat_tests)) in
+    let pulses = sum pulses_of (λ item setup. grind (arith, nat_tests)) in
     record {
       version = version;
       some_cpus = count.0;
@@ -251,17 +224,9 @@ in_range items script good version said =
           All-permutation (OnAsk P) kept (reverse kept) (IsPermutation-reverse kept)
           (All-filter (λ item. not (is_setup item)) (OnAsk P) items all) in
           all_asks P phases (rw said.phases at turned);
-      statements =
-          omega (
-            arith,
-            length-filter is_statement items,
-            statements,
-            sum_of_same 1 (statements_in script),
-            limits.statements,
-          );
-      phases =
-          omega (arith, length-filter is_phase items, phase_count, sum_of_same 0 (statements_in script), limits.phases);
-      pulses = omega (arith, pulses, limits.pulses);
+      statements = omega (arith, length-filter is_statement items, sum_of_same 1 (statements_in script));
+      phases = omega (arith, length-filter is_phase items, sum_of_same 0 (statements_in script));
+      pulses = omega arith;
     }
 
 pub scripts_are_in_range : ScriptsAreInRange

@@ -3,58 +3,39 @@ use Rattle.board_prelude.proofs.Common.{nat_tests, option_map, find, list_any, I
 use Rattle.board_prelude.proofs.Common.{cases_Bool, ltb-true, ltb-false, eqb-false, flat_map-append, map-append}
 use Rattle.board_prelude.proofs.Common.{reverse-append, All-nil, All-cons, All-head, All-tail, All-permutation}
 use Rattle.board_prelude.proofs.Common.{Statement, FittedCard, Rises, position_or_len}
-use Rattle.std.proofs.Common.{ℕ, ◌≡◌, ◌≢◌, ◌<◌, ◌≤◌, ◌⊎◌, Bool, true, false, not, ◌&&◌, ◌||◌, Option, Some, None}
-use Rattle.std.proofs.Common.{Result, List, [], ◌∷◌, ◌++◌, map, reverse, get_or, All, filter, refl, sym, ◌∙◌, inl, inr}
-use Rattle.std.proofs.Common.{append_assoc, append-nil, arith, ◌==◌, insert, nat_lt, one-add, if◌then◌else◌}
+use Rattle.std.proofs.Common.{ℕ, ◌≡◌, ◌≢◌, ◌<◌, ◌≤◌, ◌⊎◌, Bool, true, false, not, Option, Some, None, List, [], ◌∷◌}
+use Rattle.std.proofs.Common.{◌++◌, map, reverse, get_or, All, filter, refl, sym, ◌∙◌, inl, inr, append_assoc}
+use Rattle.std.proofs.Common.{append-nil, arith, ◌==◌, insert, nat_lt, one-add, if◌then◌else◌}
 use Rattle.std.proofs.lemmas.List.Sorted.{IsPermutation-refl, IsPermutation-trans, IsPermutation-cons}
 use Rattle.std.proofs.lemmas.List.Sorted.{IsPermutation-insert}
 use Rattle.script_spec.specs.Common.{lines_of, Item, SetCpus, SetMemory, SetRom, SetDisk, FitCard, BeginPhase, Ask}
 use Rattle.script_spec.specs.Common.{AskLevel, is_phase, is_setup, is_cpus, is_memory, is_rom, is_disk, cards_of}
 use Rattle.script_spec.specs.Common.{has_card, has_setup, lacks_setup, Script, phase_items, IsSaidBy, IsScriptText}
-use Rattle.script_spec.specs.Common.{IsScriptBad, SomeReading}
+use Rattle.script_spec.specs.Common.{SomeReading}
 use Rattle.script_spec.proofs.GoodItems.{NoReason, AreGood, read_good}
 use Rattle.script_spec.proofs.RangeLaws.{none_any}
-use Rattle.script_spec.proofs.Decision.{judged, AreGoodLines, AreJudged, judged_is}
+use Rattle.script_spec.proofs.ScriptLaws.{count_of, name_of}
+use Rattle.script_spec.proofs.Decision.{AreGoodLines, judged_is}
 
 -- ---- the setup is whole
 
-more_setup : (item : Item) (before : List Item) → has_setup before ≡ true → has_setup (item ∷ before) ≡ true
-more_setup item before has = grind (arith, nat_tests)
-
 -- by the first phase the setup is whole
-by_phase : (phase any before_has has : Bool) → (not (phase || any) && not has) ≡ false →
-    ((not any && not before_has) ≡ false → before_has ≡ true) → (phase && (not any && not before_has)) ≡ false →
-    (before_has ≡ true → has ≡ true) → has ≡ true
-by_phase phase any before_has has whole front begun more = grind (arith, nat_tests)
-
 whole_setup : (version : ℕ) (items : List Item) → AreGood version items → lacks_setup items ≡ false →
     has_setup items ≡ true
 whole_setup version [] good whole = absurd (true≢false whole)
 whole_setup version (item ∷ before) good whole =
-    by_phase (is_phase item) (list_any is_phase before) (has_setup before) (has_setup (item ∷ before)) whole
-    (λ front. whole_setup version before good.2 front) good.1.begun (more_setup item before)
+    let front = whole_setup version before good.2 in grind (arith, nat_tests, good.1.begun)
 
 whole_parts : (items : List Item) → has_setup items ≡ true
     → (list_any is_cpus items ≡ true) × (list_any is_memory items ≡ true) × (list_any is_rom items ≡ true)
 whole_parts items whole = grind (arith, nat_tests)
 
-found_cpus : (items : List Item) → list_any is_cpus items ≡ true → (count : ℕ) × (find is_cpus items ≡ Some
-    (SetCpus count))
-found_cpus [] any = absurd (false≢true any)
-found_cpus (SetCpus count ∷ before) any = (count, refl)
-found_cpus (item ∷ before) any = found_cpus before any
-
-found_memory : (items : List Item) → list_any is_memory items ≡ true → (mib : ℕ) × (find is_memory items ≡ Some
-    (SetMemory mib))
-found_memory [] any = absurd (false≢true any)
-found_memory (SetMemory mib ∷ before) any = (mib, refl)
-found_memory (item ∷ before) any = found_memory before any
-
-found_rom : (items : List Item) → list_any is_rom items ≡ true → (name : List ℕ) × (find is_rom items ≡ Some
-    (SetRom name))
-found_rom [] any = absurd (false≢true any)
-found_rom (SetRom name ∷ before) any = (name, refl)
-found_rom (item ∷ before) any = found_rom before any
+-- what is found of a kind
+found : {X : Type 0} (test : Item → Bool) (make : X → Item) (of : Option Item → X) (items : List Item)
+    → ((item : Item) → test item ≡ true → item ≡ make (of (Some item))) → list_any test items ≡ true
+    → find test items ≡ Some (make (of (find test items)))
+found test make of [] is any = absurd (false≢true any)
+found test make of (item ∷ before) is any = grind (arith, nat_tests, found test make of before is)
 
 found_disk : (items : List Item) → (disk : Option (List ℕ)) × (find is_disk items ≡ option_map SetDisk disk)
 found_disk [] = (None, refl)
@@ -151,41 +132,27 @@ pub phases_more : (front : List (List Statement)) (last : List Statement) →
 phases_more front last = simp (flat_map-append, append-nil)
 
 begin_phase : (before : List Item) → Run before → Run (BeginPhase ∷ before)
-begin_phase before (inl none) = inr (record {
-  front = [];
-  last = [];
-  is = rw (reverse_more BeginPhase (filter (λ item. not (is_setup item)) before), none.1) refl;
-})
-begin_phase before (inr some) = inr (record {
-  front = some.front ++ some.last ∷ [];
-  last = [];
-  is = rw (reverse_more BeginPhase (filter (λ item. not (is_setup item)) before), phases_more, some.is) refl;
-})
+begin_phase before (inl none) =
+    let more = reverse_more BeginPhase (filter (λ item. not (is_setup item)) before) in
+    inr (record { front = []; last = []; is = rw (more, none.1) refl })
+begin_phase before (inr some) =
+    let more = reverse_more BeginPhase (filter (λ item. not (is_setup item)) before) in
+    inr (record { front = some.front ++ some.last ∷ []; last = []; is = rw (more, phases_more, some.is) refl })
 
 ask_more : (before : List Item) (statement : Statement) → NoReason before (Ask statement) → Run before →
     Run (Ask statement ∷ before)
 ask_more before statement none (inl no_phase) = grind (arith, nat_tests)
-ask_more before statement none (inr some) = inr (record {
-  front = some.front;
-  last = some.last ++ statement ∷ [];
-  is = rw (
-    reverse_more (Ask statement) (filter (λ item. not (is_setup item)) before),
-    some.is,
-    append_assoc (phase_items some.front) (BeginPhase ∷ map Ask some.last) (Ask statement ∷ []),
-    map-append,
-  ) refl;
-})
-
-setup_more : (item : Item) (before : List Item) → is_phase item ≡ false → run_of (item ∷ before) ≡ run_of before →
-    Run before → Run (item ∷ before)
-setup_more item before no_phase same given = grind (arith, nat_tests)
+ask_more before statement none (inr old) =
+    let more = reverse_more (Ask statement) (filter (λ item. not (is_setup item)) before) in
+    let join = append_assoc (phase_items old.front) (BeginPhase ∷ map Ask old.last) (Ask statement ∷ []) in
+    inr (record { front = old.front; last = old.last ++ statement ∷ []; is = rw (more, old.is, join, map-append) refl })
 
 run : (version : ℕ) (items : List Item) → AreGood version items → Run items
 run version [] good = inl (refl, refl)
 run version (BeginPhase ∷ before) good = begin_phase before (run version before good.2)
 run version (Ask statement ∷ before) good = ask_more before statement good.1 (run version before good.2)
 run version (AskLevel actor one number level ∷ before) good = absurd (false≢true good.1.range)
-run version (item ∷ before) good = setup_more item before refl refl (run version before good.2)
+run version (item ∷ before) good = grind (arith, nat_tests, run version before good.2)
 
 phases_there : (items : List Item) → Run items → (phases : List (List Statement)) × (run_of items ≡ phase_items phases)
 phases_there items (inl none) = ([], none.1)
@@ -197,26 +164,23 @@ said_by : (version : ℕ) (items : List Item) → AreGood version items → lack
     (script : Script) × (script.version ≡ version) × IsSaidBy script items
 said_by version items good whole =
     let parts = whole_parts items (whole_setup version items good whole) in
-    let cpus = found_cpus items parts.0 in
-    let memory = found_memory items parts.1 in
-    let rom = found_rom items parts.2 in
     let disk = found_disk items in
     let cards = in_order version items good in
     let phases = phases_there items (run version items good) in (
       record {
         version = version;
-        cpus = cpus.0;
-        mib = memory.0;
-        rom = rom.0;
+        cpus = count_of (find is_cpus items);
+        mib = count_of (find is_memory items);
+        rom = name_of (find is_rom items);
         disk = disk.0;
         cards = cards.ordered;
         phases = phases.0;
       },
       refl,
       record {
-        cpus = cpus.1;
-        memory = memory.1;
-        rom = rom.1;
+        cpus = found is_cpus SetCpus count_of items (λ item is. grind (arith, nat_tests)) parts.0;
+        memory = found is_memory SetMemory count_of items (λ item is. grind (arith, nat_tests)) parts.1;
+        rom = found is_rom SetRom name_of items (λ item is. grind (arith, nat_tests)) parts.2;
         disk = disk.1;
         cards = cards.same;
         rises = cards.rises;
@@ -224,16 +188,9 @@ said_by version items good whole =
       },
     )
 
-abbrev Reading : List ℕ → Type 0
-Reading bytes = ((script : Script) × IsScriptText bytes script) ⊎ ((line : ℕ) × (why : ℕ) × IsScriptBad bytes line why)
-
 pub text_said : (bytes : List ℕ) (version : ℕ) (items : List Item) → AreGoodLines (lines_of bytes) version items →
     (script : Script) × IsScriptText bytes script
 text_said bytes version items good = grind (arith, nat_tests, said_by, read_good)
 
-reading_of : (bytes : List ℕ) (result : Result (ℕ × List Item) (ℕ × ℕ)) → AreJudged (lines_of bytes) result
-    → Reading bytes
-reading_of bytes result good = grind (arith, nat_tests, text_said)
-
 pub some_reading : SomeReading
-some_reading bytes = reading_of bytes (judged (lines_of bytes)) (judged_is (lines_of bytes))
+some_reading bytes = grind (arith, nat_tests, text_said, judged_is (lines_of bytes))

@@ -1,6 +1,6 @@
 -- A text says at most one script, and is bad at one line for one reason, but not both: it is decided.
 use Rattle.board_prelude.proofs.Common.{nat_tests}
-use Rattle.std.proofs.Common.{arith, ℕ, List, [], ◌∷◌, ◌++◌, inl, inr}
+use Rattle.std.proofs.Common.{arith, ℕ, List, [], ◌∷◌, ◌++◌, inl}
 use Rattle.script_spec.specs.Common.{lines_of, Item, IsSkipped, IsGoodLine, AreRead, NotBoth, OneRefusal}
 pub use Rattle.script_spec.proofs.Chains.{same_head, not_nil, same_some}
 use Rattle.script_spec.proofs.Decision.{text_decided, bad_decided}
@@ -10,18 +10,14 @@ pub read_more : (version : ℕ) (lines : List (List ℕ)) (line : List ℕ) (bef
     AreRead version before lines items → IsGoodLine version items line item →
     AreRead version before (lines ++ line ∷ []) (item ∷ items)
 read_more version [] line before items item read good = grind (arith, nat_tests)
-read_more version (first ∷ later) line before items item (inl skipped) good =
-    inl (skipped.0, read_more version later line before items item skipped.1 good)
-read_more version (first ∷ later) line before items item (inr one) good =
-    inr (one.0, one.1, read_more version later line (one.0 ∷ before) items item one.2 good)
+read_more version (first ∷ later) line before items item read good =
+    grind (arith, nat_tests, read_more version later line)
 
 pub skip_more : (version : ℕ) (lines : List (List ℕ)) (line : List ℕ) (before items : List Item) →
     AreRead version before lines items → IsSkipped line → AreRead version before (lines ++ line ∷ []) items
 skip_more version [] line before items read skipped = inl (skipped, read)
-skip_more version (first ∷ later) line before items (inl one) skipped =
-    inl (one.0, skip_more version later line before items one.1 skipped)
-skip_more version (first ∷ later) line before items (inr one) skipped =
-    inr (one.0, one.1, skip_more version later line (one.0 ∷ before) items one.2 skipped)
+skip_more version (first ∷ later) line before items read skipped =
+    grind (arith, nat_tests, skip_more version later line)
 
 -- ---- the whole
 

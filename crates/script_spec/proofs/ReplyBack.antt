@@ -5,17 +5,17 @@ use Rattle.board_prelude.proofs.Common.{is_write, longest_at, parts_from, parts_
 use Rattle.board_prelude.proofs.Common.{area_text, target_text, denial_text, value_bytes, value_text, reply_text}
 use Rattle.board_prelude.proofs.Common.{digits, option_map, Reg, Dev, Area, Target, Denial, byte, hex_digit, hex_byte}
 use Rattle.board_prelude.proofs.Common.{hex_number, hex_offset, register_text, device_text}
-use Rattle.std.proofs.Common.{◌≡◌, ℕ, zero, suc, ◌+◌, ◌-◌, ◌^◌, ◌<◌, ◌≤◌, ◌↔◌, Bool, true, false, Option, Some, None}
-use Rattle.std.proofs.Common.{List, [], ◌∷◌, length, All, refl, sym, ap, ◌∙◌, append_assoc, arith, decimal, IfSome}
-use Rattle.std.proofs.Common.{IsTrue, ◌*◌, ◌/◌, ◌%◌, eqb, ◌++◌, inl, inr, codes}
+use Rattle.std.proofs.Common.{◌≡◌, ℕ, zero, suc, ◌+◌, ◌-◌, ◌^◌, ◌<◌, ◌≤◌, ◌↔◌, Bool, false, Option, Some, None, List}
+use Rattle.std.proofs.Common.{[], ◌∷◌, length, All, refl, sym, ap, ◌∙◌, append_assoc, arith, decimal, IfSome, IsTrue}
+use Rattle.std.proofs.Common.{◌*◌, ◌/◌, ◌%◌, eqb, ◌++◌, codes}
 use Rattle.board_spec.specs.declared.event.Event.TheVariants.{Look as LookAt}
-use Rattle.script_spec.specs.Common.{IsDecimal, FitsPart, IsReplyValue, IsBusReply, IsWideReply, IsLookReply, HasShape}
-use Rattle.script_spec.specs.Common.{fields_of, parse_decimal, parse_value, parse_bus_reply, parse_last_parts}
-use Rattle.script_spec.specs.Common.{parse_more_parts, parse_parts, part_count, parts_with, parse_wide_reply}
-use Rattle.script_spec.specs.Common.{parse_reply, parse_spaced_reply, FitsReg, FitsArea, FitsDevice, FitsTarget}
-use Rattle.script_spec.specs.Common.{FitsDenial, parse_digit, number_after, parse_hex, cut, parse_one_digit}
-use Rattle.script_spec.specs.Common.{parse_register, parse_denial, parse_placed_area, parse_area, parse_placed_target}
-use Rattle.script_spec.specs.Common.{parse_device, parse_target}
+use Rattle.script_spec.specs.Common.{IsDecimal, FitsPart, IsReplyValue, IsBusReply, IsWideReply, HasShape, fields_of}
+use Rattle.script_spec.specs.Common.{parse_decimal, parse_value, parse_bus_reply, parse_last_parts, parse_more_parts}
+use Rattle.script_spec.specs.Common.{parse_parts, part_count, parts_with, parse_wide_reply, parse_reply}
+use Rattle.script_spec.specs.Common.{parse_spaced_reply, FitsReg, FitsArea, FitsDevice, FitsTarget, FitsDenial}
+use Rattle.script_spec.specs.Common.{parse_digit, number_after, parse_hex, cut, parse_one_digit, parse_register}
+use Rattle.script_spec.specs.Common.{parse_denial, parse_placed_area, parse_area, parse_placed_target, parse_device}
+use Rattle.script_spec.specs.Common.{parse_target}
 use Rattle.script_spec.proofs.Words.{line_spaced, words_of, words_in, reply_spaced, reply_are}
 use Rattle.script_spec.proofs.Splits.{split_exact}
 use Rattle.script_spec.proofs.NumberTexts.{decimal_read, decimal_back, digit_so, hex_after, hex_back}
@@ -23,7 +23,7 @@ use Rattle.script_spec.specs.Replies.{bus_reply, look_reply, parse_part, parse_l
 use Rattle.std.proofs.lemmas.Fmt.{decimal_digit}
 use Rattle.board_base.specs.declared.target.Dev.TheVariants as devices
 use Rattle.board_base.specs.declared.target.Target.TheVariants as targets
-use Rattle.script_spec.proofs.Digits.{lacks, lacks-append, lacks-decimal, cut_field}
+use Rattle.script_spec.proofs.Digits.{lacks-append, lacks-decimal, cut_field}
 use Rattle.script_spec.proofs.Chains.{same}
 use Rattle.script_spec.specs.Targets.{parse_card_base, parse_card_target}
 
@@ -62,13 +62,9 @@ register_back : (reg : Reg) → FitsReg reg → parse_register (register_text re
 unfolding parse_register
 register_back reg fits =
     let rest : List ℕ = hex_digit reg.fun ∷ 0x2E ∷ hex_byte reg.off in
-    rw (
-      cut_field 0x2E (hex_byte reg.dev) rest (rw (digit_not (reg.dev / 0x10), digit_not reg.dev) refl),
-      cut_field 0x2E (hex_digit reg.fun ∷ []) (hex_byte reg.off) (rw (digit_not reg.fun) refl),
-      byte_back reg.dev fits.0,
-      nibble_back reg.fun fits.1,
-      byte_back reg.off fits.2,
-    ) refl
+    let first = cut_field 0x2E (hex_byte reg.dev) rest (rw (digit_not (reg.dev / 0x10), digit_not reg.dev) refl) in
+    let second = cut_field 0x2E (hex_digit reg.fun ∷ []) (hex_byte reg.off) (rw (digit_not reg.fun) refl) in
+    rw (first, second, byte_back reg.dev fits.0, nibble_back reg.fun fits.1, byte_back reg.off fits.2) refl
 
 pub denial_back : (denial : Option Denial) → FitsDenial denial → parse_denial (denial_text denial) ≡ Some denial
 unfolding parse_denial parse_register cut
@@ -79,11 +75,7 @@ denial_back denial fits = grind (arith, nat_tests, register_back)
 base_back : (dev base : ℕ) → dev < 10 → base < 10
     → parse_card_base (decimal dev ++ 0x2E ∷ decimal base) ≡ Some (dev, base)
 unfolding parse_card_base
-base_back dev base one two = rw (
-  cut_field 0x2E (decimal dev) (decimal base) (lacks-decimal 0x2E dev (inl (omega arith)) (omega (arith, one))),
-  digit_back dev one,
-  digit_back base two,
-) refl
+base_back dev base one two = grind (arith, nat_tests, cut_field, lacks-decimal, digit_back)
 
 base_parts : (dev base : ℕ) → dev < 10 → base < 10 → parse_card_base (decimal dev ++ codes "." ++ decimal base) ≡ Some
     (dev, base)
@@ -100,17 +92,7 @@ card_back : (dev base off : ℕ) → dev < 10 → base < 10 → off < 2 ^ 32
     ≡ Some (targets.Card dev base off)
 unfolding parse_card_target
 card_back dev base off one two three =
-    let place : List ℕ = decimal dev ++ codes "." ++ decimal base in
-    let first : lacks 0x3A (decimal dev) ≡ true = lacks-decimal 0x3A dev (inr (omega arith)) (omega (arith, one)) in
-    let second : lacks 0x3A (decimal base) ≡ true = lacks-decimal 0x3A base (inr (omega arith)) (omega (arith, two)) in
-    let lack = lacks-append 0x3A (decimal dev ++ codes ".") (decimal base)
-    (lacks-append 0x3A (decimal dev) (codes ".") first refl) second in
-    rw (
-      append_assoc place (codes ":") (hex_long off),
-      cut_field 0x3A place (hex_long off) lack,
-      base_parts dev base one two,
-      hex_read 4 off (omega (arith, three)),
-    ) refl
+    grind (arith, nat_tests, append_assoc, cut_field, base_parts, hex_read 4, lacks-append, lacks-decimal)
 
 device_back : (dev : Dev) → FitsDevice dev → parse_target (device_text dev) ≡ Some (targets.Device dev)
 unfolding parse_target parse_device digits
@@ -122,14 +104,9 @@ device_back _ fits = refl
 
 pub target_back : (target : Target) → FitsTarget target → parse_target (target_text target) ≡ Some target
 unfolding parse_target parse_device parse_placed_target cut
-target_back (targets.Dram row) fits = ap (option_map targets.Dram) (digit_back row fits)
-target_back (targets.Shadow row) fits = ap (option_map targets.Shadow) (digit_back row fits)
-target_back targets.Smram fits = refl
-target_back (targets.Rom off) fits = ap (option_map targets.Rom) (offset_back off fits)
 target_back (targets.Card dev base off) fits = card_back dev base off fits.0 fits.1 fits.2
-target_back (targets.Device dev) fits = device_back dev fits
 target_back (targets.Config reg) fits = ap (option_map targets.Config) (register_back reg fits)
-target_back targets.Abort fits = refl
+target_back target fits = grind (arith, nat_tests, digit_back, offset_back, device_back)
 
 -- the first field is empty
 reply_fields : (bytes : ℕ) (reply : Reply) → fields_of (space ∷ reply_text bytes reply) ≡ [] ∷ words_in bytes reply
@@ -172,30 +149,16 @@ counted : (access : WideAccess) (most addr left : ℕ) → length (parts_from ac
 unfolding parts_from part_count
 counted access zero addr left = refl
 counted access (suc most) addr left =
-    grind (
-      arith,
-      nat_tests,
-      counted access most (addr + bytes_of (longest_at addr left))
-          (left - bytes_of (longest_at addr left)),
-    )
-
-wide_back : (access : WideAccess) (reply : Reply) → IsWideReply (is_write access.kind) access.bytes
-    (length (parts_of access)) reply
-    → parse_wide_reply access (words_in access.bytes reply) ≡ Some reply
-unfolding parse_wide_reply
-wide_back access reply fits = grind (arith, nat_tests, value_back, parts_back, eq-eqb, counted)
-
-look_back : (bytes : ℕ) (reply : Reply) → IsLookReply reply → parse_look_reply (words_in bytes reply) ≡ Some reply
-unfolding parse_look_reply look_reply
-look_back bytes reply fits = grind (arith, nat_tests, decimal_back, hex_read 4, area_back)
+    let later = counted access most (addr + bytes_of (longest_at addr left)) (left - bytes_of (longest_at addr left)) in
+    grind (arith, nat_tests)
 
 reply_back : (event : Event) (reply : Reply) → HasShape event reply → parse_reply event
     (words_in (value_bytes event) reply) ≡ Some reply
-unfolding parse_reply
+unfolding parse_reply parse_wide_reply parse_look_reply look_reply
 reply_back (Memory access) reply shape = bus_back (is_write access.kind) (bytes_of access.width) reply shape
-reply_back (Wide access) reply shape = wide_back access reply shape
+reply_back (Wide access) reply shape = grind (arith, nat_tests, value_back, parts_back, eq-eqb, counted)
 reply_back (Port access) reply shape = bus_back access.write (bytes_of access.width) reply shape
-reply_back (LookAt kind addr smm) reply shape = look_back 1 reply shape
+reply_back (LookAt kind addr smm) reply shape = grind (arith, nat_tests, decimal_back, hex_read 4, area_back)
 reply_back Ack reply shape = bus_back false 1 reply shape
 reply_back _ reply shape = ap Some (sym shape)
 

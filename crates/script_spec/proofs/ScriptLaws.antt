@@ -86,7 +86,7 @@ count_of (Some (SetCpus count)) = count
 count_of (Some (SetMemory mib)) = mib
 count_of _ = 0
 
-abbrev name_of : Option Item → List ℕ
+abbrev pub name_of : Option Item → List ℕ
 name_of (Some (SetRom name)) = name
 name_of _ = []
 

@@ -1,7 +1,6 @@
 -- A line that spells words has just those fields.
-use Rattle.board_prelude.proofs.Common.{nat_tests, common_steps, join_with_byte, and_parts, onto_first, space, All-nil}
-use Rattle.board_prelude.proofs.Common.{All-cons, cases_Bool}
-use Rattle.std.proofs.Common.{◌≡◌, ℕ, Bool, true, false, eqb, List, [], ◌∷◌, inl, inr, All, arith}
+use Rattle.board_prelude.proofs.Common.{nat_tests, common_steps, join_with_byte, and_parts, space, All-nil, All-cons}
+use Rattle.std.proofs.Common.{◌≡◌, ℕ, Bool, true, false, eqb, List, [], ◌∷◌, All, arith}
 use Rattle.std.proofs.lemmas.List.Splits.{slice_split_none, slice_split_at}
 use Rattle.script_spec.specs.Common.{fields_of, StandsFor}
 use Rattle.script_spec.proofs.Digits.{lacks-first, lacks-later}
@@ -15,18 +14,10 @@ is_space byte = eqb byte 32
 stands_space : (c t : ℕ) → StandsFor c t → is_space c ≡ is_space t
 stands_space c t stands = grind (arith, nat_tests)
 
-reads_onto : (c t : ℕ) (fields texts : List (List ℕ)) → StandsFor c t → Reads fields texts
-    → Reads (onto_first c fields) (onto_first t texts)
-reads_onto c t fields texts stands reads = grind (arith, nat_tests)
-
 spelled_fields : (line text : List ℕ) → Spells line text → Reads (fields_of line) (fields_of text)
 spelled_fields [] [] spells = (tt, tt)
 spelled_fields (c ∷ cs) (t ∷ ts) spells =
-    let later = spelled_fields cs ts spells.1 in
-    elim (cases_Bool (is_space t)) [
-      | inl ends ↦ rw (stands_space c t spells.0, ends) (tt, later)
-      | inr goes ↦ rw (stands_space c t spells.0, goes) (reads_onto c t (fields_of cs) (fields_of ts) spells.0 later)
-    ]
+    let later = spelled_fields cs ts spells.1 in grind (arith, nat_tests, stands_space)
 spelled_fields _ _ spells = grind arith
 
 -- ---- a line that is words joined

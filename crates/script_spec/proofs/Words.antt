@@ -11,8 +11,9 @@ use Rattle.script_spec.proofs.Digits.{own}
 use Rattle.std.proofs.lemmas.Fmt.{decimal-digits_value}
 use Rattle.board_spec.specs.declared.event.Event.TheVariants.{Look as LookAt}
 use Rattle.board_spec.specs.declared.event.Reply.TheVariants.{Parts as InParts}
-use Rattle.script_spec.proofs.PlainText.{is_word, are_words, is_plain, plain-append, plain-word, hex_number_word}
-use Rattle.script_spec.proofs.PlainText.{decimal_word, moment_word, value_word, area_word, target_word, denial_word}
+use Rattle.script_spec.proofs.PlainText.{is_word, are_words, is_plain, plain-word, hex_number_word, decimal_word}
+use Rattle.script_spec.proofs.PlainText.{moment_word, value_word, area_word, target_word, denial_word}
+use Rattle.std.proofs.lemmas.List.Folds.{list_all-append}
 
 -- each word after a space
 abbrev pub spaced : List (List ℕ) → List ℕ
@@ -94,9 +95,6 @@ kind_is kind = grind (arith, nat_tests)
 size_is : (bytes : ℕ) → is_word (size_text bytes) ≡ true
 size_is bytes = grind (arith, nat_tests)
 
-verb_is : (write : Bool) → is_word (if write then codes "out" else codes "in") ≡ true
-verb_is write = grind (arith, nat_tests)
-
 access_are : (k s h : List ℕ) (writes : Bool) (bytes value : ℕ) (smm : Bool) → is_word k ≡ true → is_word s ≡ true
     → is_word h ≡ true → are_words (k ∷ s ∷ h ∷ written_words writes bytes value (smm_words smm)) ≡ true
 access_are k s h writes bytes value smm one two three = grind (arith, nat_tests, hex_number_word)
@@ -111,7 +109,7 @@ event_are (Wide access) =
     access.bytes access.value access.smm (kind_is access.kind) (size_is access.bytes) (hex_number_word 4 access.addr)
 event_are (Port access) =
     access_are (if access.write then codes "out" else codes "in") (width_text access.width) (hex_number 2 access.port)
-    access.write (bytes_of access.width) access.value false (verb_is access.write) (size_is (bytes_of access.width))
+    access.write (bytes_of access.width) access.value false (grind (arith, nat_tests)) (size_is (bytes_of access.width))
     (hex_number_word 2 access.port)
 event_are (LookAt kind addr smm) =
     access_are (codes "look") (kind_text kind) (hex_number 4 addr) false 0 0 smm refl (kind_is kind)
@@ -148,11 +146,8 @@ parts_are [] = refl
 parts_are (part ∷ later) = grind (arith, nat_tests, target_word, denial_word, parts_are later)
 
 pub reply_are : (bytes : ℕ) (reply : Reply) → are_words (words_in bytes reply) ≡ true
-reply_are bytes (Bus value target denial) = grind (arith, nat_tests, value_word, target_word, denial_word)
-reply_are bytes (InParts parts value) = grind (arith, nat_tests, value_word, parts_are)
-reply_are bytes (Saw look) =
-    and_from _ _ (decimal_word look.version) (and_from _ _ (hex_number_word 4 look.lo)
-    (and_from _ _ (hex_number_word 4 look.hi) (and_from _ _ (area_word look.area) refl)))
+reply_are bytes (Saw look) = grind (arith, nat_tests, decimal_word, hex_number_word 4, area_word)
+reply_are bytes reply = grind (arith, nat_tests, value_word, target_word, denial_word, parts_are)
 
 -- ---- so the texts are words and spaces
 
@@ -160,7 +155,7 @@ plain-spaced : (words : List (List ℕ)) → are_words words ≡ true → is_pla
 plain-spaced [] are = refl
 plain-spaced (word ∷ words) are =
     let parts = and_parts (is_word word) (are_words words) are in
-    plain-append (space ∷ word) (spaced words) (plain-word word parts.0) (plain-spaced words parts.1)
+    simp (list_all-append, and_from, plain-word word parts.0, plain-spaced words parts.1)
 
 plain-joined : (words : List (List ℕ)) → are_words words ≡ true → is_plain (join_with_byte space words) ≡ true
 plain-joined [] are = refl
