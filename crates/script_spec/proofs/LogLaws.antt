@@ -48,20 +48,9 @@ pub line_pieces : (version n : ℕ) (entry : Entry) → IsWellFormed version ent
     → parse_pieces (line_text n entry) ≡ Some (pieces entry)
 unfolding line_text parse_pieces
 line_pieces version n entry formed =
-    let event : List ℕ = event_text entry.event in
-    let reply : List ℕ = reply_text (value_bytes entry.event) entry.reply in
-    let asked : List ℕ = asked_text entry.seq entry.event in
-    let later : List ℕ = decimal entry.seq ++ (space ∷ event ++ (codes " = " ++ reply)) in
-    let rest : List ℕ = decimal entry.actor ++ 0x2E ∷ later in
-    let lack = lacks-append 0x3D asked (space ∷ [])
-    (lacks-append 0x3D (decimal entry.seq) (space ∷ event) (lacks-decimal 0x3D entry.seq (inr (omega arith)) formed.seq)
-    (lacks-plain 0x3D event refl (event_plain entry.event)))
-    refl in
-    let lacking = lacks-decimal 0x2E entry.actor (inl (omega arith)) (omega (arith, formed.actor)) in
-    let number = cut_field space (decimal n) rest (lacks-word space (decimal n) refl (decimal_word n)) in
-    let actor = cut_field 0x2E (decimal entry.actor) later lacking in
-    let statement = cut_field 0x3D (asked ++ space ∷ []) (space ∷ reply) lack in
-    rw (seven_parts, number, actor, later_parts, statement, but_last_push) refl
+    let number = lacks-word space (decimal n) refl (decimal_word n) in
+    let event = lacks-plain 0x3D (event_text entry.event) refl (event_plain entry.event) in
+    grind (arith, nat_tests, seven_parts, cut_field, lacks-decimal, later_parts, lacks-append, but_last_push)
 
 pub actor_said : (actor : ℕ) → actor < 0x100 → parse_actor (decimal actor) ≡ Some actor
 unfolding parse_actor

@@ -7,7 +7,7 @@ use Rattle.board_prelude.proofs.Common.{digits, option_map, Reg, Dev, Area, Targ
 use Rattle.board_prelude.proofs.Common.{hex_number, hex_offset, register_text, device_text}
 use Rattle.std.proofs.Common.{◌≡◌, ℕ, zero, suc, ◌+◌, ◌-◌, ◌^◌, ◌<◌, ◌≤◌, ◌↔◌, Bool, false, Option, Some, None, List}
 use Rattle.std.proofs.Common.{[], ◌∷◌, length, All, refl, sym, ap, ◌∙◌, append_assoc, arith, decimal, IfSome, IsTrue}
-use Rattle.std.proofs.Common.{◌*◌, ◌/◌, ◌%◌, eqb, ◌++◌, codes}
+use Rattle.std.proofs.Common.{◌*◌, ◌%◌, eqb, ◌++◌, codes}
 use Rattle.board_spec.specs.declared.event.Event.TheVariants.{Look as LookAt}
 use Rattle.script_spec.specs.Common.{IsDecimal, FitsPart, IsReplyValue, IsBusReply, IsWideReply, HasShape, fields_of}
 use Rattle.script_spec.specs.Common.{parse_decimal, parse_value, parse_bus_reply, parse_last_parts, parse_more_parts}
@@ -59,12 +59,8 @@ digit_not : (n : ℕ) → eqb (hex_digit n) 0x2E ≡ false
 digit_not n = grind (arith, nat_tests)
 
 register_back : (reg : Reg) → FitsReg reg → parse_register (register_text reg) ≡ Some reg
-unfolding parse_register
-register_back reg fits =
-    let rest : List ℕ = hex_digit reg.fun ∷ 0x2E ∷ hex_byte reg.off in
-    let first = cut_field 0x2E (hex_byte reg.dev) rest (rw (digit_not (reg.dev / 0x10), digit_not reg.dev) refl) in
-    let second = cut_field 0x2E (hex_digit reg.fun ∷ []) (hex_byte reg.off) (rw (digit_not reg.fun) refl) in
-    rw (first, second, byte_back reg.dev fits.0, nibble_back reg.fun fits.1, byte_back reg.off fits.2) refl
+unfolding parse_register cut
+register_back reg fits = grind (arith, nat_tests, digit_not, byte_back, nibble_back)
 
 pub denial_back : (denial : Option Denial) → FitsDenial denial → parse_denial (denial_text denial) ≡ Some denial
 unfolding parse_denial parse_register cut
