@@ -1,8 +1,7 @@
 -- A statement that is read straight from the bytes of its line is the one that its fields say.
-use Rattle.board_prelude.proofs.Common.{nat_tests, option_map, All-nil, All-cons, Event, Width, Kind, Read, Fetch}
-use Rattle.board_prelude.proofs.Common.{bytes_of}
-use Rattle.std.proofs.Common.{arith, ◌≡◌, ℕ, ◌+◌, ◌*◌, false, eqb, Option, Some, None, List, [], ◌∷◌, ◌++◌, All, sym}
-use Rattle.std.proofs.Common.{ap, ◌∙◌, IfSome, MatchOption}
+use Rattle.board_prelude.proofs.Common.{nat_tests, All-nil, All-cons, Event, Width, Kind}
+use Rattle.std.proofs.Common.{arith, ◌≡◌, ℕ, ◌+◌, ◌*◌, false, Option, Some, None, List, [], ◌∷◌, ◌++◌, All, sym, ap}
+use Rattle.std.proofs.Common.{◌∙◌, IfSome, MatchOption}
 use Rattle.std.proofs.lemmas.List.Splits.{slice_split_none, slice_split_at}
 use Rattle.script_spec.specs.Common.{HasForm, fields_of, parse_size, parse_width, parse_kind, parse_hex, parse_decimal}
 use Rattle.script_spec.specs.Common.{parse_digit, number_after, parse_smm, parse_read, parse_write, parse_in, parse_out}
@@ -23,15 +22,12 @@ IsField field = All (λ byte. is_space byte ≡ false) field
 pub none_some : {A : Type 0} (x : A) → ◌≡◌ {A = Option A} None (Some x) → ⊥
 none_some x e = cc
 
-digit_lacks : (base byte digit : ℕ) → parse_digit base byte ≡ Some digit → is_space byte ≡ false
-digit_lacks base byte digit e = grind (arith, nat_tests)
-
 number_lacks : (base high n : ℕ) (field : List ℕ) → number_after base high field ≡ Some n → IsField field
 unfolding number_after
 number_lacks base high n [] e = All-nil (λ byte. is_space byte ≡ false)
 number_lacks base high n (byte ∷ rest) e =
     let k = then_said (parse_digit base byte) (λ digit. number_after base (high * base + digit) rest) n e in
-    All-cons (λ byte. is_space byte ≡ false) byte rest (digit_lacks base byte k.0 k.1)
+    All-cons (λ byte. is_space byte ≡ false) byte rest (grind (arith, nat_tests, k.1))
     (number_lacks base (high * base + k.0) n rest k.2)
 
 hex_lacks : (digits n : ℕ) (field : List ℕ) → parse_hex digits field ≡ Some n → IsField field
@@ -45,10 +41,6 @@ width_lacks byte width e = grind (arith, nat_tests)
 
 kind_lacks : (byte : ℕ) (kind : Kind) → parse_kind (byte ∷ []) ≡ Some kind → is_space byte ≡ false
 kind_lacks byte kind e = grind (arith, nat_tests)
-
-decimal_lacks : (byte n : ℕ) → parse_decimal (byte ∷ []) ≡ Some n → is_space byte ≡ false
-unfolding number_after
-decimal_lacks byte n e = grind (arith, nat_tests)
 
 -- ---- fields
 
@@ -79,31 +71,12 @@ access_straight version size kind text addr found is made =
 pub matched : {A : Type 0} (N : Type 0) (P : A → Type 0) (found : Option A) → MatchOption found N P → IfSome found P
 matched N P found m = grind (arith, nat_tests)
 
-pub each_read : (version : ℕ) (words text : List ℕ) (found : Option Event) → words ≡ 114 ∷ 32 ∷ text
-    → IfSome found (λ event. parse_read version Read (fields_of text) ≡ Some event) → IfSome found (Asks version words)
-unfolding parse_statement_words parse_by_verb
-each_read version words text found is said = grind (arith, nat_tests)
-
-pub each_fetch : (version : ℕ) (words text : List ℕ) (found : Option Event) → words ≡ 102 ∷ 32 ∷ text
-    → IfSome found (λ event. parse_read version Fetch (fields_of text) ≡ Some event) → IfSome found (Asks version words)
-unfolding parse_statement_words parse_by_verb
-each_fetch version words text found is said = grind (arith, nat_tests)
-
 pub write_straight : (version size : ℕ) (words text fields addr value : List ℕ) (found : Option Event)
     → words ≡ 119 ∷ 32 ∷ text → text ≡ size ∷ 32 ∷ fields → fields ≡ addr ++ 32 ∷ value
     → found ≡ write_event version (size ∷ []) addr value false → IfSome found (Asks version words)
 unfolding parse_statement_words parse_by_verb parse_write parse_smm write_event
-write_straight version size words text fields addr value None verb is cut made = tt
-write_straight version size words text fields addr value (Some event) verb is cut made = λ actor.
-    let b = then_said (parse_size version (size ∷ [])) _ event (sym made) in
-    let a = then_said (parse_hex 8 addr) _ event b.2 in
-    let v = then_said (parse_hex (2 * b.0) value) _ event a.2 in
-    let parts = last_fields size fields addr value cut (size_lacks version size b.0 b.1) (hex_lacks 8 a.0 addr a.1)
-    (hex_lacks (2 * b.0) v.0 value v.1) in
-    ap (λ (t : List ℕ). parse_statement_words version actor (fields_of t)) verb
-    ∙ ap (λ (t : List ℕ). option_map (ask actor) (parse_write version (fields_of t))) is
-    ∙ ap (λ (fields : List (List ℕ)). option_map (ask actor) (parse_write version fields)) parts
-    ∙ ap (option_map (ask actor)) (sym made)
+write_straight version size words text fields addr value found verb is cut made =
+    grind (arith, nat_tests, then_said, last_fields, size_lacks, hex_lacks)
 
 pub in_straight : (version byte : ℕ) (words text port : List ℕ) (found : Option Event) → words ≡ 105 ∷ 110 ∷ 32 ∷ text →
     text ≡ byte ∷ 32 ∷ port → found ≡ in_event (byte ∷ []) port → IfSome found (Asks version words)
@@ -115,17 +88,8 @@ pub out_straight : (version byte : ℕ) (words text fields port value : List ℕ
     → words ≡ 111 ∷ 117 ∷ 116 ∷ 32 ∷ text → text ≡ byte ∷ 32 ∷ fields → fields ≡ port ++ 32 ∷ value
     → found ≡ out_event (byte ∷ []) port value → IfSome found (Asks version words)
 unfolding parse_statement_words parse_by_verb parse_out out_event
-out_straight version byte words text fields port value None verb is cut made = tt
-out_straight version byte words text fields port value (Some event) verb is cut made = λ actor.
-    let w = then_said (parse_width (byte ∷ [])) _ event (sym made) in
-    let p = then_said (parse_hex 4 port) _ event w.2 in
-    let v = then_said (parse_hex (2 * bytes_of w.0) value) _ event p.2 in
-    let parts = last_fields byte fields port value cut (width_lacks byte w.0 w.1) (hex_lacks 4 p.0 port p.1)
-    (hex_lacks (2 * bytes_of w.0) v.0 value v.1) in
-    ap (λ (t : List ℕ). parse_statement_words version actor (fields_of t)) verb
-    ∙ ap (λ (t : List ℕ). option_map (ask actor) (parse_out (fields_of t))) is
-    ∙ ap (λ (fields : List (List ℕ)). option_map (ask actor) (parse_out fields)) parts
-    ∙ ap (option_map (ask actor)) (sym made)
+out_straight version byte words text fields port value found verb is cut made =
+    grind (arith, nat_tests, then_said, last_fields, width_lacks, hex_lacks)
 
 pub look_straight : (version byte : ℕ) (words text addr : List ℕ) (found : Option Event)
     → words ≡ 108 ∷ 111 ∷ 111 ∷ 107 ∷ 32 ∷ text → text ≡ byte ∷ 32 ∷ addr → found ≡ look_event (byte ∷ []) addr false
@@ -138,17 +102,15 @@ look_straight version byte words text addr found verb is made =
 
 pub line_straight : (version digit actor : ℕ) (line words : List ℕ) (event : Event) → line ≡ digit ∷ 32 ∷ words
     → Some actor ≡ parse_decimal (digit ∷ []) → Asks version words event → HasForm version line (ask actor event)
+unfolding number_after
 line_straight version digit actor line words event cut said asks =
     let is = decimal_read (digit ∷ []) actor (sym said) in
     read_says version line (ask actor event)
-    (rw (cut, one_byte digit words (decimal_lacks digit actor (sym said)), is.0)
+    (rw (cut, one_byte digit words (grind (arith, nat_tests, sym said)), is.0)
     (number_first version actor (fields_of words) (ask actor event) is.1 (asks actor)))
-
-decimal_said : (byte n : ℕ) → parse_decimal (byte ∷ []) ≡ Some n → eqb byte 0x23 ≡ false
-unfolding number_after
-decimal_said byte n e = grind (arith, nat_tests)
 
 -- it is neither empty nor a comment
 pub line_said : (digit actor : ℕ) (line words : List ℕ) → line ≡ digit ∷ 32 ∷ words →
     Some actor ≡ parse_decimal (digit ∷ []) → is_skipped line ≡ false
-line_said digit actor line words cut said = ap is_skipped cut ∙ decimal_said digit actor (sym said)
+unfolding number_after
+line_said digit actor line words cut said = ap is_skipped cut ∙ (grind (arith, nat_tests, sym said))

@@ -1,7 +1,7 @@
 -- What digits add up to is the number that they make.
 use Rattle.board_prelude.proofs.Common.{nat_tests, option_and_then, range_with_len, get_or-map-range_with_len}
-use Rattle.std.proofs.Common.{◌≡◌, ℕ, ◌+◌, ◌*◌, ◌^◌, ◌<◌, ◌≤◌, Option, Some, None, List, [], ◌∷◌}
-use Rattle.std.proofs.Common.{get_or, map, refl, sym, ap, subst, ◌∙◌, arith}
+use Rattle.std.proofs.Common.{◌≡◌, ℕ, ◌+◌, ◌*◌, ◌^◌, ◌<◌, ◌≤◌, Option, Some, None, List, [], ◌∷◌, get_or, map, refl}
+use Rattle.std.proofs.Common.{sym, ap, subst, ◌∙◌, arith}
 use Rattle.script_spec.specs.Numbers.{parse_digit, parse_digits, number_after}
 use Rattle.script_lines.specs.Sums.{IsSum, sum_after, summand_of, value_or_more}
 use Rattle.script_lines.specs.declared.numbers.TheConstants.{SUMMANDS}
@@ -68,23 +68,14 @@ sums limit sum high (byte ∷ field) few is =
     (sums (limit * 16) (sum * 16 + summand_of byte) (longer high (parse_digit 16 byte)) field few.1
     (more limit sum high (parse_digit 16 byte) few.0 (is_digit byte (parse_digit 16 byte) refl) is))
 
-two : (a b : ℕ) → IsSum 0x100 (parse_digits 16 (a ∷ b ∷ [])) (sum_after 0 (a ∷ b ∷ []))
-two a b = sums 1 0 (Some 0) (a ∷ b ∷ []) (grind arith) (refl, omega arith)
-
-four : (a b c d : ℕ) → IsSum 0x1_0000 (parse_digits 16 (a ∷ b ∷ c ∷ d ∷ [])) (sum_after 0 (a ∷ b ∷ c ∷ d ∷ []))
-four a b c d = sums 1 0 (Some 0) (a ∷ b ∷ c ∷ d ∷ []) (grind arith) (refl, omega arith)
-
-eight : (a b c d e f g h : ℕ) → IsSum 0x1_0000_0000 (parse_digits 16 (a ∷ b ∷ c ∷ d ∷ e ∷ f ∷ g ∷ h ∷ []))
-    (sum_after 0 (a ∷ b ∷ c ∷ d ∷ e ∷ f ∷ g ∷ h ∷ []))
-eight a b c d e f g h = sums 1 0 (Some 0) (a ∷ b ∷ c ∷ d ∷ e ∷ f ∷ g ∷ h ∷ []) (grind arith) (refl, omega arith)
-
 -- ---- as they are added
 
 pub two_added :
     (a b x y : ℕ) → x ≡ summand_of a → y ≡ summand_of b → IsSum 0x100 (parse_digits 16 (a ∷ b ∷ [])) (x * 16 + y)
 two_added a b x y is_x is_y =
     let same : sum_after 0 (a ∷ b ∷ []) ≡ x * 16 + y = omega arith in
-    subst (IsSum 0x100 (parse_digits 16 (a ∷ b ∷ []))) same (two a b)
+    subst (IsSum 0x100 (parse_digits 16 (a ∷ b ∷ []))) same
+    (sums 1 0 (Some 0) (a ∷ b ∷ []) (grind arith) (refl, omega arith))
 
 pub four_added : (a b c d x y z w : ℕ) → x ≡ summand_of a → y ≡ summand_of b → z ≡ summand_of c → w ≡ summand_of d →
     (x * 16 + y) * 0x100 + (z * 16 + w) ≡ sum_after 0 (a ∷ b ∷ c ∷ d ∷ [])
@@ -92,14 +83,16 @@ four_added a b c d x y z w is_x is_y is_z is_w = omega arith
 
 pub four_is : (a b c d sum : ℕ) → sum ≡ sum_after 0 (a ∷ b ∷ c ∷ d ∷ []) →
     IsSum 0x1_0000 (parse_digits 16 (a ∷ b ∷ c ∷ d ∷ [])) sum
-four_is a b c d sum is = subst (IsSum 0x1_0000 (parse_digits 16 (a ∷ b ∷ c ∷ d ∷ []))) (sym is) (four a b c d)
+four_is a b c d sum is = subst (IsSum 0x1_0000 (parse_digits 16 (a ∷ b ∷ c ∷ d ∷ []))) (sym is)
+    (sums 1 0 (Some 0) (a ∷ b ∷ c ∷ d ∷ []) (grind arith) (refl, omega arith))
 
 pub eight_is :
     (a b c d e f g h high low : ℕ) → high ≡ sum_after 0 (a ∷ b ∷ c ∷ d ∷ []) → low ≡ sum_after 0 (e ∷ f ∷ g ∷ h ∷ [])
     → IsSum 0x1_0000_0000 (parse_digits 16 (a ∷ b ∷ c ∷ d ∷ e ∷ f ∷ g ∷ h ∷ [])) (high * 0x1_0000 + low)
 eight_is a b c d e f g h high low is_high is_low =
     let same : sum_after 0 (a ∷ b ∷ c ∷ d ∷ e ∷ f ∷ g ∷ h ∷ []) ≡ high * 0x1_0000 + low = omega arith in
-    subst (IsSum 0x1_0000_0000 (parse_digits 16 (a ∷ b ∷ c ∷ d ∷ e ∷ f ∷ g ∷ h ∷ []))) same (eight a b c d e f g h)
+    subst (IsSum 0x1_0000_0000 (parse_digits 16 (a ∷ b ∷ c ∷ d ∷ e ∷ f ∷ g ∷ h ∷ []))) same
+    (sums 1 0 (Some 0) (a ∷ b ∷ c ∷ d ∷ e ∷ f ∷ g ∷ h ∷ []) (grind arith) (refl, omega arith))
 
 -- ---- where the sum is below the limit, and where not
 

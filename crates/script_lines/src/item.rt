@@ -272,6 +272,7 @@ fn parse_fields<'a>(version: u8, fields: Fields<'a>) -> Option<Item<'a>>
 
 /// What a line of a script of this version, 1 or 2, says after the first line. None exactly where the line has no form
 /// of the version; an item's numbers may be out of range.
+#[tactic(auto, using(crate::proofs::ItemReading::said, crate::proofs::ItemReading::unsaid))]
 pub fn parse_item(version: u8, line: &[u8]) -> Option<Item<'_>>
     ensures says { IfSome result (λ item. HasForm version line.now (line_said item)) }
     ensures none { IfNone result (HasNoForm version line.now) }

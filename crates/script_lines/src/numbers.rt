@@ -93,6 +93,7 @@ fn parse_digits(base: u64, field: &[u8]) -> Option<u64>
 }
 
 /// What a byte adds to a hexadecimal number.
+#[tactic(auto, using(crate::proofs::Sums::summand_at))]
 #[inline(always)]
 fn summand_of(byte: u8) -> u64
     ensures summand { result ≡ summand_of byte }

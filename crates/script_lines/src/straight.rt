@@ -78,6 +78,7 @@ fn straight_access(version: u8, kind: Kind, text: &[u8]) -> Option<Event>
     read_event(version, kind, &[size], field, false)
 }
 
+#[tactic(auto, unfolding(script_spec::specs::Items::parse_statement_words, script_spec::specs::Items::parse_by_verb))]
 #[inline(always)]
 fn straight_read(version: u8, words: &[u8]) -> Option<Event>
     ensures event { IfSome result (Asks version words.now) }
@@ -86,6 +87,7 @@ fn straight_read(version: u8, words: &[u8]) -> Option<Event>
     straight_access(version, Kind::Read, text)
 }
 
+#[tactic(auto, unfolding(script_spec::specs::Items::parse_statement_words, script_spec::specs::Items::parse_by_verb))]
 #[inline(always)]
 fn straight_fetch(version: u8, words: &[u8]) -> Option<Event>
     ensures event { IfSome result (Asks version words.now) }

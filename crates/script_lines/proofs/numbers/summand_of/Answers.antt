@@ -1,8 +1,5 @@
 use Rattle.script_lines.proofs.Sums.{summand_at, summand_most}
 use Rattle.script_lines.proofs.numbers.summand_of.Goals as goal
 
-pub returns-clause-summand : goal.returns-clause-summand
-returns-clause-summand c = summand_at c.args.byte c.ranges.byte.fits
-
 pub returns-clause-most : goal.returns-clause-most
 returns-clause-most c = rw (summand_at c.args.byte c.ranges.byte.fits) (summand_most c.args.byte)
