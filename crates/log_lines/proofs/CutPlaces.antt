@@ -1,7 +1,7 @@
 -- Where a text is cut.
 use Rattle.board_prelude.proofs.Common.{nat_tests, position_or_len, option_map, take_rest}
 use Rattle.std.proofs.Common.{◌≡◌, ℕ, ◌+◌, ◌-◌, Bool, cond, eqb, ltb, Option, Some, None, List, [], ◌∷◌, length, take}
-use Rattle.std.proofs.Common.{drop, refl, sym, ◌∙◌, arith}
+use Rattle.std.proofs.Common.{drop, refl, arith}
 use Rattle.std.proofs.lemmas.Option.{cond_some}
 use Rattle.script_spec.specs.Cuts.{cut}
 use Rattle.script_lines.proofs.FieldLemmas.{nowhere}
@@ -30,10 +30,7 @@ place mark text = cond (ltb (place_of mark text) (length text)) (Some (place_of 
 
 pub cut_at : (mark : ℕ) (text : List ℕ) (end : ℕ) → place mark text ≡ Some end
     → Some (take end text, take (length text - (end + 1)) (drop (end + 1) text)) ≡ cut mark text
-cut_at mark text end found =
-    let there = cond_some (ltb (place_of mark text) (length text)) (place_of mark text) end found in
-    rw take_rest (sym (cut_is mark text ∙ rw (there.0, there.1) refl))
+cut_at mark text end found = grind (arith, nat_tests, cond_some, take_rest, cut_is)
 
 pub uncut : (mark : ℕ) (text : List ℕ) → place mark text ≡ None → None ≡ cut mark text
-uncut mark text none =
-    sym (cut_is mark text ∙ rw (nowhere (ltb (place_of mark text) (length text)) (place_of mark text) none) refl)
+uncut mark text none = grind (arith, nat_tests, nowhere, cut_is)

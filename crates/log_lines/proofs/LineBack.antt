@@ -8,11 +8,6 @@ use Rattle.log_lines.proofs.AskedReading.{ask_is}
 
 -- ---- the pieces of a line that was read
 
--- the pieces are those of an entry
-pub pieces_are : (version n : ℕ) (entry : Entry) (line : List ℕ) (found : Option Pieces) → IsWellFormed version entry →
-    line ≡ line_text n entry → found ≡ parse_pieces line → found ≡ Some (pieces entry)
-pieces_are version n entry line found formed is read = rw (read, is) (line_pieces version n entry formed)
-
 -- and say what it has
 pub record Says (version : ℕ) (entry : Entry) (processor text answer : List ℕ) : Type 0 where
   pub actor : parse_actor processor ≡ Some entry.actor
@@ -23,7 +18,7 @@ pub line_read : (version n : ℕ) (entry : Entry) (line actor asked replied : Li
     → line ≡ line_text n entry → Some (record { actor = actor; asked = asked; replied = replied }) ≡ parse_pieces line
     → Says version entry actor asked replied
 line_read version n entry line actor asked replied formed is read =
-    let are = some_is _ (pieces entry) (pieces_are version n entry line _ formed is read) in
+    let are = some_is _ (pieces entry) (rw (read, is) (line_pieces version n entry formed)) in
     record {
       actor = ap (λ (p : Pieces). parse_actor p.actor) are ∙ actor_said entry.actor formed.actor;
       asked = subst (λ (p : Pieces). IsAsked version p.asked entry.seq entry.event) (sym are) (record {

@@ -1,13 +1,13 @@
 use Rattle.std.proofs.Common.{subst}
 use Rattle.script_spec.specs.Grammar.{HasForm}
 use Rattle.script_lines.specs.Items.{line_said}
-use Rattle.log_lines.proofs.AskedReading.{none_asked, not_asked, asked_exact}
+use Rattle.log_lines.proofs.AskedReading.{not_asked, asked_exact}
+use Rattle.script_spec.specs.Common.{ask}
 use Rattle.log_lines.proofs.asked.parse_numbered_event.Goals as goal
 
 pub returns-in_err-actor : goal.returns-in_err-actor
 returns-in_err-actor c = record {
-  asked = rw c.from_residual.ensures (λ seq event. none_asked c.args.version seq c.args.text.now event
-      c.in_err-actor.ensures.none);
+  asked = rw c.from_residual.ensures (λ seq event is. c.in_err-actor.ensures.none (ask seq event) is.has);
 }
 
 pub returns-in-Statement : goal.returns-in-Statement

@@ -1,13 +1,13 @@
 use Rattle.std.proofs.Common.{◌∙◌, refl}
-use Rattle.script_spec.proofs.Common.{some_is, pieces}
-use Rattle.log_lines.proofs.LineBack.{pieces_are, line_read, asked_once, reply_found}
+use Rattle.script_spec.proofs.Common.{some_is, pieces, line_pieces}
+use Rattle.log_lines.proofs.LineBack.{line_read, asked_once, reply_found}
 use Rattle.log_lines.proofs.entry.parse_entry.Goals as goal
 use Rattle.script_lines.proofs.StraightLemmas.{none_some}
 
 pub returns-in_err-actor-clause-found : goal.returns-in_err-actor-clause-found
 returns-in_err-actor-clause-found c = λ n entry formed is.
-    absurd (none_some (pieces entry) (pieces_are c.args.version n entry c.args.line.now _ formed is
-    c.in_err-actor.ensures.pieces))
+    absurd (none_some (pieces entry)
+    (rw (c.in_err-actor.ensures.pieces, is) (line_pieces c.args.version n entry formed)))
 
 pub returns-in_err-actor-2-clause-found : goal.returns-in_err-actor-2-clause-found
 returns-in_err-actor-2-clause-found c = λ n entry formed is.
@@ -30,10 +30,6 @@ pub returns-clause-found : goal.returns-clause-found
 returns-clause-found c = λ n entry formed is.
     let read = line_read c.args.version n entry c.args.line.now _ _ _ formed is c.in_ok-actor.ensures.pieces in
     let once = asked_once c.args.version _ _ _ _ _ c.in_ok-seq.ensures.asked read.asked in
-    rw (
-      some_is _ entry.actor (c.in_ok-actor-2.ensures.actor ∙ read.actor),
-      once.1,
-      some_is _ entry.reply (reply_found c.args.version entry c.in_ok-seq.event _ _ c.in_ok-reply.ensures.found
-          formed once.0 read.replied),
-      once.0,
-    ) refl
+    let actor = some_is _ entry.actor (c.in_ok-actor-2.ensures.actor ∙ read.actor) in
+    let found = reply_found c.args.version entry _ _ _ c.in_ok-reply.ensures.found formed once.0 read.replied in
+    rw (actor, once.1, some_is _ entry.reply found, once.0) refl
