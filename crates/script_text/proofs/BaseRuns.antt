@@ -36,11 +36,5 @@ module _ (fields : List BaseField) (i : ℕ) (d : BaseField) (inside : i < lengt
     pub base_added : (bases new : List BaseSpec) → new ≡ bases ++ base ∷ [] →
         map base_of bases ≡ take i (map base_said fields) → map base_of new ≡ take (i + 1) (map base_said fields)
     base_added bases new pushed so_far =
-        rw (
-          pushed,
-          map-append base_of bases (base ∷ []),
-          so_far,
-          (some_in_case _ _ _ some).1,
-          ← here,
-          take_more (map base_said fields) i (base_said d) place,
-        ) refl
+        let more = take_more (map base_said fields) i (base_said d) place in
+        rw (pushed, map-append base_of bases (base ∷ []), so_far, (some_in_case _ _ _ some).1, ← here, more) refl

@@ -1,19 +1,15 @@
--- Cards: how much memory their bases decode, and where a card is put among the others.
+-- Cards: how much memory their bases decode.
 use Rattle.std.proofs.Common.{sym, ◌≡◌, ℕ, ◌+◌, ◌<◌, ◌≤◌, List, length, map, take, get_or, sum_by, All, subst, arith}
-use Rattle.std.proofs.Common.{lit<, lit≤, nat_lt, position, unwrap_or}
-use Rattle.board_prelude.proofs.Common.{common_steps, nat_tests, position_or_len, cases_Bool, ltb-false, All-get_or}
-use Rattle.board_prelude.proofs.Common.{get_or-map, length-map, pow-le-pow_right, Base, MemoryBase, IoBase, OutsideBase}
+use Rattle.board_prelude.proofs.Common.{nat_tests, All-get_or, get_or-map, length-map, pow-le-pow_right, Base}
 use Rattle.board_prelude.proofs.Common.{FittedCard, IsBase, IsCard, memory_size}
-use Rattle.std.proofs.lemmas.List.Sums.{sum_by-le, sum_by-take-le, sum_by_more, prefix_len-le-length}
+use Rattle.std.proofs.lemmas.List.Sums.{sum_by-le, sum_by-take-le, sum_by_more}
 use Rattle.pci_bars.specs.declared.spec.BaseSpec.{BaseSpec}
 use Rattle.pci_bars.specs.Bases.{base_of}
 
 -- ---- memory
 
 base_most : (base : Base) → IsBase base → memory_size base ≤ 0x100_0000
-base_most (MemoryBase bits) fits = pow-le-pow_right (lit< tt) fits.1
-base_most (IoBase bits) fits = lit≤ tt
-base_most (OutsideBase bits) fits = lit≤ tt
+base_most base fits = grind (arith, nat_tests, pow-le-pow_right)
 
 pub memory_most : (card : FittedCard) → IsCard card → sum_by memory_size card.bases ≤ 0x600_0000
 memory_most card fits =
@@ -37,11 +33,3 @@ pub next_base : (card : FittedCard) (bases : List BaseSpec) (i total size : ℕ)
 next_base card bases i total size d view lt is here =
     rw (is, here, ← view, ← get_or-map base_of bases i d (base_of d) lt)
     (sym (sum_by_more memory_size (map base_of bases) i (base_of d) (omega (arith, length-map bases base_of))))
-
--- ---- places
-
--- the first place, as a search for it tells it
-pub place_is : (dev : ℕ) (cards : List FittedCard) → unwrap_or (position (λ other. nat_lt dev other.dev) cards)
-    (length cards) ≡ position_or_len (λ other. nat_lt dev other.dev) cards
-place_is dev cards =
-    grind (arith, nat_tests, common_steps, position_or_len, nat_lt, prefix_len-le-length, cases_Bool, ltb-false)

@@ -1,18 +1,17 @@
 -- The least reason for an item, by what is kept of the lines before it.
-use Rattle.board_prelude.proofs.Common.{common_steps, nat_tests, option_map, find, list_any, false≢true, lt-ltb}
-use Rattle.board_prelude.proofs.Common.{leb-true, or_right, and_parts, none-some, sum_by-append, sum_by-cons, Event}
-use Rattle.board_prelude.proofs.Common.{Pulses, FittedCard, memory_size, memory_of_cards}
+use Rattle.board_prelude.proofs.Common.{common_steps, nat_tests, option_map, find, list_any, lt-ltb, leb-true, or_right}
+use Rattle.board_prelude.proofs.Common.{and_parts, sum_by-append, sum_by-cons, Event, Pulses, FittedCard, memory_size}
+use Rattle.board_prelude.proofs.Common.{memory_of_cards}
 use Rattle.std.proofs.Common.{ℕ, ◌≡◌, ◌+◌, ◌<◌, ◌≤◌, Bool, true, false, not, ◌&&◌, ◌||◌, Option, Some, None, Result, Ok}
 use Rattle.std.proofs.Common.{Err, List, [], ◌∷◌, length, filter, flat_map, sum_by, refl, sym, ap, ◌∙◌, arith, ◌==◌}
-use Rattle.std.proofs.Common.{nat_le, nat_lt, is_some, if◌then◌else◌}
-use Rattle.std.specs.Result.{IsErr, IsErrAnd}
+use Rattle.std.proofs.Common.{nat_le, nat_lt, is_some, if◌then◌else◌, IsErr, IsErrAnd}
 use Rattle.std.proofs.lemmas.List.Sorted.{list_any-IsPermutation}
 use Rattle.script_spec.specs.Common.{Item, SetCpus, SetMemory, SetRom, SetDisk, FitCard, BeginPhase, reason, is_phase}
 use Rattle.script_spec.specs.Common.{is_statement, is_setup, is_cpus, is_memory, is_rom, is_disk, cards_of, has_card}
 use Rattle.script_spec.specs.Common.{has_setup, lacks_setup, is_misplaced, is_repeated, is_event_in_range, is_in_range}
 use Rattle.script_spec.specs.Common.{is_placed, is_there, pulses_of_event, pulses_of, passes_limits, least_reason, ask}
 use Rattle.script_spec.specs.Common.{is_event_placed, is_card_there}
-use Rattle.script_spec.proofs.ReadingLaws.{same_some}
+use Rattle.script_spec.proofs.RangeLaws.{any_found}
 use Rattle.script_spec.proofs.LeastReasons.{first_is, first_of}
 use Rattle.script_lines.specs.declared.item.Asked.{Asked}
 use Rattle.script_lines.specs.Items.{asked_said}
@@ -47,9 +46,6 @@ module _ (items : List Item) (item : Item) where
 
 -- ---- places
 
-neither : (phase statement : Bool) → not (phase || statement) ≡ true → (phase ≡ false) × (statement ≡ false)
-neither phase statement setup = grind (arith, nat_tests)
-
 -- a line of the setup stands before the first phase
 pub setup_place : (items : List Item) (item : Item) (any : Bool) → is_setup item ≡ true →
     list_any is_phase items ≡ any → is_misplaced items item ≡ any
@@ -57,12 +53,7 @@ setup_place items item any setup e = grind (arith, nat_tests)
 
 pub begun_setup : (items : List Item) (item : Item) → is_setup item ≡ true
     → (is_phase item && lacks_setup items) ≡ false
-begun_setup items item setup = rw (neither (is_phase item) (is_statement item) setup).0 refl
-
--- a statement after it
-pub statement_place : (items : List Item) (item : Item) (any : Bool) → is_setup item ≡ false →
-    is_statement item ≡ true → list_any is_phase items ≡ any → is_misplaced items item ≡ not any
-statement_place items item any setup statement e = grind (arith, nat_tests)
+begun_setup items item setup = grind (arith, nat_tests)
 
 pub phase_placed : (items : List Item) → is_misplaced items BeginPhase ≡ false
 phase_placed items = grind (arith, nat_tests)
@@ -74,21 +65,13 @@ lacks_is items whole = grind (arith, nat_tests)
 
 -- ---- what is kept
 
-any_found : {X : Type 0} (p : X → Bool) (xs : List X) → list_any p xs ≡ is_some (find p xs)
-any_found p [] = refl
-any_found p (x ∷ xs) = grind (arith, nat_tests, any_found p xs)
-
 any_counted : {X : Type 0} (p : X → Bool) (xs : List X) → list_any p xs ≡ nat_lt 0 (length (filter p xs))
 any_counted p [] = refl
 any_counted p (x ∷ xs) = grind (arith, nat_tests, any_counted p xs)
 
-some_mapped : {X Y : Type 0} (f : X → Y) (o : Option X) → is_some (option_map f o) ≡ is_some o
-some_mapped f None = refl
-some_mapped f (Some x) = refl
-
 found : {X : Type 0} (p : Item → Bool) (f : X → Item) (items : List Item) (kept : Option X) →
     find p items ≡ option_map f kept → list_any p items ≡ is_some kept
-found p f items kept e = any_found p items ∙ ap (λ o. is_some o) e ∙ some_mapped f kept
+found p f items kept e = grind (arith, nat_tests, any_found)
 
 module _ (items : List Item) (reading : Reading) (is : IsReadingOf items reading) where
   pub phase_kept : list_any is_phase items ≡ nat_lt 0 (length reading.phases.items)
@@ -134,12 +117,10 @@ few _ e = omega arith
 -- ---- numbers in range
 
 pub none_in_case : {X : Type 0} (holds : Bool) (x : X) → None ≡ in_case holds x → holds ≡ false
-none_in_case true x e = absurd (none-some x e)
-none_in_case false x e = refl
+none_in_case holds x e = grind (arith, nat_tests)
 
 pub some_in_case : {X : Type 0} (holds : Bool) (x y : X) → Some y ≡ in_case holds x → (holds ≡ true) × (y ≡ x)
-some_in_case true x y e = (refl, same_some y x e)
-some_in_case false x y e = absurd (none-some y (sym e))
+some_in_case holds x y e = grind (arith, nat_tests)
 
 -- ---- limits
 
@@ -150,10 +131,6 @@ past statements phases pulses memory =
 pub within : (statements phases pulses memory : ℕ) → statements ≤ 250_000 → phases ≤ 1_000 → pulses ≤ 100_000_000 →
     memory ≤ 0x400_0000 → past statements phases pulses memory ≡ false
 within statements phases pulses memory few_statements few_phases few_pulses little = grind (arith, nat_tests)
-
-pub past_two : (statements phases pulses memory : ℕ) → phases ≤ 1_000 → memory ≤ 0x400_0000 →
-    past statements phases pulses memory ≡ (nat_lt 250_000 statements || nat_lt 100_000_000 pulses)
-past_two statements phases pulses memory few little = grind (arith, nat_tests)
 
 pub past_phases : (statements phases pulses memory : ℕ) → 1_000 < phases → past statements phases pulses memory ≡ true
 past_phases statements phases pulses memory more =
@@ -172,8 +149,7 @@ one_more test n = if test then n + 1 else n
 
 count_more : {X : Type 0} (p : X → Bool) (test : Bool) (x : X) (xs : List X) →
     length (if test then x ∷ filter p xs else filter p xs) ≡ one_more test (length (filter p xs))
-count_more p true x xs = omega arith
-count_more p false x xs = refl
+count_more p test x xs = grind (arith, nat_tests)
 
 abbrev pub memory_with : Item → ℕ → ℕ
 memory_with (FitCard card) memory = sum_by memory_size card.bases + memory
@@ -181,8 +157,7 @@ memory_with _ memory = memory
 
 memory_more : (item : Item) (items : List Item) →
     memory_of_cards (cards_of (item ∷ items)) ≡ memory_with item (memory_of_cards (cards_of items))
-memory_more (FitCard card) items = memory_cons card (cards_of items)
-memory_more _ items = refl
+memory_more item items = grind (arith, nat_tests, memory_cons)
 
 -- with one item more
 pub limits_with : (items : List Item) (reading : Reading) (item : Item) → IsReadingOf items reading →
@@ -207,24 +182,22 @@ module _ (actor : ℕ) (asked : Asked) (event : Event)
       let read = some_in_case _ _ _ valid in
       ap (least_reason items) (sym read.1)
       ∙ first_is false false false true _ _ _ items (ask actor event)
-      (statement_place items (ask actor event) true refl refl begun) refl refl (ap is_in_range read.1 ∙ read.0) refl
+      (grind (arith, nat_tests)) refl refl (ap is_in_range read.1 ∙ read.0) refl
       (ap (λ b. b && is_card_there items event) (is.actors actor))
       (limits_with items reading (ask actor event) is
-      ∙ past_two (reading.statements + 1) (length reading.phases.items) (pulses_of_event event + reading.pulses)
-      reading.memory is.limits.phases is.limits.memory)
+      ∙ (grind (arith, nat_tests, is.limits.phases, is.limits.memory)))
 
 pub setup_within : (items : List Item) (reading : Reading) (item : Item) → IsReadingOf items reading →
     is_setup item ≡ true → pulses_of item ≡ 0 →
     memory_with item reading.memory ≤ 0x400_0000 → passes_limits (item ∷ items) ≡ false
 setup_within items reading item is setup pulses little =
-    grind (arith, nat_tests, common_steps, neither, limits_with, within)
+    grind (arith, nat_tests, common_steps, limits_with, within)
 
 -- a reason that is handed on
 pub refused : {X : Type 0} (said : X → Item) (items : List Item) (item : Item) (result : Result X Reason)
     (least : Reason) → IsErr result × IsErrAnd result (λ handed. handed ≡ least) →
     least_reason items item ≡ Some (number_of least) → Judges said items item result
-refused said items item (Ok x) least e is = absurd (false≢true e.0)
-refused said items item (Err handed) least e is = is ∙ ap (λ (r : Reason). Some (number_of r)) (sym e.1)
+refused said items item result least e is = grind (arith, nat_tests)
 
 -- a line of the setup with a name is refused for no more reasons
 pub name_judged : (items : List Item) (reading : Reading) (item : Item) (result : Result (Unit {0}) Reason) →

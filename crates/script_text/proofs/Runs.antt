@@ -1,7 +1,7 @@
 -- The run over the lines.
 use Rattle.board_prelude.proofs.Common.{common_steps, nat_tests, digits, true≢false, bytes_eq-Decides}
-use Rattle.std.proofs.Common.{◌≡◌, ℕ, ◌+◌, true, false, Result, Ok, Err, List, [], ◌∷◌, ◌++◌, length, refl, sym, ◌∙◌}
-use Rattle.std.proofs.Common.{inl, inr, append_assoc, length-append, arith, IfOk, codes, bytes_eq}
+use Rattle.std.proofs.Common.{◌≡◌, ℕ, ◌+◌, true, false, Result, List, [], ◌∷◌, ◌++◌, length, refl, sym, ◌∙◌}
+use Rattle.std.proofs.Common.{append_assoc, length-append, arith, IfOk, codes, bytes_eq}
 use Rattle.script_spec.specs.Common.{lines_of, Item, AreRead, first_line, IsScriptText, BeginsBadly, IsInRangeScript}
 use Rattle.script_spec.proofs.Common.{same_head, read_more, skip_more, scripts_are_in_range, word_is}
 use Rattle.script_text.specs.declared.fault.ScriptFault.{ScriptFault}
@@ -29,10 +29,8 @@ said_version version text lines later line first cut e = rw (cut, first, word_is
 
 pub no_version : (lines later : List (List ℕ)) (line : List ℕ) → lines ≡ line ∷ later →
     bytes_eq line (codes "board 1") ≡ false → bytes_eq line (codes "board 2") ≡ false → BeginsBadly lines
-no_version lines later line cut one two version rest (inl is) e =
-    grind (arith, nat_tests, common_steps, other_text, codes, same_head, cut, first_is)
-no_version lines later line cut one two version rest (inr is) e =
-    grind (arith, nat_tests, common_steps, other_text, codes, same_head, cut, second_is)
+no_version lines later line cut one two version rest known e =
+    grind (arith, nat_tests, common_steps, other_text, codes, same_head, first_is, second_is)
 
 -- ---- the lines after it
 
@@ -53,9 +51,7 @@ Reads version line old new =
 
 read_then : (version : ℕ) (good : List (List ℕ)) (line : List ℕ) (items more : List Item) →
     AreRead version [] good items → AreRead version items (line ∷ []) more → AreRead version [] (good ++ line ∷ []) more
-read_then version good line items more read (inl skipped) =
-    rw skipped.1 (skip_more version good line [] items read skipped.0)
-read_then version good line items more read (inr one) = rw one.2 (read_more version good line [] items one.0 read one.1)
+read_then version good line items more read one = grind (arith, nat_tests, skip_more, read_more)
 
 pub run_more : (version : ℕ) (lines rest later : List (List ℕ)) (line : List ℕ) (number : ℕ) (old new : Reading) →
     rest ≡ line ∷ later → IsRun version lines rest number old → Reads version line old new →
@@ -78,5 +74,4 @@ pub in_range : (result : Result Script ScriptFault) (bytes : List ℕ) (version 
     IfOk result (λ script. (text : List ℕ) → lines_of text ≡ first_line version ∷ later
     → IsScriptText text (said_of script)) →
     IfOk result (λ script. IsInRangeScript (said_of script))
-in_range (Ok script) bytes version later first said = scripts_are_in_range bytes (said_of script) (said bytes first)
-in_range (Err fault) bytes version later first said = tt
+in_range result bytes version later first said = grind (arith, nat_tests, scripts_are_in_range)

@@ -1,13 +1,15 @@
 -- What `phase` and statements add to what is kept.
 use Rattle.script_text.proofs.TakenSetup.{no_pulses}
 use Rattle.board_prelude.proofs.Common.{common_steps, nat_tests, list_any, false≢true, map-append, map-set, get_or-map}
-use Rattle.board_prelude.proofs.Common.{length-map, sum_by-cons, get_or-append_seam, Statement, Global, length-append}
-use Rattle.std.proofs.Common.{◌≡◌, ℕ, ◌+◌, ◌-◌, ◌<◌, ◌≤◌, true, false, not, List, [], ◌∷◌, ◌++◌, Vec, vec_len, length}
-use Rattle.std.proofs.Common.{get_or, filter, set, sum_by, refl, sym, ap, ◌∙◌, arith, reverse, append_assoc}
+use Rattle.board_prelude.proofs.Common.{length-map, sum_by-cons, get_or-append_seam, Statement}
+use Rattle.std.proofs.Common.{◌≡◌, ℕ, ◌+◌, ◌-◌, ◌<◌, ◌≤◌, true, not, List, [], ◌∷◌, ◌++◌, Vec, Global, vec_len, length}
+use Rattle.std.proofs.Common.{get_or, filter, set, sum_by, refl, sym, ap, ◌∙◌, arith, length-append, reverse}
+use Rattle.std.proofs.Common.{append_assoc}
 use Rattle.std.proofs.Math.Seq.{set-append_seam}
 use Rattle.script_spec.specs.Common.{Item, BeginPhase, Ask, is_phase, is_statement, is_setup, has_setup, pulses_of}
-use Rattle.script_spec.specs.Common.{pulses_of_event, passes_limits, phase_items, lists_of}
+use Rattle.script_spec.specs.Common.{pulses_of_event, phase_items, lists_of}
 use Rattle.script_spec.proofs.Common.{NoReason, no_reason, reverse_more, phases_more}
+use Rattle.script_spec.proofs.GoodItems.{within_limits}
 use Rattle.script_text.specs.declared.reading.Reading.{Reading}
 use Rattle.script_text.specs.Reading.{Takes}
 
@@ -20,19 +22,11 @@ statements_more : (front : List (List Statement)) (last : List Statement) (state
 statements_more front last statement =
     grind (arith, nat_tests, common_steps, phases_more, front, last, map-append, append_assoc)
 
--- no limit is passed
-record Within (items : List Item) : Type 0 where
-  statements : length (filter is_statement items) ≤ 250_000
-  phases : length (filter is_phase items) ≤ 1_000
-  pulses : sum_by pulses_of items ≤ 100_000_000
-
-within : (items : List Item) → passes_limits items ≡ false → Within items
-within items none = grind (arith, nat_tests)
-
 -- ---- `phase`
 
-setup_whole : (items : List Item) → (list_any is_phase items ≡ true → has_setup items ≡ true) →
-    NoReason items BeginPhase → has_setup items ≡ true
+setup_whole :
+    (items : List Item) → (list_any is_phase items ≡ true → has_setup items ≡ true) → NoReason items BeginPhase →
+    has_setup items ≡ true
 setup_whole items whole none = grind (arith, nat_tests)
 
 pub phase_taken :
@@ -41,7 +35,7 @@ pub phase_taken :
     Takes old BeginPhase (record old { phases = phases })
 phase_taken old phases empty nothing longer items is least =
     let none : NoReason items BeginPhase = no_reason items BeginPhase least in
-    let limits : Within (BeginPhase ∷ items) = within (BeginPhase ∷ items) none.limits in
+    let limits = within_limits (BeginPhase ∷ items) none.limits in
     let many : length phases.items ≡ length old.phases.items + 1 =
     ap length longer ∙ length-append old.phases.items (empty ∷ []) in
     let lists : lists_of phases.items ≡ lists_of old.phases.items ++ [] ∷ [] =
@@ -52,18 +46,14 @@ phase_taken old phases empty nothing longer items is least =
     reverse_more BeginPhase (filter (λ item. not (is_setup item)) items)
     ∙ rw (is.phases, lists, phases_more (lists_of old.phases.items) []) refl in
     let few : length phases.items ≤ 1_000 = omega (arith, count, limits.phases) in
-    assumption (
-      count,
-      spelled,
-      few,
-      setup_whole items is.whole none,
-      no_pulses items BeginPhase old.pulses refl is.pulses,
-    )
+    let pulses = no_pulses items BeginPhase old.pulses refl is.pulses in
+    assumption (count, spelled, few, setup_whole items is.whole none, pulses)
 
 -- ---- statements
 
 -- the last of the vectors grows
-pub last_longer : (phases : Vec (Vec Statement Global) Global) (front : List (List Statement)) (last : List Statement)
+pub last_longer :
+    (phases : Vec (Vec Statement Global) Global) (front : List (List Statement)) (last : List Statement)
     (old new : Vec Statement Global) (statement : Statement) → lists_of phases.items ≡ front ++ last ∷ [] →
     old ≡ get_or phases.items (vec_len phases - 1) old → new.items ≡ old.items ++ statement ∷ [] →
     lists_of (set phases.items (vec_len phases - 1) new) ≡ front ++ (last ++ statement ∷ []) ∷ []
@@ -77,11 +67,6 @@ last_longer phases front last old new statement are here longer =
     ∙ rw (are, place) (get_or-append_seam front last [] old.items) in
     rw (map-set list_of phases.items (vec_len phases - 1) new, are, place, longer, found)
     (set-append_seam front last [] (last ++ statement ∷ []))
-
--- a phase has begun
-has_begun : (items : List Item) (statement : Statement) → NoReason items (Ask statement) →
-    list_any is_phase items ≡ true
-has_begun items statement none = grind (arith, nat_tests)
 
 some_phase : (items : List Item) → list_any is_phase items ≡ true → 0 < length (filter is_phase items)
 some_phase [] any = absurd (false≢true any)
@@ -118,11 +103,11 @@ pub statement_taken :
     })
 statement_taken old statement phases pulses asked grows items is least =
     let none : NoReason items (Ask statement) = no_reason items (Ask statement) least in
-    let limits : Within (Ask statement ∷ items) = within (Ask statement ∷ items) none.limits in
+    let limits = within_limits (Ask statement ∷ items) none.limits in
     let old_count : length (lists_of old.phases.items) ≡ length old.phases.items =
     length-map old.phases.items list_of in
     let some : 0 < length (lists_of old.phases.items) =
-    omega (arith, old_count, is.count, some_phase items (has_begun items statement none)) in
+    omega (arith, old_count, is.count, some_phase items (grind (arith, nat_tests))) in
     let last : IsLast (lists_of old.phases.items) = last_of (lists_of old.phases.items) some in
     let longer : lists_of phases.items ≡ last.front ++ (last.last ++ statement ∷ []) ∷ [] =
     grows last.front last.last last.is in

@@ -49,6 +49,7 @@ fn cut_at(place: usize, bytes: &[u8]) -> Option<(&[u8], &[u8])>
 type Straight<'a> = (&'a [u8], &'a [u8], u32, Event);
 
 /// The first line where it can be read straight. None says nothing of the line.
+#[tactic(auto, using(std::proofs::lemmas::Bool::Decides::nat_tests))]
 #[inline(always)]
 fn straight_line<'a>(version: u8, bytes: &'a [u8]) -> Option<Straight<'a>>
     ensures cases { IfSome result (λ p. lines_of bytes.now ≡ p.0.now ∷ lines_of p.1.now) }

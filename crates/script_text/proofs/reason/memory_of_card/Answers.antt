@@ -12,13 +12,10 @@ pub overflow_add-memory : goal.overflow_add-memory
 overflow_add-memory c =
     let view : map base_of c.as_slice-base-items.result.now ≡ c.args.card.now.bases =
     ap (map base_of) c.as_slice-base-items.ensures.value ∙ ap (λ card. card.bases) c.card.view_is in
-    omega (
-      arith,
-      total_most c.args.card.now (c.loop-base.base-index + 1) _ c.requires.card
-          (next_base c.args.card.now c.as_slice-base-items.result.now c.loop-base.base-index c.loop-base.memory
-          c.memory_size-memory.result (Memory 0) view c.loop-base-test.true c.loop-base.invariant
-          c.memory_size-memory.ensures.size),
-    )
+    let next = next_base c.args.card.now c.as_slice-base-items.result.now c.loop-base.base-index c.loop-base.memory
+    c.memory_size-memory.result (Memory 0) view c.loop-base-test.true c.loop-base.invariant
+    c.memory_size-memory.ensures.size in
+    omega (arith, total_most c.args.card.now (c.loop-base.base-index + 1) _ c.requires.card next)
 
 pub loop-base-preserved : goal.loop-base-preserved
 loop-base-preserved c =

@@ -1,6 +1,7 @@
-use Rattle.std.proofs.Common.{ap, ◌∙◌, length, nat_lt, unwrap_or, rules, tests}
-use Rattle.board_prelude.proofs.Common.{YieldsList-from_slice, position_from_yields_List}
-use Rattle.script_text.proofs.CardLemmas.{place_is}
+use Rattle.std.proofs.Common.{ap, ◌∙◌, length, nat_lt, unwrap_or, rules, tests, arith}
+use Rattle.board_prelude.proofs.Common.{YieldsList-from_slice, position_from_yields_List, nat_tests, ltb-false}
+use Rattle.board_prelude.proofs.Common.{cases_Bool, position_or_len, common_steps}
+use Rattle.std.proofs.lemmas.List.Sums.{prefix_len-le-length}
 use Rattle.script_text.proofs.take.index_for_card.Goals as goal
 
 pub returns-clause-place : goal.returns-clause-place
@@ -9,4 +10,4 @@ returns-clause-place c =
     c.position.ensures.ran (YieldsList-from_slice c.args.cards.now c.iter.ensures.rest)
     (λ x b q k. search (rules, tests)) in
     c.unwrap_or.ensures ∙ ap (λ found. unwrap_or found (length c.args.cards.now)) found
-    ∙ place_is c.args.dev c.args.cards.now
+    ∙ (grind (arith, nat_tests, common_steps, position_or_len, nat_lt, prefix_len-le-length, cases_Bool, ltb-false))

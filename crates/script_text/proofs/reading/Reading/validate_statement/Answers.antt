@@ -13,21 +13,18 @@ returns-in_default-clause-judged c items is =
 
 pub returns-then-not-is_placed-clause-judged : goal.returns-then-not-is_placed-clause-judged
 returns-then-not-is_placed-clause-judged c items is =
-    rw (asked_reason c.args.actor c.args.asked c.in-Some.event (c.in-Some.ensures.event c.args.actor) items
-    c.args.self.now is (sym (c.has_phase.ensures.phase items is) ∙ c.if-not-has_phase.false))
-    (grind (arith, nat_tests, common_steps))
+    rw (asked_reason _ _ _ (c.in-Some.ensures.event c.args.actor) items c.args.self.now is
+    (sym (c.has_phase.ensures.phase items is) ∙ c.if-not-has_phase.false)) (grind (arith, nat_tests, common_steps))
 
 pub returns-then-not-has_processor-clause-judged : goal.returns-then-not-has_processor-clause-judged
 returns-then-not-has_processor-clause-judged c items is =
-    rw (asked_reason c.args.actor c.args.asked c.in-Some.event (c.in-Some.ensures.event c.args.actor) items
-    c.args.self.now is (sym (c.has_phase.ensures.phase items is) ∙ c.if-not-has_phase.false))
-    (grind (arith, nat_tests, common_steps))
+    rw (asked_reason _ _ _ (c.in-Some.ensures.event c.args.actor) items c.args.self.now is
+    (sym (c.has_phase.ensures.phase items is) ∙ c.if-not-has_phase.false)) (grind (arith, nat_tests, common_steps))
 
 pub returns-then-not-has_card_of-clause-judged : goal.returns-then-not-has_card_of-clause-judged
 returns-then-not-has_card_of-clause-judged c items is =
-    rw (asked_reason c.args.actor c.args.asked c.in-Some.event (c.in-Some.ensures.event c.args.actor) items
-    c.args.self.now is (sym (c.has_phase.ensures.phase items is) ∙ c.if-not-has_phase.false))
-    (grind (arith, nat_tests, common_steps))
+    rw (asked_reason _ _ _ (c.in-Some.ensures.event c.args.actor) items c.args.self.now is
+    (sym (c.has_phase.ensures.phase items is) ∙ c.if-not-has_phase.false)) (grind (arith, nat_tests, common_steps))
 
 pub is_past_limit-requires-clause-few : goal.is_past_limit-requires-clause-few
 is_past_limit-requires-clause-few c =
@@ -36,8 +33,7 @@ is_past_limit-requires-clause-few c =
 pub returns-then-is_past_limit-clause-judged : goal.returns-then-is_past_limit-clause-judged
 returns-then-is_past_limit-clause-judged c items is =
     rw (asked_reason _ _ _ (c.in-Some.ensures.event c.args.actor) items c.args.self.now is
-    (sym (c.has_phase.ensures.phase items is) ∙ c.if-not-has_phase.false))
-    (grind (arith, nat_tests, common_steps))
+    (sym (c.has_phase.ensures.phase items is) ∙ c.if-not-has_phase.false)) (grind (arith, nat_tests, common_steps))
 
 pub returns-clause-judged : goal.returns-clause-judged
 returns-clause-judged c items is = (
