@@ -25,11 +25,8 @@ IsDigit (Some digit) = digit < 16
 is_digit : (byte : ℕ) (said : Option ℕ) → parse_digit 16 byte ≡ said → IsDigit said
 is_digit byte said e = grind (arith, nat_tests)
 
-most : (said : Option ℕ) → IsDigit said → value_or_more said ≤ 2 ^ 32
-most said small = grind (arith, nat_tests)
-
 pub summand_most : (byte : ℕ) → summand_of byte ≤ 2 ^ 32
-summand_most byte = most (parse_digit 16 byte) (is_digit byte (parse_digit 16 byte) refl)
+summand_most byte = grind (arith, nat_tests)
 
 -- ---- one digit more
 

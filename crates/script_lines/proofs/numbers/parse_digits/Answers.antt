@@ -1,3 +1,4 @@
+use Rattle.board_prelude.proofs.Common.{nat_tests, common_steps}
 use Rattle.std.proofs.Common.{◌^◌, length, arith}
 use Rattle.script_lines.proofs.NumberLemmas.{number_below, number_fits, goes_on, stops, ends}
 use Rattle.script_lines.proofs.numbers.parse_digits.Goals as goal
@@ -16,12 +17,7 @@ overflow_add-number c =
     omega (arith, fits)
 
 pub loop-byte-preserved : goal.loop-byte-preserved
-loop-byte-preserved c = record {
-  below = number_below c.args.base c.loop-byte.number c.in_ok-number.field-0 c.loop-byte.byte-index
-      c.loop-byte.invariant.below c.in_ok-number.ensures.below;
-  kept = goes_on c.args.base c.loop-byte.number c.in_ok-number.field-0 c.loop-byte.byte-index c.args.field.now _
-      (omega arith) c.in_ok-number.ensures.digit c.loop-byte.invariant.kept;
-}
+loop-byte-preserved c = grind (arith, nat_tests, common_steps, number_below, goes_on)
 
 pub returns-in_err-number-clause-number : goal.returns-in_err-number-clause-number
 returns-in_err-number-clause-number c =
