@@ -1,4 +1,5 @@
-use Rattle.std.proofs.Common.{subst}
+use Rattle.std.proofs.Common.{subst, arith}
+use Rattle.board_prelude.proofs.Common.{nat_tests, common_steps}
 use Rattle.script_spec.specs.Grammar.{HasForm}
 use Rattle.script_lines.specs.Items.{line_said}
 use Rattle.log_lines.proofs.AskedReading.{not_asked, asked_exact}
@@ -20,7 +21,4 @@ returns-in-Statement c =
     }
 
 pub returns-in_default : goal.returns-in_default
-returns-in_default c = record {
-  asked = λ seq event. not_asked c.args.version seq c.args.text.now c.in_ok-actor.field-0 event
-      c.in_ok-actor.ensures.says c.in_default.not-Statement;
-}
+returns-in_default c = grind (arith, nat_tests, common_steps, not_asked)
