@@ -1,13 +1,11 @@
 -- What `phase` and statements add to what is kept.
-use Rattle.script_text.proofs.TakenSetup.{no_pulses}
 use Rattle.board_prelude.proofs.Common.{common_steps, nat_tests, list_any, false≢true, map-append, map-set, get_or-map}
 use Rattle.board_prelude.proofs.Common.{length-map, sum_by-cons, get_or-append_seam, Statement}
-use Rattle.std.proofs.Common.{◌≡◌, ℕ, ◌+◌, ◌-◌, ◌<◌, ◌≤◌, true, not, List, [], ◌∷◌, ◌++◌, Vec, Global, vec_len, length}
-use Rattle.std.proofs.Common.{get_or, filter, set, sum_by, refl, sym, ap, ◌∙◌, arith, length-append, reverse}
-use Rattle.std.proofs.Common.{append_assoc}
+use Rattle.std.proofs.Common.{◌≡◌, ℕ, ◌+◌, ◌-◌, ◌<◌, true, not, List, [], ◌∷◌, ◌++◌, Vec, Global, vec_len, length}
+use Rattle.std.proofs.Common.{get_or, filter, set, refl, sym, ap, ◌∙◌, arith, length-append, reverse, append_assoc}
 use Rattle.std.proofs.Math.Seq.{set-append_seam}
-use Rattle.script_spec.specs.Common.{Item, BeginPhase, Ask, is_phase, is_statement, is_setup, has_setup, pulses_of}
-use Rattle.script_spec.specs.Common.{pulses_of_event, phase_items, lists_of}
+use Rattle.script_spec.specs.Common.{Item, BeginPhase, Ask, is_phase, is_setup, pulses_of, pulses_of_event, phase_items}
+use Rattle.script_spec.specs.Common.{lists_of}
 use Rattle.script_spec.proofs.Common.{NoReason, no_reason, reverse_more, phases_more}
 use Rattle.script_spec.proofs.GoodItems.{within_limits}
 use Rattle.script_text.specs.declared.reading.Reading.{Reading}
@@ -24,11 +22,6 @@ statements_more front last statement =
 
 -- ---- `phase`
 
-setup_whole :
-    (items : List Item) → (list_any is_phase items ≡ true → has_setup items ≡ true) → NoReason items BeginPhase →
-    has_setup items ≡ true
-setup_whole items whole none = grind (arith, nat_tests)
-
 pub phase_taken :
     (old : Reading) (phases : Vec (Vec Statement Global) Global) (empty : Vec Statement Global) →
     empty.items ≡ [] → phases.items ≡ old.phases.items ++ empty ∷ [] →
@@ -40,14 +33,11 @@ phase_taken old phases empty nothing longer items is least =
     ap length longer ∙ length-append old.phases.items (empty ∷ []) in
     let lists : lists_of phases.items ≡ lists_of old.phases.items ++ [] ∷ [] =
     rw (longer, map-append list_of old.phases.items (empty ∷ []), nothing) refl in
-    let count : length (filter is_phase (BeginPhase ∷ items)) ≡ length phases.items = omega (arith, many, is.count) in
     let spelled : reverse (filter (λ item. not (is_setup item)) (BeginPhase ∷ items))
     ≡ phase_items (lists_of phases.items) =
     reverse_more BeginPhase (filter (λ item. not (is_setup item)) items)
     ∙ rw (is.phases, lists, phases_more (lists_of old.phases.items) []) refl in
-    let few : length phases.items ≤ 1_000 = omega (arith, count, limits.phases) in
-    let pulses = no_pulses items BeginPhase old.pulses refl is.pulses in
-    assumption (count, spelled, few, setup_whole items is.whole none, pulses)
+    grind (arith, nat_tests, sum_by-cons)
 
 -- ---- statements
 
@@ -89,10 +79,6 @@ Grows old new statement =
     (front : List (List Statement)) (last : List Statement) → old ≡ front ++ last ∷ [] →
     new ≡ front ++ (last ++ statement ∷ []) ∷ []
 
-same_count : (old new : List (List Statement)) (statement : Statement) (last : IsLast old) → Grows old new statement →
-    length new ≡ length old
-same_count old new statement last grows = grind (arith, length-append, grows last.front last.last last.is, last.is)
-
 pub statement_taken :
     (old : Reading) (statement : Statement) (phases : Vec (Vec Statement Global) Global) (pulses : ℕ) →
     pulses ≡ pulses_of_event statement.event → Grows (lists_of old.phases.items) (lists_of phases.items) statement →
@@ -104,27 +90,18 @@ pub statement_taken :
 statement_taken old statement phases pulses asked grows items is least =
     let none : NoReason items (Ask statement) = no_reason items (Ask statement) least in
     let limits = within_limits (Ask statement ∷ items) none.limits in
-    let old_count : length (lists_of old.phases.items) ≡ length old.phases.items =
-    length-map old.phases.items list_of in
+    let count = length-map old.phases.items list_of in
     let some : 0 < length (lists_of old.phases.items) =
-    omega (arith, old_count, is.count, some_phase items (grind (arith, nat_tests))) in
-    let last : IsLast (lists_of old.phases.items) = last_of (lists_of old.phases.items) some in
+    omega (arith, is.count, some_phase items (grind (arith, nat_tests))) in
+    let last = last_of (lists_of old.phases.items) some in
     let longer : lists_of phases.items ≡ last.front ++ (last.last ++ statement ∷ []) ∷ [] =
     grows last.front last.last last.is in
-    let many : length phases.items ≡ length old.phases.items =
-    sym (length-map phases.items list_of)
-    ∙ same_count (lists_of old.phases.items) (lists_of phases.items) statement last grows
-    ∙ old_count in
-    let total : sum_by pulses_of (Ask statement ∷ items) ≡ old.pulses + pulses =
-    sum_by-cons pulses_of (Ask statement) items ∙ omega (arith, is.pulses, asked) in
-    let more : length (filter is_statement (Ask statement ∷ items)) ≡ old.statements + 1 =
-    omega (arith, is.statements) in
-    let count : length (filter is_phase items) ≡ length phases.items = is.count ∙ sym many in
+    let kept = length-map phases.items list_of in
+    let many : length (lists_of phases.items) ≡ length (lists_of old.phases.items) =
+    grind (arith, length-append, last.is) in
+    let total = sum_by-cons pulses_of (Ask statement) items in
     let spelled : reverse (filter (λ item. not (is_setup item)) (Ask statement ∷ items))
     ≡ phase_items (lists_of phases.items) =
     reverse_more (Ask statement) (filter (λ item. not (is_setup item)) items)
     ∙ rw (is.phases, last.is, longer, statements_more last.front last.last statement) refl in
-    let few : old.statements + 1 ≤ 250_000 = omega (arith, more, limits.statements) in
-    let begun : length phases.items ≤ 1_000 = rw many is.limits.phases in
-    let less : old.pulses + pulses ≤ 100_000_000 = rw (← total) limits.pulses in
-    assumption (more, count, spelled, total, few, begun, less)
+    grind (arith, nat_tests, limits.statements)

@@ -26,5 +26,4 @@ loop-base-preserved c =
     c.memory_size-memory.ensures.size
 
 pub returns-clause-most : goal.returns-clause-most
-returns-clause-most c = total_most c.args.card.now c.loop-base.base-index c.loop-base.memory c.requires.card
-    c.loop-base.invariant
+returns-clause-most c = grind (arith, nat_tests, common_steps, total_most)

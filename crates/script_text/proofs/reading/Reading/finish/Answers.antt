@@ -1,4 +1,5 @@
-use Rattle.std.proofs.Common.{refl}
+use Rattle.std.proofs.Common.{arith, refl}
+use Rattle.board_prelude.proofs.Common.{nat_tests}
 use Rattle.script_text.proofs.Reasons.{setup_kept, lacks_is}
 use Rattle.script_text.proofs.reading.Reading.finish.Goals as goal
 
@@ -18,13 +19,5 @@ returns-in_default-rom-clause-lacks c items is =
 pub returns-clause-whole : goal.returns-clause-whole
 returns-clause-whole c items is = (
   rw (lacks_is items is.whole, setup_kept items c.args.self is, c.in-Some.is, c.in-Some-mib.is, c.in-Some-rom.is) refl,
-  record {
-    cpus = rw (is.cpus, c.in-Some.is) refl;
-    memory = rw (is.mib, c.in-Some-mib.is, c.from.ensures) refl;
-    rom = rw (is.rom, c.in-Some-rom.is) refl;
-    disk = is.disk;
-    cards = is.cards;
-    rises = is.rises;
-    phases = is.phases;
-  },
+  grind (arith, nat_tests, is.cpus, is.mib, is.rom),
 )
