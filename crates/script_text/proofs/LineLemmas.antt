@@ -2,7 +2,7 @@
 use Rattle.board_prelude.proofs.Common.{nat_tests, position_or_len, onto_first, eqb-true, take_rest, common_steps}
 use Rattle.board_prelude.proofs.Common.{All-head, All-tail}
 use Rattle.std.proofs.Common.{◌≡◌, ℕ, ◌+◌, ◌<◌, ◌-◌, Bool, true, false, cond, eqb, Some, None, List, [], ◌∷◌, ◌++◌}
-use Rattle.std.proofs.Common.{length, get_or, take, drop, refl, sym, ap, subst, ◌∙◌, All, arith}
+use Rattle.std.proofs.Common.{length, get_or, take, drop, refl, sym, ap, ◌∙◌, All, arith}
 use Rattle.std.specs.List.{before_first, after_first}
 use Rattle.std.proofs.lemmas.Grind.{get_or_default_zero}
 use Rattle.std.proofs.lemmas.List.Sums.{split_at_first, fails_before_first, passes_at_first, position_or_len_is}
@@ -43,16 +43,13 @@ lines_cut : (bytes : List ℕ) → position_or_len is_feed bytes < length bytes
     → lines_of bytes ≡ take (position_or_len is_feed bytes) bytes ∷ lines_of
     (drop (position_or_len is_feed bytes + 1) bytes)
 lines_cut bytes lt =
-    let feed : get_or bytes (position_or_len is_feed bytes) 0 ≡ 10 =
-    eqb-true _ 10 (passes_at_first is_feed bytes 0 lt) in
-    let cut : bytes ≡ before_first is_feed bytes ++ 10 ∷ after_first is_feed bytes =
-    subst (λ (byte : ℕ). bytes ≡ before_first is_feed bytes ++ byte ∷ after_first is_feed bytes) feed
-    (split_at_first is_feed bytes 0 lt) in
-    ap lines_of cut ∙ line_ended (before_first is_feed bytes) (after_first is_feed bytes) (before bytes)
+    let feed = passes_at_first is_feed bytes 0 lt in
+    let cut = split_at_first is_feed bytes 0 lt in
+    let line = line_ended (before_first is_feed bytes) (after_first is_feed bytes) (before bytes) in
+    grind (arith, nat_tests)
 
 not_so : (b : Bool) → ¬ (b ≡ true) → b ≡ false
-not_so true never = absurd (never refl)
-not_so false never = refl
+not_so b never = grind (arith, nat_tests)
 
 pub cut_at : (bytes : List ℕ) (end : ℕ) → IsFirstByte is_feed bytes (Some end)
     → lines_of bytes ≡ take end bytes ∷ lines_of (take (length bytes - (end + 1)) (drop (end + 1) bytes))

@@ -1,12 +1,11 @@
 -- The least reason for an item, by what is kept of the lines before it.
-use Rattle.board_prelude.proofs.Common.{common_steps, nat_tests, option_map, find, list_any, lt-ltb, leb-true, or_right}
-use Rattle.board_prelude.proofs.Common.{and_parts, sum_by-append, sum_by-cons, Event, Pulses, FittedCard, memory_size}
-use Rattle.board_prelude.proofs.Common.{memory_of_cards}
-use Rattle.std.proofs.Common.{ℕ, ◌≡◌, ◌+◌, ◌<◌, ◌≤◌, Bool, true, false, not, ◌&&◌, ◌||◌, Option, Some, None, Result, Ok}
-use Rattle.std.proofs.Common.{Err, List, [], ◌∷◌, length, filter, flat_map, sum_by, refl, sym, ap, ◌∙◌, arith, ◌==◌}
-use Rattle.std.proofs.Common.{nat_le, nat_lt, is_some, if◌then◌else◌, IsErr, IsErrAnd}
+use Rattle.board_prelude.proofs.Common.{common_steps, nat_tests, option_map, find, list_any, sum_by-append, sum_by-cons}
+use Rattle.board_prelude.proofs.Common.{Event, FittedCard, memory_size, memory_of_cards}
+use Rattle.std.proofs.Common.{ℕ, ◌≡◌, ◌+◌, ◌<◌, ◌≤◌, Bool, true, false, not, ◌&&◌, ◌||◌, Option, Some, None, Result}
+use Rattle.std.proofs.Common.{List, [], ◌∷◌, length, filter, flat_map, sum_by, refl, sym, ap, ◌∙◌, arith, ◌==◌, nat_lt}
+use Rattle.std.proofs.Common.{is_some, if◌then◌else◌, IsErr, IsErrAnd}
 use Rattle.std.proofs.lemmas.List.Sorted.{list_any-IsPermutation}
-use Rattle.script_spec.specs.Common.{Item, SetCpus, SetMemory, SetRom, SetDisk, FitCard, BeginPhase, reason, is_phase}
+use Rattle.script_spec.specs.Common.{Item, SetCpus, SetMemory, SetRom, SetDisk, FitCard, BeginPhase, is_phase}
 use Rattle.script_spec.specs.Common.{is_statement, is_setup, is_cpus, is_memory, is_rom, is_disk, cards_of, has_card}
 use Rattle.script_spec.specs.Common.{has_setup, lacks_setup, is_misplaced, is_repeated, is_event_in_range, is_in_range}
 use Rattle.script_spec.specs.Common.{is_placed, is_there, pulses_of_event, pulses_of, passes_limits, least_reason, ask}
@@ -111,8 +110,7 @@ pub asked_begun : (items : List Item) (actor : ℕ) (asked : Asked) →
 asked_begun items actor asked = grind (arith, nat_tests)
 
 few : (event : Event) → is_event_in_range event ≡ true → pulses_of_event event ≤ 1_000_000
-few (Pulses count) e = leb-true count 1_000_000 (and_parts (nat_le 1 count) (nat_le count 1_000_000) e).1
-few _ e = omega arith
+few event e = grind (arith, nat_tests)
 
 -- ---- numbers in range
 
@@ -133,8 +131,7 @@ pub within : (statements phases pulses memory : ℕ) → statements ≤ 250_000 
 within statements phases pulses memory few_statements few_phases few_pulses little = grind (arith, nat_tests)
 
 pub past_phases : (statements phases pulses memory : ℕ) → 1_000 < phases → past statements phases pulses memory ≡ true
-past_phases statements phases pulses memory more =
-    rw (lt-ltb 1_000 phases more) (rw (or_right (nat_lt 250_000 statements) true refl) refl)
+past_phases statements phases pulses memory more = grind (arith, nat_tests)
 
 pub past_memory : (statements phases pulses memory : ℕ) → 0x400_0000 < memory →
     past statements phases pulses memory ≡ true
@@ -204,6 +201,5 @@ pub name_judged : (items : List Item) (reading : Reading) (item : Item) (result 
     IsReadingOf items reading → is_setup item ≡ true → is_in_range item ≡ true → is_placed item ≡ true →
     is_there items item ≡ true → memory_with item reading.memory ≡ reading.memory → pulses_of item ≡ 0 →
     Stands items item result → Judges (λ done. item) items item result
-name_judged items reading item (Ok done) is setup range placed there memory pulses stands =
+name_judged items reading item result is setup range placed there memory pulses stands =
     grind (arith, nat_tests, common_steps, no_reason, begun_setup, setup_within)
-name_judged items reading item (Err reason) is setup range placed there memory pulses stands = stands

@@ -51,12 +51,11 @@ last_longer phases front last old new statement are here longer =
     let count : length phases.items ≡ length front + 1 =
     sym (length-map phases.items list_of) ∙ ap length are ∙ length-append front (last ∷ []) in
     let place : vec_len phases - 1 ≡ length front = omega (arith, phases.ok.0, count) in
-    let found : old.items ≡ last =
-    ap list_of here
-    ∙ sym (get_or-map list_of phases.items (vec_len phases - 1) old old.items (omega (arith, place, count)))
-    ∙ rw (are, place) (get_or-append_seam front last [] old.items) in
-    rw (map-set list_of phases.items (vec_len phases - 1) new, are, place, longer, found)
-    (set-append_seam front last [] (last ++ statement ∷ []))
+    let found = get_or-map list_of phases.items (vec_len phases - 1) old old.items (omega (arith, place, count)) in
+    let seam = get_or-append_seam front last [] old.items in
+    let grown = map-set list_of phases.items (vec_len phases - 1) new in
+    let filled = set-append_seam front last [] (last ++ statement ∷ []) in
+    grind (arith, nat_tests)
 
 some_phase : (items : List Item) → list_any is_phase items ≡ true → 0 < length (filter is_phase items)
 some_phase [] any = absurd (false≢true any)
