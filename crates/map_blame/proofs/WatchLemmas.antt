@@ -6,7 +6,7 @@ use Rattle.std.proofs.Common.{◌≡◌, ℕ, suc, ◌+◌, ◌-◌, ◌<◌, �
 use Rattle.std.proofs.Common.{get_or, take, reverse, refl, sym, ◌∙◌, arith}
 use Rattle.map_builder.specs.Common.{Changed, Range, Mapped, range_of, changed_windows, bounds_or_zero, IsApplied}
 use Rattle.addr_decode.specs.MapRegs.{StandsFor}
-use Rattle.map_builder.proofs.KeptStores.{top_after, bounds_hold_changes}
+use Rattle.map_builder.proofs.KeptLemmas.{top_after, bounds_hold_changes}
 use Rattle.map_blame.specs.declared.watch.Watched.{Watched}
 use Rattle.map_blame.specs.Common.{first_changes, IsRightAfter, StandsFrom, IsSince, map_range_of, IsInterval, IsAfter}
 use Rattle.map_blame.specs.Common.{IsWatched, HoldChange, IsWatchedOn}

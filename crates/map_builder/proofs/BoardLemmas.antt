@@ -47,12 +47,6 @@ rows_stand : (regs : MapBytes) (others : Bytes) (row : ℕ) → row < 8 →
 unfolding bridge_byte
 rows_stand regs others row below = grind (arith, nat_tests, common_steps, nat_lt, unnumbered, bridge, block_unnumbered)
 
-windows_stand : (regs : MapBytes) (others : Bytes) (off : ℕ) → (0x59 ≤ off) × (off ≤ 0x5F) →
-    slice_index regs.pam (off - 0x59) ≡ overlaid regs others (bridge off)
-unfolding bridge_byte
-windows_stand regs others off within =
-    grind (arith, nat_tests, common_steps, nat_lt, unnumbered, bridge, block_unnumbered)
-
 singles_stand : (regs : MapBytes) (others : Bytes) → AreSinglesOf (overlaid regs others) regs.singles
 unfolding overlaid
 singles_stand regs others k below = rw (numbered k below) refl
@@ -123,9 +117,10 @@ module _ (regs : MapBytes) (others : Bytes) (card : CardBytes) (fit : IsCard car
 
 pub overlaid_stands : (setup : Setup) (regs : MapBytes) (others : Bytes) → setup.cards ≡ cards_of regs.cards →
     AreFitted regs.cards → All HoldsDoublewords regs.cards → StandsFor setup (overlaid regs others) regs
+unfolding bridge_byte
 overlaid_stands setup regs others same fitted doublewords = record {
   rows = rows_stand regs others;
-  windows = windows_stand regs others;
+  windows = λ off within. grind (arith, nat_tests, common_steps, nat_lt, unnumbered, bridge, block_unnumbered);
   singles = singles_stand regs others;
   cards = (
     same,

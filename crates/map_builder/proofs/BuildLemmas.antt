@@ -48,10 +48,6 @@ none_between low high (first ∷ later) order as_many edge has above =
       | inr there ↦ none_between low high later order fewer edge there above
     ]
 
-pub edges_left : (setup : Setup) (bytes : Bytes) (addr next : ℕ) → addr ≤ next →
-    edges_after setup bytes next ≤ edges_after setup bytes addr
-edges_left setup bytes addr next order = no_more addr next (edges_of setup bytes) order
-
 -- other areas cost an edge
 fewer_left : (setup : Setup) (bytes : Bytes) (addr next : ℕ) → addr ≤ next → next < address_count →
     six_areas setup bytes next ≢ six_areas setup bytes addr →
@@ -113,7 +109,7 @@ built_over {last = last} {addr = addr} {hi = hi} order same is =
           same setup bytes stands x,
         );
       };
-      few = λ board. omega (arith, is.few board, edges_left board.setup board.bytes addr hi order);
+      few = λ board. omega (arith, is.few board, no_more addr hi (edges_of board.setup board.bytes) order);
     }
 
 -- the last range ends, and another begins

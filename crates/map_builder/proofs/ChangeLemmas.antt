@@ -15,7 +15,7 @@ use Rattle.map_builder.specs.Changed.{register_windows}
 use Rattle.map_builder.proofs.BoundsLemmas.{covered_ordered, changed_ordered, bounds_twice}
 use Rattle.map_builder.proofs.SortedLemmas.{rise_sorted, outside_sorted, beside_sorted, rows_few, sorted_twice}
 use Rattle.map_builder.proofs.MovedRows.{covers_rows, rows_keep, moved_within}
-use Rattle.map_builder.proofs.KeptStores.{same_bytes, unchanged_keep, top_after, changes_keep}
+use Rattle.map_builder.proofs.KeptLemmas.{same_bytes, unchanged_keep, top_after, changes_keep}
 use Rattle.map_builder.proofs.WindowLemmas.{covered_by_names}
 use Rattle.map_builder.proofs.SameBoards.{boards_same, untouched_areas}
 use Rattle.map_builder.proofs.RebuildLemmas.{all_right, range_below}

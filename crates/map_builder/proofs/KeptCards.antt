@@ -1,9 +1,9 @@
 -- The card that answers at an address is the same before and after a change that moves no window round it.
-use Rattle.board_prelude.proofs.Common.{common_steps, AllByRecursion, cases_Bool, and-false, nat_tests}
-use Rattle.board_prelude.proofs.Common.{recursion_from_All, find-append, Reg, Base, MemoryBase, IoBase, OutsideBase}
-use Rattle.board_prelude.proofs.Common.{FittedCard, Setup, IsCard, IsCardList, card_at, is_bit, Bytes, Window}
-use Rattle.board_prelude.proofs.Common.{base_value, is_covered, rom_window, rom_window_of, is_rom_on, vga_window}
-use Rattle.board_prelude.proofs.Common.{memory_windows, is_enabled_for, memory_claim, card_register}
+use Rattle.board_prelude.proofs.Common.{common_steps, AllByRecursion, cases_Bool, nat_tests, recursion_from_All}
+use Rattle.board_prelude.proofs.Common.{find-append, Reg, Base, IoBase, FittedCard, Setup, IsCard, IsCardList, card_at}
+use Rattle.board_prelude.proofs.Common.{is_bit, Bytes, Window, base_value, is_covered, rom_window, rom_window_of}
+use Rattle.board_prelude.proofs.Common.{is_rom_on, vga_window, memory_windows, memory_window, is_enabled_for}
+use Rattle.board_prelude.proofs.Common.{memory_claim, card_register}
 use Rattle.std.proofs.Common.{◌≡◌, ℕ, zero, suc, ◌+◌, ◌-◌, ◌*◌, ◌/◌, ◌<◌, ◌≤◌, ◌⊎◌, inl, inr, Bool, false, List, []}
 use Rattle.std.proofs.Common.{◌∷◌, ◌++◌, length, map, get_or, Option, Some, None, refl, sym, ◌∙◌, ap, arith, ◌&&◌, All}
 use Rattle.std.proofs.Common.{find, flat_map, slice_get, if◌then◌else◌, is_some, option_map, lit<, below_more}
@@ -14,8 +14,8 @@ use Rattle.addr_decode.specs.declared.register.MapRegister.TheVariants.{Card}
 use Rattle.addr_decode.specs.MapRegister.{in_card}
 use Rattle.addr_decode.proofs.CardLemmas.{find_at}
 use Rattle.map_builder.specs.Common.{decoded, base_windows, card_windows, name_windows, windows_of, held_by, Changed}
-use Rattle.map_builder.proofs.OutsideLemmas.{Outside, not_covered, none_covered, outside_decoded}
-use Rattle.map_builder.proofs.DeviceLemmas.{from_base, one_held, windows_of_card}
+use Rattle.map_builder.proofs.BoundsLemmas.{Outside, none_covered, outside_decoded}
+use Rattle.map_builder.proofs.WindowLemmas.{from_base, one_held, windows_of_card}
 
 -- a register keeps its byte, or an address lies outside the windows that it governs, by what the registers held before
 -- and hold after
@@ -67,9 +67,6 @@ fitted setup list k d within =
     let is : IsCard (get_or setup.cards k d) = list.each k d within in
     record { at = find_at setup.cards list.rises k d within; first = is.first; few = is.count }
 
-abbrev window : (dev k inside bits : ℕ) → Window
-window dev k inside bits = record { dev = dev; base = k; inside = inside; bits = bits }
-
 module _ (setup : Setup) (bytes new : Bytes) (addr : ℕ)
     (kept : (dev off : ℕ) → 2 ≤ dev → Kept setup bytes new addr (card_register dev off)) where
   abbrev claims : Bytes → Window → Bool
@@ -105,65 +102,50 @@ module _ (setup : Setup) (bytes new : Bytes) (addr : ℕ)
   rom_governed registers card off is from to =
       grind (arith, nat_tests, common_steps, cases_Bool, is_some, named_rom, windows_named, windows_at, no_rom_window)
 
-  outside_base : (registers : Bytes) (card : FittedCard) (off k : ℕ) (base : Base) → IsFitted setup card →
-      0x10 + 4 * k ≤ off → off ≤ 0x13 + 4 * k → k < 6 →
-      slice_get card.bases k ≡ Some base → Outside addr (windows_of setup registers (card_register card.dev off)) →
-      Outside addr (held_by base (base_value registers card.dev k))
-  outside_base registers card off k base is from to below at out =
+  base_governed : (registers : Bytes) (card : FittedCard) (k j : ℕ) (base : Base) → IsFitted setup card → j < 4 →
+      k < 6 → slice_get card.bases k ≡ Some base →
+      windows_of setup registers (card_register card.dev (0x10 + 4 * k + j))
+      ≡ held_by base (base_value registers card.dev k)
+  base_governed registers card k j base is few below at =
+      let off : ℕ = 0x10 + 4 * k + j in
       let number : (off - 0x10) / 4 ≡ k = omega arith in
-      rw (
-        windows_named registers card off (BaseByte (off - 0x10)) is (named_base card off (omega arith) (omega arith)),
-        number,
-        one_held registers card.dev k k 0 card.bases (omega arith),
-        at,
-      ) at out
+      windows_named registers card off (BaseByte (off - 0x10)) is (named_base card off (omega arith) (omega arith))
+      ∙ rw (number, one_held registers card.dev k k 0 card.bases (omega arith), at) refl
+
+  -- four registers keep their bytes, or the address lies outside the windows that they govern
+  four_kept : (dev first : ℕ) (windows : Bytes → List Changed) → 2 ≤ dev →
+      ((registers : Bytes) (j : ℕ) → j < 4 →
+      windows_of setup registers (card_register dev (first + j)) ≡ windows registers) →
+      ((j : ℕ) → j < 4 → new (card_register dev (first + j)) ≡ bytes (card_register dev (first + j)))
+      ⊎ OutsideBoth windows
+  four_kept dev first windows above govern =
+      each_or (λ j. new (card_register dev (first + j)) ≡ bytes (card_register dev (first + j))) (OutsideBoth windows) 4
+      (λ j few.
+      elim (kept dev (first + j) above) [
+        | inl same ↦ inl same
+        | inr out ↦ inr (rw (govern bytes j few) at out.0, rw (govern new j few) at out.1)
+      ])
 
   base_kept : (card : FittedCard) (k : ℕ) (base : Base) → IsFitted setup card → k < 6 →
       slice_get card.bases k ≡ Some base → BaseKept card.dev k base
   base_kept card k base is below at =
-      let register : ℕ → Reg = λ j. card_register card.dev (0x10 + 4 * k + j) in
       let first : 0x10 + 4 * k + 0 ≡ 0x10 + 4 * k = omega arith in
-      elim (each_or (λ j. new (register j) ≡ bytes (register j)) (OutsideBoth (λ it. held_by base
-      (base_value it card.dev k))) 4
-      (λ j few.
-      elim (kept card.dev (0x10 + 4 * k + j) is.first) [
-        | inl same ↦ inl same
-        | inr out ↦ inr (
-          outside_base bytes card _ k base is (omega arith) (omega arith) below at out.0,
-          outside_base new card _ k base is (omega arith) (omega arith) below at out.1,
-        )
-      ])) [
+      elim (four_kept card.dev (0x10 + 4 * k) (λ registers. held_by base (base_value registers card.dev k)) is.first
+      (λ registers j few. base_governed registers card k j base is few below at)) [
         | inr out ↦ inr out
         | inl same ↦
             let b0 = rw first at (same 0 (lit< tt)) in
             inl (rw (b0, same 1 (lit< tt), same 2 (lit< tt), same 3 (lit< tt)) refl)
       ]
 
-  -- a base in memory and those after it
-  base_then : (dev first bits : ℕ) (later : List Base) → is_enabled_for 1 new dev ≡ is_enabled_for 1 bytes dev →
-      (base_value new dev first ≡ base_value bytes dev first)
-      ⊎ OutsideBoth (λ it. held_by (MemoryBase bits) (base_value it dev first)) →
-      find (claims new) (from_base new dev (first + 1) later)
-      ≡ find (claims bytes) (from_base bytes dev (first + 1) later) →
-      find (claims new) (window dev first (base_value new dev first) bits ∷ from_base new dev (first + 1) later)
-      ≡ find (claims bytes) (window dev first (base_value bytes dev first) bits ∷ from_base bytes dev (first + 1) later)
-  base_then dev first bits later enabled (inl same) rest = rw (same, enabled, rest) refl
-  base_then dev first bits later enabled (inr out) rest =
-      rw (
-        not_covered addr (window dev first (base_value bytes dev first) bits) out.0.0,
-        not_covered addr (window dev first (base_value new dev first) bits) out.1.0,
-        and-false (is_enabled_for 1 bytes dev),
-        and-false (is_enabled_for 1 new dev),
-      ) rest
-
-  base_same : (dev first : ℕ) (base : Base) (later : List Base) →
-      is_enabled_for 1 new dev ≡ is_enabled_for 1 bytes dev → BaseKept dev first base → find (claims new)
-      (from_base new dev (first + 1) later) ≡ find (claims bytes) (from_base bytes dev (first + 1) later) →
-      find (claims new) (from_base new dev first (base ∷ later)) ≡ find (claims bytes)
-      (from_base bytes dev first (base ∷ later))
-  base_same dev first (MemoryBase bits) later enabled here rest = base_then dev first bits later enabled here rest
-  base_same dev first (IoBase bits) later enabled here rest = rest
-  base_same dev first (OutsideBase bits) later enabled here rest = base_then dev first bits later enabled here rest
+  base_same : (dev k : ℕ) (base : Base) → is_enabled_for 1 new dev ≡ is_enabled_for 1 bytes dev →
+      BaseKept dev k base →
+      find (claims new) (memory_window new dev k base) ≡ find (claims bytes) (memory_window bytes dev k base)
+  base_same dev k (IoBase bits) enabled here = refl
+  base_same dev k base enabled (inl same) = rw (same, enabled) refl
+  base_same dev k base enabled (inr out) =
+      none_covered addr (memory_window new dev k base) (λ dev. is_enabled_for 1 new dev) out.1
+      ∙ sym (none_covered addr (memory_window bytes dev k base) (λ dev. is_enabled_for 1 bytes dev) out.0)
 
   bases_same : (dev first : ℕ) (bases : List Base) → is_enabled_for 1 new dev ≡ is_enabled_for 1 bytes dev →
       ((j : ℕ) (base : Base) → slice_get bases j ≡ Some base → BaseKept dev (first + j) base) →
@@ -171,25 +153,17 @@ module _ (setup : Setup) (bytes new : Bytes) (addr : ℕ)
   bases_same dev first [] enabled each = refl
   bases_same dev first (base ∷ later) enabled each =
       let here : first + 0 ≡ first = omega arith in
-      base_same dev first base later enabled (rw here at (each 0 base refl))
-      (bases_same dev (first + 1) later enabled
-      (λ j other at. let place : first + suc j ≡ first + 1 + j = omega arith in rw place at (each (suc j) other at)))
+      let rest = bases_same dev (first + 1) later enabled
+      (λ j other at. let place : first + suc j ≡ first + 1 + j = omega arith in rw place at (each (suc j) other at)) in
+      simp find-append (rw (base_same dev first base enabled (rw here at (each 0 base refl)), rest) refl)
 
   -- the registers of the expansion ROM are the same, or the address lies outside it
   rom_kept : (card : FittedCard) → IsFitted setup card →
       ((j : ℕ) → j < 4 → new (card_register card.dev (0x30 + j)) ≡ bytes (card_register card.dev (0x30 + j)))
       ⊎ OutsideBoth (λ it. map decoded (rom_window it card))
   rom_kept card is =
-      each_or (λ j. new (card_register card.dev (0x30 + j)) ≡ bytes (card_register card.dev (0x30 + j)))
-      (OutsideBoth (λ it. map decoded (rom_window it card))) 4
-      (λ j few.
-      elim (kept card.dev (0x30 + j) is.first) [
-        | inl same ↦ inl same
-        | inr out ↦ inr (
-          rw (rom_governed bytes card (0x30 + j) is (omega arith) (omega arith)) at out.0,
-          rw (rom_governed new card (0x30 + j) is (omega arith) (omega arith)) at out.1,
-        )
-      ])
+      four_kept card.dev 0x30 (λ registers. map decoded (rom_window registers card)) is.first
+      (λ registers j few. rom_governed registers card (0x30 + j) is (omega arith) (omega arith))
 
   -- an address outside the expansion ROM is not answered by it
   rom_outside : (registers : Bytes) (card : FittedCard) → Outside addr (map decoded (rom_window registers card)) →

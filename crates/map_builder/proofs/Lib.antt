@@ -1,13 +1,9 @@
 pub mod BoardLemmas
 pub mod BuildLemmas
 pub mod RebuildLemmas
-pub mod KeepLemmas
 pub mod WindowLemmas
-pub mod DeviceLemmas
-pub mod OutsideLemmas
 pub mod KeptCards
 pub mod KeptLemmas
-pub mod KeptStores
 pub mod BoundsLemmas
 pub mod StateFormat
 pub mod SortedLemmas

@@ -1,5 +1,6 @@
 -- What stays of a map that differs in some windows alone: the ranges below them, between them and above them.
 use Rattle.board_prelude.proofs.Common.{nat_tests, get_or-map, length-map, length-drop, drop_more, drop_all, append-nil}
+use Rattle.board_prelude.proofs.Common.{map-append, take_all, take_more, cases_lt}
 use Rattle.board_spec.specs.Common.{Area, Setup, Bytes, address_count, MapRange, NeighboursDiffer, IsFlatMapOf, Tiles}
 use Rattle.std.proofs.Common.{◌≡◌, ◌≢◌, ℕ, zero, suc, ◌+◌, ◌-◌, ◌<◌, ◌≤◌, inl, inr, List, [], ◌∷◌, ◌++◌, length, map}
 use Rattle.std.proofs.Common.{take, drop, get_or, refl, sym, ap, subst, arith, ◌∙◌, append_assoc}
@@ -8,9 +9,9 @@ use Rattle.board_spec.proofs.FlatMapLaws.{tiles_below}
 use Rattle.addr_decode.specs.MapRegs.{MapBytes, StandsFor}
 use Rattle.map_builder.specs.Common.{Changed, Range, range_of, no_range, range_at, BeginsBelow, Holds, ContinuesAt}
 use Rattle.map_builder.specs.Common.{IsBuilt, IsRightWhere, IsMapWhere, IsBelow, IsBetween, IsBeside, from_to, AreAbove}
-use Rattle.map_builder.specs.Common.{Rise, rows_in}
+use Rattle.map_builder.specs.Common.{Rise, rows_in, IsOfSomeBoard, IsWhole}
 use Rattle.map_builder.proofs.BuildLemmas.{range, AreasAt, one_address, same_at_each, is_built_first, built_step}
-use Rattle.map_builder.proofs.BuildLemmas.{built_over, built_range}
+use Rattle.map_builder.proofs.BuildLemmas.{built_over, built_range, is_whole}
 use Rattle.map_ranges.proofs.FindLemmas.{Placed, placed}
 
 -- ---- ranges by their indices
@@ -77,13 +78,10 @@ module _ {regs : MapBytes} (after until : ℕ) (address : until < address_count)
       ContinuesAt ranges ranges' last last' lo (row_at old k) → IsBuilt regs ranges last addr →
       IsBuilt regs ranges' last' hi
   kept_on {k = k} {lo = lo} holds joined from order within high on built =
-      let low = holds.above in
       built_range lo (row_at old k) joined order (omega arith)
       (λ x from_x to_x setup bytes stands.
-      sym ((right_at old agrees setup bytes k stands holds.within).at_each x (omega arith) (omega arith) (
-        omega arith,
-        omega arith,
-      ))) on built
+      sym ((right_at old agrees setup bytes k stands holds.within).at_each x (omega arith) (omega arith) (omega arith)))
+      on built
 
   -- the next range follows one that was built to its end
   next_kept : (k : ℕ) {hi : ℕ} {ranges : List MapRange} {last : MapRange} → Holds old (k + 1) hi → hi ≤ until →
@@ -93,8 +91,8 @@ module _ {regs : MapBytes} (after until : ℕ) (address : until < address_count)
       let next = is.next k holds.within in
       let whole = is.whole (k + 1) holds.within in
       let end : (range_at old k).hi ≡ (range_at old (k + 1)).lo - 1 = omega arith in
-      kept_on (record { within = holds.within; above = omega arith; below = whole }) next from holds.above within
-      holds.below (inr ((λ alike. differ_at old k agrees.least holds.within (alike ∙ same)), rw end refl, refl)) built
+      kept_on (omega arith) next from holds.above within holds.below
+      (inr ((λ alike. differ_at old k agrees.least holds.within (alike ∙ same)), rw end refl, refl)) built
 
   -- each later range ends later
   ends_after : (k c : ℕ) → k + c < length old → after ≤ (range_at old k).hi → after ≤ (range_at old (k + c)).hi
@@ -118,16 +116,13 @@ module _ {regs : MapBytes} (after until : ℕ) (address : until < address_count)
       let place : k + suc c ≡ k + c + 1 = omega arith in
       let there = rw place at holds in
       let next = is.next (k + c + 1) there.within in
-      let whole = is.whole (k + c + 1) (omega (arith, there.within)) in
-      let below = there.above in
+      let whole = is.whole (k + c + 1) (omega arith) in
       let later : k + (c + 1) ≡ k + c + 1 = omega arith in
-      let after_this = rw later at (ends_after k (c + 1) (omega (arith, there.within)) from) in
+      let after_this = rw later at (ends_after k (c + 1) (omega arith) from) in
       let front : List MapRange = ranges ++ range last.lo (range_at old k).hi last.areas ∷ [] in
-      let inner = copied k c (range_at old (k + c + 1)).hi
-      (record { within = omega (arith, there.within); above = whole; below = omega arith }) (omega arith) from same
-      built in
+      let inner = copied k c (range_at old (k + c + 1)).hi (omega arith) (omega arith) from same built in
       let swapped : k + 1 + c ≡ k + c + 1 = omega arith in
-      rw (place, taken_more old (k + 1) c (omega (arith, there.within)), swapped, ← append_assoc front _ _)
+      rw (place, taken_more old (k + 1) c (omega arith), swapped, ← append_assoc front _ _)
       (next_kept (k + c + 1) there within after_this refl inner)
 
 -- ---- below the first window
@@ -137,7 +132,6 @@ built_below : {regs : MapBytes} (lo : ℕ) (address : lo < address_count) (old :
     IsMapWhere regs (IsBelow lo) (map range_of old) → (k addr : ℕ) → Holds old k addr → addr < lo →
     IsBuilt regs (map range_of (take k old)) (open_at old k) addr
 built_below {regs} lo address old agrees zero addr holds outer =
-    let high = holds.below in
     let first = (placed 0 old (omega arith) agrees.tiles).first in
     let right : (x : ℕ) → 0 ≤ x → x ≤ addr → AreasAt regs x (row_at old 0) = λ x low to setup bytes stands.
     sym ((right_at old agrees setup bytes 0 stands holds.within).at_each x (omega arith) (omega arith) (omega arith)) in
@@ -149,13 +143,10 @@ built_below lo address old agrees (suc k) addr holds outer =
     let there = rw place at holds in
     let is = placed 0 old (omega arith) agrees.tiles in
     let next = is.next k there.within in
-    let low = there.above in
-    let within : k < length old = omega (arith, there.within) in
-    rw (place, map_more range_of old k no_range within)
+    let whole = is.whole k (omega arith) in
+    rw (place, map_more range_of old k no_range (omega arith))
     (next_kept 0 (lo - 1) (omega arith) old (fewer_where (λ x between. omega arith) agrees) k there (omega arith)
-    (omega arith) refl
-    (built_below lo address old agrees k (range_at old k).hi
-    (record { within = within; above = is.whole k within; below = omega arith }) (omega arith)))
+    (omega arith) refl (built_below lo address old agrees k (range_at old k).hi (omega arith) (omega arith)))
 
 -- and go on at the first address of the interval
 pub built_to_interval : {regs : MapBytes} (lo : ℕ) → lo < address_count → (old : List Range) →
@@ -172,16 +163,6 @@ built_to_interval {regs} lo address old agrees k areas holds above at_lo on =
 pub begins_next : {ranges : List Range} {k addr : ℕ} → Placed 0 ranges → BeginsBelow ranges k addr →
     (range_at ranges k).hi < addr → addr < address_count → BeginsBelow ranges (k + 1) addr
 begins_next {ranges} {k} is begins low address = grind (arith, nat_tests)
-
--- and so at or below a later address
-pub begins_later : {ranges : List Range} {k addr later : ℕ} → BeginsBelow ranges k addr → addr ≤ later →
-    BeginsBelow ranges k later
-begins_later begins order = record { within = begins.within; above = omega (arith, begins.above) }
-
--- a range that holds an address begins at it or below it
-pub holds_begins : {ranges : List Range} {k addr later : ℕ} → Holds ranges k addr → addr ≤ later →
-    BeginsBelow ranges k later
-holds_begins holds order = record { within = holds.within; above = omega (arith, holds.above) }
 
 -- ---- windows one after the other
 
@@ -223,10 +204,6 @@ all_right regs ranges is setup bytes stands = record {
 abbrev pub window_at : List Changed → ℕ → Changed
 window_at windows k = get_or windows k (from_to 0 0)
 
-next_window : (windows : List Changed) (k : ℕ) → k < length windows →
-    drop k windows ≡ window_at windows k ∷ drop (k + 1) windows
-next_window windows k within = drop_more windows k (from_to 0 0) within
-
 pub first_below : {regs : MapBytes} {ranges : List MapRange} (windows : List Changed) → 0 < length windows →
     Rise windows → IsMapWhere regs (IsBeside windows) ranges → IsMapWhere regs (IsBelow (window_at windows 0).lo) ranges
 first_below [] some rise beside = absurd (omega arith)
@@ -234,7 +211,7 @@ first_below (window ∷ later) some rise beside = fewer_where (λ addr low. belo
 
 pub order_at : (windows : List Changed) (k : ℕ) → k < length windows → Rise (drop k windows) →
     (window_at windows k).lo ≤ (window_at windows k).hi
-order_at windows k within rise = (subst Rise (next_window windows k within) rise).0
+order_at windows k within rise = (subst Rise (drop_more windows k (from_to 0 0) within) rise).0
 
 pub sweep_first : {regs : MapBytes} {ranges before : List MapRange} {last : MapRange} (windows : List Changed) →
     0 < length windows → Rise windows → IsMapWhere regs (IsBeside windows) before →
@@ -252,7 +229,7 @@ sweep_first (window ∷ later) some rise beside fits built = record {
 module _ {regs : MapBytes} {ranges before : List MapRange} {last : MapRange} {hi : ℕ} (windows : List Changed) (k : ℕ)
     (within : k < length windows) (sweep : Sweep regs ranges last before hi (drop k windows)) where
   now : Sweep regs ranges last before hi (window_at windows k ∷ drop (k + 1) windows)
-  now = subst (Sweep regs ranges last before hi) (next_window windows k within) sweep
+  now = subst (Sweep regs ranges last before hi) (drop_more windows k (from_to 0 0) within) sweep
 
   pub above : hi < (window_at windows k).lo
   above = now.above.0
@@ -260,11 +237,10 @@ module _ {regs : MapBytes} {ranges before : List MapRange} {last : MapRange} {hi
   -- up to the next window
   pub sweep_agrees : IsMapWhere regs (IsBetween hi ((window_at windows k).lo - 1)) before
   sweep_agrees =
-      let low = above in
       fewer_where
       (λ addr between. (
         between.0,
-        below_first addr (window_at windows k) (drop (k + 1) windows) now.rise (omega (arith, between.1)),
+        below_first addr (window_at windows k) (drop (k + 1) windows) now.rise (omega (arith, above)),
       )) now.left
 
   -- and after it
@@ -272,14 +248,12 @@ module _ {regs : MapBytes} {ranges before : List MapRange} {last : MapRange} {hi
       IsBuilt regs ranges' last' (window_at windows k).hi →
       Sweep regs ranges' last' before (window_at windows k).hi (drop (k + 1) windows)
   sweep_next fits built =
-      let low = above in
-      let rises = now.rise in
       record {
         fits = fits;
         built = built;
-        rise = rises.2;
-        above = rises.1;
-        left = fewer_where (λ addr beyond. (omega (arith, beyond.0, rises.0), (inr beyond.0, beyond.1))) now.left;
+        rise = now.rise.2;
+        above = now.rise.1;
+        left = fewer_where (λ addr beyond. (omega (arith, above, now.rise.0), (inr beyond.0, beyond.1))) now.left;
       }
 
 -- up to the last address
@@ -294,4 +268,79 @@ pub rows_at : (edges_above : ℕ → ℕ) (windows : List Changed) (k : ℕ) →
     rows_in edges_above (drop k windows)
     ≡ edges_above (window_at windows k).lo - edges_above (window_at windows k).hi + 1 + rows_in edges_above
     (drop (k + 1) windows)
-rows_at edges_above windows k within = ap (rows_in edges_above) (next_window windows k within)
+rows_at edges_above windows k within = ap (rows_in edges_above) (drop_more windows k (from_to 0 0) within)
+
+-- ---- the ranges between two addresses, and those that follow the last window, as they follow those that were built
+
+-- the last range has the areas at which it went on
+pub areas_on : {ranges ranges' : List MapRange} {last last' : MapRange} (addr : ℕ) {areas : List Area} →
+    ContinuesAt ranges ranges' last last' addr areas → last'.areas ≡ areas
+areas_on addr (inl (here, is, last_is)) = rw last_is (sym here)
+areas_on addr (inr (other, is, last_is)) = rw last_is refl
+
+-- the ranges from an index on are those before the last, and the last
+taken_last : (ranges : List Range) (n end : ℕ) → n ≤ end → end + 1 ≡ length ranges →
+    take (end - n) (drop n ranges) ++ range_at ranges end ∷ [] ≡ drop n ranges
+taken_last ranges n end from last =
+    let place : n + (end - n) ≡ end = omega arith in
+    let long = length-drop n ranges in
+    rw (← rw place at (get_or-drop n ranges (end - n) no_range))
+    (sym (take_more (drop n ranges) (end - n) no_range (omega (arith, long)))
+    ∙ take_all (end - n + 1) (drop n ranges) (omega (arith, long)))
+
+-- ---- from the address after the one up to which they are built
+
+module _ {regs : MapBytes} (after until : ℕ) {k : ℕ} (ranges ranges' : List Range) {old : List Range}
+    {last last' : Range} (address : until < address_count) (order : after < until)
+    (agrees : IsMapWhere regs (IsBetween after until) (map range_of old)) (holds : Holds old k (after + 1))
+    (on : ContinuesAt (map range_of ranges) (map range_of ranges') (range_of last) (range_of last') (after + 1)
+    (row_at old k)) (built : IsBuilt regs (map range_of ranges) (range_of last) after) where
+  -- in the range that holds it
+  pub kept_first : (hi : ℕ) → after < hi → hi ≤ until → hi ≤ (range_at old k).hi →
+      IsBuilt regs (map range_of ranges') (range_of last') hi
+  kept_first hi above within high =
+      kept_on after until address old agrees holds refl (omega arith) (omega arith) within high on built
+
+  -- and on to a later range
+  pub kept_later : (end : ℕ) → (range_at old k).hi ≤ until → k + 1 ≤ end → Holds old end until →
+      IsBuilt regs (map range_of ((ranges' ++ record last' { hi = (range_at old k).hi } ∷ [])
+      ++ take (end - (k + 1)) (drop (k + 1) old))) (open_at old end) until
+  kept_later end more from there =
+      let below = holds.below in
+      let place : k + (end - (k + 1)) + 1 ≡ end = omega arith in
+      rw (map-append, map-append)
+      (rw place at (copied after until address old agrees k (end - (k + 1)) until (rw place there) (omega arith)
+      (omega arith) (areas_on (after + 1) on)
+      (kept_first (range_at old k).hi (omega arith) (omega arith) (omega arith))))
+
+  -- to the last address
+  pub whole_from : IsOfSomeBoard regs → until ≡ 0xFFFF_FFFF →
+      IsWhole regs ((ranges' ++ record last' { hi = (range_at old k).hi } ∷ []) ++ drop (k + 1) old)
+  whole_from board is_end =
+      let is = placed 0 old (omega arith) agrees.tiles in
+      let below = holds.below in
+      let within = holds.within in
+      elim (cases_lt (k + 1) (length old)) [
+        | inr past ↦
+            let end = is.last k (omega arith) in
+            let first = kept_first 0xFFFF_FFFF (omega arith) (omega arith) (omega arith) in
+            let open_end : (range_at old k).hi ≡ last'.hi = omega (arith, first.built.open_end) in
+            rw (drop_all (k + 1) old past, append-nil, open_end) (is_whole board ranges' last' first)
+        | inl more ↦
+            let end : ℕ = length old - 1 in
+            let last = is.last end (omega arith) in
+            let last_hi : 0xFFFF_FFFF ≡ (range_at old end).hi = omega arith in
+            let whole = is.whole end (omega arith) in
+            let fits = rw (get_or-map range_of old k no_range (range_of no_range) within)
+            at (range_below 0 (map range_of old) agrees.tiles k (range_of no_range)
+            (omega (arith, length-map old range_of))) in
+            let all : IsWhole regs (((ranges' ++ record last' { hi = (range_at old k).hi } ∷ [])
+            ++ take (end - (k + 1)) (drop (k + 1) old)) ++ range_at old end ∷ []) =
+            rw last_hi at (is_whole board _ (record (range_at old end) { hi = 0xFFFF_FFFF })
+            (rw is_end at (kept_later end (omega arith) (omega arith)
+            (omega arith)))) in
+            rw (append_assoc _ _ (range_at old end ∷ []), taken_last old (k + 1) end (omega arith) (omega arith)) at all
+      ]
+
+pub rest_of : (old : List Range) (n : ℕ) → take (length old - n) (drop n old) ≡ drop n old
+rest_of old n = take_all (length old - n) (drop n old) (omega (arith, length-drop n old))

@@ -75,19 +75,14 @@ module _ (regs : MapBytes) (setup setup' : Setup) (bytes bytes' : Bytes) (stands
       named_same reg _ refl (named setup reg (no_low_fitted setup 0 (lit< tt) list)
       (no_low_fitted setup 1 (lit< tt) list) ∙ is) is
 
--- of a board the cards alone count
-area_by_cards : (setup setup' : Setup) (bytes : Bytes) (addr : ℕ) (kind : Kind) (smm : Bool) →
-    setup.cards ≡ setup'.cards → area_of setup bytes addr kind smm ≡ area_of setup' bytes addr kind smm
-unfolding area_of memory_claim
-area_by_cards setup setup' bytes addr kind smm same = rw same refl
-
 area_same : (regs : MapBytes) (setup setup' : Setup) (bytes bytes' : Bytes) → IsCardList setup.cards →
     StandsFor setup bytes regs → StandsFor setup' bytes' regs →
     (addr : ℕ) (kind : Kind) (smm : Bool) → area_of setup bytes addr kind smm ≡ area_of setup' bytes' addr kind smm
+unfolding area_of memory_claim
 area_same regs setup setup' bytes bytes' list stands stands' addr kind smm =
     (map_bytes_decide setup bytes bytes' list (map_bytes_same regs setup setup' bytes bytes' stands stands' list) addr
     kind smm).0
-    ∙ area_by_cards setup setup' bytes' addr kind smm (stands.cards.0 ∙ sym stands'.cards.0)
+    ∙ rw (stands.cards.0 ∙ sym stands'.cards.0) refl
 
 six_same : (setup setup' : Setup) (bytes bytes' : Bytes) (addr : ℕ) →
     ((kind : Kind) (smm : Bool) → area_of setup bytes addr kind smm ≡ area_of setup' bytes' addr kind smm) →

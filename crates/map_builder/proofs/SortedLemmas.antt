@@ -8,8 +8,7 @@ use Rattle.addr_decode.specs.Singles.{single_count}
 use Rattle.map_builder.specs.Common.{Changed, both, is_above_first, is_inside, edges_inside, is_window, count_of}
 use Rattle.map_builder.specs.Common.{IsOutside, with_window, sorted, AreAbove, Rise, rows_in}
 use Rattle.map_builder.specs.Changed.{single_windows}
-use Rattle.map_builder.proofs.OutsideLemmas.{Outside, Misses, misses_both}
-use Rattle.map_builder.proofs.BoundsLemmas.{Ordered}
+use Rattle.map_builder.proofs.BoundsLemmas.{Outside, Misses, misses_both, Ordered}
 
 -- a window goes behind the first of others that rise, before it, or they overlap and become one
 with_step : (P : List Changed → Type 0) (window other : Changed) (later : List Changed) →
@@ -71,13 +70,9 @@ unfolding sorted
 rise_sorted [] ordered = tt
 rise_sorted (window ∷ later) ordered = rise_with window (sorted later) ordered.0 (rise_sorted later ordered.1)
 
--- an interval of two that overlap holds no other address
-beside_both : (addr : ℕ) → Joins (IsOutside addr)
-beside_both addr other window low high one two = grind (arith, nat_tests)
-
 -- an address beside windows is beside them when they are sorted
 pub beside_sorted : (addr : ℕ) (windows : List Changed) → Outside addr windows → Outside addr (sorted windows)
-beside_sorted addr = each_sorted (IsOutside addr) (beside_both addr)
+beside_sorted addr = each_sorted (IsOutside addr) (λ other window low high one two. grind (arith, nat_tests))
 
 -- where the interval of two has it, both have
 abbrev Parts : (Changed → Type 0) → Type 0
@@ -124,11 +119,6 @@ each_not_in addr (window ∷ later) none =
 
 not_in_both : (addr : ℕ) → Joins (IsNotIn addr)
 not_in_both addr other window low high one two = grind (arith, nat_tests)
-
-inside_sorted : (windows : List Changed) (addr : ℕ) → is_inside windows addr ≡ false →
-    is_inside (sorted windows) addr ≡ false
-inside_sorted windows addr none =
-    grind (arith, nat_tests, common_steps, not_inside, each_sorted, not_in_both, each_not_in)
 
 -- ---- how many they are
 
@@ -263,7 +253,8 @@ rows_few setup bytes windows ordered =
       arith,
       rows_rise (sorted windows) (edges_of setup bytes) (rise_sorted windows ordered),
       length_sorted windows ordered,
-      filter_more (is_inside (sorted windows)) (is_inside windows) (edges_of setup bytes) (inside_sorted windows),
+      filter_more (is_inside (sorted windows)) (is_inside windows) (edges_of setup bytes)
+          (λ addr none. grind (arith, nat_tests, common_steps, not_inside, each_sorted, not_in_both, each_not_in)),
     )
 
 -- ---- those that rise already

@@ -4,13 +4,13 @@
 ghost use Rattle.map_builder.specs.Laws.{WindowsHoldChanges, BoundsHoldChanges, RowsAreFew};
 
 /// An address outside the windows that a change covers keeps its areas.
-#[tactic(auto, using(crate::proofs::KeptStores::windows_hold_changes))]
+#[tactic(auto, using(crate::proofs::KeptLemmas::windows_hold_changes))]
 pub fn law_changed_windows()
     ensures kept { WindowsHoldChanges }
 {}
 
 /// An address outside the bounds of these windows keeps its areas.
-#[tactic(auto, using(crate::proofs::KeptStores::bounds_hold_changes))]
+#[tactic(auto, using(crate::proofs::KeptLemmas::bounds_hold_changes))]
 pub fn law_changed_bounds()
     ensures kept { BoundsHoldChanges }
 {}

@@ -131,6 +131,7 @@ impl FlatMap {
     }
 
     /// Reads the fields one after another.
+    #[tactic(auto, unfolding(crate::specs::State::mapped_fields), using(std::proofs::lemmas::Bool::Decides::nat_tests))]
     fn read_state(specs: &[CardSpec], fields: &mut Fields) -> Result<FlatMap, Bad>
         requires cards { IsCardList specs.now }
         ensures took { Took bare result fields.new (mapped_fields specs.now fields.old) }

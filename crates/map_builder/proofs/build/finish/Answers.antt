@@ -1,18 +1,15 @@
-use Rattle.std.proofs.Common.{◌≡◌, ◌+◌, ◌++◌, ◌∷◌, [], map, drop, arith, lit<, refl}
+use Rattle.std.proofs.Common.{◌≡◌, ◌+◌, ◌++◌, ◌∷◌, [], map, drop, arith, refl}
 use Rattle.std.proofs.lemmas.List.{length-map, length-append}
-use Rattle.addr_decode.specs.Common.{MapBytes}
-use Rattle.map_builder.specs.Common.{range_of, range_at, IsOfSomeBoard, IsBuilt, IsMapWhere, IsBetween, IsWhole}
+use Rattle.map_builder.specs.Common.{range_of, range_at, IsWhole}
+use Rattle.map_builder.specs.Build.{IsBuiltUpTo}
 use Rattle.map_builder.proofs.BuildLemmas.{is_whole}
-use Rattle.map_builder.proofs.RebuildLemmas.{begins_later}
-use Rattle.map_builder.proofs.KeepLemmas.{whole_from, rest_of}
+use Rattle.map_builder.proofs.RebuildLemmas.{whole_from, rest_of}
 use Rattle.map_builder.proofs.build.finish.Goals.{After-range_at-last}
 use Rattle.map_builder.proofs.build.finish.Goals as goal
 
 pub push-requires : goal.push-requires
-push-requires c = (
-  lit< tt,
-  omega (arith, c.requires.kept.built.few c.requires.kept.board, length-map c.args.ranges.now.items range_of),
-)
+push-requires c =
+    omega (arith, c.requires.kept.built.few c.requires.kept.board, length-map c.args.ranges.now.items range_of)
 
 pub returns-then-after-eq-LAST_ADDRESS : goal.returns-then-after-eq-LAST_ADDRESS
 returns-then-after-eq-LAST_ADDRESS c =
@@ -27,37 +24,31 @@ range_at-last-requires-clause-room c =
     omega (arith, c.requires.kept.built.few c.requires.kept.board, length-map c.args.ranges.now.items range_of)
 
 pub index_from-index-requires-clause-from : goal.index_from-index-requires-clause-from
-index_from-index-requires-clause-from c = begins_later c.requires.from (omega arith)
+index_from-index-requires-clause-from c = omega arith
 
-whole : (c : After-range_at-last) (regs : MapBytes) → IsOfSomeBoard regs →
-    IsBuilt regs (map range_of c.args.ranges.now.items) (range_of c.args.last) c.args.after →
-    IsMapWhere regs (IsBetween c.args.after 0xFFFF_FFFF) (map range_of c.args.before.now) →
-    IsWhole regs ((c.range_at-last.new.ranges.items ++ record c.range_at-last.result {
+whole : (c : After-range_at-last) (kept : IsBuiltUpTo (map range_of c.args.ranges.now.items) (range_of c.args.last)
+    (map range_of c.args.before.now) c.args.after 0xFFFF_FFFF) →
+    IsWhole kept.regs ((c.range_at-last.new.ranges.items ++ record c.range_at-last.result {
       hi = (range_at c.args.before.now c.index_from-index.result).hi;
     } ∷ []) ++ drop (c.index_from-index.result + 1) c.args.before.now)
-whole c regs board built agrees =
-    whole_from c.args.after 0xFFFF_FFFF _ _ (omega arith) (omega arith) agrees c.index_from-index.ensures.holds
-    c.range_at-last.ensures.goes_on built board refl
+whole c kept =
+    whole_from c.args.after 0xFFFF_FFFF _ _ (omega arith) (omega arith) kept.agrees c.index_from-index.ensures.holds
+    c.range_at-last.ensures.goes_on kept.built kept.board refl
 
 pub push-requires-2 : goal.push-requires-2
 push-requires-2 c =
-    let kept = c.requires.kept in
-    let all = whole (goal.at.push-requires-2 c).After-range_at-last kept.regs kept.board kept.built kept.agrees in
-    let few = simp length-append at all.few in (lit< tt, omega (arith, few))
+    let all = whole (goal.at.push-requires-2 c).After-range_at-last c.requires.kept in
+    omega (arith, simp length-append at all.few)
 
 pub extend-requires : goal.extend-requires
 extend-requires c =
-    let kept = c.requires.kept in
-    let all = whole (goal.at.extend-requires c).After-range_at-last kept.regs kept.board kept.built kept.agrees in
-    let few = simp length-append at all.few in (
-      lit< tt,
-      simp (c.push-2.ensures.items, rest_of c.args.before.now (c.index_from-index.result + 1), length-append)
-          (omega (arith, few)),
-    )
+    let all = whole (goal.at.extend-requires c).After-range_at-last c.requires.kept in
+    simp (c.push-2.ensures.items, rest_of c.args.before.now (c.index_from-index.result + 1), length-append)
+    (omega (arith, simp length-append at all.few))
 
 pub returns : goal.returns
 returns c = record {
   whole = λ regs board built agrees.
       rw (c.extend.ensures.items, c.push-2.ensures.items, rest_of c.args.before.now (c.index_from-index.result + 1))
-      (whole (goal.at.returns c).After-range_at-last regs board built agrees);
+      (whole (goal.at.returns c).After-range_at-last (record { regs = regs; board = board; built = built; agrees = agrees }));
 }

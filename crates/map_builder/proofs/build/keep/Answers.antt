@@ -1,9 +1,8 @@
 use Rattle.std.proofs.Common.{◌≡◌, ◌+◌, arith, lit<}
-use Rattle.board_prelude.proofs.Common.{length-map, length-append, common_steps, nat_tests}
+use Rattle.board_prelude.proofs.Common.{length-map, length-append}
 use Rattle.map_builder.specs.Common.{range_of}
 use Rattle.map_ranges.proofs.FindLemmas.{placed}
-use Rattle.map_builder.proofs.RebuildLemmas.{begins_later, begins_next, holds_begins}
-use Rattle.map_builder.proofs.KeepLemmas.{kept_first, kept_later}
+use Rattle.map_builder.proofs.RebuildLemmas.{begins_next, kept_first, kept_later}
 use Rattle.map_builder.proofs.build.keep.Goals as goal
 
 pub returns-then-after-until : goal.returns-then-after-until
@@ -11,7 +10,7 @@ returns-then-after-until c =
     let all : c.args.after ≡ c.args.until = omega arith in record { built = λ regs first agrees. rw all at first }
 
 pub index_from-index-requires-clause-from : goal.index_from-index-requires-clause-from
-index_from-index-requires-clause-from c = begins_later c.requires.from (omega arith)
+index_from-index-requires-clause-from c = omega arith
 
 pub range_at-last-requires-clause-room : goal.range_at-last-requires-clause-room
 range_at-last-requires-clause-room c =
@@ -34,7 +33,8 @@ push-requires c =
     (lit< tt, omega (arith, built.few kept.board, length-map c.range_at-last.new.ranges.items range_of))
 
 pub index_from-end-requires-clause-from : goal.index_from-end-requires-clause-from
-index_from-end-requires-clause-from c = grind (arith, nat_tests, common_steps, begins_next, placed, holds_begins)
+index_from-end-requires-clause-from c =
+    begins_next (placed 0 _ (omega arith) c.requires.tiles) (omega arith) (omega arith) (omega arith)
 
 pub extend-requires : goal.extend-requires
 extend-requires c =

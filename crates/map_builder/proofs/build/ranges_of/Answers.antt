@@ -1,14 +1,12 @@
-use Rattle.std.proofs.Common.{arith, lit<}
+use Rattle.std.proofs.Common.{arith}
 use Rattle.std.proofs.lemmas.List.{length-map}
 use Rattle.map_builder.specs.Common.{range_of}
 use Rattle.map_builder.proofs.BuildLemmas.{is_whole}
 use Rattle.map_builder.proofs.build.ranges_of.Goals as goal
 
 pub push-requires : goal.push-requires
-push-requires g c = (
-  lit< tt,
-  omega (arith, c.rows_in-last.ensures.built.few c.requires.board, length-map c.rows_in-last.new.ranges.items range_of),
-)
+push-requires g c =
+    omega (arith, c.rows_in-last.ensures.built.few c.requires.board, length-map c.rows_in-last.new.ranges.items range_of)
 
 pub returns : goal.returns
 returns g c =

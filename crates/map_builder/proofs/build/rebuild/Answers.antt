@@ -14,11 +14,5 @@ returns-then-is_empty-clause-map g c =
     let none = no_window c.args.windows.now (grind (arith, nat_tests)) in
     all_right (map_bytes c.args.regs.now) (map range_of c.args.ranges.now.items) (rw none at c.requires.beside)
 
-pub returns-clause-tiles : goal.returns-clause-tiles
-returns-clause-tiles g c = c.sweep.ensures.whole.tiles
-
-pub returns-clause-map : goal.returns-clause-map
-returns-clause-map g c = c.sweep.ensures.whole.is_map
-
-pub returns-clause-few : goal.returns-clause-few
-returns-clause-few g c = c.sweep.ensures.whole.few
+pub returns : goal.returns
+returns g c = assumption (c.sweep.ensures.whole, c.sweep.ensures)

@@ -1,7 +1,9 @@
 use Rattle.std.proofs.Common.{arith}
 use Rattle.std.proofs.lemmas.List.{length-map}
 use Rattle.map_builder.specs.Map.{range_of}
-use Rattle.map_builder.proofs.BuildLemmas.{built_step, built_over, edges_left}
+use Rattle.addr_decode.specs.Common.{edges_of}
+use Rattle.addr_decode.proofs.Common.{no_more}
+use Rattle.map_builder.proofs.BuildLemmas.{built_step, built_over}
 use Rattle.map_builder.proofs.build.rows_in.Goals as goal
 
 pub range_at-last-requires-clause-room : goal.range_at-last-requires-clause-room
@@ -29,7 +31,7 @@ returns g c = record {
       omega (
         arith,
         c.loop-edge.invariant.rows setup bytes stands,
-        edges_left setup bytes c.loop-edge.addr c.args.interval.hi c.loop-edge.invariant.within,
+        no_more c.loop-edge.addr c.args.interval.hi (edges_of setup bytes) c.loop-edge.invariant.within,
       );
   fits = omega arith;
 }

@@ -1,7 +1,7 @@
 use Rattle.board_prelude.proofs.Common.{nat_tests}
 use Rattle.std.proofs.Common.{arith}
 use Rattle.addr_decode.specs.Common.{map_bytes, edges_after}
-use Rattle.map_builder.proofs.RebuildLemmas.{holds_begins, begins_later, first_below, order_at, sweep_first, above}
+use Rattle.map_builder.proofs.RebuildLemmas.{first_below, order_at, sweep_first, above}
 use Rattle.map_builder.proofs.RebuildLemmas.{sweep_agrees, sweep_next, sweep_end, rows_at}
 use Rattle.map_builder.proofs.build.sweep.Goals as goal
 
@@ -30,9 +30,7 @@ loop-index-init g c = record {
         c.rows_in-last.ensures.rows setup bytes stands,
         c.cut_below-cut.ensures.step,
       );
-  from =
-      holds_begins c.index_of-from.ensures.holds
-      (omega (arith, c.saturating_sub.ensures, order_at c.args.windows.now 0 c.requires.some c.requires.rise));
+  from = omega (arith, c.saturating_sub.ensures, order_at c.args.windows.now 0 c.requires.some c.requires.rise);
 }
 
 pub keep-last-requires-clause-order : goal.keep-last-requires-clause-order
@@ -73,13 +71,11 @@ loop-index-preserved g c = record {
         c.rows_in-last-in-loop-index.ensures.rows setup bytes stands,
         c.row_at-last.ensures.step,
       );
-  from =
-      begins_later c.loop-index.invariant.from
-      (omega (
-        arith,
-        order_at c.args.windows.now c.loop-index.index (omega arith) c.loop-index.invariant.sweep.rise,
-        above c.args.windows.now c.loop-index.index (omega arith) c.loop-index.invariant.sweep,
-      ));
+  from = omega (
+    arith,
+    order_at c.args.windows.now c.loop-index.index (omega arith) c.loop-index.invariant.sweep.rise,
+    above c.args.windows.now c.loop-index.index (omega arith) c.loop-index.invariant.sweep,
+  );
 }
 
 pub finish-requires-clause-kept : goal.finish-requires-clause-kept

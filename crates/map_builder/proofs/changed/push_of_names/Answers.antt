@@ -1,24 +1,25 @@
-use Rattle.board_prelude.proofs.Common.{common_steps, nat_tests}
-use Rattle.std.proofs.Common.{arith}
+use Rattle.std.proofs.Common.{None, take_all, arith}
+use Rattle.std.proofs.lemmas.List.Elements.{All-from_recursion}
+use Rattle.addr_decode.specs.Common.{IsNumberedName}
 use Rattle.map_builder.specs.Changed.{name_windows}
-use Rattle.map_builder.proofs.WindowLemmas.{numbered_at, pushed_on, pushed_all}
+use Rattle.map_builder.proofs.WindowLemmas.{pushed_on}
 use Rattle.map_builder.proofs.changed.push_of_names.Goals as goal
 
-pub push_of_name-requires : goal.push_of_name-requires
-push_of_name-requires c = grind (arith, nat_tests, common_steps, numbered_at)
+pub push_of_name-requires-clause-number : goal.push_of_name-requires-clause-number
+push_of_name-requires-clause-number c =
+    All-from_recursion IsNumberedName c.args.names.now c.requires.names.each c.loop-name.name-index None
+    c.loop-name-test.true
 
 pub loop-name-preserved : goal.loop-name-preserved
 loop-name-preserved c = record {
   few = omega (arith, c.loop-name.invariant.few, c.push_of_name.ensures.few);
   so_far = λ setup bytes stands.
       pushed_on (name_windows setup bytes) c.args.names.now c.loop-name.name-index c.args.windows.now.items
-      c.loop-name.windows.items
-      c.push_of_name.new.windows.items c.loop-name-test.true (c.loop-name.invariant.so_far setup bytes stands)
-      (c.push_of_name.ensures.windows setup bytes stands);
+      c.loop-name.windows.items c.push_of_name.new.windows.items c.loop-name-test.true
+      (c.loop-name.invariant.so_far setup bytes stands) (c.push_of_name.ensures.windows setup bytes stands);
 }
 
 pub returns-clause-windows : goal.returns-clause-windows
 returns-clause-windows c = λ setup bytes stands.
-    pushed_all (name_windows setup bytes) c.args.names.now c.loop-name.name-index c.args.windows.now.items
-    c.loop-name.windows.items
-    c.loop-name-test.false (c.loop-name.invariant.so_far setup bytes stands)
+    rw (take_all c.loop-name.name-index c.args.names.now c.loop-name-test.false)
+    at (c.loop-name.invariant.so_far setup bytes stands)

@@ -1,11 +1,13 @@
 use Rattle.pci_bars.specs.Cards.{cards_of}
 use Rattle.std.proofs.Common.{None, arith}
-use Rattle.map_builder.proofs.KeptStores.{held_alone}
-use Rattle.map_builder.proofs.WindowLemmas.{numbered_at}
+use Rattle.std.proofs.lemmas.List.Elements.{All-from_recursion}
+use Rattle.addr_decode.specs.Common.{IsNumberedName}
+use Rattle.map_builder.proofs.KeptLemmas.{held_alone}
 use Rattle.map_builder.proofs.unchanged.byte_alone.Goals as goal
 
 pub byte_of_name-requires-clause-number : goal.byte_of_name-requires-clause-number
-byte_of_name-requires-clause-number c = numbered_at c.args.names.now 0 None (omega arith) c.requires.names.each
+byte_of_name-requires-clause-number c =
+    All-from_recursion IsNumberedName c.args.names.now c.requires.names.each 0 None (omega arith)
 
 pub returns : goal.returns
 returns c = record {

@@ -48,20 +48,17 @@ choice g c =
     (λ setup bytes stands. rw c.as_slice.ensures.items (found g c setup bytes stands).sorted_same)
     (keeps g c) c.choose_windows.ensures.none c.choose_windows.ensures.others c.choose_windows.ensures.rows
 
-pub rebuild-requires-clause-board : goal.rebuild-requires-clause-board
-rebuild-requires-clause-board g c = board_after c.args.change.now c.apply_named.ensures.stands c.self.invariant.board
-
-pub rebuild-requires-clause-rise : goal.rebuild-requires-clause-rise
-rebuild-requires-clause-rise g c =
-    rw c.as_slice-2.ensures.items (choice g (goal.at.rebuild-requires-clause-rise g c).After-choose_windows).rise
-
-pub rebuild-requires-clause-beside : goal.rebuild-requires-clause-beside
-rebuild-requires-clause-beside g c =
-    rw c.as_slice-2.ensures.items (where_kept c.args.change.now c.apply_named.ensures.stands c.self.invariant
-    (choice g (goal.at.rebuild-requires-clause-beside g c).After-choose_windows).keeps)
-
-pub rebuild-requires-clause-few : goal.rebuild-requires-clause-few
-rebuild-requires-clause-few g c = omega (arith, c.self.invariant.few, length-map c.self.inside.ranges.items range_of)
+pub rebuild-requires : goal.rebuild-requires
+rebuild-requires g c =
+    let is = choice g (goal.at.rebuild-requires g c).After-choose_windows in
+    record {
+      cards = c.apply_named.ensures.fitted;
+      board = board_after c.args.change.now c.apply_named.ensures.stands c.self.invariant.board;
+      rise = rw c.as_slice-2.ensures.items is.rise;
+      beside = rw c.as_slice-2.ensures.items
+          (where_kept c.args.change.now c.apply_named.ensures.stands c.self.invariant is.keeps);
+      few = omega (arith, c.self.invariant.few, length-map c.self.inside.ranges.items range_of);
+    }
 
 pub invariant_of-self : goal.invariant_of-self
 invariant_of-self g c =

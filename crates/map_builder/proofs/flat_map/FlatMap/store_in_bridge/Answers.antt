@@ -22,15 +22,6 @@ named : (g : Over) (c : After-choose_in_bridge g) → Some c.args.register ∷ [
     (cards_of c.self.inside.regs.cards.items) (store g c)
 named g c = rw (← c.self.view_is) at c.requires.name_of
 
--- where the register is known to keep what it holds, it does
-keeps : (g : Over) (c : After-choose_in_bridge g) → c.is_same_byte-kept.result ≡ true →
-    KeepsByte (map_bytes c.self.inside.regs) (map_bytes c.apply_named.new.self) (store g c)
-keeps g c kept =
-    keeps_byte (map_bytes c.self.inside.regs) (map_bytes c.apply_named.new.self) (store g c) c.byte_alone-before.result
-    c.byte_alone.result
-    (c.is_same_byte-kept.ensures.same kept) (c.byte_alone-before.ensures.held (store g c) (named g c))
-    (c.byte_alone.ensures.held (store g c) (rw c.apply_named.ensures.same_cards (named g c)))
-
 -- the windows of the register are those that change, of each board that has the registers
 choice : (g : Over) (c : After-choose_in_bridge g) →
     Chosen c.self.invariant.board (store g c) c.choose_in_bridge.new.chosen.items
@@ -43,7 +34,11 @@ choice g c =
     (λ setup bytes stands.
     bridge_found board.setup setup board.bytes bytes c.args.reg c.args.value c.args.register
     (cards_of c.self.inside.regs.cards.items) c.requires.bridge stands.cards.0 (named g c))
-    (keeps g c) c.choose_in_bridge.ensures.none
+    (λ kept.
+    keeps_byte _ _ (store g c) _ _ (c.is_same_byte-kept.ensures.same kept)
+    (c.byte_alone-before.ensures.held (store g c) (named g c))
+    (c.byte_alone.ensures.held (store g c) (rw c.apply_named.ensures.same_cards (named g c))))
+    c.choose_in_bridge.ensures.none
     (λ moves other. c.choose_in_bridge.ensures.others moves other board.setup board.bytes)
     c.choose_in_bridge.ensures.rows
 
@@ -52,30 +47,24 @@ byte_alone-before-requires-clause-names g c =
     rw c.requires.name_of (names_numbered (cards_of c.args.self.now.regs.cards) (Store c.args.reg One c.args.value))
 
 pub byte_alone-requires-clause-names : goal.byte_alone-requires-clause-names
-byte_alone-requires-clause-names g c =
-    rw c.requires.name_of (names_numbered (cards_of c.args.self.now.regs.cards) (Store c.args.reg One c.args.value))
+byte_alone-requires-clause-names g c = rw c.requires.name_of (names_numbered _ (Store c.args.reg One c.args.value))
 
 pub choose_in_bridge-requires-clause-number : goal.choose_in_bridge-requires-clause-number
 choose_in_bridge-requires-clause-number g c =
-    let numbered = rw (← c.requires.name_of)
-    at (names_numbered (cards_of c.args.self.now.regs.cards) (Store c.args.reg One c.args.value)) in
-    numbered.each.0
+    (rw (← c.requires.name_of)
+    at (names_numbered (cards_of c.args.self.now.regs.cards) (Store c.args.reg One c.args.value))).each.0
 
-pub rebuild-requires-clause-board : goal.rebuild-requires-clause-board
-rebuild-requires-clause-board g c =
-    board_after (Store c.args.reg One c.args.value) c.apply_named.ensures.stands c.self.invariant.board
-
-pub rebuild-requires-clause-rise : goal.rebuild-requires-clause-rise
-rebuild-requires-clause-rise g c =
-    rw c.as_slice.ensures.items (choice g (goal.at.rebuild-requires-clause-rise g c).After-choose_in_bridge).rise
-
-pub rebuild-requires-clause-beside : goal.rebuild-requires-clause-beside
-rebuild-requires-clause-beside g c =
-    rw c.as_slice.ensures.items (where_kept (Store c.args.reg One c.args.value) c.apply_named.ensures.stands
-    c.self.invariant (choice g (goal.at.rebuild-requires-clause-beside g c).After-choose_in_bridge).keeps)
-
-pub rebuild-requires-clause-few : goal.rebuild-requires-clause-few
-rebuild-requires-clause-few g c = omega (arith, c.self.invariant.few, length-map c.self.inside.ranges.items range_of)
+pub rebuild-requires : goal.rebuild-requires
+rebuild-requires g c =
+    let change = Store c.args.reg One c.args.value in
+    let is = choice g (goal.at.rebuild-requires g c).After-choose_in_bridge in
+    record {
+      cards = c.apply_named.ensures.fitted;
+      board = board_after change c.apply_named.ensures.stands c.self.invariant.board;
+      rise = rw c.as_slice.ensures.items is.rise;
+      beside = rw c.as_slice.ensures.items (where_kept change c.apply_named.ensures.stands c.self.invariant is.keeps);
+      few = omega (arith, c.self.invariant.few, length-map c.self.inside.ranges.items range_of);
+    }
 
 pub invariant_of-self : goal.invariant_of-self
 invariant_of-self g c =
