@@ -107,8 +107,7 @@ module _ (regs : MapBytes) (others : Bytes) (card : CardBytes) (fit : IsCard car
     fitted = rw (same, ← find-cards regs.cards card.card.dev, there) refl;
     command = stands 0x04;
     bases = λ k few.
-        long_held (overlaid regs others) card.card.dev (0x10 + 4 * k) (slice_index card.bases k)
-        (doublewords.bases k)
+        long_held (overlaid regs others) card.card.dev (0x10 + 4 * k) (slice_index card.bases k) (doublewords.bases k)
         (λ j below. stands (0x10 + 4 * k + j) ∙ base_byte _ card k j few below);
     rom = rom_held card.card.rom refl doublewords.rom;
   }

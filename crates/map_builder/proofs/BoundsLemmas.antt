@@ -6,6 +6,7 @@ use Rattle.board_prelude.proofs.Common.{reg_after, ne_eqb, pow_pos, is_covered, 
 use Rattle.std.proofs.Common.{◌≡◌, ℕ, zero, suc, ◌/◌, ◌≤◌, List, [], ◌∷◌, ◌++◌, map, Option, Some, None, refl, ◌∙◌, ap}
 use Rattle.std.proofs.Common.{arith, ◌==◌, flat_map, filter, get_or, take, ◌<◌, ◌⊎◌, inl, inr, Bool, false, ◌&&◌}
 use Rattle.std.proofs.Common.{unwrap_or, find}
+use Rattle.std.proofs.ByRecursion.{All-append}
 use Rattle.map_ranges.specs.declared.range.Changed.{Changed}
 use Rattle.addr_decode.specs.declared.register.MapRegister.{MapRegister}
 use Rattle.addr_decode.specs.declared.register.MapRegister.TheVariants.{Pam, RowBoundary, Single, Card}
@@ -15,7 +16,7 @@ use Rattle.addr_decode.specs.MapRegister.{map_register}
 use Rattle.addr_decode.proofs.NameLemmas.{offsets}
 use Rattle.map_builder.specs.Changed.{decoded, base_windows, card_windows, register_windows, name_windows, windows_of}
 use Rattle.map_builder.specs.Changed.{windows_covered, changed_windows, joined, bounds, windows_of_singles, from_to}
-use Rattle.map_builder.specs.Changed.{bounds_or_zero, both, IsOutside}
+use Rattle.map_builder.specs.Changed.{bounds_or_zero, both, IsOutside, after}
 use Rattle.std.proofs.Math.Pow.{split}
 
 abbrev pub IsOrdered : Changed → Type 0
@@ -26,15 +27,11 @@ Ordered windows = AllByRecursion IsOrdered windows
 
 -- ---- windows
 
-ordered_append : (xs ys : List Changed) → Ordered xs → Ordered ys → Ordered (xs ++ ys)
-ordered_append [] ys first later = later
-ordered_append (x ∷ xs) ys first later = (first.0, ordered_append xs ys first.1 later)
-
 ordered_flat_map : (windows : ℕ → List Changed) (ks : List ℕ) → ((k : ℕ) → Ordered (windows k)) →
     Ordered (flat_map windows ks)
 ordered_flat_map windows [] each = tt
 ordered_flat_map windows (k ∷ ks) each =
-    ordered_append (windows k) (flat_map windows ks) (each k) (ordered_flat_map windows ks each)
+    All-append IsOrdered (windows k) (flat_map windows ks) (each k) (ordered_flat_map windows ks each)
 
 decoded_ordered : (windows : List Window) → Ordered (map decoded windows)
 decoded_ordered [] = tt
@@ -77,7 +74,9 @@ covered_ordered setup bytes (Store reg width value) =
 
 pub changed_ordered : (setup : Setup) (bytes : Bytes) (change : MapChange) →
     Ordered (changed_windows setup bytes change)
-changed_ordered setup bytes change = grind (arith, nat_tests, common_steps, ordered_append, covered_ordered)
+changed_ordered setup bytes change =
+    All-append IsOrdered (windows_covered setup bytes change) _ (covered_ordered setup bytes change)
+    (covered_ordered setup (after setup change bytes) change)
 
 -- ---- the bounds of two lists
 

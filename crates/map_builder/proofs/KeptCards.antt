@@ -82,8 +82,7 @@ module _ (setup : Setup) (bytes new : Bytes) (addr : ℕ)
       ⊎ OutsideBoth (λ registers. held_by base (base_value registers dev k))
 
   windows_at : (registers : Bytes) (card : FittedCard) (off : ℕ) (named : Option CardRegister) → IsFitted setup card →
-      in_card off card ≡ named →
-      windows_of setup registers (card_register card.dev off)
+      in_card off card ≡ named → windows_of setup registers (card_register card.dev off)
       ≡ name_windows setup registers (option_map (Card card.dev) named)
   windows_at registers card off named is name =
       windows_of_card setup registers (card_register card.dev off) (omega (arith, is.first)) (omega (arith, is.first))

@@ -153,9 +153,10 @@ outside_of addr windows width k below out =
     let place = covered_offset width k below in
     rw place.1 at (outside_at addr windows (take (bytes_of width) offsets) k place.0 out)
 
-covered : (at : Reg) (width : Width) (reg : Reg) → covers at width reg ≡ true →
+-- a store that covers a register covers it at one of its bytes
+pub covered_at : (at : Reg) (width : Width) (reg : Reg) → covers at width reg ≡ true →
     (k : ℕ) × (k < bytes_of width) × (reg_after at k ≡ reg)
-covered at width reg is =
+covered_at at width reg is =
     let from : at.off ≤ reg.off = grind (arith, nat_tests) in
     let to : reg.off < at.off + bytes_of width = grind (arith, nat_tests) in (
       reg.off - at.off,
@@ -173,7 +174,7 @@ store_keeps setup bytes at width value addr out reg =
     elim (cases_Bool (covers at width reg)) [
       | inr beside ↦ inl (rw beside refl)
       | inl over ↦
-          let is = covered at width reg over in
+          let is = covered_at at width reg over in
           let change : MapChange = Store at width value in
           let new : Bytes = after setup change bytes in
           let parts = outside_parts addr (windows_covered setup bytes change) (windows_covered setup new change) out in

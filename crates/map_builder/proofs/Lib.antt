@@ -9,6 +9,5 @@ pub mod StateFormat
 pub mod SortedLemmas
 pub mod SameBoards
 pub mod ChangeLemmas
-pub mod RowLemmas
 pub mod MovedRows
 pub mod Common

@@ -119,8 +119,7 @@ rows_keep old new setup bytes Reset addr rows list stands stands' stays = absurd
 rows_keep old new setup bytes (Store at width value) addr rows list stands stands' stays =
     let later : Bytes = after setup (Store at width value) bytes in
     areas_same setup bytes later addr (λ reg other. inl (rw (beside at width value reg rows other) refl))
-    (row_kept old new setup bytes later addr stands stands' stays)
-    list
+    (row_kept old new setup bytes later addr stands stands' stays) list
 
 -- ---- how many rows are looked up
 

@@ -337,8 +337,7 @@ module _ {regs : MapBytes} (after until : ℕ) {k : ℕ} (ranges ranges' : List 
             let all : IsWhole regs (((ranges' ++ record last' { hi = (range_at old k).hi } ∷ [])
             ++ take (end - (k + 1)) (drop (k + 1) old)) ++ range_at old end ∷ []) =
             rw last_hi at (is_whole board _ (record (range_at old end) { hi = 0xFFFF_FFFF })
-            (rw is_end at (kept_later end (omega arith) (omega arith)
-            (omega arith)))) in
+            (rw is_end at (kept_later end (omega arith) (omega arith) (omega arith)))) in
             rw (append_assoc _ _ (range_at old end ∷ []), taken_last old (k + 1) end (omega arith) (omega arith)) at all
       ]
 

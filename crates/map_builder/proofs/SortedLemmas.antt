@@ -6,9 +6,12 @@ use Rattle.std.proofs.Common.{arith, nat_lt, min, max, filter, rules}
 use Rattle.addr_decode.specs.Edges.{edges_of, edges_after}
 use Rattle.addr_decode.specs.Singles.{single_count}
 use Rattle.map_builder.specs.Common.{Changed, both, is_above_first, is_inside, edges_inside, is_window, count_of}
-use Rattle.map_builder.specs.Common.{IsOutside, with_window, sorted, AreAbove, Rise, rows_in}
+use Rattle.map_builder.specs.Common.{IsOutside, with_window, sorted, AreAbove, Rise, rows_in, windows_covered}
+use Rattle.map_builder.specs.Common.{RowsAreFew}
 use Rattle.map_builder.specs.Changed.{single_windows}
 use Rattle.map_builder.proofs.BoundsLemmas.{Outside, Misses, misses_both, Ordered}
+use Rattle.board_spec.specs.RegisterTable.{reset_byte, host_bridge}
+use Rattle.addr_decode.specs.Common.{map_register, fixed_edges}
 
 -- a window goes behind the first of others that rise, before it, or they overlap and become one
 with_step : (P : List Changed → Type 0) (window other : Changed) (later : List Changed) →
@@ -268,3 +271,9 @@ pub singles_sorted : (number : ℕ) → number < single_count → sorted (single
 unfolding sorted with_window
 singles_sorted number below =
     each_below (λ k. sorted (single_windows k) ≡ single_windows k) single_count number (search rules) below
+
+-- ---- the rows that some changes look up, as they compute
+
+pub rows_are_few : RowsAreFew
+unfolding map_register windows_covered count_of fixed_edges edges_of reset_byte host_bridge
+rows_are_few = record { pam = refl; hole = refl; reset = refl }

@@ -1,6 +1,6 @@
 -- The state of a map is spelled and read back, and gives the map with its ranges.
-use Rattle.std.proofs.Common.{◌≡◌, ℕ, ◌+◌, ◌≤◌, List, [], ◌∷◌, length, Result, Ok, Err, IfOk, refl, ap, subst, ◌∙◌}
-use Rattle.std.proofs.Common.{arith, flat_map}
+use Rattle.std.proofs.Common.{◌≡◌, ℕ, ◌+◌, List, [], ◌∷◌, length, Result, Ok, Err, IfOk, refl, ap, subst, ◌∙◌, arith}
+use Rattle.std.proofs.Common.{flat_map}
 use Rattle.std.proofs.lemmas.List.Elements.{All-from_recursion}
 use Rattle.board_prelude.proofs.Common.{AllByRecursion, recursion_from_All, FittedCard, MapRange, OneFlatMap}
 use Rattle.byte_fields.specs.declared.fault.Bad.{Bad}
@@ -52,19 +52,14 @@ windows_good : (windows : List Changed) → AreGood past_window IsOne tt windows
 windows_good [] good = tt
 windows_good (window ∷ later) good = (good.0, windows_good later good.1)
 
-abbrev AreSoMany : (count : ℕ) → List Changed → Type 0
-AreSoMany count windows = AreMany past_window IsOne tt count windows
-
-so_many_format : (count : ℕ) → count ≤ 64 →
-    IsFormat 512 (so_many_windows count) (flat_map window_bytes) (AreSoMany count)
-so_many_format count few =
-    format_as 512 (flat_map window_bytes) (AreSoMany count) (many_format windows_loop (λ s. window_format) tt count)
-    (omega (arith, few)) (λ windows are. are) (λ windows good. good) (λ windows good. refl)
-
 windows_format : IsFormat 513 windows_fields windows_bytes AreWindows
 unfolding windows_fields
 windows_format =
-    fields_format (byte_to 64 (omega arith) then λ count few. last_field _ (so_many_format count few))
+    fields_format (byte_to 64 (omega arith) then λ count few.
+    last_field _
+    (format_as 512 (flat_map window_bytes) (AreMany past_window IsOne tt count)
+    (many_format windows_loop (λ s. window_format) tt count) (omega (arith, few)) (λ windows are. are)
+    (λ windows good. good) (λ windows good. refl)))
     (λ windows are. (
       (length windows, are.count)
           & (windows, (refl, good_windows windows (recursion_from_All IsWindow windows are.each))),

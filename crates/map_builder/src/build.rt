@@ -101,6 +101,7 @@ fn sweep<L: Ledger>(
 }
 
 /// The range that begins at address 0. It is open: it reaches to the last address until a next range is begun.
+#[tactic(auto, using(crate::proofs::BuildLemmas::is_built_first))]
 fn first_range<L: Ledger>(regs: &MapRegs, steps: &mut Steps<L>) -> Range
     requires cards { AreFitted regs.now.cards.items }
     ensures built { IsBuilt (map_bytes regs.now) [] (range_of result) 0 }

@@ -37,7 +37,7 @@ pub type Covered = FixedList<Changed, 64>;
 
 /// Adds the windows that a change covers, as the registers are now: those of each register byte that it stores to, by
 /// their names. A hard reset covers every address.
-#[tactic(auto, unfolding(crate::specs::Changed::windows_covered))]
+#[tactic(auto, unfolding(crate::specs::Changed::windows_covered), using(addr_decode::proofs::NameLemmas::names_numbered))]
 pub fn push_covered(
     windows: &mut Covered,
     regs: &MapRegs,
@@ -297,6 +297,7 @@ fn push_base_of(windows: &mut Covered, card: &CardRegs, index: usize)
 
 /// Adds the addresses of the base at an index, where it exists and is for memory. The registers of the bases have these
 /// values.
+#[tactic(auto, using(pci_bars::proofs::BaseLemmas::base_within))]
 fn push_base_at(windows: &mut Covered, bases: &[BaseSpec], values: &[u32; 6], index: usize)
     requires bases { All IsBase (map base_of bases.now) }
     requires index { index < 6 }

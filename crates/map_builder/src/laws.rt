@@ -16,7 +16,7 @@ pub fn law_changed_bounds()
 {}
 
 /// How many rows some changes of a board without cards look up at most.
-#[tactic(auto, using(crate::proofs::RowLemmas::rows_are_few))]
+#[tactic(auto, using(crate::proofs::SortedLemmas::rows_are_few))]
 pub fn law_rows_of_changes()
     ensures few { RowsAreFew }
 {}

@@ -1,17 +1,14 @@
-use Rattle.std.proofs.Common.{◌≡◌, List, [], ◌∷◌, arith, refl, length, map}
+use Rattle.std.proofs.Common.{[], arith, map}
 use Rattle.std.proofs.lemmas.Bool.Decides.{nat_tests}
+use Rattle.std.proofs.lemmas.List.{nil_from_length}
 use Rattle.addr_decode.specs.MapRegs.{map_bytes}
-use Rattle.map_builder.specs.Common.{Changed, range_of}
+use Rattle.map_builder.specs.Common.{range_of}
 use Rattle.map_builder.proofs.RebuildLemmas.{all_right}
 use Rattle.map_builder.proofs.build.rebuild.Goals as goal
 
-no_window : (windows : List Changed) → length windows ≡ 0 → windows ≡ []
-no_window [] none = refl
-no_window (window ∷ later) none = absurd (omega arith)
-
 pub returns-then-is_empty-clause-map : goal.returns-then-is_empty-clause-map
 returns-then-is_empty-clause-map g c =
-    let none = no_window c.args.windows.now (grind (arith, nat_tests)) in
+    let none = nil_from_length c.args.windows.now (grind (arith, nat_tests)) in
     all_right (map_bytes c.args.regs.now) (map range_of c.args.ranges.now.items) (rw none at c.requires.beside)
 
 pub returns : goal.returns

@@ -22,6 +22,5 @@ loop-row-preserved c = record {
             (c.loop-row.invariant.hidden addr))
       ];
   hidden = λ addr low. hides_on c.args.old.now c.args.new.now addr c.loop-row.row c.min-first.result c.loop-row.hidden
-      c.min-first.ensures
-      (c.loop-row.invariant.hidden addr) (rw c.max-hidden.ensures at low);
+      c.min-first.ensures (c.loop-row.invariant.hidden addr) (rw c.max-hidden.ensures at low);
 }

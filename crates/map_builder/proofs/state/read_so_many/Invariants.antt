@@ -7,7 +7,6 @@ use Rattle.map_builder.proofs.state.read_so_many.Given as goal
 abbrev pub invariant-loop : goal.invariant-loop
 invariant-loop l = record {
   read :
-      with_front l.windows.items (so_many_windows (l.count - l.counter) l.fields)
-      ≡ so_many_windows l.count l.fn.fields;
+      with_front l.windows.items (so_many_windows (l.count - l.counter) l.fields) ≡ so_many_windows l.count l.fn.fields;
   count : length l.windows.items ≡ l.counter;
 }

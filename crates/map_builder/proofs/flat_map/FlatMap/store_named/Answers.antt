@@ -11,8 +11,7 @@ found : (c : After-touch_map) (setup : Setup) → setup.cards ≡ cards_of c.arg
 found c setup same =
     c.touch_map.ensures.touched
     ∙ names_touched setup c.args.self.now.regs.cards c.args.reg c.args.width c.args.value c.args.names.now
-    c.requires.fitted same
-    c.requires.names
+    c.requires.fitted same c.requires.names
 
 pub set_beside-requires : goal.set_beside-requires
 set_beside-requires c = grind (arith, nat_tests, common_steps, found)
