@@ -66,22 +66,15 @@ pub record IsNumber (changes : List MapChange) (number : ℕ) : Type 0 where
   pub after : reset_number changes < number
   pub most : number ≤ length changes
 
-last_number : (at : Reg) (width : Width) (value : ℕ) (before : List MapChange) (number : ℕ) →
-    length before + 1 ≡ number → IsNumber (Store at width value ∷ before) number
-last_number at width value before number last = record { after = omega (arith, reset_among before); most = omega arith }
-
-earlier_number : (at : Reg) (width : Width) (value : ℕ) {before : List MapChange} {number : ℕ} →
-    IsNumber before number → IsNumber (Store at width value ∷ before) number
-earlier_number at width value is = record { after = is.after; most = omega (arith, is.most) }
-
 pub cover_number : (changes : List MapChange) (reg : Reg) (number : ℕ) → last_cover changes reg ≡ Some number →
     IsNumber changes number
 unfolding last_cover
 cover_number [] reg number is = cc
 cover_number (Reset ∷ before) reg number is = cc
 cover_number (Store at width value ∷ before) reg number is = elim (cases_Bool (covers at width reg)) [
-  | inl covered ↦ last_number at width value before number (some_is _ _ (rw covered at is))
-  | inr other ↦ earlier_number at width value (cover_number before reg number (rw other at is))
+  | inl covered ↦
+      let last : length before + 1 ≡ number = some_is _ _ (rw covered at is) in omega (arith, reset_among before)
+  | inr other ↦ let earlier = cover_number before reg number (rw other at is) in omega arith
 ]
 
 pub or_cases : (earlier later : Option ℕ) (number : ℕ) → option_or earlier later ≡ Some number →
@@ -99,8 +92,10 @@ unfolding first_lock
 lock_number [] number is = cc
 lock_number (Reset ∷ before) number is = cc
 lock_number (Store at width value ∷ before) number is = elim (or_cases (first_lock before) _ number is) [
-  | inl earlier ↦ earlier_number at width value (lock_number before number earlier)
-  | inr here ↦ last_number at width value before number (where_true (locks (Store at width value)) _ number here.1).1
+  | inl is_earlier ↦ let earlier = lock_number before number is_earlier in omega arith
+  | inr here ↦
+      let last = (where_true (locks (Store at width value)) (length before + 1) number here.1).1 in
+      omega (arith, reset_among before)
 ]
 
 -- ---- numbers that choose changes
@@ -134,19 +129,9 @@ module _ (setup : Setup) (keep : List ℕ) where
   abbrev value_after : List MapChange → Reg → ℕ
   value_after changes reg = registers_after setup changes reg
 
-  reset_same : (before : List MapChange) (reg : Reg) → Since (Reset ∷ before) →
-      value_after (chosen keep (Reset ∷ before)) reg ≡ value_after (Reset ∷ before) reg
-  unfolding registers_after
-  reset_same before reg since = rw (none_of_reset before since) refl
-
   -- the last change that covers a register is chosen
   abbrev HasLast : Reg → List MapChange → Type 0
   HasLast reg changes = (number : ℕ) → last_cover changes reg ≡ Some number → is_among number keep ≡ true
-
-  has_earlier : (reg at : Reg) (width : Width) (value : ℕ) (before : List MapChange) → covers at width reg ≡ false →
-      HasLast reg (Store at width value ∷ before) → HasLast reg before
-  unfolding last_cover
-  has_earlier reg at width value before other has number is = has number (rw other is)
 
   last_chosen : (reg at : Reg) (width : Width) (value : ℕ) (before : List MapChange) → covers at width reg ≡ true →
       HasLast reg (Store at width value ∷ before) →
@@ -189,16 +174,16 @@ module _ (setup : Setup) (keep : List ℕ) where
         left mask (value_after (chosen keep changes) reg) ≡ left mask (value_after changes reg)
     unfolding registers_after chosen
     left_same [] since = refl
-    left_same (Reset ∷ before) since = ap (left mask) (reset_same before reg since)
+    left_same (Reset ∷ before) since = ap (left mask) (rw (none_of_reset before since) refl)
     left_same (Store at width value ∷ before) since =
         left_alone (left mask) reg at width value before (left_stays at width value) (left_same before since)
 
     -- the others are those of the last write
     plain_same : (changes : List MapChange) → Since changes → HasLast reg changes →
         value_after (chosen keep changes) reg ≡ value_after changes reg
-    unfolding registers_after chosen
+    unfolding registers_after chosen last_cover
     plain_same [] since has = refl
-    plain_same (Reset ∷ before) since has = reset_same before reg since
+    plain_same (Reset ∷ before) since has = rw (none_of_reset before since) refl
     plain_same (Store at width value ∷ before) since has =
         elim (cases_Bool (covers at width reg)) [
           | inl covered ↦
@@ -208,7 +193,7 @@ module _ (setup : Setup) (keep : List ℕ) where
               ∙ sym (covered_is at width value (value_after before reg) covered)
           | inr other ↦
               left_alone (λ old. old) reg at width value before (λ old. rw other refl)
-              (plain_same before since (has_earlier reg at width value before other has))
+              (plain_same before since (λ number is. has number (rw other is)))
         ]
 
   -- ---- the SMRAM register
@@ -234,11 +219,6 @@ module _ (setup : Setup) (keep : List ℕ) where
   abbrev HasLock : List MapChange → Type 0
   HasLock changes = (number : ℕ) → first_lock changes ≡ Some number → is_among number keep ≡ true
 
-  has_earlier_lock : (at : Reg) (width : Width) (value : ℕ) (before : List MapChange) →
-      HasLock (Store at width value ∷ before) → HasLock before
-  unfolding first_lock
-  has_earlier_lock at width value before has number is = has number (rw is refl)
-
   lock_same : (changes : List MapChange) → Since changes → HasLock changes →
       is_some (first_lock (chosen keep changes)) ≡ is_some (first_lock changes)
   unfolding first_lock chosen
@@ -247,7 +227,7 @@ module _ (setup : Setup) (keep : List ℕ) where
   lock_same (Store at width value ∷ before) since has =
       let sets : Bool = locks (Store at width value) in
       let number : ℕ = length before + 1 in
-      let rest = lock_same before since (has_earlier_lock at width value before has) in
+      let rest = lock_same before since (λ number is. has number (rw is refl)) in
       elim (cases_Bool (is_among number keep)) [
         | inl among ↦
             rw among (some_or (first_lock (chosen keep before)) sets _ ∙ ap (λ old. old || sets) rest
@@ -259,11 +239,11 @@ module _ (setup : Setup) (keep : List ℕ) where
 
   smram_same : (changes : List MapChange) → Since changes → HasLast smram changes → HasLock changes →
       value_after (chosen keep changes) smram ≡ value_after changes smram
-  unfolding registers_after chosen
+  unfolding registers_after chosen last_cover first_lock
   smram_same [] since has lock = refl
-  smram_same (Reset ∷ before) since has lock = reset_same before smram since
+  smram_same (Reset ∷ before) since has lock = rw (none_of_reset before since) refl
   smram_same (Store at width value ∷ before) since has lock =
-      let has_lock = has_earlier_lock at width value before lock in
+      let has_lock : HasLock before = λ number is. lock number (rw is refl) in
       elim (cases_Bool (covers at width smram)) [
         | inl covered ↦
             ap (λ changes. value_after changes smram) (last_chosen smram at width value before covered has)
@@ -271,7 +251,7 @@ module _ (setup : Setup) (keep : List ℕ) where
             (locked_is (chosen keep before) ∙ lock_same before since has_lock ∙ sym (locked_is before)))
         | inr other ↦
             left_alone (λ old. old) smram at width value before (λ old. rw other refl)
-            (smram_same before since (has_earlier smram at width value before other has) has_lock)
+            (smram_same before since (λ number is. has number (rw other is)) has_lock)
       ]
 
 -- ---- both

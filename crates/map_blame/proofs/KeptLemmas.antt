@@ -2,19 +2,19 @@
 use Rattle.std.proofs.Common.{◌≡◌, ℕ, suc, ◌+◌, ◌-◌, ◌<◌, ◌≤◌, ◌⊎◌, inl, inr, Bool, true, false, ◌||◌, List, [], ◌∷◌}
 use Rattle.std.proofs.Common.{◌++◌, length, get_or, reverse, take, refl, sym, ap, ◌∙◌, arith, ◌==◌, Option, Some, None}
 use Rattle.board_prelude.proofs.Common.{AllPairs, cases_Bool, cases_lt, eq-eqb, eqb-true, and_parts, and_from}
-use Rattle.board_prelude.proofs.Common.{false≢true, nat_tests, get_or_default, length-reverse, list_any_at, Width, One}
-use Rattle.board_prelude.proofs.Common.{Reg, bytes_of, bytes_few, MapChange, Store, Reset, Setup, IsCardList, bridge}
-use Rattle.board_prelude.proofs.Common.{covers, is_map_byte, reg_after, or_right, or-false}
+use Rattle.board_prelude.proofs.Common.{false≢true, nat_tests, get_or_default, length-reverse, list_any_at, One, Reg}
+use Rattle.board_prelude.proofs.Common.{bytes_of, bytes_few, MapChange, Store, Reset, Setup, IsCardList, bridge, covers}
+use Rattle.board_prelude.proofs.Common.{is_map_byte, reg_after, or_right, or-false}
 use Rattle.std.proofs.lemmas.List.{get_or-reverse}
 use Rattle.std.proofs.lemmas.List.Folds.{list_any-append, Any-from_list_any}
 use Rattle.std.proofs.lemmas.List.Quantifiers.{all_pairs_push}
 use Rattle.addr_decode.proofs.NameLemmas.{offsets}
+use Rattle.map_builder.proofs.KeptLemmas.{covered_at}
 use Rattle.map_blame.specs.declared.covers.Covers.{Covers}
 use Rattle.map_blame.specs.Common.{last_cover, is_among, IsLastCover, RestsOn, IsKeep, AreCoversOf, is_number}
 use Rattle.map_blame.specs.Common.{number_at, is_last_at, is_last_of, is_kept_of}
 use Rattle.map_blame.proofs.CoverLemmas.{map_byte_placed, any_at}
 use Rattle.map_blame.proofs.KeepLaws.{some_is, IsNumber, cover_number, lock_number}
-use Rattle.addr_decode.proofs.StoreLemmas.{same_register}
 
 -- ---- the change of a number
 
@@ -77,19 +77,6 @@ is_number_true : (number : ℕ) (found : Option ℕ) → is_number number found 
 is_number_true number None is = absurd (false≢true is)
 is_number_true number (Some other) is = ap Some (eqb-true other number is)
 
-number_is : (number : ℕ) (found : Option ℕ) → found ≡ Some number → is_number number found ≡ true
-number_is number found is = rw is (eq-eqb number number refl)
-
--- a store that covers a register covers it at one of its bytes
-covers_at : (at : Reg) (width : Width) (reg : Reg) → covers at width reg ≡ true →
-    (k : ℕ) × (k < bytes_of width) × (reg_after at k ≡ reg)
-covers_at at width reg is = (
-  reg.off - at.off,
-  grind (arith, nat_tests),
-  same_register (reg_after at (reg.off - at.off)) reg (grind (arith, nat_tests)) (grind (arith, nat_tests))
-      (grind (arith, nat_tests)),
-)
-
 module _ (setup : Setup) (changes : List MapChange) (covers : Covers) (cards : IsCardList setup.cards)
     (are : AreCoversOf changes covers) where
   last_found : (number : ℕ) (reg : Reg) → is_last_at setup covers number reg ≡ true → IsLastCover setup changes number
@@ -100,12 +87,6 @@ module _ (setup : Setup) (changes : List MapChange) (covers : Covers) (cards : I
         map_byte = both.0;
         last = sym (are.last reg (map_byte_placed setup reg cards both.0)) ∙ is_number_true number _ both.1;
       }
-
-  last_is : (number : ℕ) (reg : Reg) → is_map_byte setup reg ≡ true → last_cover changes reg ≡ Some number →
-      is_last_at setup covers number reg ≡ true
-  last_is number reg map_byte last =
-      and_from (is_map_byte setup reg) _ map_byte
-      (number_is number _ (are.last reg (map_byte_placed setup reg cards map_byte) ∙ last))
 
   last_change_found : (number : ℕ) (change : MapChange) → is_last_of setup covers number change ≡ true →
       IsLastCover setup changes number
@@ -119,7 +100,7 @@ module _ (setup : Setup) (changes : List MapChange) (covers : Covers) (cards : I
       is_last_at setup covers number reg ≡ true → is_last_of setup covers number change ≡ true
   last_change_is number Reset reg covered is = absurd (false≢true covered)
   last_change_is number (Store at width value) reg covered is =
-      let place = covers_at at width reg covered in
+      let place = covered_at at width reg covered in
       any_at (λ k. is_last_at setup covers number (reg_after at k)) (bytes_of width) place.0 (bytes_few width) place.1
       (ap (is_last_at setup covers number) place.2 ∙ is)
 
@@ -133,12 +114,14 @@ module _ (setup : Setup) (changes : List MapChange) (covers : Covers) (cards : I
   pub kept_is : (number : ℕ) (change : MapChange) → change_at changes number ≡ change → RestsOn setup changes number →
       is_kept_of setup covers number change ≡ true
   kept_is number change here (inr lock) =
-      let first : is_number number covers.lock ≡ true = number_is number covers.lock (are.lock ∙ lock) in rw first refl
+      let first : is_number number covers.lock ≡ true = rw (are.lock ∙ lock) (eq-eqb number number refl) in
+      rw first refl
   kept_is number change here (inl cover) =
       or_right (is_number number covers.lock) _
-      (last_change_is number change cover.reg
-      (rw (← here) (cover_covers changes cover.reg number cover.last))
-      (last_is number cover.reg cover.map_byte cover.last))
+      (last_change_is number change cover.reg (rw (← here) (cover_covers changes cover.reg number cover.last))
+      (and_from (is_map_byte setup cover.reg) _ cover.map_byte
+      (rw (are.last cover.reg (map_byte_placed setup cover.reg cards cover.map_byte) ∙ cover.last)
+      (eq-eqb number number refl))))
 
 -- ---- the numbers that were found among the first changes, so many
 

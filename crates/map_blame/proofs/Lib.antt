@@ -3,5 +3,4 @@ pub mod CoverLemmas
 pub mod KeptLemmas
 pub mod StandsLemmas
 pub mod WatchLemmas
-pub mod RangeLemmas
 pub mod OneReport

@@ -19,15 +19,7 @@ module _ (setup : Setup) (bytes : Bytes) (ranges : List Range) (is_map : IsFlatM
     module _ (range : Range) (is : IsInterval range) (k : ℕ) (holds : Holds ranges k range.lo) where
       pub all_right : row_at ranges k ≡ range.row.areas → range.hi ≤ (range_at ranges k).hi →
           IsRight setup bytes (range_of range)
-      all_right same ends = record {
-        at_each = λ addr low high.
-            areas_held k addr (record {
-              within = holds.within;
-              above = omega (arith, holds.above, low);
-              below = omega (arith, ends, high);
-            })
-            ∙ same;
-      }
+      all_right same ends = record { at_each = λ addr low high. areas_held k addr (omega arith) ∙ same }
 
       first_same : IsRight setup bytes (range_of range) → row_at ranges k ≡ range.row.areas
       first_same right = sym (areas_held k range.lo holds) ∙ right.at_each range.lo (omega arith) is.order
@@ -41,8 +33,7 @@ module _ (setup : Setup) (bytes : Bytes) (ranges : List Range) (is_map : IsFlatM
         | inl more ↦
             let next : ℕ = (range_at ranges k).hi + 1 in
             let joined : (range_at ranges (k + 1)).lo ≡ next = is_placed.next k more in
-            let there : Holds ranges (k + 1) next =
-            record { within = more; above = omega arith; below = omega (arith, is_placed.whole (k + 1) more) } in
+            let there : Holds ranges (k + 1) next = omega (arith, is_placed.whole (k + 1) more) in
             let inside : range.lo ≤ next = omega (arith, holds.below) in
             differ_at ranges k is_map.least more
             (sym (areas_held (k + 1) next there) ∙ right.at_each next inside (omega (arith, ends))

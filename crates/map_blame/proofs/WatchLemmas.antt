@@ -1,15 +1,21 @@
--- What is known of a range that is watched, before and after a change.
-use Rattle.board_prelude.proofs.Common.{nat_tests, cases_lt, false≢true, take_more, reverse-append, length-reverse}
-use Rattle.board_prelude.proofs.Common.{length-take-le, MapChange, Setup, IsCardList, Bytes, top_of, reset_byte}
-use Rattle.board_prelude.proofs.Common.{host_bridge, registers_after, MapRange, IsRight, six_areas}
+-- What is known of a range that is watched, before and after a change, and of lists of such ranges.
+use Rattle.board_prelude.proofs.Common.{nat_tests, cases_lt, false≢true, take_more, reverse-append, MapChange, Setup}
+use Rattle.board_prelude.proofs.Common.{IsCardList, Bytes, top_of, reset_byte, host_bridge, registers_after, MapRange}
+use Rattle.board_prelude.proofs.Common.{IsRight, six_areas, get_or_default, get_or-map, length-map, All-nil, All-cons}
+use Rattle.board_prelude.proofs.Common.{Tiles, IsFlatMapOf}
 use Rattle.std.proofs.Common.{◌≡◌, ℕ, suc, ◌+◌, ◌-◌, ◌<◌, ◌≤◌, ◌⊎◌, inl, inr, Bool, true, false, List, [], ◌∷◌, length}
-use Rattle.std.proofs.Common.{get_or, take, reverse, refl, sym, ◌∙◌, arith}
-use Rattle.map_builder.specs.Common.{Changed, Range, Mapped, range_of, changed_windows, bounds_or_zero, IsApplied}
+use Rattle.std.proofs.Common.{get_or, take, reverse, refl, sym, ◌∙◌, arith, set, map, All, get_or-set_same}
+use Rattle.std.proofs.Common.{get_or-set_other, ext_get_or}
+use Rattle.map_builder.specs.Common.{Changed, Range, Mapped, range_of, changed_windows, bounds_or_zero, no_range}
 use Rattle.addr_decode.specs.MapRegs.{StandsFor}
 use Rattle.map_builder.proofs.KeptLemmas.{top_after, bounds_hold_changes}
 use Rattle.map_blame.specs.declared.watch.Watched.{Watched}
-use Rattle.map_blame.specs.Common.{first_changes, IsRightAfter, StandsFrom, IsSince, map_range_of, IsInterval, IsAfter}
-use Rattle.map_blame.specs.Common.{IsWatched, HoldChange, IsWatchedOn}
+use Rattle.map_blame.specs.Common.{first_changes, IsRightAfter, StandsFrom, IsSince, map_range_of, IsInterval}
+use Rattle.map_blame.specs.Common.{IsWatched, HoldChange, IsWatchedOn, AreBlamed, IsWatchable}
+use Rattle.std.proofs.lemmas.Simd.{map-map}
+use Rattle.std.proofs.lemmas.List.Elements.{All-map}
+use Rattle.board_spec.proofs.FlatMapLaws.{tiles_below}
+use Rattle.map_blame.specs.declared.blamed.Blamed.{Blamed}
 
 -- ---- the first changes
 
@@ -26,22 +32,13 @@ module _ (setup : Setup) (range : MapRange) where
   abbrev pub RightNow : List MapChange → Type 0
   RightNow changes = IsRight setup (registers_after setup changes) range
 
-  pub right_now : (changes : List MapChange) → IsRightAfter setup changes range (length changes) → RightNow changes
-  right_now changes right = rw (all_changes changes) at right
-
-  now_right : (changes : List MapChange) (count : ℕ) → count ≡ length changes → RightNow changes →
-      IsRightAfter setup changes range count
-  now_right changes count is right = rw (is, all_changes changes) right
-
-  right_before : (change : MapChange) (before : List MapChange) (count : ℕ) → count ≤ length before →
-      IsRightAfter setup (change ∷ before) range count → IsRightAfter setup before range count
-  right_before change before count few right = rw (earlier_changes change before count few) at right
-
   stands_on : (change : MapChange) (before : List MapChange) (since : ℕ) → since ≤ length before + 1 →
       ((count : ℕ) → since ≤ count → count ≤ length before → IsRightAfter setup before range count) →
       RightNow (change ∷ before) → StandsFrom setup (change ∷ before) range since
   stands_on change before since most earlier now count from few = elim (cases_lt (length before) count) [
-    | inl last ↦ now_right (change ∷ before) count (omega (arith, few, last)) now
+    | inl last ↦
+        let all : count ≡ length (change ∷ before) = omega (arith, few, last) in
+        rw (all, all_changes (change ∷ before)) now
     | inr not_last ↦ rw (earlier_changes change before count not_last) (earlier count from not_last)
   ]
 
@@ -51,17 +48,6 @@ pub taken_more : (changes : List MapChange) (index : ℕ) (d : MapChange) → in
     reverse (take (index + 1) changes) ≡ get_or changes index d ∷ reverse (take index changes)
 taken_more changes index d within =
     rw (take_more changes index d within, reverse-append (take index changes) (get_or changes index d ∷ [])) refl
-
-pub taken_count : (changes : List MapChange) (index : ℕ) → index ≤ length changes →
-    length (reverse (take index changes)) ≡ index
-taken_count changes index within = length-reverse (take index changes) ∙ length-take-le index changes within
-
-pub after_change : (setup : Setup) (before : List MapChange) (change : MapChange) (old new : Mapped)
-    (bounds : Changed) →
-    IsApplied old new change bounds → IsAfter setup before old → IsAfter setup (change ∷ before) new
-unfolding registers_after
-after_change setup before change old new bounds applied after =
-    applied.stands setup (registers_after setup before) after
 
 -- ---- a range of which nothing changes
 
@@ -93,10 +79,10 @@ watched_same setup change before self stands stood right other watched =
       standing = λ is_true.
           stands_on setup range change before self.blamed.since (omega (arith, watched.most))
           (watched.standing (stood is_true)) (right is_true);
-      fallen = λ is_false now. other is_false (right_now setup range (change ∷ before) now);
+      fallen = λ is_false now. other is_false (rw (all_changes (change ∷ before)) at now);
       before = λ some right.
           watched.before some
-          (right_before setup range change before (self.blamed.since - 1) (omega (arith, watched.most)) right);
+          (rw (earlier_changes change before (self.blamed.since - 1) (omega (arith, watched.most))) at right);
       most = omega (arith, watched.most);
     }
 
@@ -110,9 +96,9 @@ module _ (map : Mapped) (bounds : Changed) (number : ℕ) (self : Watched) (is :
         let range : Range = self.blamed.range in
         watched_same setup change before self self.stands (λ stood. stood)
         (λ stood. same_after setup range is bounds change before hold beside
-        (right_now setup (range_of range) before (watched.standing stood (length before) watched.most (omega arith))))
-        (λ fell now. watched.fallen fell (now_right setup (range_of range) before (length before) refl
-        (same_before setup range is bounds change before hold beside now))) watched;
+        (rw (all_changes before) at (watched.standing stood (length before) watched.most (omega arith))))
+        (λ fell now. watched.fallen fell
+        (rw (all_changes before) (same_before setup range is bounds change before hold beside now))) watched;
   }
 
   module _ (stands : Bool)
@@ -139,7 +125,7 @@ module _ (map : Mapped) (bounds : Changed) (number : ℕ) (self : Watched) (is :
             fallen = λ is_false. absurd (false≢true (sym is_false ∙ stands_now));
             before = λ some right.
                 watched.fallen fell
-                (rw last at (right_before setup range change before (number - 1) (omega (arith, last)) right));
+                (rw last at (rw (earlier_changes change before (number - 1) (omega (arith, last))) at right));
             most = omega (arith, count);
           };
     }
@@ -182,3 +168,78 @@ unfolding registers_after
 holds_change setup before change bounds cards is addr address outside =
     bounds_hold_changes setup (registers_after setup before) change addr cards (top_after_changes setup before) address
     (rw is at outside)
+
+-- ---- one element after another becomes another
+
+pub all_set : {X : Type 0} (P : X → X → Type 0) (old now : List X) (index : ℕ) (new d₀ : X) → length now ≡ length old →
+    index < length now → ((k : ℕ) (d : X) → k < index → P (get_or old k d) (get_or now k d)) →
+    ((k : ℕ) (d : X) → index ≤ k → get_or now k d ≡ get_or old k d) → P (get_or now index d₀) new →
+    (k : ℕ) (d : X) → k < index + 1 → P (get_or old k d) (get_or (set now index new) k d)
+all_set P old now index new d₀ long within done rest here k d below = elim (cases_lt k index) [
+  | inl earlier ↦ rw (get_or-set_other now index k new d (omega (arith, earlier))) (done k d earlier)
+  | inr last ↦
+      let same : k ≡ index = omega (arith, below, last) in
+      rw (same, get_or-set_same now index new d within, ← get_or_default old index d₀ d (omega (arith, within, long)))
+      (rw (rest index d₀ (omega arith)) at here)
+]
+
+-- ---- ranges of a map
+
+pub are_intervals : (from : ℕ) (ranges : List Range) → Tiles from (map range_of ranges) → All IsInterval ranges
+are_intervals from [] tiles = All-nil IsInterval
+are_intervals from (range ∷ later) tiles =
+    All-cons IsInterval range later
+    (record { order = tiles.1; last = omega (arith, tiles_below (range.hi + 1) (map range_of later) tiles.2) })
+    (are_intervals (range.hi + 1) later tiles.2)
+
+-- what is read past the end of a list of ranges that are watched
+abbrev pub no_watched : Watched
+no_watched = record { blamed = record { range = no_range; since = 0 }; stands = false }
+
+abbrev pub watched_range : Watched → Range
+watched_range watched = watched.blamed.range
+
+pub are_watchable : (watched : List Watched) (ranges : List Range) → map watched_range watched ≡ ranges →
+    All IsInterval ranges → All IsWatchable watched
+are_watchable watched ranges same are k d within =
+    let all = rw (← same) at are in
+    rw (get_or-map watched_range watched k d no_range within)
+    at (all k no_range (omega (arith, within, length-map watched watched_range)))
+
+-- ---- the ranges at the end
+
+same_ranges : (old new : List Watched) → length new ≡ length old →
+    ((k : ℕ) (d : Watched) → k < length old → watched_range (get_or new k d) ≡ watched_range (get_or old k d)) →
+    map watched_range new ≡ map watched_range old
+same_ranges old new long same =
+    ext_get_or no_range (map watched_range new) (map watched_range old)
+    (length-map new watched_range ∙ long ∙ sym (length-map old watched_range))
+    (λ k within.
+    let below : k < length new = omega (arith, within, length-map new watched_range) in
+    get_or-map watched_range new k no_watched no_range below
+    ∙ same k no_watched (omega (arith, below, long))
+    ∙ sym (get_or-map watched_range old k no_watched no_range (omega (arith, below, long))))
+
+module _ (setup : Setup) (changes : List MapChange) (old new : List Watched) (ranges : List Range)
+    (begun : map watched_range old ≡ ranges) (long : length new ≡ length old)
+    (same : (k : ℕ) (d : Watched) → k < length old → watched_range (get_or new k d) ≡ watched_range (get_or old k d))
+    (is_map : IsFlatMapOf setup (registers_after setup changes) (map range_of ranges))
+    (watched : All (IsWatched setup changes) new) where
+  abbrev blamed : List Blamed
+  blamed = map (λ one. one.blamed) new
+
+  all_ranges : map (λ (one : Watched). map_range_of one.blamed) new ≡ map range_of ranges
+  all_ranges = rw (← map-map range_of watched_range new, same_ranges old new long same, begun) refl
+
+  pub are_blamed : AreBlamed setup changes blamed
+  are_blamed = record {
+    map = rw (map-map map_range_of (λ (one : Watched). one.blamed) new, all_ranges) is_map;
+    since =
+        All-map (λ (one : Blamed). IsSince setup changes (map_range_of one) one.since)
+        (λ (one : Watched). one.blamed) new (λ k d within.
+        let whole = rw (← all_ranges) at is_map.right in
+        let count = length-map new (λ (one : Watched). map_range_of one.blamed) in
+        since_is setup changes (get_or new k d) (watched k d within)
+        (rw (get_or-map (λ (one : Watched). map_range_of one.blamed) new k d (map_range_of d.blamed) within)
+        at (whole k (map_range_of d.blamed) (omega (arith, count, within)))));
+  }

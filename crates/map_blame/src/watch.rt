@@ -70,6 +70,7 @@ fn begin(alloc: Global, first: &FlatMap, ranges: &[Range]) -> Result<Vec<Watched
 }
 
 /// Watches ranges while some changes are made to a map after a reset.
+#[tactic(auto, using(std::proofs::lemmas::Bool::Decides::nat_tests))]
 fn watch(watched: &mut [Watched], map: FlatMap, changes: &[MapChange])
     requires ranges { All IsWatchable watched.old }
     requires count { length changes.now < entry_limit }

@@ -24,15 +24,13 @@ loop-index-preserved c =
                 rw (w.keep-is, w.in_ok-push.ensures.items)
                 (kept_pushed setup changes index c.loop-index.keep.items
                 (kept_found setup changes c.covers_of-covers.result cards c.covers_of-covers.ensures.covers (index + 1)
-                (get_or c.args.changes.now index no_change) (sym tested ∙ w.if-is_kept.true))
-                so_far)
+                (get_or c.args.changes.now index no_change) (sym tested ∙ w.if-is_kept.true)) so_far)
             | else-is_kept w ↦
                 rw w.keep-is
                 (kept_on setup changes index c.loop-index.keep.items
                 (λ kept. false≢true (sym w.if-is_kept.false ∙ tested
                 ∙ kept_is setup changes c.covers_of-covers.result cards c.covers_of-covers.ensures.covers (index + 1) _
-                (change_is c.args.changes.now index _ _ c.loop-index-test.true refl) kept))
-                so_far)
+                (change_is c.args.changes.now index _ _ c.loop-index-test.true refl) kept)) so_far)
           ];
     }
 

@@ -1,14 +1,15 @@
-use Rattle.std.proofs.Common.{take, take_all, reverse, arith}
+use Rattle.std.proofs.Common.{take_all, arith}
 use Rattle.map_blame.proofs.KeptLemmas.{no_change}
-use Rattle.map_blame.proofs.WatchLemmas.{taken_more, after_change}
+use Rattle.map_blame.proofs.WatchLemmas.{taken_more}
+use Rattle.board_prelude.proofs.Common.{registers_after}
 use Rattle.map_blame.proofs.watch.changed_map.Goals as goal
 
 pub loop-change-preserved : goal.loop-change-preserved
+unfolding registers_after
 loop-change-preserved c = record {
   after = λ setup start.
       rw (taken_more c.args.changes.now c.loop-change.change-index no_change c.loop-change-test.true)
-      (after_change setup (reverse (take c.loop-change.change-index c.args.changes.now)) _ c.loop-change.map
-      c.apply.new.self c.apply.result c.apply.ensures.applied (c.loop-change.invariant.after setup start));
+      (c.apply.ensures.applied.stands setup _ (c.loop-change.invariant.after setup start));
 }
 
 pub returns : goal.returns

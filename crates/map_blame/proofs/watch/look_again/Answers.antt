@@ -1,6 +1,6 @@
-use Rattle.std.proofs.Common.{◌∙◌, arith, length-set}
+use Rattle.std.proofs.Common.{◌∙◌, arith, length-set, get_or-set_other}
 use Rattle.map_blame.specs.Watch.{IsWatchedOn}
-use Rattle.map_blame.proofs.RangeLemmas.{all_set, rest_set, no_watched}
+use Rattle.map_blame.proofs.WatchLemmas.{all_set, no_watched}
 use Rattle.map_blame.proofs.watch.look_again.Goals as goal
 
 pub loop-one-preserved : goal.loop-one-preserved
@@ -11,5 +11,6 @@ loop-one-preserved c = record {
       c.loop-one.one-index
       c.after.result no_watched c.loop-one.invariant.count (omega (arith, c.loop-one.invariant.count))
       c.loop-one.invariant.done c.loop-one.invariant.rest c.after.ensures.next;
-  rest = rest_set c.args.watched.now c.loop-one.watched c.loop-one.one-index c.after.result c.loop-one.invariant.rest;
+  rest = λ k d from. get_or-set_other c.loop-one.watched c.loop-one.one-index k c.after.result d (omega (arith, from)) ∙
+      c.loop-one.invariant.rest k d (omega (arith, from));
 }

@@ -1,20 +1,16 @@
-use Rattle.board_prelude.proofs.Common.{nat_tests, take_all, registers_after}
+use Rattle.board_prelude.proofs.Common.{take_all, registers_after, length-take-le, length-reverse}
 use Rattle.std.proofs.Common.{◌<◌, length, get_or, ◌∙◌, arith, take, reverse}
 use Rattle.map_blame.proofs.KeptLemmas.{no_change}
-use Rattle.map_blame.proofs.WatchLemmas.{taken_more, taken_count, after_change, holds_change}
+use Rattle.map_blame.proofs.WatchLemmas.{taken_more, holds_change}
 use Rattle.map_blame.proofs.watch.watch.Goals as goal
 
-pub loop-index-init : goal.loop-index-init
-loop-index-init c = grind (arith, nat_tests)
-
-pub look_again-requires : goal.look_again-requires
-look_again-requires c = grind (arith, nat_tests)
-
 pub loop-index-preserved : goal.loop-index-preserved
+unfolding registers_after
 loop-index-preserved c =
     let index = c.loop-index.index in
     let before = reverse (take index c.args.changes.now) in
     let change = get_or c.args.changes.now index no_change in
+    let count = length-reverse (take index c.args.changes.now) ∙ length-take-le index c.args.changes.now (omega arith) in
     let more = taken_more c.args.changes.now index no_change c.loop-index-test.true in
     record {
       count = c.look_again.ensures.length ∙ c.loop-index.invariant.count;
@@ -22,17 +18,13 @@ loop-index-preserved c =
           let known : k < length c.loop-index.watched = omega (arith, within, c.loop-index.invariant.count) in
           (c.look_again.ensures.next k d known).range ∙ c.loop-index.invariant.ranges k d within;
       after = λ setup start.
-          rw more
-          (after_change setup before change c.loop-index.map c.apply-bounds.new.self c.apply-bounds.result
-          c.apply-bounds.ensures.applied (c.loop-index.invariant.after setup start));
+          rw more (c.apply-bounds.ensures.applied.stands setup _ (c.loop-index.invariant.after setup start));
       watched = λ setup cards start all k d within.
           let known : k < length c.loop-index.watched = omega (arith, within, c.look_again.ensures.length) in
           let after = c.loop-index.invariant.after setup start in
           rw more
           ((c.look_again.ensures.next k d known).watched setup before change
-          (omega (arith, taken_count c.args.changes.now index (omega arith)))
-          (after_change setup before change c.loop-index.map c.apply-bounds.new.self c.apply-bounds.result
-          c.apply-bounds.ensures.applied after)
+          (omega (arith, count)) (c.apply-bounds.ensures.applied.stands setup _ after)
           (holds_change setup before change c.apply-bounds.result cards
           (c.apply-bounds.ensures.applied.changed setup (registers_after setup before) after))
           (c.loop-index.invariant.watched setup cards start all k d known));

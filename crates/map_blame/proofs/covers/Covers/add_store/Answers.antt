@@ -6,6 +6,5 @@ pub returns : goal.returns
 returns c = record {
   added = λ changes number are.
       covers_of_store c.args.reg c.args.width c.args.value c.args.number changes c.args.self.now _ number are
-      c.cover_all.ensures.covered
-      (rw (c.or-self.ensures, c.then_some.ensures, c.locks.ensures.locks) refl);
+      c.cover_all.ensures.covered (rw (c.or-self.ensures, c.then_some.ensures, c.locks.ensures.locks) refl);
 }
