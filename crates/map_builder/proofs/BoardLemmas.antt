@@ -63,11 +63,6 @@ found (card ∷ later) rises (suc k) d within =
     at (rises.0 k d.card (omega (arith, length-map later (λ (it : CardBytes). it.card)))) in
     rw (ne_eqb card.card.dev (get_or later k d).card.dev (omega arith)) (found later rises.1 k d (omega arith))
 
-base_byte : (other : ℕ) (card : CardBytes) (k j : ℕ) → k < 6 → j < 4 →
-    card_byte other (0x10 + 4 * k + j) card ≡ byte (slice_index card.bases k) j
-unfolding card_byte
-base_byte other card k j few below = grind (arith, nat_tests)
-
 rom_byte : (other : ℕ) (card : CardBytes) (bits j : ℕ) → card.card.rom ≡ Some bits → j < 4 →
     card_byte other (0x30 + j) card ≡ byte card.rom j
 unfolding card_byte
@@ -108,7 +103,7 @@ module _ (regs : MapBytes) (others : Bytes) (card : CardBytes) (fit : IsCard car
     command = stands 0x04;
     bases = λ k few.
         long_held (overlaid regs others) card.card.dev (0x10 + 4 * k) (slice_index card.bases k) (doublewords.bases k)
-        (λ j below. stands (0x10 + 4 * k + j) ∙ base_byte _ card k j few below);
+        (λ j below. stands (0x10 + 4 * k + j) ∙ grind (arith, nat_tests));
     rom = rom_held card.card.rom refl doublewords.rom;
   }
 

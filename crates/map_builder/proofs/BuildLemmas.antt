@@ -92,13 +92,9 @@ pub built_over : {regs : MapBytes} {ranges : List MapRange} {last : MapRange} {a
     StaySame regs addr (hi + 1) → IsBuilt regs ranges last addr → IsBuilt regs ranges last hi
 built_over {last = last} {addr = addr} {hi = hi} order same is =
     let begun = is.built.begun in
+    let begun_on : last.lo ≤ hi = omega arith in
     record {
-      built = record {
-        tiles = is.built.tiles;
-        least = is.built.least;
-        begun = omega arith;
-        open_end = is.built.open_end;
-      };
+      built = assumption is.built;
       of_board = λ setup bytes stands. record {
         right = (is.of_board setup bytes stands).right;
         so_far = λ x low high. grind (
@@ -182,10 +178,5 @@ is_whole board ranges last is = record {
 pub are_map_of : {regs : MapBytes} (ranges : List Range) → AreFitted regs.cards → IsOfSomeBoard regs →
     Tiles 0 (map range_of ranges) → ((setup : Setup) (bytes : Bytes) → StandsFor setup bytes regs →
     IsFlatMapOf setup bytes (map range_of ranges)) → length ranges ≤ most_ranges → IsMapOf regs (map range_of ranges)
-are_map_of ranges fitted board tiles is_map few = record {
-  fitted = fitted;
-  board = board;
-  tiles = tiles;
-  map = is_map;
-  few = omega (arith, few, length-map ranges range_of);
-}
+are_map_of ranges fitted board tiles is_map few =
+    let few_of : length (map range_of ranges) ≤ most_ranges = omega (arith, length-map ranges range_of) in assumption

@@ -53,8 +53,7 @@ module _ {old new : MapBytes} (change : MapChange) (next : Next old new change) 
         least = was_map.least;
         right = λ setup bytes now k d within. record {
           at_each = λ addr low high out.
-              sym (boards_same new board.setup setup (after board.setup change board.bytes) bytes board.cards
-              (next board.setup board.bytes board.stands) now addr)
+              sym (boards_same (next board.setup board.bytes board.stands) now board.cards addr)
               ∙ keeps addr (omega (arith, range_below 0 ranges is_map.tiles k d within)) out
               ∙ (was_map.right k d within).at_each addr low high;
         };
@@ -238,10 +237,9 @@ module _ {old new : MapBytes} (change : MapChange) (next : Next old new change) 
   are_changed are setup bytes stands = record {
     rise = are.rise;
     beside = λ addr address out.
-        sym (boards_same new board.setup setup (after board.setup change board.bytes) (after setup change bytes)
-        board.cards (next board.setup board.bytes board.stands) (next setup bytes stands) addr)
+        sym (boards_same (next board.setup board.bytes board.stands) (next setup bytes stands) board.cards addr)
         ∙ are.keeps addr address out
-        ∙ boards_same old board.setup setup board.bytes bytes board.cards board.stands stands addr;
+        ∙ boards_same board.stands stands board.cards addr;
     within = λ addr out. are.within setup bytes addr stands out;
   }
 

@@ -39,9 +39,6 @@ each_or P Q (suc n) each =
 
 -- ---- the names of a card's registers
 
-named_base : (card : FittedCard) (off : ℕ) → 0x10 ≤ off → off ≤ 0x27 → in_card off card ≡ Some (BaseByte (off - 0x10))
-named_base card off from to = grind (arith, nat_tests)
-
 named_rom : (card : FittedCard) (off : ℕ) → 0x30 ≤ off → off ≤ 0x33 →
     in_card off card ≡ (if is_some card.rom then Some (ExpansionRom (off - 0x30)) else None)
 named_rom card off from to = grind (arith, nat_tests)
@@ -108,7 +105,7 @@ module _ (setup : Setup) (bytes new : Bytes) (addr : ℕ)
   base_governed registers card k j base is few below at =
       let off : ℕ = 0x10 + 4 * k + j in
       let number : (off - 0x10) / 4 ≡ k = omega arith in
-      windows_named registers card off (BaseByte (off - 0x10)) is (named_base card off (omega arith) (omega arith))
+      windows_named registers card off (BaseByte (off - 0x10)) is (grind (arith, nat_tests))
       ∙ rw (number, one_held registers card.dev k k 0 card.bases (omega arith), at) refl
 
   -- four registers keep their bytes, or the address lies outside the windows that they govern

@@ -37,13 +37,10 @@ row_named : (cards : List FittedCard) (at : Reg) (k : ℕ) (name : Option MapReg
 row_named cards at k (Some (RowBoundary row)) is row_is =
     let name = is_name cards (reg_after at k) (RowBoundary row) is in
     let number : row < 8 = name.number in
+    let dev : 0 ≡ at.dev = ap (λ (reg : Reg). reg.dev) name.place in
+    let fun : 0 ≡ at.fun = ap (λ (reg : Reg). reg.fun) name.place in
     let off : 0x60 + row ≡ at.off + k = ap (λ (reg : Reg). reg.off) name.place in
-    record {
-      dev = sym (ap (λ (reg : Reg). reg.dev) name.place);
-      fun = sym (ap (λ (reg : Reg). reg.fun) name.place);
-      from = omega arith;
-      to = omega arith;
-    }
+    omega arith
 row_named cards at k _ is row_is = absurd (false≢true row_is)
 
 rows_between : (at : Reg) (width : Width) (value last : ℕ) → last + 1 ≡ bytes_of width → IsRowAt at 0 →

@@ -218,13 +218,10 @@ pub sweep_first : {regs : MapBytes} {ranges before : List MapRange} {last : MapR
     (window_at windows 0).hi < address_count → IsBuilt regs ranges last (window_at windows 0).hi →
     Sweep regs ranges last before (window_at windows 0).hi (drop 1 windows)
 sweep_first [] some rise beside fits built = absurd (omega arith)
-sweep_first (window ∷ later) some rise beside fits built = record {
-  fits = fits;
-  built = built;
-  rise = rise.2;
-  above = rise.1;
-  left = fewer_where (λ addr beyond. (inr beyond.0, beyond.1)) beside;
-}
+sweep_first {regs} {before = before} (window ∷ later) some rise beside fits built =
+    let left : IsMapWhere regs (IsLeft window.hi later) before =
+    fewer_where (λ addr beyond. (inr beyond.0, beyond.1)) beside in
+    assumption
 
 module _ {regs : MapBytes} {ranges before : List MapRange} {last : MapRange} {hi : ℕ} (windows : List Changed) (k : ℕ)
     (within : k < length windows) (sweep : Sweep regs ranges last before hi (drop k windows)) where
@@ -248,13 +245,9 @@ module _ {regs : MapBytes} {ranges before : List MapRange} {last : MapRange} {hi
       IsBuilt regs ranges' last' (window_at windows k).hi →
       Sweep regs ranges' last' before (window_at windows k).hi (drop (k + 1) windows)
   sweep_next fits built =
-      record {
-        fits = fits;
-        built = built;
-        rise = now.rise.2;
-        above = now.rise.1;
-        left = fewer_where (λ addr beyond. (omega (arith, above, now.rise.0), (inr beyond.0, beyond.1))) now.left;
-      }
+      let left : IsMapWhere regs (IsLeft (window_at windows k).hi (drop (k + 1) windows)) before =
+      fewer_where (λ addr beyond. (omega (arith, above, now.rise.0), (inr beyond.0, beyond.1))) now.left in
+      assumption now.rise
 
 -- up to the last address
 pub sweep_end : {regs : MapBytes} {ranges before : List MapRange} {last : MapRange} {hi : ℕ} (windows : List Changed)

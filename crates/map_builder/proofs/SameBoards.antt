@@ -16,7 +16,13 @@ use Rattle.addr_decode.specs.MapRegs.{MapBytes, StandsFor}
 use Rattle.addr_decode.proofs.CardLemmas.{no_low_fitted}
 use Rattle.addr_decode.proofs.NameLemmas.{is_name, named}
 
-module _ (regs : MapBytes) (setup setup' : Setup) (bytes bytes' : Bytes) (stands : StandsFor setup bytes regs)
+six_same : (setup setup' : Setup) (bytes bytes' : Bytes) (addr : ℕ) →
+    ((kind : Kind) (smm : Bool) → area_of setup bytes addr kind smm ≡ area_of setup' bytes' addr kind smm) →
+    six_areas setup bytes addr ≡ six_areas setup' bytes' addr
+six_same setup setup' bytes bytes' addr same =
+    rw (same Fetch false, same Read false, same Write false, same Fetch true, same Read true, same Write true) refl
+
+module _ {regs : MapBytes} {setup setup' : Setup} {bytes bytes' : Bytes} (stands : StandsFor setup bytes regs)
     (stands' : StandsFor setup' bytes' regs) where
   -- the same byte in a register
   abbrev pub Same : Reg → Type 0
@@ -75,26 +81,15 @@ module _ (regs : MapBytes) (setup setup' : Setup) (bytes bytes' : Bytes) (stands
       named_same reg _ refl (named setup reg (no_low_fitted setup 0 (lit< tt) list)
       (no_low_fitted setup 1 (lit< tt) list) ∙ is) is
 
-area_same : (regs : MapBytes) (setup setup' : Setup) (bytes bytes' : Bytes) → IsCardList setup.cards →
-    StandsFor setup bytes regs → StandsFor setup' bytes' regs →
-    (addr : ℕ) (kind : Kind) (smm : Bool) → area_of setup bytes addr kind smm ≡ area_of setup' bytes' addr kind smm
-unfolding area_of memory_claim
-area_same regs setup setup' bytes bytes' list stands stands' addr kind smm =
-    (map_bytes_decide setup bytes bytes' list (map_bytes_same regs setup setup' bytes bytes' stands stands' list) addr
-    kind smm).0
-    ∙ rw (stands.cards.0 ∙ sym stands'.cards.0) refl
+  module _ (list : IsCardList setup.cards) (addr : ℕ) where
+    area_same : (kind : Kind) (smm : Bool) → area_of setup bytes addr kind smm ≡ area_of setup' bytes' addr kind smm
+    unfolding area_of memory_claim
+    area_same kind smm =
+        (map_bytes_decide setup bytes bytes' list (map_bytes_same list) addr kind smm).0
+        ∙ rw (stands.cards.0 ∙ sym stands'.cards.0) refl
 
-six_same : (setup setup' : Setup) (bytes bytes' : Bytes) (addr : ℕ) →
-    ((kind : Kind) (smm : Bool) → area_of setup bytes addr kind smm ≡ area_of setup' bytes' addr kind smm) →
-    six_areas setup bytes addr ≡ six_areas setup' bytes' addr
-six_same setup setup' bytes bytes' addr same =
-    rw (same Fetch false, same Read false, same Write false, same Fetch true, same Read true, same Write true) refl
-
-pub boards_same : (regs : MapBytes) (setup setup' : Setup) (bytes bytes' : Bytes) → IsCardList setup.cards →
-    StandsFor setup bytes regs → StandsFor setup' bytes' regs →
-    (addr : ℕ) → six_areas setup bytes addr ≡ six_areas setup' bytes' addr
-boards_same regs setup setup' bytes bytes' list stands stands' addr =
-    six_same setup setup' bytes bytes' addr (area_same regs setup setup' bytes bytes' list stands stands' addr)
+    pub boards_same : six_areas setup bytes addr ≡ six_areas setup' bytes' addr
+    boards_same = six_same setup setup' bytes bytes' addr area_same
 
 -- a change that covers no byte on which the map depends keeps every area
 pub untouched_areas : (setup : Setup) (bytes : Bytes) (change : MapChange) → IsCardList setup.cards →

@@ -68,6 +68,7 @@ pub fn rebuild<L: Ledger>(
 }
 
 /// Builds the ranges inside the windows anew, and takes those outside from `before`, the map as it was.
+#[tactic(auto, using(std::proofs::lemmas::Bool::Decides::nat_tests))]
 fn sweep<L: Ledger>(
     ranges: &mut Ranges,
     before: &[Range],

@@ -1,8 +1,7 @@
-use Rattle.board_prelude.proofs.Common.{nat_tests}
 use Rattle.std.proofs.Common.{arith}
 use Rattle.addr_decode.specs.Common.{map_bytes, edges_after}
-use Rattle.map_builder.proofs.RebuildLemmas.{first_below, order_at, sweep_first, above}
-use Rattle.map_builder.proofs.RebuildLemmas.{sweep_agrees, sweep_next, sweep_end, rows_at}
+use Rattle.map_builder.proofs.RebuildLemmas.{first_below, order_at, sweep_first, above, sweep_agrees, sweep_next}
+use Rattle.map_builder.proofs.RebuildLemmas.{sweep_end, rows_at}
 use Rattle.map_builder.proofs.build.sweep.Goals as goal
 
 pub index_of-from-requires : goal.index_of-from-requires
@@ -90,6 +89,3 @@ pub returns-clause-whole : goal.returns-clause-whole
 returns-clause-whole g c =
     c.finish.ensures.whole (map_bytes c.args.regs.now) c.requires.board c.loop-index.invariant.sweep.built
     (sweep_end c.args.windows.now c.loop-index.index (omega arith) c.loop-index.invariant.sweep)
-
-pub returns-clause-rows : goal.returns-clause-rows
-returns-clause-rows g c = grind (arith, nat_tests)
