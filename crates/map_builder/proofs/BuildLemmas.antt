@@ -95,16 +95,12 @@ built_over {last = last} {addr = addr} {hi = hi} order same is =
     let begun_on : last.lo ≤ hi = omega arith in
     record {
       built = assumption is.built;
-      of_board = λ setup bytes stands. record {
-        right = (is.of_board setup bytes stands).right;
-        so_far = λ x low high. grind (
-          arith,
-          nat_tests,
-          (is.of_board setup bytes stands).so_far x,
-          (is.of_board setup bytes stands).so_far addr,
-          same setup bytes stands x,
-        );
-      };
+      of_board = λ setup bytes stands.
+          let was = is.of_board setup bytes stands in
+          record {
+            right = was.right;
+            so_far = λ x low high. grind (arith, nat_tests, was.so_far x, was.so_far addr, same setup bytes stands x);
+          };
       few = λ board. omega (arith, is.few board, no_more addr hi (edges_of board.setup board.bytes) order);
     }
 

@@ -200,13 +200,9 @@ module _ (setup : Setup) (bytes new : Bytes) (addr : ℕ)
       let all = rw (windows_named registers card 0x04 Command is refl) at out in
       let parts = outside_decoded addr (bases ++ rom) (vga_window card) all in
       let first = outside_decoded addr bases rom parts.0 in
-      rw (
-        find-append (claims registers) (bases ++ rom_part registers card) (vga_window card),
-        find-append (claims registers) bases (rom_part registers card),
-        none_covered addr bases counts first.0,
-        rom_outside registers card first.1,
-        none_covered addr (vga_window card) counts parts.1,
-      ) refl
+      let no_base = none_covered addr bases counts first.0 in
+      let no_vga = none_covered addr (vga_window card) counts parts.1 in
+      simp find-append (rw (no_base, rom_outside registers card first.1, no_vga) refl)
 
   card_same : (card : FittedCard) → IsFitted setup card →
       find (claims new) (memory_windows new card) ≡ find (claims bytes) (memory_windows bytes card)

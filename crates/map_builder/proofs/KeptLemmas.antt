@@ -157,13 +157,9 @@ outside_of addr windows width k below out =
 pub covered_at : (at : Reg) (width : Width) (reg : Reg) → covers at width reg ≡ true →
     (k : ℕ) × (k < bytes_of width) × (reg_after at k ≡ reg)
 covered_at at width reg is =
-    let from : at.off ≤ reg.off = grind (arith, nat_tests) in
-    let to : reg.off < at.off + bytes_of width = grind (arith, nat_tests) in (
-      reg.off - at.off,
-      omega arith,
-      same_register (reg_after at (reg.off - at.off)) reg (grind (arith, nat_tests)) (grind (arith, nat_tests))
-          (omega arith),
-    )
+    let same = same_register (reg_after at (reg.off - at.off)) reg (grind (arith, nat_tests)) (grind (arith, nat_tests))
+    (grind (arith, nat_tests)) in
+    (reg.off - at.off, grind (arith, nat_tests), same)
 
 -- each register that a store covers governs windows elsewhere, and the others keep their bytes
 store_keeps : (setup : Setup) (bytes : Bytes) (at : Reg) (width : Width) (value addr : ℕ) →

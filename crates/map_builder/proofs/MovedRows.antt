@@ -159,13 +159,10 @@ few_in_rows : (setup : Setup) (bytes : Bytes) (window : Changed) (rest : List Ch
     edges_after setup bytes window.lo - edges_after setup bytes window.hi + 1
     ≤ count_of (from_to 0 0x7F7F_FFFF ∷ rest) + edges_inside setup bytes (from_to 0 0x7F7F_FFFF ∷ rest)
 few_in_rows setup bytes window rest within =
-    omega (
-      arith,
-      one_window window (edges_of setup bytes),
-      filter_more (λ edge. is_above_first edge window) (is_inside (from_to 0 0x7F7F_FFFF ∷ rest))
-          (edges_of setup bytes) (λ edge. inside_rows window rest edge within),
-      count_some (from_to 0 0x7F7F_FFFF) rest,
-    )
+    let first = one_window window (edges_of setup bytes) in
+    let fewer = filter_more (λ edge. is_above_first edge window) (is_inside (from_to 0 0x7F7F_FFFF ∷ rest))
+    (edges_of setup bytes) (λ edge. inside_rows window rest edge within) in
+    omega (arith, count_some (from_to 0 0x7F7F_FFFF) rest)
 
 past_rows : (addr : ℕ) (window : Changed) → IsInRows window → IsOutside addr (from_to 0 0x7F7F_FFFF) →
     IsOutside addr window

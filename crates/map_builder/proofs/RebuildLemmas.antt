@@ -235,10 +235,9 @@ module _ {regs : MapBytes} {ranges before : List MapRange} {last : MapRange} {hi
   pub sweep_agrees : IsMapWhere regs (IsBetween hi ((window_at windows k).lo - 1)) before
   sweep_agrees =
       fewer_where
-      (λ addr between. (
-        between.0,
-        below_first addr (window_at windows k) (drop (k + 1) windows) now.rise (omega (arith, above)),
-      )) now.left
+      (λ addr between.
+      let beside = below_first addr (window_at windows k) (drop (k + 1) windows) now.rise (omega (arith, above)) in
+      (between.0, beside)) now.left
 
   -- and after it
   pub sweep_next : {ranges' : List MapRange} {last' : MapRange} → (window_at windows k).hi < address_count →

@@ -60,12 +60,9 @@ rise_with window [] order rise = (order, tt, tt)
 rise_with window (other ∷ later) order rise =
     with_step Rise window other later
     (λ behind. (rise.0, above_with other.hi window later behind rise.1, rise_with window later order rise.2))
-    (λ before. (
-      order,
-      above_with window.hi other later before
-          (above_lower window.hi other.hi later (omega (arith, rise.0)) rise.1),
-      rise_with other later rise.0 rise.2,
-    ))
+    (λ before.
+    let lower = above_lower window.hi other.hi later (omega (arith, rise.0)) rise.1 in
+    (order, above_with window.hi other later before lower, rise_with other later rise.0 rise.2))
     (λ low high. rise_with (both other window) later (omega (arith, rise.0)) rise.2)
 
 pub rise_sorted : (windows : List Changed) → Ordered windows → Rise (sorted windows)
@@ -193,11 +190,9 @@ length_sorted [] ordered = omega arith
 length_sorted (window ∷ later) ordered =
     elim (cases_Bool (list_any (is_window window) later)) [
       | inl again ↦
-          rw (
-            again,
-            with_covered window (sorted later) ordered.0 (rise_sorted later ordered.1)
-                (covers_sorted window later (covers_one window later again)),
-          ) (omega (arith, length_sorted later ordered.1))
+          let covered = with_covered window (sorted later) ordered.0 (rise_sorted later ordered.1)
+          (covers_sorted window later (covers_one window later again)) in
+          rw (again, covered) (omega (arith, length_sorted later ordered.1))
       | inr once ↦ rw once (omega (arith, length_with window (sorted later), length_sorted later ordered.1))
     ]
 
@@ -252,13 +247,10 @@ rows_rise (window ∷ later) edges rise =
 pub rows_few : (setup : Setup) (bytes : Bytes) (windows : List Changed) → Ordered windows →
     rows_in (edges_after setup bytes) (sorted windows) ≤ count_of windows + edges_inside setup bytes windows
 rows_few setup bytes windows ordered =
-    omega (
-      arith,
-      rows_rise (sorted windows) (edges_of setup bytes) (rise_sorted windows ordered),
-      length_sorted windows ordered,
-      filter_more (is_inside (sorted windows)) (is_inside windows) (edges_of setup bytes)
-          (λ addr none. grind (arith, nat_tests, common_steps, not_inside, each_sorted, not_in_both, each_not_in)),
-    )
+    let rows = rows_rise (sorted windows) (edges_of setup bytes) (rise_sorted windows ordered) in
+    let fewer = filter_more (is_inside (sorted windows)) (is_inside windows) (edges_of setup bytes)
+    (λ addr none. grind (arith, nat_tests, common_steps, not_inside, each_sorted, not_in_both, each_not_in)) in
+    omega (arith, length_sorted windows ordered)
 
 -- ---- those that rise already
 

@@ -60,15 +60,12 @@ windows_format =
     (format_as 512 (flat_map window_bytes) (AreMany past_window IsOne tt count)
     (many_format windows_loop (λ s. window_format) tt count) (omega (arith, few)) (λ windows are. are)
     (λ windows good. good) (λ windows good. refl)))
-    (λ windows are. (
-      (length windows, are.count)
-          & (windows, (refl, good_windows windows (recursion_from_All IsWindow windows are.each))),
-      refl,
-    ))
-    (λ t. (
-      record { count = rw t.2.1.0 t.1; each = All-from_recursion IsWindow t.2.0 (windows_good t.2.0 t.2.1.1) },
-      rw t.2.1.0 refl,
-    ))
+    (λ windows are.
+    let good = good_windows windows (recursion_from_All IsWindow windows are.each) in
+    ((length windows, are.count) & (windows, (refl, good)), refl))
+    (λ t.
+    let each = All-from_recursion IsWindow t.2.0 (windows_good t.2.0 t.2.1.1) in
+    (record { count = rw t.2.1.0 t.1; each = each }, rw t.2.1.0 refl))
 
 -- ---- a map without ranges
 
@@ -88,10 +85,9 @@ mapped_format fitted =
     (regs_format fitted then λ regs good.
     any_number wide32 (omega arith) then λ version below.
     last_field _ windows_format)
-    (λ m is. (
-      (regs_of m.regs, is.saved.regs) & (m.version, is.saved.version) & (m.changed, is.saved.changed),
-      bare_same m is.ranges,
-    ))
+    (λ m is.
+    let same = bare_same m is.ranges in
+    ((regs_of m.regs, is.saved.regs) & (m.version, is.saved.version) & (m.changed, is.saved.changed), same))
     (λ t. (record { saved = record { regs = t.1; version = t.2.1; changed = t.2.2.1 }; ranges = refl }, refl)))
     (omega arith) (λ m is. is) (λ m is. is) (λ m is. refl)
 

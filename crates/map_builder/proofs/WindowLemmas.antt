@@ -2,7 +2,7 @@
 use Rattle.board_prelude.proofs.Common.{common_steps, nat_tests, option_map_or, take_more, card_at, div-lt_iff_lt-mul}
 use Rattle.board_prelude.proofs.Common.{Width, Reg, FittedCard, Setup, Bytes, MapChange, Store, enumerate_from}
 use Rattle.board_prelude.proofs.Common.{cases_Bool, eq-eqb, ne_eqb, map-append, Base, IoBase, IsCard, Window}
-use Rattle.board_prelude.proofs.Common.{base_value, memory_window, rom_window, rom_window_of, vga_window}
+use Rattle.board_prelude.proofs.Common.{base_value, memory_window, rom_window_of, vga_window}
 use Rattle.std.proofs.Common.{pow-add, pow_pos, ◌≡◌, ℕ, zero, suc, ◌+◌, ◌-◌, ◌*◌, ◌/◌, ◌^◌, ◌<◌, ◌≤◌, List, [], ◌∷◌}
 use Rattle.std.proofs.Common.{◌++◌, length, map, get_or, refl, sym, ◌∙◌, ap, arith, mul_comm, Option, None, slice_get}
 use Rattle.std.proofs.Common.{slice_index, flat_map, take, ◌≢◌, inl, inr, Bool, filter, Some, ◌==◌, find, option_map}
@@ -127,16 +127,8 @@ pub card_is : (bytes : Bytes) (card : CardBytes) (register : CardRegister) → I
     length card.card.bases ≤ 6 → Hold bytes card.card.dev card.bases →
     HoldRom bytes card.card.dev card.rom card.card.rom → card_windows bytes register card.card ≡ card_held register card
 card_is bytes card Command number few hold hold_rom =
-    let dev : ℕ = card.card.dev in
-    let bases : List Window = from_base bytes dev 0 card.card.bases in
-    let rom : List Window = rom_window bytes card.card in
-    rw (
-      map-append decoded (bases ++ rom) (vga_window card.card),
-      map-append decoded bases rom,
-      all_held bytes dev card.bases 0 card.card.bases hold (omega arith),
-      hold_rom,
-      vga_is card.card,
-    ) refl
+    let held = all_held bytes card.card.dev card.bases 0 card.card.bases hold (omega arith) in
+    simp map-append (rw (held, hold_rom, vga_is card.card) refl)
 card_is bytes card (BaseByte k) number few hold hold_rom =
     one_held bytes card.card.dev (k / 4) (k / 4) 0 card.card.bases (omega arith)
     ∙ ap (λ (value : ℕ). option_map_or (λ base. held_by base value) (slice_get card.card.bases (k / 4)) [])

@@ -16,22 +16,16 @@ loop-edge-preserved g c = record {
       built_step c.row.result.areas c.in-Some.ensures.above (omega arith) c.in-Some.ensures.equal c.row.ensures.areas
       c.range_at-last.ensures.goes_on c.loop-edge.invariant.built;
   within = c.in-Some.ensures.within;
-  rows = λ setup bytes stands. omega (
-    arith,
-    c.loop-edge.invariant.rows setup bytes stands,
-    c.in-Some.ensures.fewer setup bytes stands,
-    c.row.ensures.step,
-  );
+  rows = λ setup bytes stands.
+      let rows = c.loop-edge.invariant.rows setup bytes stands in
+      omega (arith, c.in-Some.ensures.fewer setup bytes stands, c.row.ensures.step);
 }
 
 pub returns : goal.returns
 returns g c = record {
   built = built_over c.loop-edge.invariant.within c.in_default.ensures.equal c.loop-edge.invariant.built;
   rows = λ setup bytes stands.
-      omega (
-        arith,
-        c.loop-edge.invariant.rows setup bytes stands,
-        no_more c.loop-edge.addr c.args.interval.hi (edges_of setup bytes) c.loop-edge.invariant.within,
-      );
+      let rows = c.loop-edge.invariant.rows setup bytes stands in
+      omega (arith, no_more c.loop-edge.addr c.args.interval.hi (edges_of setup bytes) c.loop-edge.invariant.within);
   fits = omega arith;
 }

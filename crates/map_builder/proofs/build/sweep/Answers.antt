@@ -23,12 +23,8 @@ loop-index-init g c = record {
       sweep_first c.args.windows.now c.requires.some c.requires.rise c.requires.beside c.rows_in-last.ensures.fits
       c.rows_in-last.ensures.built;
   rows = λ setup bytes stands.
-      omega (
-        arith,
-        rows_at (edges_after setup bytes) c.args.windows.now 0 c.requires.some,
-        c.rows_in-last.ensures.rows setup bytes stands,
-        c.cut_below-cut.ensures.step,
-      );
+      let rows = c.rows_in-last.ensures.rows setup bytes stands in
+      omega (arith, rows_at (edges_after setup bytes) c.args.windows.now 0 c.requires.some, c.cut_below-cut.ensures.step);
   from = omega (arith, c.saturating_sub.ensures, order_at c.args.windows.now 0 c.requires.some c.requires.rise);
 }
 
@@ -63,18 +59,13 @@ loop-index-preserved g c = record {
       sweep_next c.args.windows.now c.loop-index.index (omega arith) c.loop-index.invariant.sweep
       c.rows_in-last-in-loop-index.ensures.fits c.rows_in-last-in-loop-index.ensures.built;
   rows = λ setup bytes stands.
-      omega (
-        arith,
-        rows_at (edges_after setup bytes) c.args.windows.now c.loop-index.index (omega arith),
-        c.loop-index.invariant.rows setup bytes stands,
-        c.rows_in-last-in-loop-index.ensures.rows setup bytes stands,
-        c.row_at-last.ensures.step,
-      );
-  from = omega (
-    arith,
-    order_at c.args.windows.now c.loop-index.index (omega arith) c.loop-index.invariant.sweep.rise,
-    above c.args.windows.now c.loop-index.index (omega arith) c.loop-index.invariant.sweep,
-  );
+      let rows = c.loop-index.invariant.rows setup bytes stands in
+      let more = c.rows_in-last-in-loop-index.ensures.rows setup bytes stands in
+      let step = c.row_at-last.ensures.step in
+      omega (arith, rows_at (edges_after setup bytes) c.args.windows.now c.loop-index.index (omega arith));
+  from =
+      let order = order_at c.args.windows.now c.loop-index.index (omega arith) c.loop-index.invariant.sweep.rise in
+      omega (arith, above c.args.windows.now c.loop-index.index (omega arith) c.loop-index.invariant.sweep);
 }
 
 pub finish-requires-clause-kept : goal.finish-requires-clause-kept

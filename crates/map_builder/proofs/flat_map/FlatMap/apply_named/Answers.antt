@@ -85,9 +85,6 @@ pub returns-clause-rows : goal.returns-clause-rows
 returns-clause-rows g c = λ setup bytes stands.
     let here = rw (← c.self.view_is) at stands in
     let new : Bytes = after setup c.args.change.now bytes in
-    omega (
-      arith,
-      rw c.as_slice-2.ensures.items
-          at (c.rebuild.ensures.rows setup new (c.apply_named.ensures.stands setup bytes here)),
-      (choice g (goal.at.returns-clause-rows g c).After-choose_windows).few setup bytes here,
-    )
+    let rows = rw c.as_slice-2.ensures.items
+    at (c.rebuild.ensures.rows setup new (c.apply_named.ensures.stands setup bytes here)) in
+    omega (arith, (choice g (goal.at.returns-clause-rows g c).After-choose_windows).few setup bytes here)
