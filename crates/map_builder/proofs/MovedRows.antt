@@ -205,17 +205,10 @@ hides_on old new addr row first hidden first_is hides low =
     elim (cases_lt addr (hidden * 0x80_0000)) [
       | inl is ↦
           let found = hides is in
-          record {
-            earlier = found.earlier;
-            before = (let before = found.before in omega arith);
-            old_below = found.old_below;
-            new_below = found.new_below;
-          }
+          let before : found.earlier < row + 1 = omega (arith, found.before) in
+          record { earlier = found.earlier; before = before; old_below = found.old_below; new_below = found.new_below }
       | inr not ↦
-          record {
-            earlier = row;
-            before = omega arith;
-            old_below = grind (arith, nat_tests);
-            new_below = grind (arith, nat_tests);
-          }
+          let was : is_below old addr row ≡ true = grind (arith, nat_tests) in
+          let now : is_below new addr row ≡ true = grind (arith, nat_tests) in
+          record { earlier = row; before = omega arith; old_below = was; new_below = now }
     ]

@@ -4,14 +4,13 @@ use Rattle.board_prelude.proofs.Common.{nat_tests, Setup, Bytes, each_below}
 use Rattle.std.proofs.Common.{◌≡◌, ℕ, ◌+◌, ◌<◌, ◌≤◌, inl, inr, Bool, true, false, List, [], ◌∷◌, ◌++◌, length, refl}
 use Rattle.std.proofs.Common.{arith, nat_lt, min, max, filter, rules}
 use Rattle.addr_decode.specs.Edges.{edges_of, edges_after}
-use Rattle.addr_decode.specs.Singles.{single_count}
+use Rattle.addr_decode.specs.Common.{single_count, map_register, fixed_edges}
 use Rattle.map_builder.specs.Common.{Changed, both, is_above_first, is_inside, edges_inside, is_window, count_of}
 use Rattle.map_builder.specs.Common.{IsOutside, with_window, sorted, AreAbove, Rise, rows_in, windows_covered}
 use Rattle.map_builder.specs.Common.{RowsAreFew}
 use Rattle.map_builder.specs.Changed.{single_windows}
 use Rattle.map_builder.proofs.BoundsLemmas.{Outside, Misses, misses_both, Ordered}
 use Rattle.board_spec.specs.RegisterTable.{reset_byte, host_bridge}
-use Rattle.addr_decode.specs.Common.{map_register, fixed_edges}
 
 -- a window goes behind the first of others that rise, before it, or they overlap and become one
 with_step : (P : List Changed → Type 0) (window other : Changed) (later : List Changed) →

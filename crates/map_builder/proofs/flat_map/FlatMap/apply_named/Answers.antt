@@ -11,42 +11,39 @@ use Rattle.map_builder.proofs.flat_map.FlatMap.apply_named.Given.{Over}
 use Rattle.map_builder.proofs.flat_map.FlatMap.apply_named.Goals.{After-choose_windows}
 use Rattle.map_builder.proofs.flat_map.FlatMap.apply_named.Goals as goal
 
--- the names are those of the registers before
-named : (g : Over) (c : After-choose_windows g) →
-    c.args.names.now ≡ names_of (cards_of c.self.inside.regs.cards.items) c.args.change.now
-named g c = rw (← c.self.view_is) at c.requires.names
+module _ (g : Over) (c : After-choose_windows g) where
+  -- the names are those of the registers before
+  named : c.args.names.now ≡ names_of (cards_of c.self.inside.regs.cards.items) c.args.change.now
+  named = rw (← c.self.view_is) at c.requires.names
 
--- where the registers are known to keep what they hold, they do
-keeps : (g : Over) (c : After-choose_windows g) → c.is_same_byte-kept.result ≡ true →
-    KeepsByte (map_bytes c.self.inside.regs) (map_bytes c.apply_named.new.self) c.args.change.now
-keeps g c kept =
-    keeps_byte (map_bytes c.self.inside.regs) (map_bytes c.apply_named.new.self) c.args.change.now
-    c.byte_alone-before.result c.byte_alone.result
-    (c.is_same_byte-kept.ensures.same kept) (c.byte_alone-before.ensures.held c.args.change.now (named g c))
-    (c.byte_alone.ensures.held c.args.change.now (rw c.apply_named.ensures.same_cards (named g c)))
+  -- where the registers are known to keep what they hold, they do
+  keeps : c.is_same_byte-kept.result ≡ true →
+      KeepsByte (map_bytes c.self.inside.regs) (map_bytes c.apply_named.new.self) c.args.change.now
+  keeps kept =
+      keeps_byte _ _ c.args.change.now _ _ (c.is_same_byte-kept.ensures.same kept)
+      (c.byte_alone-before.ensures.held c.args.change.now named)
+      (c.byte_alone.ensures.held c.args.change.now (rw c.apply_named.ensures.same_cards named))
 
--- the windows that were pushed are those that change, of each board that has the registers
-found : (g : Over) (c : After-choose_windows g) (setup : Setup) (bytes : Bytes) →
-    StandsFor setup bytes (map_bytes c.self.inside.regs) →
-    AreFound setup bytes c.args.change.now c.push_again.new.windows.items
-found g c setup bytes stands =
-    let change : MapChange = c.args.change.now in
-    let now = c.apply_named.ensures.stands setup bytes stands in
-    pushed_found setup bytes change c.is_same_byte-kept.result c.keeps_windows-same.result
-    (λ is. kept_same setup bytes change _ _ stands now (keeps g c is))
-    (rw (stands.cards.0, ← named g c) c.keeps_windows-same.ensures.keeps)
-    (rw c.truncate.ensures.items at (c.push_covered.ensures.windows setup bytes stands)) c.push_again.ensures.same
-    (λ move. c.push_again.ensures.windows move setup (after setup change bytes) now)
+  -- the windows that were pushed are those that change, of each board that has the registers
+  found : (setup : Setup) (bytes : Bytes) → StandsFor setup bytes (map_bytes c.self.inside.regs) →
+      AreFound setup bytes c.args.change.now c.push_again.new.windows.items
+  found setup bytes stands =
+      let change : MapChange = c.args.change.now in
+      let now = c.apply_named.ensures.stands setup bytes stands in
+      pushed_found setup bytes change c.is_same_byte-kept.result c.keeps_windows-same.result
+      (λ is. kept_same setup bytes change _ _ stands now (keeps is))
+      (rw (stands.cards.0, ← named) c.keeps_windows-same.ensures.keeps)
+      (rw c.truncate.ensures.items at (c.push_covered.ensures.windows setup bytes stands)) c.push_again.ensures.same
+      (λ move. c.push_again.ensures.windows move setup (after setup change bytes) now)
 
--- and so those are chosen that are built anew
-choice : (g : Over) (c : After-choose_windows g) →
-    Chosen c.self.invariant.board c.args.change.now c.choose_windows.new.chosen.items
-choice g c =
-    chosen c.args.change.now c.apply_named.ensures.stands c.self.invariant.board c.as_slice.result.now
-    c.is_same_byte-kept.result (stores_rows c.args.names.now)
-    (λ is. rows_by_names (cards_of c.self.inside.regs.cards.items) c.args.change.now (rw (named g c) at is))
-    (λ setup bytes stands. rw c.as_slice.ensures.items (found g c setup bytes stands).sorted_same)
-    (keeps g c) c.choose_windows.ensures.none c.choose_windows.ensures.others c.choose_windows.ensures.rows
+  -- and so those are chosen that are built anew
+  choice : Chosen c.self.invariant.board c.args.change.now c.choose_windows.new.chosen.items
+  choice =
+      chosen c.args.change.now c.apply_named.ensures.stands c.self.invariant.board c.as_slice.result.now
+      c.is_same_byte-kept.result (stores_rows c.args.names.now)
+      (λ is. rows_by_names (cards_of c.self.inside.regs.cards.items) c.args.change.now (rw named at is))
+      (λ setup bytes stands. rw c.as_slice.ensures.items (found setup bytes stands).sorted_same) keeps
+      c.choose_windows.ensures.none c.choose_windows.ensures.others c.choose_windows.ensures.rows
 
 pub rebuild-requires : goal.rebuild-requires
 rebuild-requires g c =

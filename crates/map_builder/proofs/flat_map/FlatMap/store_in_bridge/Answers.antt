@@ -1,46 +1,45 @@
 use Rattle.std.proofs.Common.{◌≡◌, [], ◌∷◌, true, arith, refl, Some, subst, List, Option}
 use Rattle.board_prelude.proofs.Common.{length-map, One, MapChange, Store}
 use Rattle.pci_bars.specs.Cards.{cards_of}
-use Rattle.addr_decode.specs.Common.{names_of, map_bytes}
+use Rattle.addr_decode.specs.Common.{names_of}
 use Rattle.addr_decode.proofs.NameLemmas.{names_numbered}
 use Rattle.map_builder.specs.Changed.{register_windows}
 use Rattle.map_builder.specs.Common.{range_of, is_row_name, stores_rows}
 use Rattle.map_builder.proofs.BuildLemmas.{are_map_of}
-use Rattle.map_builder.proofs.ChangeLemmas.{board_after, bridge_found, where_kept, are_changed, keeps_byte, KeepsByte}
-use Rattle.map_builder.proofs.ChangeLemmas.{Chosen, chosen}
+use Rattle.map_builder.proofs.ChangeLemmas.{board_after, bridge_found, where_kept, are_changed, keeps_byte, Chosen}
+use Rattle.map_builder.proofs.ChangeLemmas.{chosen}
 use Rattle.map_builder.proofs.MovedRows.{rows_by_names}
 use Rattle.map_builder.proofs.flat_map.FlatMap.store_in_bridge.Given.{Over}
 use Rattle.map_builder.proofs.flat_map.FlatMap.store_in_bridge.Goals.{After-choose_in_bridge}
 use Rattle.addr_decode.specs.declared.register.MapRegister.{MapRegister}
 use Rattle.map_builder.proofs.flat_map.FlatMap.store_in_bridge.Goals as goal
 
-abbrev store : (g : Over) → After-choose_in_bridge g → MapChange
-store g c = Store c.args.reg One c.args.value
+module _ (g : Over) (c : After-choose_in_bridge g) where
+  abbrev store : MapChange
+  store = Store c.args.reg One c.args.value
 
--- the name is that of the register before
-named : (g : Over) (c : After-choose_in_bridge g) → Some c.args.register ∷ [] ≡ names_of
-    (cards_of c.self.inside.regs.cards.items) (store g c)
-named g c = rw (← c.self.view_is) at c.requires.name_of
+  -- the name is that of the register before
+  named : Some c.args.register ∷ [] ≡ names_of (cards_of c.self.inside.regs.cards.items) store
+  named = rw (← c.self.view_is) at c.requires.name_of
 
--- the windows of the register are those that change, of each board that has the registers
-choice : (g : Over) (c : After-choose_in_bridge g) →
-    Chosen c.self.invariant.board (store g c) c.choose_in_bridge.new.chosen.items
-choice g c =
-    let board = c.self.invariant.board in
-    chosen (store g c) c.apply_named.ensures.stands board (register_windows board.setup board.bytes c.args.register)
-    c.is_same_byte-kept.result (is_row_name (Some c.args.register))
-    (λ is. rows_by_names (cards_of c.self.inside.regs.cards.items) (store g c)
-    (subst (λ (names : List (Option MapRegister)). stores_rows names ≡ true) (named g c) (rw is refl)))
-    (λ setup bytes stands.
-    bridge_found board.setup setup board.bytes bytes c.args.reg c.args.value c.args.register
-    (cards_of c.self.inside.regs.cards.items) c.requires.bridge stands.cards.0 (named g c))
-    (λ kept.
-    keeps_byte _ _ (store g c) _ _ (c.is_same_byte-kept.ensures.same kept)
-    (c.byte_alone-before.ensures.held (store g c) (named g c))
-    (c.byte_alone.ensures.held (store g c) (rw c.apply_named.ensures.same_cards (named g c))))
-    c.choose_in_bridge.ensures.none
-    (λ moves other. c.choose_in_bridge.ensures.others moves other board.setup board.bytes)
-    c.choose_in_bridge.ensures.rows
+  -- the windows of the register are those that change, of each board that has the registers
+  choice : Chosen c.self.invariant.board store c.choose_in_bridge.new.chosen.items
+  choice =
+      let board = c.self.invariant.board in
+      chosen store c.apply_named.ensures.stands board (register_windows board.setup board.bytes c.args.register)
+      c.is_same_byte-kept.result (is_row_name (Some c.args.register))
+      (λ is. rows_by_names (cards_of c.self.inside.regs.cards.items) store
+      (subst (λ (names : List (Option MapRegister)). stores_rows names ≡ true) named (rw is refl)))
+      (λ setup bytes stands.
+      bridge_found board.setup setup board.bytes bytes c.args.reg c.args.value c.args.register
+      (cards_of c.self.inside.regs.cards.items) c.requires.bridge stands.cards.0 named)
+      (λ kept.
+      keeps_byte _ _ store _ _ (c.is_same_byte-kept.ensures.same kept)
+      (c.byte_alone-before.ensures.held store named)
+      (c.byte_alone.ensures.held store (rw c.apply_named.ensures.same_cards named)))
+      c.choose_in_bridge.ensures.none
+      (λ moves other. c.choose_in_bridge.ensures.others moves other board.setup board.bytes)
+      c.choose_in_bridge.ensures.rows
 
 pub byte_alone-before-requires-clause-names : goal.byte_alone-before-requires-clause-names
 byte_alone-before-requires-clause-names g c =
