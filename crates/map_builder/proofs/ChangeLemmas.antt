@@ -68,8 +68,7 @@ module _ {old new : MapBytes} (change : MapChange) (next : Next old new change) 
         fitted = fitted;
         board = board_after board;
         tiles = is_map.tiles;
-        map =
-            all_right new ranges (where_kept is_map
+        map = all_right new ranges (where_kept is_map
             (λ addr address out. untouched_areas board.setup board.bytes change board.cards not addr));
         few = is_map.few;
       }
@@ -165,8 +164,7 @@ bridge_found setup setup' bytes bytes' reg value register cards bridge same name
     let change : MapChange = Store reg One value in
     let bridges : rest_on_registers (names_of setup'.cards change) ≡ false =
     rw same (subst (λ (names : List (Option MapRegister)). rest_on_registers names ≡ false) named (rw bridge refl)) in
-    let covered : register_windows setup' bytes' register ++ [] ≡ windows_covered setup' bytes' change =
-    covered_by_names setup' bytes' change reg One value cards (Some register ∷ []) refl same named in
+    let covered = covered_by_names setup' bytes' change reg One value cards (Some register ∷ []) refl same named in
     (found_once setup' bytes' change
     (bridge_windows setup setup' bytes bytes' register bridge ∙ sym (append-nil _) ∙ covered)
     (fixed_same setup' (after setup' change bytes') bytes' change bridges)).sorted_same

@@ -210,8 +210,7 @@ module _ (setup : Setup) (bytes new : Bytes) (addr : ℕ)
       elim (kept card.dev 0x04 is.first) [
         | inr out ↦ command_outside new card is out.1 ∙ sym (command_outside bytes card is out.0)
         | inl same ↦
-            let enabled : is_enabled_for 1 new card.dev ≡ is_enabled_for 1 bytes card.dev =
-            ap (λ command. is_bit command 1) same in
+            let enabled = ap (λ (command : ℕ). is_bit command 1) same in
             let bases = bases_same card.dev 0 card.bases enabled
             (λ j base at.
             let place : j ≡ 0 + j = omega arith in

@@ -192,10 +192,9 @@ pub all_right : (regs : MapBytes) (ranges : List MapRange) → IsMapWhere regs (
     (setup : Setup) (bytes : Bytes) → StandsFor setup bytes regs → IsFlatMapOf setup bytes ranges
 all_right regs ranges is setup bytes stands = record {
   tiles = is.tiles;
-  right =
-      λ k d within. record {
-        at_each = λ addr low high. (is.right setup bytes stands k d within).at_each addr low high tt;
-      };
+  right = λ k d within. record {
+    at_each = λ addr low high. (is.right setup bytes stands k d within).at_each addr low high tt;
+  };
   least = is.least;
 }
 
@@ -233,8 +232,7 @@ module _ {regs : MapBytes} {ranges before : List MapRange} {last : MapRange} {hi
 
   -- up to the next window
   pub sweep_agrees : IsMapWhere regs (IsBetween hi ((window_at windows k).lo - 1)) before
-  sweep_agrees =
-      fewer_where
+  sweep_agrees = fewer_where
       (λ addr between.
       let beside = below_first addr (window_at windows k) (drop (k + 1) windows) now.rise (omega (arith, above)) in
       (between.0, beside)) now.left

@@ -14,8 +14,7 @@ range_at-requires-clause-above g c = omega (arith, c.requires.built.built.begun,
 
 pub returns : goal.returns
 returns g c = record {
-  built =
-      built_step c.row.result.areas (omega (arith, c.requires.above)) (omega arith)
+  built = built_step c.row.result.areas (omega (arith, c.requires.above)) (omega arith)
       (one_address (map_bytes c.args.regs.now) (c.args.addr - 1) c.args.addr (omega (arith, c.requires.above)))
       c.row.ensures.areas c.range_at.ensures.goes_on c.requires.built;
   step = c.row.ensures.step;

@@ -19,8 +19,7 @@ rows_in-last-requires-clause-order g c = order_at c.args.windows.now 0 c.require
 
 pub loop-index-init : goal.loop-index-init
 loop-index-init g c = record {
-  sweep =
-      sweep_first c.args.windows.now c.requires.some c.requires.rise c.requires.beside c.rows_in-last.ensures.fits
+  sweep = sweep_first c.args.windows.now c.requires.some c.requires.rise c.requires.beside c.rows_in-last.ensures.fits
       c.rows_in-last.ensures.built;
   rows = λ setup bytes stands.
       let rows = c.rows_in-last.ensures.rows setup bytes stands in
@@ -55,8 +54,7 @@ rows_in-last-requires-in-loop-index-clause-order g c =
 
 pub loop-index-preserved : goal.loop-index-preserved
 loop-index-preserved g c = record {
-  sweep =
-      sweep_next c.args.windows.now c.loop-index.index (omega arith) c.loop-index.invariant.sweep
+  sweep = sweep_next c.args.windows.now c.loop-index.index (omega arith) c.loop-index.invariant.sweep
       c.rows_in-last-in-loop-index.ensures.fits c.rows_in-last-in-loop-index.ensures.built;
   rows = λ setup bytes stands.
       let rows = c.loop-index.invariant.rows setup bytes stands in

@@ -9,8 +9,7 @@ pub returns-in_err-read_window : goal.returns-in_err-read_window
 returns-in_err-read_window c =
     let p = err_from_is_err_and c.from_residual.result c.from_residual.ensures.1 in
     record {
-      took =
-          rw p.1 (stops _ _ _ windows_loop c.loop.windows.items tt c.args.count c.loop.counter c.loop.fields
+      took = rw p.1 (stops _ _ _ windows_loop c.loop.windows.items tt c.args.count c.loop.counter c.loop.fields
           (length c.read_window.new.fields) (so_many_windows c.args.count c.args.fields.now) c.loop-test.true
           c.in_err-read_window.ensures.took c.loop.invariant.read);
     }
@@ -28,7 +27,6 @@ loop-preserved c =
 
 pub returns : goal.returns
 returns c = record {
-  took =
-      is_done _ _ _ windows_loop c.loop.windows.items tt c.args.count c.loop.counter c.loop.fields
+  took = is_done _ _ _ windows_loop c.loop.windows.items tt c.args.count c.loop.counter c.loop.fields
       (so_many_windows c.args.count c.args.fields.now) c.loop-test.false c.loop.invariant.read;
 }

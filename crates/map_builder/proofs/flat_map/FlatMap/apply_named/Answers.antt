@@ -38,8 +38,7 @@ module _ (g : Over) (c : After-choose_windows g) where
 
   -- and so those are chosen that are built anew
   choice : Chosen c.self.invariant.board c.args.change.now c.choose_windows.new.chosen.items
-  choice =
-      chosen c.args.change.now c.apply_named.ensures.stands c.self.invariant.board c.as_slice.result.now
+  choice = chosen c.args.change.now c.apply_named.ensures.stands c.self.invariant.board c.as_slice.result.now
       c.is_same_byte-kept.result (stores_rows c.args.names.now)
       (λ is. rows_by_names (cards_of c.self.inside.regs.cards.items) c.args.change.now (rw named at is))
       (λ setup bytes stands. rw c.as_slice.ensures.items (found setup bytes stands).sorted_same) keeps

@@ -34,10 +34,8 @@ module _ (g : Over) (c : After-choose_in_bridge g) where
       bridge_found board.setup setup board.bytes bytes c.args.reg c.args.value c.args.register
       (cards_of c.self.inside.regs.cards.items) c.requires.bridge stands.cards.0 named)
       (λ kept.
-      keeps_byte _ _ store _ _ (c.is_same_byte-kept.ensures.same kept)
-      (c.byte_alone-before.ensures.held store named)
-      (c.byte_alone.ensures.held store (rw c.apply_named.ensures.same_cards named)))
-      c.choose_in_bridge.ensures.none
+      keeps_byte _ _ store _ _ (c.is_same_byte-kept.ensures.same kept) (c.byte_alone-before.ensures.held store named)
+      (c.byte_alone.ensures.held store (rw c.apply_named.ensures.same_cards named))) c.choose_in_bridge.ensures.none
       (λ moves other. c.choose_in_bridge.ensures.others moves other board.setup board.bytes)
       c.choose_in_bridge.ensures.rows
 
@@ -79,8 +77,7 @@ returns g c = record {
     same_cards = c.apply_named.ensures.same_cards;
     version = refl;
     map = c.rebuild.ensures.map;
-    windows =
-        are_changed (Store c.args.reg One c.args.value) c.apply_named.ensures.stands c.self.invariant.board
+    windows = are_changed (Store c.args.reg One c.args.value) c.apply_named.ensures.stands c.self.invariant.board
         (choice g (goal.at.returns g c).After-choose_in_bridge);
   });
 }
