@@ -50,5 +50,6 @@ pub returns : goal.returns
 returns c = record {
   whole = λ regs board built agrees.
       rw (c.extend.ensures.items, c.push-2.ensures.items, rest_of c.args.before.now (c.index_from-index.result + 1))
-      (whole (goal.at.returns c).After-range_at-last (record { regs = regs; board = board; built = built; agrees = agrees }));
+      (whole (goal.at.returns c).After-range_at-last
+      (record { regs = regs; board = board; built = built; agrees = agrees }));
 }

@@ -6,7 +6,8 @@ use Rattle.map_builder.proofs.build.ranges_of.Goals as goal
 
 pub push-requires : goal.push-requires
 push-requires g c =
-    omega (arith, c.rows_in-last.ensures.built.few c.requires.board, length-map c.rows_in-last.new.ranges.items range_of)
+    let few = c.rows_in-last.ensures.built.few c.requires.board in
+    omega (arith, length-map c.rows_in-last.new.ranges.items range_of)
 
 pub returns : goal.returns
 returns g c =

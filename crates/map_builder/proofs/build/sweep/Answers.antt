@@ -23,7 +23,8 @@ loop-index-init g c = record {
       c.rows_in-last.ensures.built;
   rows = λ setup bytes stands.
       let rows = c.rows_in-last.ensures.rows setup bytes stands in
-      omega (arith, rows_at (edges_after setup bytes) c.args.windows.now 0 c.requires.some, c.cut_below-cut.ensures.step);
+      let step = c.cut_below-cut.ensures.step in
+      omega (arith, rows_at (edges_after setup bytes) c.args.windows.now 0 c.requires.some);
   from = omega (arith, c.saturating_sub.ensures, order_at c.args.windows.now 0 c.requires.some c.requires.rise);
 }
 
