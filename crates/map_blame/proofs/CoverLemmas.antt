@@ -79,8 +79,7 @@ map_byte_placed setup reg cards is =
 -- ---- the bytes of a store
 
 pub touches_one : (setup : Setup) (reg : Reg) → touches_map setup (Store reg One 0) ≡ is_map_byte setup reg
-touches_one setup reg =
-    let same : reg.off + 0 ≡ reg.off = omega arith in rw same (or-false (is_map_byte setup reg))
+touches_one setup reg = let same : reg.off + 0 ≡ reg.off = omega arith in rw same (or-false (is_map_byte setup reg))
 
 pub any_next : (test : ℕ → Bool) (k : ℕ) → k < 4 → list_any test (take k offsets) ≡ false → test k ≡ false →
     list_any test (take (k + 1) offsets) ≡ false

@@ -28,12 +28,9 @@ apart_masks mask written = elim (cases_lt 0xFF mask) [
 
 left_merged : (mask old written : ℕ) → left mask (merged mask old written) ≡ left mask old
 left_merged mask old written =
-    rw (
-      or_comm (bit_and written mask) (left mask old),
-      and_or_apart (0xFF - mask) (left mask old) (bit_and written mask) (apart_masks mask written),
-      and_assoc (0xFF - mask) old (0xFF - mask),
-      and_self (0xFF - mask),
-    ) refl
+    let swapped = or_comm (bit_and written mask) (left mask old) in
+    let apart = and_or_apart (0xFF - mask) (left mask old) (bit_and written mask) (apart_masks mask written) in
+    rw (swapped, apart, and_assoc (0xFF - mask) old (0xFF - mask), and_self (0xFF - mask)) refl
 
 -- ---- the lock
 

@@ -64,12 +64,8 @@ change_is changes index change d within is =
     let count : length (reverse changes) ≡ length changes = length-reverse changes in
     let place : length (reverse changes) - (index + 1) ≡ length changes - (index + 1) = omega (arith, count) in
     let back : length changes - 1 - (length changes - (index + 1)) ≡ index = omega (arith, within) in
-    rw (
-      place,
-      get_or-reverse changes (length changes - (index + 1)) Reset (omega (arith, within)),
-      back,
-      get_or_default changes index Reset d within,
-    ) is
+    let reversed = get_or-reverse changes (length changes - (index + 1)) Reset (omega (arith, within)) in
+    rw (place, reversed, back, get_or_default changes index Reset d within) is
 
 -- ---- whether a change is kept
 
@@ -150,25 +146,19 @@ pub kept_pushed : (setup : Setup) (changes : List MapChange) (count : ℕ) (keep
     RestsOn setup changes (count + 1) →
     AreKept setup changes count keep → AreKept setup changes (count + 1) (keep ++ (count + 1) ∷ [])
 kept_pushed setup changes count keep kept are = record {
-  rises =
-      all_pairs_push (λ one later. one < later) keep (count + 1) are.rises
-      (λ k d below. omega (
-        arith,
-        are.most (get_or keep k d)
-            (list_any_at (λ other. other == get_or keep k d) keep k d below (eq-eqb _ _ refl)),
-      ));
-  most =
-      λ number among. elim (among_either number (count + 1) keep among) [
-        | inl earlier ↦ omega (arith, are.most number earlier)
-        | inr same ↦ omega (arith, same)
-      ];
-  only =
-      λ number among. elim (among_either number (count + 1) keep among) [
-        | inl earlier ↦ are.only number earlier
-        | inr same ↦ rw same at kept
-      ];
-  each =
-      λ number most is. among_pushed number (count + 1) keep
+  rises = all_pairs_push (λ one later. one < later) keep (count + 1) are.rises
+      (λ k d below.
+      let among = list_any_at (λ other. other == get_or keep k d) keep k d below (eq-eqb _ _ refl) in
+      omega (arith, are.most (get_or keep k d) among));
+  most = λ number among. elim (among_either number (count + 1) keep among) [
+    | inl earlier ↦ omega (arith, are.most number earlier)
+    | inr same ↦ omega (arith, same)
+  ];
+  only = λ number among. elim (among_either number (count + 1) keep among) [
+    | inl earlier ↦ are.only number earlier
+    | inr same ↦ rw same at kept
+  ];
+  each = λ number most is. among_pushed number (count + 1) keep
       ∙ elim (cases_lt count number) [
         | inl last ↦
             let same : count + 1 ≡ number = omega (arith, most, last) in

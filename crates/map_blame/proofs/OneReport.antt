@@ -34,12 +34,10 @@ same_numbers [] (first ∷ later) rise rise' to from = grind (arith, nat_tests, 
 same_numbers (first ∷ later) [] rise rise' to from = grind (arith, nat_tests, to first)
 same_numbers (first ∷ later) (first' ∷ later') rise rise' to from =
     let same : first ≡ first' = grind (arith, nat_tests, to first, from first', rise.0 first', rise'.0 first) in
-    rw (
-      same,
-      same_numbers later later' rise.1 rise'.1
-          (λ number among. grind (arith, nat_tests, to number, rise.0 number))
-          (λ number among. grind (arith, nat_tests, from number, rise'.0 number)),
-    ) refl
+    let rest = same_numbers later later' rise.1 rise'.1
+    (λ number among. grind (arith, nat_tests, to number, rise.0 number))
+    (λ number among. grind (arith, nat_tests, from number, rise'.0 number)) in
+    rw (same, rest) refl
 
 pub one_keep : (setup : Setup) (changes : List MapChange) (keep other : List ℕ) → IsKeep setup changes keep →
     IsKeep setup changes other → keep ≡ other
@@ -71,8 +69,7 @@ one_report one_map setup changes blamed blamed' kept kept' is is' =
     is'.ranges.map in
     record {
       ranges = ranges;
-      since =
-          one_since setup changes blamed blamed'
+      since = one_since setup changes blamed blamed'
           (recursion_from_All (λ one. IsSince setup changes (map_range_of one) one.since) blamed is.ranges.since)
           (recursion_from_All (λ one. IsSince setup changes (map_range_of one) one.since) blamed' is'.ranges.since)
           ranges;

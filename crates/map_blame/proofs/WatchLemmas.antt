@@ -114,8 +114,7 @@ module _ (map : Mapped) (bounds : Changed) (number : ℕ) (self : Watched) (is :
         })
     next_again stands_now fell = record {
       range = refl;
-      watched =
-          λ setup before change count after hold watched.
+      watched = λ setup before change count after hold watched.
           let range : MapRange = range_of self.blamed.range in
           let last : number - 1 ≡ length before = omega (arith, count) in
           record {
@@ -234,8 +233,7 @@ module _ (setup : Setup) (changes : List MapChange) (old new : List Watched) (ra
   pub are_blamed : AreBlamed setup changes blamed
   are_blamed = record {
     map = rw (map-map map_range_of (λ (one : Watched). one.blamed) new, all_ranges) is_map;
-    since =
-        All-map (λ (one : Blamed). IsSince setup changes (map_range_of one) one.since)
+    since = All-map (λ (one : Blamed). IsSince setup changes (map_range_of one) one.since)
         (λ (one : Watched). one.blamed) new (λ k d within.
         let whole = rw (← all_ranges) at is_map.right in
         let count = length-map new (λ (one : Watched). map_range_of one.blamed) in

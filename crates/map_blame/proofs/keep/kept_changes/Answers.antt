@@ -15,8 +15,7 @@ loop-index-preserved c =
     let index : ℕ = c.loop-index.index in
     let changes = reverse c.args.changes.now in
     record {
-      kept =
-          λ setup bytes stands cards.
+      kept = λ setup bytes stands cards.
           let so_far = c.loop-index.invariant.kept setup bytes stands cards in
           let tested = c.is_kept.ensures.kept setup bytes stands cards in
           elim c.if-is_kept.branch [

@@ -12,8 +12,7 @@ returns-clause-blame c = λ setup same.
     let first : IsAfter setup [] c.from_scratch-map.result = rw c.from_scratch-map.ensures.regs at_reset in
     record {
       ranges = c.in_ok-ranges.ensures.ranges setup cards first;
-      keep =
-          c.in_ok-keep.ensures.keep setup (reset_byte setup)
+      keep = c.in_ok-keep.ensures.keep setup (reset_byte setup)
           (rw (c.regs.ensures.regs, c.from_scratch-map.ensures.regs) at_reset) cards;
     }
 

@@ -9,8 +9,7 @@ pub loop-range-preserved : goal.loop-range-preserved
 loop-range-preserved c =
     let range : Range = get_or c.args.ranges.now c.loop-range.range-index no_range in
     rw c.in_ok-push.ensures.items (record {
-      ranges =
-          map-append watched_range c.loop-range.watched.items _
+      ranges = map-append watched_range c.loop-range.watched.items _
           ∙ ap (λ ranges. ranges ++ range ∷ []) c.loop-range.invariant.ranges
           ∙ sym (take_more c.args.ranges.now c.loop-range.range-index no_range c.loop-range-test.true);
       watched = λ setup start.

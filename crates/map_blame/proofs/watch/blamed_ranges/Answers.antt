@@ -18,8 +18,7 @@ watch-requires-clause-ranges c =
 
 pub returns : goal.returns
 returns c = record {
-  ranges =
-      IfOk-weaker c.all_blamed.result (λ blamed. blamed.items ≡ map (λ one. one.blamed) c.deref.result.now)
+  ranges = IfOk-weaker c.all_blamed.result (λ blamed. blamed.items ≡ map (λ one. one.blamed) c.deref.result.now)
       (λ ranges. (setup : Setup) → IsCardList setup.cards → IsAfter setup [] c.args.map →
       AreBlamed setup (reverse c.args.changes.now) ranges.items)
       (λ ranges items setup cards start.

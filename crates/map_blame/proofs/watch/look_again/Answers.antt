@@ -6,8 +6,7 @@ use Rattle.map_blame.proofs.watch.look_again.Goals as goal
 pub loop-one-preserved : goal.loop-one-preserved
 loop-one-preserved c = record {
   count = length-set c.loop-one.watched c.loop-one.one-index c.after.result ∙ c.loop-one.invariant.count;
-  done =
-      all_set (IsWatchedOn c.args.map.now c.args.bounds c.args.number) c.args.watched.now c.loop-one.watched
+  done = all_set (IsWatchedOn c.args.map.now c.args.bounds c.args.number) c.args.watched.now c.loop-one.watched
       c.loop-one.one-index
       c.after.result no_watched c.loop-one.invariant.count (omega (arith, c.loop-one.invariant.count))
       c.loop-one.invariant.done c.loop-one.invariant.rest c.after.ensures.next;

@@ -10,7 +10,7 @@ loop-index-preserved c =
     let index = c.loop-index.index in
     let before = reverse (take index c.args.changes.now) in
     let change = get_or c.args.changes.now index no_change in
-    let count = length-reverse (take index c.args.changes.now) ∙ length-take-le index c.args.changes.now (omega arith) in
+    let long = length-reverse (take index c.args.changes.now) ∙ length-take-le index c.args.changes.now (omega arith) in
     let more = taken_more c.args.changes.now index no_change c.loop-index-test.true in
     record {
       count = c.look_again.ensures.length ∙ c.loop-index.invariant.count;
@@ -24,7 +24,7 @@ loop-index-preserved c =
           let after = c.loop-index.invariant.after setup start in
           rw more
           ((c.look_again.ensures.next k d known).watched setup before change
-          (omega (arith, count)) (c.apply-bounds.ensures.applied.stands setup _ after)
+          (omega (arith, long)) (c.apply-bounds.ensures.applied.stands setup _ after)
           (holds_change setup before change c.apply-bounds.result cards
           (c.apply-bounds.ensures.applied.changed setup (registers_after setup before) after))
           (c.loop-index.invariant.watched setup cards start all k d known));
