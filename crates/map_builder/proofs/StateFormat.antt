@@ -4,7 +4,7 @@ use Rattle.std.proofs.Common.{flat_map}
 use Rattle.std.proofs.lemmas.List.Elements.{All-from_recursion}
 use Rattle.board_prelude.proofs.Common.{AllByRecursion, recursion_from_All, FittedCard, MapRange, OneFlatMap}
 use Rattle.byte_fields.specs.declared.fault.Bad.{Bad}
-use Rattle.byte_fields.specs.Fields.{AreBytes, Reading, Took}
+use Rattle.byte_fields.specs.Fields.{AreBytes, Took}
 use Rattle.byte_fields.specs.Loads.{OneSpelling}
 use Rattle.byte_fields.proofs.Formats.{IsFormat, format_as, many_format, AreGood, AreMany, fields_format, ◌then◌, ◌&◌}
 use Rattle.byte_fields.proofs.Formats.{last_field}
@@ -28,16 +28,11 @@ window_format =
     (λ w is. ((w.lo, is.lo) & (w.hi, is.hi), refl))
     (λ t. (record { lo = t.1; hi = t.2.1 }, refl))
 
-abbrev pub one_window : Unit {0} → Reading Changed
-one_window none = window_fields
-
 abbrev pub past_window : Unit {0} → Changed → Unit {0}
 past_window none window = none
 
-abbrev pub many_windows : Unit {0} → (count : ℕ) → Reading (List Changed)
-many_windows none count = so_many_windows count
-
-pub windows_loop : IsLoop one_window past_window many_windows
+pub windows_loop :
+    IsLoop (λ (none : Unit {0}). window_fields) past_window (λ (none : Unit {0}) (count : ℕ). so_many_windows count)
 unfolding so_many_windows
 windows_loop = record { none = λ s bytes. refl; more = λ s n bytes. refl }
 
