@@ -195,8 +195,7 @@ module _ {old new : MapBytes} (change : MapChange) (next : Next old new change) 
       rw (none refl) (record {
         rise = tt;
         few = λ setup bytes stands. omega arith;
-        keeps = λ addr address out.
-            unchanged_keep board.setup board.bytes change addr byte.byte board.cards
+        keeps = λ addr address out. unchanged_keep board.setup board.bytes change addr byte.byte board.cards
             (byte.before board.setup board.bytes board.stands) (byte.later board.setup _
             (next board.setup board.bytes board.stands));
         within = λ setup bytes addr stands out. tt;
@@ -220,11 +219,9 @@ module _ {old new : MapBytes} (change : MapChange) (next : Next old new change) 
       let here = is board.setup board.bytes board.stands in
       record {
         rise = rw here (rise_sorted _ (changed_ordered board.setup board.bytes change));
-        few = λ setup bytes stands.
-            rw (is setup bytes stands)
+        few = λ setup bytes stands. rw (is setup bytes stands)
             (rows_few setup (after setup change bytes) _ (changed_ordered setup bytes change));
-        keeps = λ addr address out.
-            changes_keep board.setup board.bytes change addr board.cards board.top address
+        keeps = λ addr address out. changes_keep board.setup board.bytes change addr board.cards board.top address
             (outside_sorted addr _ (rw here at out));
         within = λ setup bytes addr stands out. rw (is setup bytes stands) (beside_sorted addr _ out);
       }

@@ -47,8 +47,7 @@ extend-requires c =
 
 pub returns : goal.returns
 returns c = record {
-  built = λ regs first agrees.
-      rw (c.extend.ensures.items, c.push.ensures.items)
+  built = λ regs first agrees. rw (c.extend.ensures.items, c.push.ensures.items)
       (kept_later c.args.after c.args.until _ _ (omega arith) (omega (arith, c.requires.order)) agrees
       c.index_from-index.ensures.holds c.range_at-last.ensures.goes_on first c.index_from-end.result (omega arith)
       c.index_from-end.ensures.from c.index_from-end.ensures.holds);

@@ -71,8 +71,7 @@ returns-clause-applied g c =
       same_cards = c.apply_named.ensures.same_cards;
       version = refl;
       map = c.rebuild.ensures.map;
-      changed = λ setup bytes stands.
-          rw (c.unwrap_or.ensures, c.bounds_of.ensures.bounds, c.as_slice-3.ensures.items)
+      changed = λ setup bytes stands. rw (c.unwrap_or.ensures, c.bounds_of.ensures.bounds, c.as_slice-3.ensures.items)
           (ap (λ (it : Option Changed). unwrap_or it (from_to 0 0)) (found g chosen setup bytes stands).bounds_same);
       windows = are_changed c.args.change.now c.apply_named.ensures.stands c.self.invariant.board (choice g chosen);
     })

@@ -6,13 +6,12 @@ always (Ok value) P is = is
 always (Err fault) P is = tt
 
 pub returns-clause-sound : goal.returns-clause-sound
-returns-clause-sound c = λ setup bytes are.
-    always c.push_windows.result _ (rw (← c.self.view_is) (record {
-      saved = record {
-        regs = c.in_ok-save_state.ensures.sound setup bytes (rw (← c.self.view_is) at are);
-        version = c.is_doubleword.ensures.doubleword;
-        changed = rw (← c.as_slice-windows.ensures.items)
-            (record { count = c.as_slice-windows.ensures.fits; each = c.are_wide.ensures.widths });
-      };
-      whole = c.self.invariant;
-    }))
+returns-clause-sound c = λ setup bytes are. always c.push_windows.result _ (rw (← c.self.view_is) (record {
+  saved = record {
+    regs = c.in_ok-save_state.ensures.sound setup bytes (rw (← c.self.view_is) at are);
+    version = c.is_doubleword.ensures.doubleword;
+    changed = rw (← c.as_slice-windows.ensures.items)
+        (record { count = c.as_slice-windows.ensures.fits; each = c.are_wide.ensures.widths });
+  };
+  whole = c.self.invariant;
+}))
