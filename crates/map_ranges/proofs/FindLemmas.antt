@@ -75,10 +75,11 @@ module _ (ranges : List Range) (tiles : Tiles 0 (map range_of ranges)) where
       (k : ℕ) × (first ≤ k) × (k ≤ last) × Holds ranges k addr
   held_between addr zero first last distance within above below =
       let same : last ≡ first = omega arith in
-      (first, omega arith, omega arith, record { within = omega arith; above = above; below = rw same at below })
+      let high = rw same at below in
+      (first, omega arith, omega arith, omega arith)
   held_between addr (suc gap) first last distance within above below =
       elim (cases_lt (range_at ranges first).hi addr) [
-        | inr here ↦ (first, omega arith, omega arith, record { within = omega arith; above = above; below = here })
+        | inr here ↦ (first, omega arith, omega arith, omega arith)
         | inl beyond ↦
             let rest = held_between addr gap (first + 1) last (omega arith) within
             (omega (arith, is.next first (omega arith))) below in
@@ -111,9 +112,6 @@ module _ (ranges : List Range) (tiles : Tiles 0 (map range_of ranges)) where
         ] in
         record { some = omega arith; within = omega arith; above = searched.above; below = upper }
 
-    pub search_ends : left ≤ 1 → IsSearched ranges addr index left → Holds ranges index addr
-    search_ends one searched = grind (arith, nat_tests)
-
   pub search_begins : (addr : ℕ) → addr < address_count → IsSearched ranges addr 0 (length ranges)
   search_begins addr address = grind (arith, nat_tests, is)
 
@@ -133,14 +131,6 @@ module _ (setup : Setup) (bytes : Bytes) (ranges : List Range) (column : ℕ) (k
     at : Placed 0 ranges
     at = placed 0 ranges (omega arith) is_map.tiles
 
-    alike : (k : ℕ) → first ≤ k → k ≤ last → area_at ranges column k ≡ area_at ranges column index
-    alike k from to = grind (arith, nat_tests, is_first.alike k, is_last.alike k)
-
-    -- a range beside those alike has another area
-    beside : (k x : ℕ) → Holds ranges k x → area_at ranges column k ≢ area_at ranges column index →
-        area_of setup bytes x kind smm ≢ area_at ranges column index
-    beside k x there other same = other (sym (area_held k x there) ∙ same)
-
     begins_at : (k : ℕ) → (k ≡ 0) ⊎ (area_at ranges column (k - 1) ≢ area_at ranges column index) → k < length ranges →
         ((range_at ranges k).lo ≡ 0)
         ⊎ (area_of setup bytes ((range_at ranges k).lo - 1) kind smm ≢ area_at ranges column index)
@@ -151,7 +141,7 @@ module _ (setup : Setup) (bytes : Bytes) (ranges : List Range) (column : ℕ) (k
           let place : k - 1 + 1 ≡ k = omega arith in
           let next = rw place at (at.next (k - 1) (omega arith)) in
           let order = at.whole (k - 1) (omega arith) in
-          inr (beside (k - 1) _ (record { within = omega arith; above = omega arith; below = omega arith }) other)
+          inr (λ same. other (sym (area_held (k - 1) ((range_at ranges k).lo - 1) (omega arith)) ∙ same))
     ]
 
     ends_at : (last + 1 ≡ length ranges) ⊎ (area_at ranges column (last + 1) ≢ area_at ranges column index) →
@@ -164,7 +154,7 @@ module _ (setup : Setup) (bytes : Bytes) (ranges : List Range) (column : ℕ) (k
         | inr other ↦
             let next = at.next last inside in
             let order = at.whole (last + 1) inside in
-            inr (beside (last + 1) _ (record { within = inside; above = omega arith; below = omega arith }) other)
+            inr (λ same. other (sym (area_held (last + 1) ((range_at ranges last).hi + 1) (omega arith)) ∙ same))
       ]
     ]
 
@@ -184,7 +174,8 @@ module _ (setup : Setup) (bytes : Bytes) (ranges : List Range) (column : ℕ) (k
           last = omega (arith, to_end.1, at.last end (omega arith));
           same = λ x from to.
               let there = held_between ranges is_map.tiles x (last - first) first last (omega arith) within from to in
-              area_held there.0 x there.3 ∙ alike there.0 there.1 there.2;
+              area_held there.0 x there.3
+              ∙ grind (arith, nat_tests, is_first.alike there.0, is_last.alike there.0, there.1, there.2);
           begins = begins_at first is_first.begins (omega arith);
           ends = ends_at is_last.ends;
         }

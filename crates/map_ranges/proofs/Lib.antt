@@ -1,3 +1,2 @@
 pub mod AreaLemmas
-pub mod StepLemmas
 pub mod FindLemmas

@@ -28,6 +28,7 @@ impl Range {
 
 /// The index of the range that holds an address: the last that begins at it or below it. Each step halves the ranges
 /// that are left.
+#[tactic(auto, using(std::proofs::lemmas::Bool::Decides::nat_tests))]
 pub fn index_of(ranges: &[Range], addr: u32) -> usize
     requires tiles { Tiles 0 (map range_of ranges.now) }
     ensures holds { Holds ranges.now result addr }

@@ -1,5 +1,5 @@
 use Rattle.std.proofs.Common.{◌/◌, arith}
-use Rattle.map_ranges.proofs.FindLemmas.{search_begins, search_taken, search_left, search_ends}
+use Rattle.map_ranges.proofs.FindLemmas.{search_begins, search_taken, search_left}
 use Rattle.map_ranges.proofs.find.index_of.Goals as goal
 use Rattle.map_ranges.proofs.find.index_of.Goals.{then-ranges-index, else-ranges-index}
 
@@ -20,8 +20,3 @@ loop-left-preserved c =
           (search_left _ c.requires.tiles _ _ left (left / 2) (omega (arith, more)) (omega (arith, more))
           (omega (arith, more)) c.loop-left.invariant (omega (arith, w.if-ranges-index.false)))
     ]
-
-pub returns : goal.returns
-returns c = record {
-  holds = search_ends _ c.requires.tiles _ _ _ (omega (arith, c.loop-left-test.false)) c.loop-left.invariant;
-}

@@ -1,15 +1,17 @@
-use Rattle.std.proofs.Common.{arith}
-use Rattle.map_ranges.proofs.StepLemmas.{step_before, step_behind, step_overlap}
+-- One window after the other, as the code takes them.
+use Rattle.std.proofs.Common.{arith, append_assoc}
+use Rattle.board_prelude.proofs.Common.{nat_tests}
+use Rattle.map_ranges.specs.Sorted.{with_window}
 use Rattle.map_ranges.proofs.windows.in_order.Goals as goal
 
 pub returns-then-other-window-clause-apart : goal.returns-then-other-window-clause-apart
-returns-then-other-window-clause-apart c =
-    λ below later. step_before below later c.args.window c.args.other (omega arith)
+unfolding with_window
+returns-then-other-window-clause-apart c = λ below later. grind (arith, nat_tests, append_assoc)
 
 pub returns-then-window-other-clause-apart : goal.returns-then-window-other-clause-apart
-returns-then-window-other-clause-apart c =
-    λ below later. step_behind below later c.args.window c.args.other (omega arith) (omega arith)
+unfolding with_window
+returns-then-window-other-clause-apart c = λ below later. grind (arith, nat_tests, append_assoc)
 
 pub returns-clause-overlap : goal.returns-clause-overlap
-returns-clause-overlap c =
-    λ below later. step_overlap below later c.args.window c.args.other (omega arith) (omega arith)
+unfolding with_window
+returns-clause-overlap c = λ below later. grind (arith, nat_tests)
