@@ -91,12 +91,8 @@ module _ (ranges : List Range) (tiles : Tiles 0 (map range_of ranges)) where
         (range_at ranges (index + half)).lo ≤ addr → IsSearched ranges addr (index + half) (left - half)
     search_taken half fewer searched above =
         let same : index + half + (left - half) - 1 ≡ index + left - 1 = omega arith in
-        record {
-          some = omega arith;
-          within = omega (arith, searched.within);
-          above = above;
-          below = rw same searched.below;
-        }
+        let high = rw (← same) at searched.below in
+        omega arith
 
     pub search_left : (half : ℕ) → 1 ≤ half → half + half ≤ left → left ≤ half + half + 1 →
         IsSearched ranges addr index left → addr < (range_at ranges (index + half)).lo →
@@ -110,7 +106,7 @@ module _ (ranges : List Range) (tiles : Tiles 0 (map range_of ranges)) where
           | inl more ↦ let last : index + (left - half) - 1 ≡ index + half = omega arith in rw last (omega arith)
           | inr not ↦ let last : index + (left - half) - 1 ≡ index + half - 1 = omega arith in rw last (omega arith)
         ] in
-        record { some = omega arith; within = omega arith; above = searched.above; below = upper }
+        omega arith
 
   pub search_begins : (addr : ℕ) → addr < address_count → IsSearched ranges addr 0 (length ranges)
   search_begins addr address = grind (arith, nat_tests, is)
