@@ -13,7 +13,8 @@ loop-left-preserved c =
     elim c.if-ranges-index.branch [
       | then-ranges-index w ↦
           rw w.index-is
-          (search_taken _ c.requires.tiles _ _ left (left / 2) (omega arith) c.loop-left.invariant w.if-ranges-index.true)
+          (search_taken _ c.requires.tiles _ _ left (left / 2) (omega arith) c.loop-left.invariant
+          w.if-ranges-index.true)
       | else-ranges-index w ↦
           rw w.index-is
           (search_left _ c.requires.tiles _ _ left (left / 2) (omega arith) (omega arith) (omega arith)
