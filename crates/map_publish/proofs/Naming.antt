@@ -55,25 +55,22 @@ next_known : (shown next : Shown) → next.front.seen.book ≡ shown.front.seen.
     → IsMapOfLog next.front.seen.log next.map → (given : Name) → KnowsBook shown given → KnowsBook next given
 next_known shown next own map given knows named = record { own = own ∙ (knows named).own; map = map }
 
-turns_to : (seat : ℕ) (given : Name) (shown next : Shown) → next.front.seen.book ≡ shown.front.seen.book
-    → IsMapOfLog next.front.seen.log next.map → TurnsAt AllKnow seat given shown next Stays
-turns_to seat given shown next own map views holds at = grind (arith, set_holds, next_known)
-
-names_it : (seat : ℕ) (given : Name) (shown next : Shown) → next.front.seen.book ≡ shown.front.seen.book
-    → IsMapOfLog next.front.seen.log next.map → TurnsAt AllKnow seat given shown next LearnsName
-names_it seat given shown next own map views holds at = grind (arith, set_holds, next_known)
-
 -- a change is published after the others
 pub publishes : (seat : ℕ) (given : Name) (shown next : Shown) (change : MapChange) (front : Front) (ops : List Next) →
     shown.list.log ≡ shown.front.seen.log → version_after shown.front.seen.log < 4_000_000 →
     front.seen.book ≡ shown.front.seen.book → front.seen.log ≡ shown.front.seen.log ++ Changed change ∷ [] →
     ops ≡ Change change front ∷ [] → (next.list.log, next.front) ≡ fold applied (shown.list.log, shown.front) ops →
     TurnsAt AllKnow seat given shown next Stays
-publishes seat given shown next change front ops listed room own added is to =
-    turns_to seat given shown next (grind arith) (grind (arith, with_change_below))
+publishes seat given shown next change front ops listed room own added is to views holds at =
+    let kept : next.front.seen.book ≡ shown.front.seen.book = grind arith in
+    let map : IsMapOfLog next.front.seen.log next.map = grind (arith, with_change_below) in
+    grind (arith, set_holds, next_known)
 
 -- the first publish names the seat
 pub begins : (seat : ℕ) (given : Name) (shown next : Shown) (ops : List Next) → shown.list.log ≡ shown.front.seen.log →
     ops ≡ Same ∷ [] → (next.list.log, next.front) ≡ fold applied (shown.list.log, shown.front) ops →
     TurnsAt AllKnow seat given shown next LearnsName
-begins seat given shown next ops listed is to = names_it seat given shown next (grind arith) (grind arith)
+begins seat given shown next ops listed is to views holds at =
+    let own : next.front.seen.book ≡ shown.front.seen.book = grind arith in
+    let map : IsMapOfLog next.front.seen.log next.map = grind arith in
+    grind (arith, set_holds, next_known)

@@ -1,18 +1,13 @@
 -- What a viewer keeps of a map.
 use Rattle.std.proofs.Common.{◌≡◌, ◌≤◌, ◌∙◌, ℕ, Bool, List, length, map, take, arith}
 use Rattle.std.proofs.lemmas.List.{length-map}
-use Rattle.board_prelude.proofs.Common.{Kind, Area, Setup, Bytes, MapRange, Tiles, IsFlatMapOf, IsSpan}
+use Rattle.board_prelude.proofs.Common.{Kind, Area, Setup, Bytes, MapRange, Tiles, IsFlatMapOf}
 use Rattle.addr_decode.specs.MapRegs.{StandsFor}
 use Rattle.map_builder.specs.Map.{Mapped, most_ranges, range_of}
 use Rattle.map_builder.specs.Common.{Range}
 use Rattle.map_publish.specs.Common.{IsMapOfLog, bytes_after, changes_of}
 use Rattle.map_publish.specs.declared.mark.Mark.{Mark}
 use Rattle.map_publish.specs.Sights.{IsSight, IsSightOf, Sighted}
-
--- a span is that of each address in it
-pub span_at : (setup : Setup) (bytes : Bytes) (addr x : ℕ) (kind : Kind) (smm : Bool) (lo hi : ℕ) (area : Area) →
-    IsSpan setup bytes addr kind smm lo hi area → lo ≤ x → x ≤ hi → IsSpan setup bytes x kind smm lo hi area
-span_at setup bytes addr x kind smm lo hi area span above below = assumption
 
 -- the ranges of a map, where no span is remembered
 pub kept_of :

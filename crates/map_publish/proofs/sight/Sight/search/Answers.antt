@@ -1,5 +1,4 @@
-use Rattle.std.proofs.Common.{arith}
-use Rattle.map_publish.proofs.Sights.{span_at}
+use Rattle.std.proofs.Common.{◌≤◌, arith}
 use Rattle.map_publish.proofs.sight.Sight.search.Goals as goal
 
 pub invariant_of-self : goal.invariant_of-self
@@ -11,8 +10,8 @@ invariant_of-self c =
       within = was.within;
       tiles = was.tiles;
       spans = λ some setup bytes flat.
-          span_at setup bytes c.args.addr span.lo c.args.kind c.args.smm span.lo span.hi span.area
-          (c.span_in-span.ensures.span setup bytes flat) (omega arith) some;
+          let low : span.lo ≤ span.lo = omega arith in
+          assumption (c.span_in-span.ensures.span setup bytes flat, some);
     }
 
 pub returns-clause-span : goal.returns-clause-span
