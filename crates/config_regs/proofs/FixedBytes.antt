@@ -4,7 +4,6 @@ use Rattle.board_prelude.proofs.Common.{nat_tests, ne_eqb, Reg, Entry, MapChange
 use Rattle.board_prelude.proofs.Common.{smram, is_same, reset_byte, byte_with, register_change, byte_of}
 use Rattle.pmc_regs.specs.Pmc.{IsFixedOffset}
 use Rattle.pmc_regs.proofs.Common.{writable_bits-fixed, reset_byte-small}
-use Rattle.xbus_select.specs.Piix.{IsIsaFixed}
 use Rattle.xbus_select.proofs.Common.{IsFixedAt, kept_byte, fixed_at}
 use Rattle.addr_decode.proofs.StandsLemmas.{IsBeside}
 use Rattle.addr_decode.proofs.StoreLemmas.{Differs}
@@ -29,24 +28,19 @@ always setup (entry ∷ before) reg plain fixed =
     stays setup (register_change setup before entry.event) reg (byte_of setup before reg) plain fixed
     (always setup before reg plain fixed)
 
-bridge_always : (setup : Setup) (history : List Entry) (off : ℕ) → IsFixedOffset off →
-    byte_of setup history (bridge off) ≡ reset_byte setup (bridge off)
-bridge_always setup history off fixed =
-    always setup history (bridge off) (ne_eqb off 0x72 (omega arith)) (record {
-      reset = refl;
-      read_only = writable_bits-fixed setup off fixed;
-      fits = reset_byte-small setup off fixed;
-    })
-
-isa_always : (setup : Setup) (history : List Entry) (off : ℕ) → IsIsaFixed off →
-    byte_of setup history (isa off) ≡ reset_byte setup (isa off)
-isa_always setup history off fixed =
-    let it = fixed_at setup off fixed in
-    always setup history (isa off) refl
-    (record { reset = refl; read_only = it.read_only; fits = rw (← it.reset) it.fits })
-
 pub has_fixed : (setup : Setup) (history : List Entry) → HasFixed setup (byte_of setup history)
-has_fixed setup history = record { bridge_bytes = bridge_always setup history; isa_bytes = isa_always setup history }
+has_fixed setup history = record {
+  bridge_bytes = λ off fixed.
+      always setup history (bridge off) (ne_eqb off 0x72 (omega arith)) (record {
+        reset = refl;
+        read_only = writable_bits-fixed setup off fixed;
+        fits = reset_byte-small setup off fixed;
+      });
+  isa_bytes = λ off fixed.
+      let it = fixed_at setup off fixed in
+      always setup history (isa off) refl
+      (record { reset = refl; read_only = it.read_only; fits = rw (← it.reset) it.fits });
+}
 
 other_offset : (off at : ℕ) → Differs (bridge off) (bridge at) → off ≢ at
 other_offset off at apart same = grind (arith, nat_tests)

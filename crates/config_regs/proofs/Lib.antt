@@ -1,4 +1,3 @@
 pub mod FixedBytes
-pub mod Functions
 pub mod SouthStores
 pub mod StateFormat

@@ -28,6 +28,5 @@ pub returns-in-None : goal.returns-in-None
 returns-in-None c = record {
   byte = λ setup bytes stands has.
       let beside = nameless_in_bridge _ (bridge c.args.off) refl refl (sym c.in-None.ensures.named) in
-      rw (has.bridge_bytes c.args.off (fixed_beside c.args.off (omega arith) beside))
-      (c.fixed_byte.ensures.byte setup);
+      rw (has.bridge_bytes c.args.off (fixed_beside c.args.off (omega arith) beside)) (c.fixed_byte.ensures.byte setup);
 }
