@@ -10,8 +10,7 @@ byte-requires-clause-number c = (is_name _ (bridge c.args.off) _ (sym c.in-Some.
 
 pub fixed_byte-requires : goal.fixed_byte-requires
 fixed_byte-requires c = record {
-  offset =
-      fixed_beside c.args.off (omega arith)
+  offset = fixed_beside c.args.off (omega arith)
       (nameless_in_bridge _ (bridge c.args.off) refl refl (sym c.in-None.ensures.named));
 }
 

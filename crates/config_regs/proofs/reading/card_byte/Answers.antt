@@ -14,8 +14,7 @@ at_place P cards dev place d each at =
 
 pub read-requires : goal.read-requires
 read-requires c = record {
-  card =
-      rw c.index-cards-place.is (at_place (λ card. IsCard card.card) _ _ _ _ c.requires.cards c.requires.place).1;
+  card = rw c.index-cards-place.is (at_place (λ card. IsCard card.card) _ _ _ _ c.requires.cards c.requires.place).1;
 }
 
 pub returns : goal.returns
