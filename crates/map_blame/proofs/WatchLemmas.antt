@@ -76,12 +76,10 @@ watched_same : (setup : Setup) (change : MapChange) (before : List MapChange) (s
 watched_same setup change before self stands stood right other watched =
     let range : MapRange = range_of self.blamed.range in
     record {
-      standing = λ is_true.
-          stands_on setup range change before self.blamed.since (omega (arith, watched.most))
+      standing = λ is_true. stands_on setup range change before self.blamed.since (omega (arith, watched.most))
           (watched.standing (stood is_true)) (right is_true);
       fallen = λ is_false now. other is_false (rw (all_changes (change ∷ before)) at now);
-      before = λ some right.
-          watched.before some
+      before = λ some right. watched.before some
           (rw (earlier_changes change before (self.blamed.since - 1) (omega (arith, watched.most))) at right);
       most = omega (arith, watched.most);
     }
@@ -118,12 +116,10 @@ module _ (map : Mapped) (bounds : Changed) (number : ℕ) (self : Watched) (is :
           let range : MapRange = range_of self.blamed.range in
           let last : number - 1 ≡ length before = omega (arith, count) in
           record {
-            standing = λ is_true.
-                stands_on setup range change before number (omega (arith, count))
+            standing = λ is_true. stands_on setup range change before number (omega (arith, count))
                 (λ k from few. absurd (omega (arith, count, from, few))) (right is_true setup _ after);
             fallen = λ is_false. absurd (false≢true (sym is_false ∙ stands_now));
-            before = λ some right.
-                watched.fallen fell
+            before = λ some right. watched.fallen fell
                 (rw last at (rw (earlier_changes change before (number - 1) (omega (arith, last))) at right));
             most = omega (arith, count);
           };

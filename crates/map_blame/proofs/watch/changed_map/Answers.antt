@@ -7,8 +7,7 @@ use Rattle.map_blame.proofs.watch.changed_map.Goals as goal
 pub loop-change-preserved : goal.loop-change-preserved
 unfolding registers_after
 loop-change-preserved c = record {
-  after = λ setup start.
-      rw (taken_more c.args.changes.now c.loop-change.change-index no_change c.loop-change-test.true)
+  after = λ setup start. rw (taken_more c.args.changes.now c.loop-change.change-index no_change c.loop-change-test.true)
       (c.apply.ensures.applied.stands setup _ (c.loop-change.invariant.after setup start));
 }
 
