@@ -22,26 +22,14 @@ adds_goes log v e old len pre true is =
     let here : length log ≡ old = grind (arith, nat_tests) in
     let same : v ≡ log = prefix_whole v log pre (omega arith) in
     let n : either (length log == old) (old + 1) (length log) ≡ length (log ++ e ∷ []) =
-    rw is (omega (arith, length-append log (e ∷ []))) in (
-      keeps,
-      e ∷ [],
-      None,
-      tt,
-      record { words = ap (λ (k : ℕ). (k, true) ∷ (0, true) ∷ []) n },
-      inl (refl, refl),
-      rw is (ap (λ w. w ++ e ∷ []) (sym same)),
-    )
+    rw is (omega (arith, length-append log (e ∷ []))) in
+    let told = ap (λ (k : ℕ). (k, true) ∷ (0, true) ∷ []) n in
+    (keeps, e ∷ [], None, tt, record { words = told }, inl (refl, refl), rw is (ap (λ w. w ++ e ∷ []) (sym same)))
 adds_goes log v e old len pre false is =
     let all : log ++ [] ≡ log = append-nil log in
-    let n : either (length log == old) (old + 1) (length log) ≡ length (log ++ []) = rw is (ap length (sym all)) in (
-      keeps,
-      [],
-      None,
-      tt,
-      record { words = ap (λ (k : ℕ). (k, true) ∷ (0, true) ∷ []) n },
-      inl (refl, refl),
-      rw is tt,
-    )
+    let n : either (length log == old) (old + 1) (length log) ≡ length (log ++ []) = rw is (ap length (sym all)) in
+    let told = ap (λ (k : ℕ). (k, true) ∷ (0, true) ∷ []) n in
+    (keeps, [], None, tt, record { words = told }, inl (refl, refl), rw is tt)
 
 pub adds_moves : (v : List Mark) (e : Mark) (old : ℕ) → length v ≡ old
     → Moves KeepsLength shown moved 0 (v, (no_nib, None)) (λ n. either (n == old) (old + 1) n)

@@ -2,12 +2,11 @@
 use Rattle.std.proofs.Common.{◌≡◌, ◌<◌, ◌≤◌, List, [], ◌∷◌, ◌++◌, length, refl, ◌∙◌, arith, length-append, flat_map}
 use Rattle.board_prelude.proofs.Common.{nat_tests, flat_map-append, reverse-append, MapChange, Setup, registers_after}
 use mathlib.Core.List.{IsPrefix}
-use Rattle.map_builder.specs.Common.{Mapped, Changed as Bounds}
+use Rattle.map_builder.specs.Common.{Mapped, Changed as Bounds, IsApplied}
 use Rattle.map_publish.specs.Common.{bytes_after, IsMapAfter, changes_in, changes_of, opened_of, version_after}
 use Rattle.map_publish.specs.Common.{with_change, IsMapOfLog}
 use Rattle.map_publish.specs.declared.mark.Mark.{Mark}
 use Rattle.map_publish.specs.declared.mark.Mark.TheVariants.{Changed}
-use Rattle.map_builder.specs.Applied.{IsApplied}
 
 -- ---- maps
 
@@ -27,11 +26,9 @@ registers_after_more setup (change ∷ changes) earlier = rw (registers_after_mo
 -- a list that goes on has the changes of its beginning, and more
 pub changes_extend : (front whole : List Mark) → IsPrefix front whole
     → (more : List MapChange) × (changes_of whole ≡ more ++ changes_of front)
-changes_extend front whole (rest, is) = (
-  changes_of rest,
-  rw (← is, flat_map-append changes_in front rest) (reverse-append (flat_map changes_in front)
-      (flat_map changes_in rest)),
-)
+changes_extend front whole (rest, is) =
+    let reversed = reverse-append (flat_map changes_in front) (flat_map changes_in rest) in
+    (changes_of rest, rw (← is, flat_map-append changes_in front rest) reversed)
 
 pub changes_added : (log : List Mark) (change : MapChange)
     → changes_of (log ++ Changed change ∷ []) ≡ change ∷ changes_of log

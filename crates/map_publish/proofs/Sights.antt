@@ -1,10 +1,8 @@
 -- What a viewer keeps of a map.
 use Rattle.std.proofs.Common.{◌≡◌, ◌≤◌, ◌∙◌, ℕ, Bool, List, length, map, take, arith}
-use Rattle.std.proofs.lemmas.List.{length-map}
-use Rattle.board_prelude.proofs.Common.{Kind, Area, Setup, Bytes, MapRange, Tiles, IsFlatMapOf}
+use Rattle.board_prelude.proofs.Common.{length-map, Kind, Area, Setup, Bytes, MapRange, Tiles, IsFlatMapOf}
 use Rattle.addr_decode.specs.MapRegs.{StandsFor}
-use Rattle.map_builder.specs.Map.{Mapped, most_ranges, range_of}
-use Rattle.map_builder.specs.Common.{Range}
+use Rattle.map_builder.specs.Common.{Mapped, most_ranges, range_of, Range}
 use Rattle.map_publish.specs.Common.{IsMapOfLog, bytes_after, changes_of}
 use Rattle.map_publish.specs.declared.mark.Mark.{Mark}
 use Rattle.map_publish.specs.Sights.{IsSight, IsSightOf, Sighted}
