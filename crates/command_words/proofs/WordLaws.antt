@@ -55,10 +55,10 @@ dma_read (script ∷ direction ∷ table ∷ lba ∷ count ∷ []) command e =
     record { to_memory = to_memory.0; table = address.0; lba = sector.0; count = sectors.0 } in
     let is = guarded (is_transfer transfer) (Some (Dma script transfer)) command sectors.2 in
     let first = direction_read direction to_memory.0 to_memory.1 in
-    let second = (decimal_read lba sector.0 sector.1).0 in
-    let third = (decimal_read count sectors.0 sectors.1).0 in
+    let next = (decimal_read lba sector.0 sector.1).0 in
+    let last = (decimal_read count sectors.0 sectors.1).0 in
     rw (← some_is (Dma script transfer) command is.1)
-    (transfer_is transfer is.0, (table, address.1, λ i. codes "dma" ∷ script ∷ first i ∷ table ∷ second i ∷ third i ∷ []))
+    (transfer_is transfer is.0, (table, address.1, λ i. codes "dma" ∷ script ∷ first i ∷ table ∷ next i ∷ last i ∷ []))
 dma_read _ command e = absurd cc
 
 -- ---- the verbs

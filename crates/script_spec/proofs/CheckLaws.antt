@@ -38,11 +38,11 @@ pub compared : (lines : List (List ℕ)) (rest : List ℕ) (others : List (List 
     Compared lines rest others after
 compared [] rest [] after each all same = inl refl
 compared [] rest (line ∷ others) after each all same =
-    let whole = same ∙ line_parts line (text_of_lines others) after in
-    inr (inl (record { this = line; more = others; is = refl; one = All-head IsOneLine line others all; whole = whole }))
+    let text = same ∙ line_parts line (text_of_lines others) after in
+    inr (inl (record { this = line; more = others; is = refl; one = All-head IsOneLine line others all; whole = text }))
 compared (line ∷ lines) rest [] after each all same =
-    let whole = sym same ∙ line_parts line (text_of_lines lines) rest in
-    inr (inr (record { this = line; more = lines; is = refl; one = All-head IsOneLine line lines each; whole = whole }))
+    let text = sym same ∙ line_parts line (text_of_lines lines) rest in
+    inr (inr (record { this = line; more = lines; is = refl; one = All-head IsOneLine line lines each; whole = text }))
 compared (line ∷ lines) rest (other ∷ others) after each all same =
     let cut = rw (line_parts line (text_of_lines lines) rest, line_parts other (text_of_lines others) after) at same in
     let lack = lacks-line line (All-head IsOneLine line lines each) in
