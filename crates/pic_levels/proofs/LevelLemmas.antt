@@ -40,26 +40,26 @@ is_bit-clear w n k l hk hl = search (rules, cases_eq, eq-eqb, eqb, bit_at_clear_
 
 -- ---- what the operations on masks do to the sets
 
-pub levels-union : (a b : ℕ) → levels_of_byte (bit_or a b)
+pub levels_union : (a b : ℕ) → levels_of_byte (bit_or a b)
     ≡ levels_where (λ l. has (levels_of_byte a) l || has (levels_of_byte b) l)
-levels-union a b = grind (arith, nat_tests, levels_where-same, has-levels_where, is_bit-or)
+levels_union a b = grind (arith, nat_tests, levels_where-same, has-levels_where, is_bit-or)
 
-pub levels-both : (a b : ℕ) → levels_of_byte (bit_and a b)
+pub levels_both : (a b : ℕ) → levels_of_byte (bit_and a b)
     ≡ levels_where (λ l. has (levels_of_byte a) l && has (levels_of_byte b) l)
-levels-both a b = grind (arith, nat_tests, levels_where-same, has-levels_where, is_bit-and)
+levels_both a b = grind (arith, nat_tests, levels_where-same, has-levels_where, is_bit-and)
 
-pub levels-rest : (a b : ℕ) → b < 256 → levels_of_byte (bit_and a (255 - b))
+pub levels_rest : (a b : ℕ) → b < 256 → levels_of_byte (bit_and a (255 - b))
     ≡ levels_where (λ l. has (levels_of_byte a) l && not (has (levels_of_byte b) l))
-levels-rest a b small = grind (arith, nat_tests, levels_where-same, has-levels_where, is_bit-and, is_bit-not)
+levels_rest a b small = grind (arith, nat_tests, levels_where-same, has-levels_where, is_bit-and, is_bit-not)
 
-pub levels-set : (n k : ℕ) → k < 8 → levels_of_byte (bit_or n (1 * 2 ^ k % 256)) ≡ with_level (levels_of_byte n) k
-levels-set n k hk =
+pub levels_set : (n k : ℕ) → k < 8 → levels_of_byte (bit_or n (1 * 2 ^ k % 256)) ≡ with_level (levels_of_byte n) k
+levels_set n k hk =
     levels_where-same _ (λ l. eqb l k || has (levels_of_byte n) l)
     (λ l h. rw (has-levels_where (is_bit n) l h) (is_bit-set w8 n k l hk))
 
-pub levels-cleared : (n k : ℕ) → k < 8 → levels_of_byte (bit_and n (255 - 1 * 2 ^ k % 256))
+pub levels_cleared : (n k : ℕ) → k < 8 → levels_of_byte (bit_and n (255 - 1 * 2 ^ k % 256))
     ≡ without_level (levels_of_byte n) k
-levels-cleared n k hk =
+levels_cleared n k hk =
     levels_where-same _ (λ l. not (eqb l k) && has (levels_of_byte n) l)
     (λ l h. rw (has-levels_where (is_bit n) l h) (is_bit-clear w8 n k l hk h))
 
@@ -73,6 +73,6 @@ byte-levels n small =
     eqb-true n (byte_of_levels (levels_of_byte n)) (agree_below_at is_own_byte (λ _. true) 256 n refl small)
 
 -- and that of no levels is 0
-pub levels-none : (n : ℕ) → n < 256 → (eqb n 0 ≡ true) ↔ (levels_of_byte n ≡ no_levels)
+pub levels_none : (n : ℕ) → n < 256 → (eqb n 0 ≡ true) ↔ (levels_of_byte n ≡ no_levels)
 unfolding byte_of_levels levels_where
-levels-none n small = grind (arith, nat_tests)
+levels_none n small = grind (arith, nat_tests)

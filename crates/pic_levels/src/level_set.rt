@@ -53,6 +53,7 @@ impl LevelSet {
     }
 
     /// Whether the set has no level.
+    #[tactic(auto, using(crate::proofs::LevelLemmas::levels_none))]
     pub fn is_empty(&self) -> bool
         ensures none { (result ≡ true) ↔ (self.now ≡ no_levels) }
     {
@@ -68,6 +69,7 @@ impl LevelSet {
     }
 
     /// Adds a level.
+    #[tactic(auto, using(crate::proofs::LevelLemmas::levels_set))]
     pub fn insert(&mut self, level: u8)
         requires { level < 8 }
         ensures added { self.new ≡ with_level self.old level }
@@ -76,6 +78,7 @@ impl LevelSet {
     }
 
     /// Takes a level away.
+    #[tactic(auto, using(crate::proofs::LevelLemmas::levels_cleared))]
     pub fn remove(&mut self, level: u8)
         requires { level < 8 }
         ensures removed { self.new ≡ without_level self.old level }
@@ -84,6 +87,7 @@ impl LevelSet {
     }
 
     /// The levels of one set or the other.
+    #[tactic(auto, using(crate::proofs::LevelLemmas::levels_union))]
     pub fn union(&self, other: &LevelSet) -> LevelSet
         ensures either { result ≡ levels_where (λ level. has self.now level || has other.now level) }
     {
@@ -93,6 +97,7 @@ impl LevelSet {
     }
 
     /// The levels of both sets.
+    #[tactic(auto, using(crate::proofs::LevelLemmas::levels_both))]
     pub fn intersection(&self, other: &LevelSet) -> LevelSet
         ensures both { result ≡ levels_where (λ level. has self.now level && has other.now level) }
     {
@@ -102,6 +107,7 @@ impl LevelSet {
     }
 
     /// The levels of this set that the other has not.
+    #[tactic(auto, using(crate::proofs::LevelLemmas::levels_rest))]
     pub fn difference(&self, other: &LevelSet) -> LevelSet
         ensures rest { result ≡ levels_where (λ level. has self.now level && not (has other.now level)) }
     {
