@@ -76,3 +76,5 @@ byte-levels n small =
 pub levels_none : (n : ℕ) → n < 256 → (eqb n 0 ≡ true) ↔ (levels_of_byte n ≡ no_levels)
 unfolding byte_of_levels levels_where
 levels_none n small = grind (arith, nat_tests)
+
+pub ruleset level_laws = (byte-levels, has-levels_where)

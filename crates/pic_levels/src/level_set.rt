@@ -38,6 +38,7 @@ impl LevelSet {
     }
 
     /// The byte with the bits of the set's levels.
+    #[tactic(auto, using(crate::proofs::LevelLemmas::level_laws))]
     pub fn byte(&self) -> u8
         ensures byte { result ≡ byte_of_levels self.now }
     {
@@ -61,6 +62,7 @@ impl LevelSet {
     }
 
     /// Whether the set has the level.
+    #[tactic(auto, using(crate::proofs::LevelLemmas::level_laws))]
     pub fn contains(&self, level: u8) -> bool
         requires { level < 8 }
         ensures has { result ≡ has self.now level }
