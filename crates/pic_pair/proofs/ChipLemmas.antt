@@ -16,18 +16,18 @@ either-of : (triggered high latched : Bool) → ((high && triggered) || (latched
 either-of triggered high latched = grind (arith, nat_tests)
 
 -- the high ones of the level triggered inputs, and the latched ones of the others
-pub pending-is : (chip : Chip) →
+pub pending_is : (chip : Chip) →
     levels_where (λ l. has (levels_where (λ l. has chip.inputs l && has chip.triggers l)) l || has
     (levels_where (λ l. has chip.latches l && not (has chip.triggers l))) l) ≡ pending chip
 unfolding pending
-pending-is chip = grind (arith, nat_tests, levels_where-same, has-levels_where, either-of)
+pending_is chip = grind (arith, nat_tests, levels_where-same, has-levels_where, either-of)
 
 -- the latches with the rises, without the falls
-pub latches-are : (latches before now : Levels) →
+pub latches_are : (latches before now : Levels) →
     levels_where
     (λ l. has (levels_where (λ l. has latches l || has (levels_where (λ l. has now l && not (has before l))) l)) l
     && not (has (levels_where (λ l. has before l && not (has now l))) l)) ≡ latches_after latches before now
-latches-are latches before now = grind (arith, nat_tests, levels_where-same, has-levels_where)
+latches_are latches before now = grind (arith, nat_tests, levels_where-same, has-levels_where)
 
 -- ---- no request
 
@@ -60,16 +60,16 @@ unfolding request
 none_requested chip none = none_selectable chip [] (priority_order chip.lowest) (requested-none chip none)
 
 -- the set of the requested levels has those
-pub requested-has : (chip : Chip) (set : Levels) (l : ℕ) → l < 8 → set ≡ levels_where (is_requested chip) →
+pub requested_has : (chip : Chip) (set : Levels) (l : ℕ) → l < 8 → set ≡ levels_where (is_requested chip) →
     has set l ≡ is_requested chip l
-requested-has chip set l small is = ap (λ (s : Levels). has s l) is ∙ has-levels_where (is_requested chip) l small
+requested_has chip set l small is = ap (λ (s : Levels). has s l) is ∙ has-levels_where (is_requested chip) l small
 
 -- ---- the levels that block
 
 -- else all in service
-pub blocking-all : (chip : Chip) → chip.special_mask ≡ false →
+pub blocking_all : (chip : Chip) → chip.special_mask ≡ false →
     levels_where (λ l. has chip.in_service l && not (has no_levels l)) ≡ levels_where (is_blocking chip)
-blocking-all chip is = levels_where-same _ (is_blocking chip) (λ l h. rw (is, has-levels_where (λ _. false) l h) refl)
+blocking_all chip is = levels_where-same _ (is_blocking chip) (λ l h. rw (is, has-levels_where (λ _. false) l h) refl)
 
 -- tests that agree find the same element
 find-same : (p q : ℕ → Bool) (xs : List ℕ) → ((i : ℕ) → i < length xs → p (get_or xs i 0) ≡ q (get_or xs i 0)) →
@@ -81,10 +81,10 @@ find-same p q (x ∷ xs) same =
     rw (here, rest) refl
 
 -- the first level of those that block is the first that blocks
-pub first-is : (chip : Chip) (set : Levels) → chip.lowest < 8 → set ≡ levels_where (is_blocking chip) →
+pub first_is : (chip : Chip) (set : Levels) → chip.lowest < 8 → set ≡ levels_where (is_blocking chip) →
     find (has set) (priority_order chip.lowest) ≡ first_blocking chip
 unfolding first_blocking
-first-is chip set small is = grind (arith, nat_tests, find-same, order-length, has-levels_where, priority_order-small)
+first_is chip set small is = grind (arith, nat_tests, find-same, order-length, has-levels_where, priority_order-small)
 
 -- ---- the search for a level, which a chip finds at a place of its order
 

@@ -305,6 +305,7 @@ impl Pic {
     }
 
     /// Whether a level is one of those requested, and not blocked by itself.
+    #[tactic(auto, using(crate::proofs::ChipLemmas::requested_has))]
     fn asks(&self, requested: &LevelSet, level: u8) -> bool
         requires level { level < 8 }
         requires requested { requested.now ≡ levels_where (is_requested self.now) }

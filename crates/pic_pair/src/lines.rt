@@ -38,6 +38,7 @@ impl Lines {
     }
 
     /// The level of a line.
+    #[tactic(auto, using(crate::proofs::LineLemmas::has_lines_where))]
     pub fn level(&self, line: u8) -> bool
         requires { line < 16 }
         ensures level { result ≡ slice_index_or self.now line false }
@@ -58,6 +59,7 @@ impl Lines {
     }
 
     /// The lines that are at 1 here or there.
+    #[tactic(auto, using(crate::proofs::LineLemmas::lines_either, crate::proofs::LineLemmas::lines_where_length))]
     pub fn union(&self, other: &Lines) -> Lines
         ensures either { (line : ℕ) → line < 16 → slice_index_or result line false
             ≡ (slice_index_or self.now line false || slice_index_or other.now line false) }
@@ -79,6 +81,7 @@ impl Lines {
     }
 
     /// Does nothing: its clause says that there are sixteen lines.
+    #[tactic(auto, using(crate::proofs::LineLemmas::lines_where_length))]
     pub(crate) fn are_sixteen(&self)
         ensures size { length self.now ≡ 16 }
     {
@@ -86,6 +89,7 @@ impl Lines {
     }
 
     /// The master's lines, 0 to 7.
+    #[tactic(auto, using(crate::proofs::LineLemmas::low_lines))]
     pub(crate) fn masters(&self) -> LevelSet
         ensures levels { result ≡ take 8 self.now }
     {
@@ -93,6 +97,7 @@ impl Lines {
     }
 
     /// The slave's lines, 8 to 15.
+    #[tactic(auto, using(crate::proofs::LineLemmas::high_lines))]
     pub(crate) fn slaves(&self) -> LevelSet
         ensures levels { result ≡ drop 8 self.now }
     {
@@ -100,6 +105,7 @@ impl Lines {
     }
 
     /// The same levels, but with a line at 1.
+    #[tactic(auto, using(crate::proofs::LineLemmas::lines_raised, crate::proofs::LineLemmas::lines_where_length))]
     fn raised(&self, line: u8) -> Lines
         requires { line < 16 }
         ensures set { result ≡ slice_set self.now line true }
@@ -111,6 +117,7 @@ impl Lines {
     }
 
     /// The same levels, but with a line at 0.
+    #[tactic(auto, using(crate::proofs::LineLemmas::lines_lowered, crate::proofs::LineLemmas::lines_where_length))]
     fn lowered(&self, line: u8) -> Lines
         requires { line < 16 }
         ensures set { result ≡ slice_set self.now line false }

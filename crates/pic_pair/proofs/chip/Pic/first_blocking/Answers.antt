@@ -2,11 +2,11 @@
 use Rattle.std.proofs.Common.{ap, sym, ◌∙◌}
 use Rattle.device_spec.specs.Common.{Chip, is_blocking, levels_where}
 use Rattle.pic_pair.specs.contracts.chip.Pic.{the_view}
-use Rattle.pic_pair.proofs.ChipLemmas.{first-is}
+use Rattle.pic_pair.proofs.ChipLemmas.{first_is}
 use Rattle.pic_pair.proofs.chip.Pic.first_blocking.Goals as goal
 
 pub returns-clause-first : goal.returns-clause-first
 returns-clause-first c =
     let is = c.blocking.ensures.blocking ∙ ap (λ (chip : Chip). levels_where (is_blocking chip)) (sym c.self.view_is) in
     rw (← c.self.view_is) (c.first_of.ensures.first
-    ∙ first-is (the_view c.self.inside) c.blocking.result c.self.invariant.1 is)
+    ∙ first_is (the_view c.self.inside) c.blocking.result c.self.invariant.1 is)

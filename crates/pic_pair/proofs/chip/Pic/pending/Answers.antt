@@ -1,6 +1,6 @@
 -- The union of two sets, by levels.
 use Rattle.pic_pair.specs.contracts.chip.Pic.{the_view}
-use Rattle.pic_pair.proofs.ChipLemmas.{pending-is}
+use Rattle.pic_pair.proofs.ChipLemmas.{pending_is}
 use Rattle.pic_pair.proofs.chip.Pic.pending.Goals as goal
 
 pub returns : goal.returns
@@ -11,5 +11,5 @@ returns c =
         c.intersection-high.ensures.both,
         c.difference-latched.ensures.rest,
         ← c.self.view_is,
-      ) (pending-is (the_view c.self.inside));
+      ) (pending_is (the_view c.self.inside));
     }

@@ -1,11 +1,11 @@
 -- The latches, by levels.
 use Rattle.std.proofs.Common.{refl}
-use Rattle.pic_pair.proofs.ChipLemmas.{latches-are}
+use Rattle.pic_pair.proofs.ChipLemmas.{latches_are}
 use Rattle.pic_pair.proofs.chip.Pic.set_inputs.Goals as goal
 
 pub returns : goal.returns
 returns c =
-    let latches = latches-are c.self.inside.latches c.self.inside.inputs c.args.inputs in
+    let latches = latches_are c.self.inside.latches c.self.inside.inputs c.args.inputs in
     record {
       inputs = rw (
         c.difference-self-inside.ensures.rest,
