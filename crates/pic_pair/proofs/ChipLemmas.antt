@@ -11,16 +11,9 @@ use Rattle.pic_levels.proofs.Orders.{order-length}
 
 -- ---- the pending levels
 
-either-of : (triggered high latched : Bool) → ((high && triggered) || (latched && not triggered))
+pub either-of : (triggered high latched : Bool) → ((high && triggered) || (latched && not triggered))
     ≡ cond triggered high latched
 either-of triggered high latched = grind (arith, nat_tests)
-
--- the high ones of the level triggered inputs, and the latched ones of the others
-pub pending_is : (chip : Chip) →
-    levels_where (λ l. has (levels_where (λ l. has chip.inputs l && has chip.triggers l)) l || has
-    (levels_where (λ l. has chip.latches l && not (has chip.triggers l))) l) ≡ pending chip
-unfolding pending
-pending_is chip = grind (arith, nat_tests, levels_where-same, has-levels_where, either-of)
 
 -- the latches with the rises, without the falls
 pub latches_are : (latches before now : Levels) →
@@ -31,20 +24,16 @@ latches_are latches before now = grind (arith, nat_tests, levels_where-same, has
 
 -- ---- no request
 
--- a set has none but the eight levels
-has-past : (test : ℕ → Bool) (l : ℕ) → 8 ≤ l → has (levels_where test) l ≡ false
-unfolding levels_where
-has-past test l past = get_or_past (levels_where test) l false past
-
 requested-none : (chip : Chip) → levels_where (is_requested chip) ≡ no_levels → (l : ℕ) → is_requested chip l ≡ false
-unfolding pending
+unfolding pending levels_where
 requested-none chip none l =
     elim (cases_lt l 8) [
       | inl small ↦
           sym (has-levels_where (is_requested chip) l small)
           ∙ (ap (λ (set : Levels). has set l) none ∙ has-levels_where (λ _. false) l small)
       | inr past ↦ ap (λ (b : Bool). b && not (has chip.masked l))
-          (has-past (λ l. cond (has chip.triggers l) (has chip.inputs l) (has chip.latches l)) l past)
+          (get_or_past (levels_where (λ l. cond (has chip.triggers l) (has chip.inputs l) (has chip.latches l))) l false
+          past)
     ]
 
 none_selectable : (chip : Chip) (higher order : List ℕ) → ((l : ℕ) → is_requested chip l ≡ false) →
@@ -65,11 +54,6 @@ pub requested_has : (chip : Chip) (set : Levels) (l : ℕ) → l < 8 → set ≡
 requested_has chip set l small is = ap (λ (s : Levels). has s l) is ∙ has-levels_where (is_requested chip) l small
 
 -- ---- the levels that block
-
--- else all in service
-pub blocking_all : (chip : Chip) → chip.special_mask ≡ false →
-    levels_where (λ l. has chip.in_service l && not (has no_levels l)) ≡ levels_where (is_blocking chip)
-blocking_all chip is = levels_where-same _ (is_blocking chip) (λ l h. rw (is, has-levels_where (λ _. false) l h) refl)
 
 -- tests that agree find the same element
 find-same : (p q : ℕ → Bool) (xs : List ℕ) → ((i : ℕ) → i < length xs → p (get_or xs i 0) ≡ q (get_or xs i 0)) →

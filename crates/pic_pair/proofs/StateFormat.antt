@@ -26,18 +26,11 @@ worth_small : (b : Bool) → bit_worth b < 2
 unfolding bit_worth
 worth_small b = grind (arith, nat_tests)
 
-first_bit : (b : Bool) (m : ℕ) → is_bit (bit_worth b + 2 * m) 0 ≡ b
-unfolding bit_worth
-first_bit b m = grind (arith, nat_tests)
-
-later_bit : (b : Bool) (m k : ℕ) → is_bit (bit_worth b + 2 * m) (suc k) ≡ is_bit m k
-later_bit b m k = grind (arith, nat_tests, bit_worth, worth_small, eqb, bit_at-suc)
-
 bits_of : (set : Levels) (k : ℕ) → is_bit (byte_of_levels set) k ≡ has set k
 unfolding byte_of_levels bit_worth
 bits_of [] k = ap (λ x. eqb x 1) (bit_at-zero k) ∙ sym (get_or_past [] k false (omega arith))
-bits_of (b ∷ later) zero = first_bit b (byte_of_levels later)
-bits_of (b ∷ later) (suc k) = later_bit b (byte_of_levels later) k ∙ bits_of later k
+bits_of (b ∷ later) zero = grind (arith, nat_tests)
+bits_of (b ∷ later) (suc k) = (grind (arith, nat_tests, bit_worth, worth_small, eqb, bit_at-suc)) ∙ bits_of later k
 
 set_again : (set : Levels) → length set ≡ 8 → set ≡ levels_of_byte (byte_of_levels set)
 set_again set eight =
@@ -51,15 +44,12 @@ few (b ∷ later) =
     let twice : 2 ^ length (b ∷ later) ≡ 2 * 2 ^ length later = pow-succ' 2 (length later) in
     omega (arith, twice, worth_small b, few later)
 
-set_few : (set : Levels) → length set ≡ 8 → byte_of_levels set ≤ 255
-set_few set eight = grind (arith, nat_tests, few)
-
 eight : (n : ℕ) → length (levels_of_byte n) ≡ 8
 unfolding levels_where
 eight n = refl
 
 abbrev set_field : (set : Levels) → length set ≡ 8 → (n : ℕ) × (n ≤ 255)
-set_field set eight = (byte_of_levels set, set_few set eight)
+set_field set eight = (byte_of_levels set, grind (arith, nat_tests, few))
 
 sets_format : IsFormat 5 sets_fields sets_bytes AreSets
 unfolding sets_fields

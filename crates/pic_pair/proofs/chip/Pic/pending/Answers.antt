@@ -1,9 +1,12 @@
 -- The union of two sets, by levels.
-use Rattle.pic_pair.specs.contracts.chip.Pic.{the_view}
-use Rattle.pic_pair.proofs.ChipLemmas.{pending_is}
+use Rattle.pic_pair.proofs.ChipLemmas.{either-of}
+use Rattle.std.proofs.Common.{arith}
+use Rattle.device_spec.proofs.Common.{levels_where-same, has-levels_where, nat_tests}
+use Rattle.device_spec.specs.Common.{pending}
 use Rattle.pic_pair.proofs.chip.Pic.pending.Goals as goal
 
 pub returns : goal.returns
+unfolding pending
 returns c =
     record {
       pending = rw (
@@ -11,5 +14,5 @@ returns c =
         c.intersection-high.ensures.both,
         c.difference-latched.ensures.rest,
         ← c.self.view_is,
-      ) (pending_is (the_view c.self.inside));
+      ) (grind (arith, nat_tests, levels_where-same, has-levels_where, either-of));
     }
