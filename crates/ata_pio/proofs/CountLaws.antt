@@ -1,17 +1,17 @@
 -- A command moves exactly its count of sectors, or stops at the first that fails.
 use Rattle.std.proofs.Common.{◌≡◌, ◌≢◌, ℕ, zero, suc, ◌+◌, ◌*◌, ◌<◌, ◌≤◌, ◌⊎◌, Bool, true, false, eqb, List, [], ◌∷◌}
 use Rattle.std.proofs.Common.{◌++◌, length, Some, Result, Ok, Err, inl, inr, refl, ap, subst, ◌∙◌, arith, length-set}
-use Rattle.device_spec.proofs.Common.{cond-false, ne_eqb, Medium, Activity, Reading, Writing, Drive, Disk, sectors_of}
-use Rattle.device_spec.proofs.Common.{sector_bytes, stored, named, left_of, readable, found, reads_found, writes_found}
-use Rattle.device_spec.proofs.Common.{finished, ended, begin_read, begin_write, sector_read, sector_written, verified}
-use Rattle.device_spec.proofs.Common.{counted_down, moved_to, word_of, word_read, word_written, with_drive, nat_tests}
+use Rattle.device_spec.proofs.Common.{cond-false, ne_eqb, Medium, Reading, Writing, Drive, Disk, sectors_of}
+use Rattle.device_spec.proofs.Common.{sector_bytes, stored, named, left_of, readable, reads_found, finished, ended}
+use Rattle.device_spec.proofs.Common.{begin_read, begin_write, sector_read, sector_written, verified, counted_down}
+use Rattle.device_spec.proofs.Common.{moved_to, word_of, word_read, word_written, with_drive, nat_tests}
 use Rattle.ata_pio.specs.Ata.Laws.{IsWhole, IsChosen, words_read, after_words_read, after_words_written, sector_words}
 use Rattle.ata_pio.specs.Ata.Laws.{bytes_of_words, moved_on, AllReadable, MovesOn, words_of_sectors, reading_disk}
 use Rattle.ata_pio.specs.Ata.Laws.{ReadMovesItsSectors, VerifyLooksAtItsSectors, writing_disk, all_stored, AreSectors}
 use Rattle.ata_pio.specs.Ata.Laws.{all_words, request_of, WriteMovesItsSectors}
 use Rattle.ata_pio.proofs.StoreLaws.{stored-other, stored-whole}
-use Rattle.ata_pio.proofs.Verifies.{verified-fails, verified-last, verified-more}
-use Rattle.ata_pio.proofs.WordLaws.{sector_is_read, sector_is_written, length-bytes_of_words}
+use Rattle.ata_pio.proofs.Verifies.{verified-fails, verified-more, verified-end}
+use Rattle.ata_pio.proofs.WordLaws.{begin_read-other, sector_is_read, sector_is_written, length-bytes_of_words}
 
 -- the drive at the next sector
 abbrev next : ℕ → Drive → Drive
@@ -64,16 +64,7 @@ reads_add (suc a) b disk =
       ap (λ n. after_words_read n disk) next_is ∙ later.1,
     )
 
--- a read looks at its sector whatever was under way
-reads_found-other : (x : Result ℕ ℕ) (d : Drive) (a : Activity) (q : Bool) →
-    reads_found x (record d { activity = a; request = q }) ≡ reads_found x d
-reads_found-other x d a q = grind (arith, nat_tests)
-
-begin_read-other : (m : Medium) (d : Drive) (a : Activity) (q : Bool) →
-    begin_read m (record d { activity = a; request = q }) ≡ begin_read m d
-unfolding begin_read
-begin_read-other m d a q = reads_found-other (readable m (named d.registers)) d a q
-
+-- the read of the sector that is named, by whether it can be read
 begin_read-is : (m : Medium) (d : Drive) (x : Result ℕ ℕ) → readable m (named d.registers) ≡ x →
     begin_read m d ≡ reads_found x d
 unfolding begin_read
@@ -184,7 +175,8 @@ verify_looks_at_its_sectors m sector n drive h e more l r =
       fails = λ error bad. on ∙ verified-fails m (left_of d.registers) error d (ap (readable m) stands.names ∙ bad);
       ends = λ good last.
           let none : left_of d.registers ≡ 0 = omega (arith, stands.left) in
-          on ∙ verified-last m (sector + n) d (ap (readable m) stands.names ∙ good) none;
+          on ∙ (ap (λ left. verified m left d) none ∙ verified-end m (sector + n) d
+          (ap (readable m) stands.names ∙ good));
     }
 
 -- words that are written, one run after another
@@ -194,29 +186,8 @@ unfolding after_words_written
 after_words_written-append [] ys disk = refl
 after_words_written-append (x ∷ xs) ys disk = after_words_written-append xs ys (word_written x disk)
 
-writes_found-other : (x : Result ℕ ℕ) (q p : Bool) (d : Drive) (a : Activity) →
-    writes_found x q (record d { activity = a; request = p }) ≡ writes_found x q d
-writes_found-other x q p d a = grind (arith, nat_tests)
-
-begin_write-other : (m : Medium) (q p : Bool) (d : Drive) (a : Activity) →
-    begin_write m q (record d { activity = a; request = p }) ≡ begin_write m q d
-unfolding begin_write
-begin_write-other m q p d a = writes_found-other (found m (named d.registers)) q p d a
-
 abbrev writing : ℕ → Bool → Drive → Drive
 writing sector q d = record d { activity = Writing sector []; request = q }
-
-begin_write-there : (m : Medium) (sector : ℕ) (q : Bool) (d : Drive) → named d.registers ≡ Some sector →
-    sector < sectors_of m → begin_write m q d ≡ writing sector q d
-unfolding begin_write
-begin_write-there m sector q d e h = grind (arith, nat_tests)
-
-sector_written-more : (m : Medium) (sector : ℕ) (q : Bool) (d : Drive) → 0 < left_of d.registers →
-    sector_written m sector (ended (writing sector q d)) ≡ begin_write m true (next sector d)
-unfolding sector_written
-sector_written-more m sector q d h =
-    cond-false (eqb (left_of d.registers) 0) _ _ (ne_eqb (left_of d.registers) 0 (λ e. omega arith))
-    ∙ begin_write-other m true q (next sector d) (ended (writing sector q d)).activity
 
 sector_written-last : (m : Medium) (sector : ℕ) (q : Bool) (d : Drive) → left_of d.registers ≡ 0 →
     sector_written m sector (ended (writing sector q d)) ≡ finished (counted_down d)
@@ -231,9 +202,10 @@ sector_comes : (m : Medium) (sector : ℕ) (q : Bool) (d : Drive) (words : List 
       medium = stored m sector (bytes_of_words words);
       drive = sector_written (stored m sector (bytes_of_words words)) sector (ended (writing sector q d));
     }
+unfolding begin_write
 sector_comes m sector q d words h e there l =
     let begun : writing_disk m q d ≡ record { medium = m; drive = writing sector q d } =
-    ap (λ (x : Drive). record { medium = m; drive = x }) (begin_write-there m sector q d e there) in
+    ap (λ (x : Drive). record { medium = m; drive = x }) (grind (arith, nat_tests)) in
     ap (after_words_written words) begun
     ∙ sector_is_written (record { medium = m; drive = writing sector q d }) sector words
     (record { drive_zero = h.drive_zero; free = h.free }) refl l
@@ -244,16 +216,12 @@ storing m sector words = stored m sector (bytes_of_words words)
 full : (words : List ℕ) → length words ≡ 256 → length (bytes_of_words words) ≡ 512
 full words e = omega (arith, length-bytes_of_words words)
 
--- after a sector there was a request
-still : (rest : List (List ℕ)) → request_of rest true ≡ true
-still rest = grind (arith, nat_tests)
-
 writes_on : (sectors : List (List ℕ)) (m : Medium) (sector : ℕ) (q : Bool) (d : Drive) → IsChosen d →
     named d.registers ≡ Some sector → length sectors ≤ left_of d.registers → sector + length sectors ≤ sectors_of m →
     sectors_of m ≤ 65536 → AreSectors sectors → after_words_written (all_words sectors)
     (writing_disk m q d) ≡ writing_disk (all_stored m sector sectors) (request_of sectors q)
     (moved_on sector (length sectors) d)
-unfolding after_words_written moved_on
+unfolding after_words_written moved_on sector_written begin_write
 writes_on [] m sector q d h e n l few a = refl
 writes_on (words ∷ rest) m sector q d h e more l few a =
     let first = goes_on d sector h (omega arith) (omega arith) in
@@ -263,11 +231,13 @@ writes_on (words ∷ rest) m sector q d h e more l few a =
     after_words_written-append words (all_words rest) (writing_disk m q d)
     ∙ ap (after_words_written (all_words rest))
     (sector_comes m sector q d words h e (omega arith) a.0
-    ∙ ap (λ (x : Drive). record { medium = m2; drive = x }) (sector_written-more m2 sector q d (omega arith)))
+    ∙ ap (λ (x : Drive). record { medium = m2; drive = x })
+    (cond-false (eqb (left_of d.registers) 0) _ _ (ne_eqb (left_of d.registers) 0 (λ e. omega arith)) ∙
+    (grind (arith, nat_tests))))
     ∙ writes_on rest m2 (sector + 1) true (next sector d) first.chosen first.names fits (omega (arith, same))
     (omega (arith, same)) a.1
     ∙ ap (λ (b : Bool). writing_disk (all_stored m2 (sector + 1) rest) b
-    (moved_on (sector + 1) (length rest) (next sector d))) (still rest)
+    (moved_on (sector + 1) (length rest) (next sector d))) (grind (arith, nat_tests))
 
 pub others_stay : (sectors : List (List ℕ)) (m : Medium) (sector other : ℕ) → IsWhole m →
     sector + length sectors ≤ sectors_of m → AreSectors sectors

@@ -74,15 +74,12 @@ activity_from sectors number sector word came some few at_most small long =
 sector_small : (there : Bool) (bound : ℕ) → bound < 2 ^ 32 → bound_where there bound < 2 ^ 32
 sector_small there bound few = grind (arith, nat_tests)
 
-came_small : (number word : ℕ) → number ≤ 4 → word ≤ bound_where (nat_lt 1 number) 255 → came_size number word ≤ 512
-came_small number word few small = grind (arith, nat_tests)
-
 -- so many bytes that came
 came_format : (number word : ℕ) → number ≤ 4 → word ≤ bound_where (nat_lt 1 number) 255 →
     IsFormat 512 (plain (came_size number word)) (λ bytes. bytes) (λ bytes. length bytes ≡ came_size number word)
 came_format number word few small =
     format_as 512 (λ bytes. bytes) (λ bytes. length bytes ≡ came_size number word)
-    (plain_format (came_size number word)) (came_small number word few small) (λ bytes long. long) (λ bytes long. long)
+    (plain_format (came_size number word)) (grind (arith, nat_tests)) (λ bytes long. long) (λ bytes long. long)
     (λ bytes long. refl)
 
 activity_format : (sectors : ℕ) → 0 < sectors → sectors ≤ 65536 →

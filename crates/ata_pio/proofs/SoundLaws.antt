@@ -4,7 +4,7 @@ use Rattle.std.proofs.Common.{◌∷◌, length, refl, ap, ◌∙◌, arith, len
 use Rattle.device_spec.proofs.Common.{and_parts, ltb-true, leb-true, cases_Bool, cond-true, cond-false, eqb-true}
 use Rattle.device_spec.proofs.Common.{eqb-false, or_parts, length-replicate, One, Two, Four, Activity, Writing, Drive}
 use Rattle.device_spec.proofs.Common.{Disk, sectors_of, sector_bytes, bytes_written, activity_written, word_written}
-use Rattle.device_spec.proofs.Common.{word_read, with_drive, byte_written, nat_tests}
+use Rattle.device_spec.proofs.Common.{word_read, with_drive, nat_tests}
 use Rattle.ata_pio.specs.Ata.Laws.{PowerOnIsSound, IsUnderWay, IsSound, Access, Read, Write, Spoil, Restart, stepped}
 use Rattle.ata_pio.specs.Ata.Laws.{activity_stores, word_stores, stores, StaysSound, OnlyStoresChange, after_all}
 use Rattle.ata_pio.specs.Ata.Laws.{NoneStores}
@@ -34,19 +34,12 @@ activity_written-keeps : (a : Activity) (word : ℕ) (disk : Disk) → IsSound d
 activity_written-keeps (Writing s bytes) word disk h u = search (rules, bytes_written-keeps)
 activity_written-keeps _ word disk h u = (h, refl)
 
-word_written-keeps : (word : ℕ) (disk : Disk) → IsSound disk → Keeps disk (word_written word disk)
+pub word_written-keeps : (word : ℕ) (disk : Disk) → IsSound disk → Keeps disk (word_written word disk)
 unfolding word_written
 word_written-keeps word disk h = search (rules, cond_keeps, activity_written-keeps)
 
-pub word_written-sound : (word : ℕ) (disk : Disk) → IsSound disk → IsSound (word_written word disk)
-word_written-sound word disk h = (word_written-keeps word disk h).0
-
 word_read-keeps : (disk : Disk) → IsSound disk → Keeps disk (word_read disk)
 word_read-keeps disk h = grind (arith, nat_tests, same_medium, after_word-under_way)
-
-byte_written-keeps : (port byte : ℕ) (disk : Disk) → IsSound disk → Keeps disk (byte_written port byte disk)
-byte_written-keeps port byte disk h =
-    search (rules, cond_keeps, same_medium, commanded-under_way, control_written-under_way, register_written-under_way)
 
 step_keeps : (access : Access) (disk : Disk) → IsSound disk → Keeps disk (stepped access disk)
 step_keeps (Read port One) disk h = grind (arith, nat_tests)
@@ -55,7 +48,8 @@ step_keeps (Read port Four) disk h =
     let first = word_read-keeps disk h in
     let second = word_read-keeps (word_read disk) first.0 in
     (second.0, second.1 ∙ first.1)
-step_keeps (Write port One value) disk h = byte_written-keeps port (value % 256) disk h
+step_keeps (Write port One value) disk h =
+    search (rules, cond_keeps, same_medium, commanded-under_way, control_written-under_way, register_written-under_way)
 step_keeps (Write port Two value) disk h = word_written-keeps (value % 65536) disk h
 step_keeps (Write port Four value) disk h =
     let first = word_written-keeps (value % 65536) disk h in

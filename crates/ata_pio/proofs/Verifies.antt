@@ -21,10 +21,6 @@ pub verified-end : (m : Medium) (s : ℕ) (d : Drive) → readable m (named d.re
 unfolding verified
 verified-end m s d h = rw (h, verified) refl
 
-pub verified-last : (m : Medium) (s : ℕ) (d : Drive) → readable m (named d.registers) ≡ Ok s → left_of d.registers ≡ 0
-    → verified m (left_of d.registers) d ≡ finished (counted_down d)
-verified-last m s d h e = ap (λ left. verified m left d) e ∙ verified-end m s d h
-
 pub verified-next : (m : Medium) (s left : ℕ) (d : Drive) → readable m (named d.registers) ≡ Ok s
     → verified m (suc left) d ≡ verified m left (moved_to (s + 1) (counted_down d))
 unfolding verified

@@ -1,7 +1,7 @@
 -- A sector moves as 256 words.
-use Rattle.std.proofs.Common.{rules, ◌≡◌, ◌≢◌, ℕ, zero, suc, ◌+◌, ◌*◌, ◌/◌, ◌%◌, ◌<◌, ◌≤◌, true, cond, eqb, List, []}
-use Rattle.std.proofs.Common.{◌∷◌, ◌++◌, length, drop, get_or, Result, refl, ap, sym, subst, ◌∙◌, arith, length-append}
-use Rattle.std.proofs.Common.{get_or-drop, append_assoc}
+use Rattle.std.proofs.Common.{rules, ◌≡◌, ◌≢◌, ℕ, zero, suc, ◌+◌, ◌*◌, ◌/◌, ◌%◌, ◌<◌, ◌≤◌, Bool, true, cond, eqb, List}
+use Rattle.std.proofs.Common.{[], ◌∷◌, ◌++◌, length, drop, get_or, Result, refl, ap, sym, subst, ◌∙◌, arith}
+use Rattle.std.proofs.Common.{length-append, get_or-drop, append_assoc}
 use Rattle.device_spec.proofs.Common.{cond-true, cond-false, eq-eqb, ne_eqb, drop-drop, Medium, Activity, Reading}
 use Rattle.device_spec.proofs.Common.{Writing, Drive, Disk, sectors_of, sector_bytes, word_at, is_drq, named, left_of}
 use Rattle.device_spec.proofs.Common.{counted, naming, readable, reads_found, begin_read, sector_read, ended, word_of}
@@ -10,7 +10,7 @@ use Rattle.ata_pio.specs.Ata.Laws.{IsChosen, words_read, after_words_read, after
 use Rattle.ata_pio.specs.Ata.Laws.{bytes_of_words, AreWords, SectorIsRead, SectorIsWritten, written_disk, ReadsBack}
 use Rattle.ata_pio.specs.Ata.Laws.{IsSound, IsUnderWay, after_all}
 use Rattle.ata_pio.proofs.StoreLaws.{word_at-bytes, stored-same}
-use Rattle.ata_pio.proofs.SoundLaws.{run_keeps, word_written-sound}
+use Rattle.ata_pio.proofs.SoundLaws.{run_keeps, word_written-keeps}
 
 -- the drive with another activity, and the disk with it
 abbrev acting : Drive → Activity → Drive
@@ -22,19 +22,21 @@ disk_acting disk a = record disk { drive = acting disk.drive a }
 drq-reading : (d : Drive) (s w : ℕ) → IsChosen d → is_drq (acting d (Reading s w)) ≡ true
 drq-reading d s w h = rw (h.drive_zero, h.free) refl
 
--- what was under way shows nowhere in what follows a sector that was read
-found-acting : (x : Result ℕ ℕ) (d : Drive) (a : Activity) → reads_found x (acting d a) ≡ reads_found x d
-found-acting x d a = grind (arith, nat_tests)
+-- a read looks at its sector whatever was under way
+found-other : (x : Result ℕ ℕ) (d : Drive) (a : Activity) (q : Bool) →
+    reads_found x (record d { activity = a; request = q }) ≡ reads_found x d
+found-other x d a q = grind (arith, nat_tests)
 
-begin_read-acting : (m : Medium) (d : Drive) (a : Activity) → begin_read m (acting d a) ≡ begin_read m d
+pub begin_read-other : (m : Medium) (d : Drive) (a : Activity) (q : Bool) →
+    begin_read m (record d { activity = a; request = q }) ≡ begin_read m d
 unfolding begin_read
-begin_read-acting m d a = found-acting (readable m (named d.registers)) d a
+begin_read-other m d a q = found-other (readable m (named d.registers)) d a q
 
 sector_read-acting : (m : Medium) (s : ℕ) (d : Drive) (a : Activity) → sector_read m s (acting d a) ≡ sector_read m s d
 unfolding sector_read
 sector_read-acting m s d a =
     ap (λ (x : Drive). cond (eqb (left_of d.registers) 0) (ended (record d { registers = counted d.registers })) x)
-    (begin_read-acting m (record d { registers = naming (counted d.registers) (s + 1) }) a)
+    (begin_read-other m (record d { registers = naming (counted d.registers) (s + 1) }) a d.request)
 
 -- one word of a sector that is read
 word_of-reading : (disk : Disk) (s w : ℕ) → IsChosen disk.drive →
@@ -136,7 +138,7 @@ words_written-sound : (words : List ℕ) (disk : Disk) → IsSound disk → IsSo
 unfolding after_words_written
 words_written-sound [] disk h = h
 words_written-sound (word ∷ words) disk h = words_written-sound words (word_written word disk)
-    (word_written-sound word disk h)
+    ((word_written-keeps word disk h).0)
 
 pub reads_back : ReadsBack
 reads_back disk s words accesses sound chosen writing l words_fit none later_chosen reading =

@@ -1,5 +1,5 @@
 use Rattle.std.proofs.Common.{sym, ap, ◌∙◌, ◌≡◌, ◌≢◌, Err, Ok, ◌+◌}
-use Rattle.ata_pio.proofs.Verifies.{verified-fails, verified-last, verified-more}
+use Rattle.ata_pio.proofs.Verifies.{verified-fails, verified-more, verified-end}
 use Rattle.device_spec.proofs.Common.{Registers, left_of, counted, named, naming, readable, finished, verified}
 use Rattle.ata_pio.specs.View.{medium_of, registers_of, drive_of, error_of}
 use Rattle.ata_pio.proofs.controller.Controller.verify.Goals as goal
@@ -22,7 +22,7 @@ returns-then-self-eq0-clause-verified c =
     ∙ c.if-self-eq0.true in
     c.finish.ensures.finished
     ∙ ap (λ (r : Registers). finished (record (drive_of now) { registers = r })) c.count_down.ensures.counted
-    ∙ sym (verified-last m c.in-Ok.sector (drive_of now) is last)
+    ∙ sym (ap (λ left. verified m left (drive_of now)) last ∙ verified-end m c.in-Ok.sector (drive_of now) is)
     ∙ c.loop-sector.invariant
 
 pub loop-sector-preserved : goal.loop-sector-preserved
