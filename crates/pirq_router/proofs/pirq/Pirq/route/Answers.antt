@@ -1,24 +1,24 @@
 -- No line is held at first; then each pin adds its own.
-use Rattle.std.proofs.Common.{◌≡◌, Bool, List, false, get_or, ◌||◌, sym, ap, ◌∙◌, arith}
+use Rattle.std.proofs.Common.{◌≡◌, Bool, List, false, get_or, ◌||◌, ap, ◌∙◌, arith, add-one}
 use Rattle.board_prelude.proofs.Common.{get_or-replicate, drives, line_of_route, is_line_driven}
-use Rattle.pirq_router.proofs.RouteLemmas.{drives_among, drives_among-all, drives_among-none, drives_among-more}
+use Rattle.pirq_router.proofs.RouteLemmas.{drives_among, drives_among-all}
 use Rattle.pirq_router.proofs.pirq.Pirq.route.Goals as goal
 
 pub loop-pin-init : goal.loop-pin-init
+unfolding drives_among
 loop-pin-init c = λ line small.
     ap (λ (lines : List Bool). get_or lines line false) c.low-lines.ensures.low
     ∙ get_or-replicate 16 line false false small
-    ∙ sym (drives_among-none c.self.inside.bytes c.args.pins line)
 
 pub loop-pin-preserved : goal.loop-pin-preserved
+unfolding drives_among
 loop-pin-preserved c = λ line small.
     let bytes = c.self.inside.bytes in
     let pin = c.loop-pin.pin in
     let pins = c.args.pins in
-    c.joined-lines.ensures.lines line small
+    rw (add-one pin) (c.joined-lines.ensures.lines line small
     ∙ ap (λ (on : Bool). on || drives (line_of_route (get_or bytes pin 0)) (get_or pins pin false) line)
-    (c.loop-pin.invariant line small)
-    ∙ sym (drives_among-more pin bytes pins line)
+    (c.loop-pin.invariant line small))
 
 pub returns : goal.returns
 returns c =
