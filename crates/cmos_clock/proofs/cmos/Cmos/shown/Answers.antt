@@ -1,6 +1,7 @@
 -- No moment is found only where the registers say none: the numbers of one that they say are those that were found.
 use Rattle.std.proofs.Common.{◌≡◌, ℕ, Option, Some, None, SomeIff, IfSome, ap, sym, subst, arith}
 use Rattle.device_spec.specs.Common.{Moment, Clock, byte_at, control_of, second_at, minute_at, hour_at, day_at}
+use Rattle.device_spec.proofs.Common.{nat_tests}
 use Rattle.device_spec.specs.Common.{month_at, year_at, IsMoment, moment_of}
 use Rattle.board_base.proofs.CalendarLemmas.{days_in_month_bound}
 use Rattle.board_base.specs.Calendar.{IsDate, IsTime}
@@ -16,26 +17,11 @@ same_three p q same = let three : p ≡ q = cc in (ap (λ r. r.0) three, ap (λ 
 
 date_said : (clock : Clock) (shown : Moment) → IsShown clock shown → AreDateBytes (control_of clock)
     (byte_at clock year_at) (byte_at clock month_at) (byte_at clock day_at) shown.year shown.month shown.day
-date_said clock shown is = record {
-  first = is.moment.date.year_low;
-  last = is.last_year;
-  month_small = omega (arith, is.moment.date.month_high);
-  day_small = omega (arith, is.moment.date.day_high, days_in_month_bound shown.year shown.month);
-  year_is = is.year;
-  month_is = is.month;
-  day_is = is.day;
-}
+date_said clock shown is = grind (arith, nat_tests, days_in_month_bound)
 
 time_said : (clock : Clock) (shown : Moment) → IsShown clock shown → AreTimeBytes (control_of clock)
     (byte_at clock hour_at) (byte_at clock minute_at) (byte_at clock second_at) shown.hour shown.minute shown.second
-time_said clock shown is = record {
-  hour_small = omega (arith, is.moment.time.hour_high);
-  minute_small = omega (arith, is.moment.time.minute_high);
-  second_small = omega (arith, is.moment.time.second_high);
-  hour_is = is.hour;
-  minute_is = is.minute;
-  second_is = is.second;
-}
+time_said clock shown is = grind (arith, nat_tests)
 
 is_shown : (clock : Clock) (year month day hour minute second : ℕ) → AreDateBytes (control_of clock)
     (byte_at clock year_at) (byte_at clock month_at) (byte_at clock day_at) year month day →

@@ -1,6 +1,6 @@
 -- The mask 87h keeps bit 7 and the three low bits.
 use Rattle.std.proofs.Common.{◌≡◌, ℕ, ◌+◌, ◌*◌, ◌/◌, ◌%◌, bit_and, arith}
-use Rattle.device_spec.proofs.Common.{nat_tests, and_mask, control_reset}
+use Rattle.device_spec.proofs.Common.{nat_tests, and_mask}
 use Rattle.std.proofs.lemmas.Nat.{and_block}
 use Rattle.cmos_clock.proofs.control.Control.after_reset.Goals as goal
 
@@ -11,8 +11,5 @@ split n =
     let whole : n / 128 * 128 + n % 128 ≡ n = omega arith in
     omega (arith, rw whole at parts, and_mask (n / 128) 1, and_mask (n % 128) 3)
 
-kept : (n : ℕ) → bit_and n 135 ≡ control_reset n
-kept n = rw (split n) (grind (arith, nat_tests))
-
 pub returns : goal.returns
-returns c = record { byte = kept c.args.self.byte }
+returns c = record { byte = rw (split c.args.self.byte) (grind (arith, nat_tests)) }
