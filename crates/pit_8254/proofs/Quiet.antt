@@ -21,10 +21,6 @@ step_in SquareWave gate c n m (inr all) = grind (arith, nat_tests)
 step_in SoftwareStrobe gate c n m quiet = grind (arith, nat_tests)
 step_in HardwareStrobe gate c n m quiet = grind (arith, nat_tests)
 
-quiet_step : (gate : Bool) (c : CounterState) (n : ℕ) → IsQuietAt gate c n →
-    pulse gate (after_quiet gate n c) ≡ after_quiet gate (suc n) c
-quiet_step gate c n quiet = step_in c.mode gate c n refl quiet
-
 -- ---- many
 
 -- n pulses leave the counter so, and OUT does not rise
@@ -32,21 +28,17 @@ pub record Quietly (gate : Bool) (n : ℕ) (from to : CounterState) : Type 0 whe
   pub state : pulses_of gate n from ≡ to
   pub rose : rises_of gate n from ≡ 0
 
-no_pulse : (gate : Bool) (c : CounterState) → c ≡ after_quiet gate 0 c
-unfolding after_quiet
-no_pulse gate c = grind (arith, nat_tests)
-
 pub out_stays : (gate : Bool) (n : ℕ) (c : CounterState) → (after_quiet gate n c).out ≡ c.out
 unfolding after_quiet
 out_stays gate n c = grind (arith, nat_tests)
 
 pub runs_quiet : (gate : Bool) (c : CounterState) (n : ℕ) → ((j : ℕ) → j < n → IsQuietAt gate c j) →
     Quietly gate n c (after_quiet gate n c)
-unfolding pulses_of rises_of
-runs_quiet gate c zero quiet = record { state = no_pulse gate c; rose = refl }
+unfolding pulses_of rises_of after_quiet
+runs_quiet gate c zero quiet = record { state = grind (arith, nat_tests); rose = refl }
 runs_quiet gate c (suc n) quiet =
     let before = runs_quiet gate c n (λ j sooner. quiet j (omega arith)) in
-    let now = quiet_step gate c n (quiet n (omega arith)) in
+    let now = step_in c.mode gate c n refl (quiet n (omega arith)) in
     record {
       state = ap (pulse gate) before.state ∙ now;
       rose = rw (before.rose, before.state, now, out_stays gate n c, out_stays gate (suc n) c)
@@ -58,12 +50,8 @@ pub quietly : (gate : Bool) (c : CounterState) (n : ℕ) → n ≤ quiet_pulses 
     Quietly gate n c (after_quiet gate n c)
 quietly gate c n few = runs_quiet gate c n (λ j sooner. inl (omega arith))
 
-element_alone : (gate : Bool) (c : CounterState) (k : ℕ) →
-    after_quiet gate (suc k) c ≡ record (after_quiet gate k c) { element = (after_quiet gate (suc k) c).element }
-unfolding after_quiet
-element_alone gate c k = grind (arith, nat_tests)
-
 pub are_quiet : (gate : Bool) (c : CounterState) (k : ℕ) → k < quiet_pulses gate c → IsQuiet gate (pulses_of gate k c)
+unfolding after_quiet
 are_quiet gate c k h =
     rw (quietly gate c k (omega arith)).state
-    ((after_quiet gate (suc k) c).element, quiet_step gate c k (inl h) ∙ element_alone gate c k)
+    ((after_quiet gate (suc k) c).element, (step_in c.mode gate c k refl (inl h)) ∙ (grind (arith, nat_tests)))

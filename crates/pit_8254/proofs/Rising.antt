@@ -10,7 +10,7 @@ use Rattle.pit_8254.specs.declared.counting.running.Run.{Run}
 use Rattle.pit_8254.specs.declared.counting.rising.Edge.{Edge}
 use Rattle.pit_8254.proofs.Quiet.{out_stays, runs_quiet, quietly}
 use Rattle.pit_8254.proofs.Runs.{rises_of-add}
-use Rattle.pit_8254.proofs.Edges.{edge, edge_is, AreQuiet, AreQuietBy1, AreQuietBy2, ends, strobes}
+use Rattle.pit_8254.proofs.Edges.{edge, edge_is, AreQuiet, AreQuietBy2, ends, strobes}
 use Rattle.pit_8254.proofs.Arrivals.{ComesTo, comes}
 
 -- ---- pulses at which OUT does not rise
@@ -29,14 +29,10 @@ rises_later : (gate : Bool) (n m : ℕ) (c d : CounterState) → NoRiseIn gate n
     rises_of gate (n + m) c ≡ rises_of gate m d
 rises_later gate n m c d p = grind (arith, nat_tests, rises_of-add)
 
-still_none : (gate : Bool) (n m : ℕ) (c d : CounterState) → NoRiseIn gate n c d → IsFirstRise gate d None →
-    rises_of gate m c ≡ 0
-still_none gate n m c d p never =
-    grind (arith, nat_tests, no_fewer gate m n c, rises_later gate n (m - n) c d p, never (m - n))
-
 pub never_later : (gate : Bool) (n : ℕ) (c d : CounterState) → NoRiseIn gate n c d → IsFirstRise gate d None →
     IsFirstRise gate c None
-never_later gate n c d p never = λ m. still_none gate n m c d p never
+never_later gate n c d p never = λ m.
+    grind (arith, nat_tests, no_fewer gate m n c, rises_later gate n (m - n) c d p, never (m - n))
 
 pub rises_after : (gate : Bool) (n k : ℕ) (c d : CounterState) → NoRiseIn gate n c d → IsFirstRise gate d (Some k) →
     IsFirstRise gate c (Some (n + k))
@@ -95,9 +91,6 @@ begins_period gate a b e is periodic s out = grind (arith, nat_tests, comes gate
 
 module _ (gate : Bool) (a b d : CounterState) (e f : Edge) (one : IsPulseEdge gate a b e) (two : IsPulseEdge gate b d f)
     (quiet : f.rises ≡ false) where
-  after_1 : AreQuietBy1 gate a → AreQuiet gate d
-  after_1 all = grind (arith, nat_tests, is_edge gate a b e one)
-
   after_2 : AreQuietBy2 gate a → AreQuiet gate d
   after_2 all = grind (arith, nat_tests, is_edge gate a b e one, is_edge gate b d f two)
 
@@ -106,8 +99,8 @@ module _ (gate : Bool) (a b d : CounterState) (e f : Edge) (one : IsPulseEdge ga
 
   by_mode : (mode : Mode) → a.mode ≡ mode → (is_periodic mode ≡ true → b.out ≡ false) → IsSettled a.mode gate a →
       AreQuiet gate d
-  by_mode TerminalCount m low s = after_1 (ends gate a s (inl m))
-  by_mode OneShot m low s = after_1 (ends gate a s (inr m))
+  by_mode TerminalCount m low s = grind (arith, nat_tests, is_edge gate a b e one, ends gate a s (inl m))
+  by_mode OneShot m low s = grind (arith, nat_tests, is_edge gate a b e one, ends gate a s (inr m))
   by_mode RateGenerator m low s = in_period (low refl) (comes gate a (rw m refl) s)
   by_mode SquareWave m low s = in_period (low refl) (comes gate a (rw m refl) s)
   by_mode SoftwareStrobe m low s = after_2 (strobes gate a s (inl m))

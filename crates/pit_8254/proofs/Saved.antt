@@ -6,8 +6,3 @@ pub joined : {T E : Type 0} (result : Result T E) (old one new first second : Li
 joined (Ok value) old one new first second is added =
     added ∙ (ap (λ (front : List ℕ). front ++ second) is ∙ append_assoc old first second)
 joined (Err bad) old one new first second is added = tt
-
--- what holds holds where a call ended well
-pub on_ok : {T E P : Type 0} (result : Result T E) → P → OnOk result P
-on_ok (Ok value) is = is
-on_ok (Err bad) is = tt

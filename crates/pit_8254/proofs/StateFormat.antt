@@ -1,7 +1,7 @@
 -- The state of the timer is spelled and read back.
 use Rattle.board_base.proofs.Common.{nat_tests}
-use Rattle.std.proofs.Common.{◌≡◌, ℕ, ◌≤◌, Bool, false, List, [], ◌∷◌, length, take, get_or, Option, is_some, refl}
-use Rattle.std.proofs.Common.{arith, nat_lt}
+use Rattle.std.proofs.Common.{◌≡◌, ℕ, ◌≤◌, Bool, List, [], ◌∷◌, length, take, get_or, Option, is_some, refl, arith}
+use Rattle.std.proofs.Common.{nat_lt}
 use Rattle.device_spec.specs.Pit.{Mode, Access, Notation, mode_number, mode_numbered, access_number, notation_number}
 use Rattle.device_spec.specs.Pit.{notation_of_bit, bcd_bit}
 use Rattle.byte_fields.specs.Fields.{bound_where, flag_byte, IsWithin}
@@ -76,12 +76,6 @@ counts_format mode =
 abbrev latch_with : (size first second : ℕ) → List ℕ
 latch_with size first second = take size (first ∷ second ∷ [])
 
--- the bytes of a latch are as many as it says, and the others are 0
-latch_from : (size first second : ℕ) → size ≤ 2 → first ≤ bound_where (nat_lt 0 size) 255 →
-    second ≤ bound_where (nat_lt 1 size) 255 →
-    IsLatch (latch_with size first second) × (latch_bytes (latch_with size first second) ≡ size ∷ first ∷ second ∷ [])
-latch_from size first second few one two = grind (arith, nat_tests)
-
 latch_to : (bytes : List ℕ) → IsLatch bytes →
     (get_or bytes 0 0 ≤ bound_where (nat_lt 0 (length bytes)) 255)
     × (get_or bytes 1 0 ≤ bound_where (nat_lt 1 (length bytes)) 255)
@@ -101,7 +95,7 @@ latch_format =
     (λ bytes is.
     let told = latch_to bytes is in
     ((length bytes, is.size) & (get_or bytes 0 0, told.0) & (get_or bytes 1 0, told.1), told.2))
-    (λ t. latch_from t.0 t.2.0 t.2.2.0 t.1 t.2.1 t.2.2.1)
+    (λ t. grind (arith, nat_tests, t.1, t.2.1, t.2.2.1))
 
 latches_format : IsFormat 8 latches_fields latches_bytes AreLatches
 unfolding latches_fields
@@ -139,12 +133,6 @@ flags_format has_count =
     (λ t. (record { load_asked = t.2.2.1; started = t.2.2.2.1 }, refl))
 
 -- ---- a counter
-
-flag_few : (flag : Bool) → flag_byte flag ≤ 1
-flag_few flag = grind (arith, nat_tests)
-
-not_asked : (asked : Bool) → flag_byte asked ≤ 0 → asked ≡ false
-not_asked asked few = grind (arith, nat_tests)
 
 counted_to :
     (mode : Mode) (count : Option ℕ) (asked started : Bool) → HasCount mode count asked started → IsFew count →
