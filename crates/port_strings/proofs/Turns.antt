@@ -1,10 +1,10 @@
 -- Steps in turn: a value that is set behind those that were told.
-use Rattle.std.proofs.Common.{◌≡◌, ℕ, zero, suc, ◌+◌, ◌≤◌, false, List, set, Option, ◌∙◌, add-one, arith}
+use Rattle.std.proofs.Common.{◌≡◌, ℕ, zero, suc, ◌+◌, ◌≤◌, false, List, set, Option, ◌∙◌, subst, add-one, arith}
 use Rattle.std.proofs.lemmas.List.{get_or-set_other}
 use Rattle.board_records.specs.Common.{Held}
 use Rattle.board_records.specs.declared.event.EventRecord.{EventRecord}
 use Rattle.board_records.specs.declared.reply.ReplyRecord.{ReplyRecord}
-use Rattle.port_strings.specs.Strings.{AreInTurn, GoesOn, IsNextStep, IsValue, asks_back, reads}
+use Rattle.port_strings.specs.Strings.{AreInTurn, GoesOn, IsStep, IsValue, asks_back, reads}
 
 -- the values that were told stay, where another behind them is set
 pub values_kept : (port bytes : ℕ) (values : List ℕ) (index value : ℕ) (old : Option Held) (first : ReplyRecord)
@@ -20,13 +20,14 @@ values_kept port bytes values index value old first (suc k) new last small steps
   record { step = steps.4.step; told = get_or-set_other values index k value 0 (omega (arith, small)) ∙ steps.4.told },
 )
 
-module _ {asked : ℕ → EventRecord} {Holds : ℕ → ReplyRecord → Type 0} where
-  -- one step more
-  pub one_more : (old : Option Held) (first : ReplyRecord) (k : ℕ) (middle : Option Held)
-      (reply : ReplyRecord) (new : Option Held) (last : ReplyRecord) →
-      AreInTurn asked Holds old first k middle reply → GoesOn asked Holds k reply →
-      IsNextStep asked Holds k middle new last → AreInTurn asked Holds old first (k + 1) new last
-  one_more old first k middle reply new last turn goes step = rw add-one (middle, reply, turn, goes, step)
+-- one step more, by a record of the access that is asked for
+pub one_more : (asked : ℕ → EventRecord) (Holds : ℕ → ReplyRecord → Type 0) (old : Option Held) (first : ReplyRecord)
+    (k : ℕ) (middle : Option Held) (reply : ReplyRecord) (new : Option Held) (last : ReplyRecord)
+    (event : EventRecord) → AreInTurn asked Holds old first k middle reply → GoesOn asked Holds k reply →
+    event ≡ asked k → IsStep event middle new last → Holds k last → AreInTurn asked Holds old first (k + 1) new last
+one_more asked Holds old first k middle reply new last event turn goes said step told =
+    let next = subst (λ (event : EventRecord). IsStep event middle new last) said step in
+    rw add-one (middle, reply, turn, goes, record { step = next; told = told })
 
 pub goes_on : (asked : ℕ → EventRecord) (Holds : ℕ → ReplyRecord → Type 0) (k : ℕ) (last : ReplyRecord) →
     asks_back last ≡ false → GoesOn asked Holds (k + 1) last

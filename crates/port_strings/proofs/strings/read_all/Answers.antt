@@ -1,7 +1,6 @@
-use Rattle.std.proofs.Common.{◌%◌, ◌^◌, ◌∙◌, sym, subst, inl, inr, arith, get_or-set_same, length-set}
-use Rattle.board_records.specs.declared.event.EventRecord.{EventRecord}
+use Rattle.std.proofs.Common.{◌%◌, ◌^◌, ◌∙◌, sym, inl, inr, arith, get_or-set_same, length-set}
 use Rattle.board_records.proofs.Filled.{rest_more}
-use Rattle.port_strings.specs.Strings.{IsStep, IsValue, reads}
+use Rattle.port_strings.specs.Strings.{IsValue, reads}
 use Rattle.port_strings.proofs.Turns.{values_kept, one_more, goes_on}
 use Rattle.port_strings.proofs.strings.read_all.Goals as goal
 
@@ -11,17 +10,13 @@ returns-then-asks_back-clause-done c =
     let value = c.step-status.new.reply.value % 2 ^ 32 in
     record {
       steps =
-          one_more _ _ index c.loop-index.door c.loop-index.reply _ _
+          one_more _ _ _ _ index c.loop-index.door c.loop-index.reply _ _ _
           (values_kept c.args.port c.args.bytes c.loop-index.values index value _ _ index _ _
           (omega arith) c.loop-index.invariant.steps)
-          c.loop-index.invariant.goes
-          (record {
-            step = subst
-                (λ (event : EventRecord). IsStep event c.loop-index.door c.step-status.new.self c.step-status.new.reply)
-                c.port_record-event.ensures.said (c.step-status.ensures.done c.if-status-ne-OK.false);
-            told = get_or-set_same c.loop-index.values index value 0
-                (omega (arith, c.loop-index-test.true, c.loop-index.invariant.size));
-          });
+          c.loop-index.invariant.goes c.port_record-event.ensures.said
+          (c.step-status.ensures.done c.if-status-ne-OK.false)
+          (get_or-set_same c.loop-index.values index value 0
+          (omega (arith, c.loop-index-test.true, c.loop-index.invariant.size)));
       ends = inr (inl (omega arith, sym c.asks_back.ensures.asks ∙ c.if-asks_back.true));
     }
 
@@ -31,17 +26,13 @@ loop-index-preserved c =
     let value = c.step-status.new.reply.value % 2 ^ 32 in
     record {
       steps =
-          one_more _ _ index c.loop-index.door c.loop-index.reply _ _
+          one_more _ _ _ _ index c.loop-index.door c.loop-index.reply _ _ _
           (values_kept c.args.port c.args.bytes c.loop-index.values index value _ _ index _ _
           (omega arith) c.loop-index.invariant.steps)
-          c.loop-index.invariant.goes
-          (record {
-            step = subst
-                (λ (event : EventRecord). IsStep event c.loop-index.door c.step-status.new.self c.step-status.new.reply)
-                c.port_record-event.ensures.said (c.step-status.ensures.done c.if-status-ne-OK.false);
-            told = get_or-set_same c.loop-index.values index value 0
-                (omega (arith, c.loop-index-test.true, c.loop-index.invariant.size));
-          });
+          c.loop-index.invariant.goes c.port_record-event.ensures.said
+          (c.step-status.ensures.done c.if-status-ne-OK.false)
+          (get_or-set_same c.loop-index.values index value 0
+          (omega (arith, c.loop-index-test.true, c.loop-index.invariant.size)));
       goes = goes_on (reads c.args.port c.args.bytes) (IsValue c.loop-index.values) index c.step-status.new.reply
           (sym c.asks_back.ensures.asks ∙ c.if-asks_back.false);
       size = length-set c.loop-index.values index value ∙ c.loop-index.invariant.size;
