@@ -29,18 +29,7 @@ registers_format =
           & (r.high, is.high) & (r.device, is.device) & (r.srst, tt) & (r.nien, tt),
       refl,
     ))
-    (λ t. (
-      record {
-        features = t.1;
-        error = t.2.1;
-        count = t.2.2.1;
-        low = t.2.2.2.1;
-        mid = t.2.2.2.2.1;
-        high = t.2.2.2.2.2.1;
-        device = t.2.2.2.2.2.2.1;
-      },
-      refl,
-    ))
+    (λ t. (assumption, refl))
 
 -- ---- what is under way
 

@@ -59,6 +59,4 @@ pub word_at-bytes : (m : Medium) (s w : ℕ) → w < 256 →
     word_at m s w ≡ get_or (sector_bytes m s) (2 * w) 0 + 256 * get_or (sector_bytes m s) (2 * w + 1) 0
 word_at-bytes m s w h =
     let place : 512 * s + 2 * w + 1 ≡ 512 * s + (2 * w + 1) = omega arith in
-    ap (λ n. get_or m.bytes (512 * s + 2 * w) 0 + 256 * get_or m.bytes n 0) place
-    ∙ ap (λ b. b + 256 * get_or m.bytes (512 * s + (2 * w + 1)) 0) (byte_of m s (2 * w) (omega arith))
-    ∙ ap (λ b. get_or (sector_bytes m s) (2 * w) 0 + 256 * b) (byte_of m s (2 * w + 1) (omega arith))
+    rw (place, byte_of m s (2 * w) (omega arith), byte_of m s (2 * w + 1) (omega arith))
