@@ -6,8 +6,8 @@ use Rattle.board_prelude.proofs.Common.{acknowledged, acknowledged_if, first_blo
 use Rattle.board_prelude.proofs.Common.{chip_after_odd_write, is_complete, chip_after_ocw2, chip_after_even_write}
 use Rattle.board_prelude.proofs.Common.{chip_after_write, chip_after_read, has-levels_where, Pair, settled}
 use Rattle.board_prelude.proofs.Common.{pair_after_write, pair_after_read, pair_acknowledged, pair_acknowledged_at}
-use Rattle.board_prelude.proofs.Common.{pair_after_acknowledge, is_slave_port, is_odd_port, PortAccess, Dev, Pic0, Pic1}
-use Rattle.board_prelude.proofs.Common.{Event, Port, Ack, Reply, device_reached, pair_accessed, pair_after, is_bit}
+use Rattle.board_prelude.proofs.Common.{pair_after_acknowledge, is_slave_port, is_odd_port, PortAccess, Event, Port}
+use Rattle.board_prelude.proofs.Common.{Ack, Reply, pair_after, is_bit}
 use Rattle.device_spec.specs.Pic.{ended}
 
 -- a chip before and after a step: of its latches the step keeps these
@@ -93,14 +93,10 @@ acknowledged_keeps chip level = cleared chip (acknowledged chip level) (λ l. no
 pub acknowledged_if_keeps : (chip : Chip) (level : Option ℕ) → Keeps chip (acknowledged_if chip level)
 acknowledged_if_keeps chip level = grind (arith, nat_tests, unmoved, acknowledged_keeps)
 
-unpolled : (old chip : Chip) → Keeps old chip → Keeps old (record chip { polls = false })
-unpolled old chip is = grind (arith, nat_tests)
-
 pub read_keeps : (chip : Chip) → Keeps chip (chip_after_read chip)
 unfolding chip_after_read
 read_keeps chip =
-    by_cond (Keeps chip) chip.polls _ _ (unpolled chip (acknowledged_if chip (interrupt chip))
-    (acknowledged_if_keeps chip (interrupt chip)))
+    by_cond (Keeps chip) chip.polls _ _ (grind (arith, nat_tests, acknowledged_if_keeps chip (interrupt chip)))
     (unmoved chip)
 
 -- ---- what an event makes of the pair
@@ -126,9 +122,6 @@ module _ (P : Pair → Type 0)
   ported false access pair is =
       one_steps (is_slave_port access.port) pair _ _ (read_keeps pair.master) (read_keeps pair.slave) is
 
-  accessed : (reached : Option Dev) (access : PortAccess) (pair : Pair) → P pair → P (pair_accessed reached access pair)
-  accessed reached access pair is = grind (arith, nat_tests, ported)
-
   acknowledged_at : (pair : Pair) (level : Option ℕ) → P pair → P (pair_acknowledged_at pair level)
   acknowledged_at pair None is = is
   acknowledged_at pair (Some level) is =
@@ -138,6 +131,6 @@ module _ (P : Pair → Type 0)
 
   pub event_keeps : (event : Event) (reply : Reply) (pair : Pair) → P pair → P (pair_after event reply pair)
   unfolding pair_after_acknowledge
-  event_keeps (Port access) reply pair is = accessed (device_reached reply) access pair is
+  event_keeps (Port access) reply pair is = grind (arith, nat_tests, ported)
   event_keeps Ack reply pair is = acknowledged_at pair (interrupt pair.master) is
   event_keeps _ reply pair is = is

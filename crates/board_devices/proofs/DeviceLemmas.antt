@@ -7,20 +7,20 @@ use Rattle.board_prelude.proofs.Common.{elcr-same, map-same}
 use Rattle.board_prelude.specs.Common.{PortAccess, Dev, Pit, Ata, PitState, out_of, triggers_at_reset, Pair}
 use Rattle.board_prelude.specs.Common.{levels_at_power_on, pair_after_lines, pair_at_reset, Disk, option_map_or}
 use Rattle.board_prelude.specs.Common.{is_disk_length, Event, Port, Pulses, Wire, Line, BadSector, Reply, Entry, Setup}
-use Rattle.board_prelude.specs.Common.{IsDisk, IsDiskSize, is_free_line, reset_control, control_written, resets_hard}
-use Rattle.board_prelude.specs.Common.{is_hard_reset, plain_at_reset, device_reached, wire_set, wire_of, line_set}
-use Rattle.board_prelude.specs.Common.{irq_of, triggers_after, triggers_of, plain_after, plain_of, timer_after}
-use Rattle.board_prelude.specs.Common.{timer_of, clock_after, clock_of, disk_after, disk_with, disk_of, routes_of}
-use Rattle.board_prelude.specs.Common.{pirq_levels, own_level, level_with, all_lines, levels_with, levels_of, elcr_of}
-use Rattle.board_prelude.specs.Common.{device_value, pair_after, pair_reset_or_after, pair_stepped, pair_of, after_bad}
-use Rattle.board_prelude.specs.Common.{byte_of, config_store, is_line_driven, list_any, is_interrupt, config_address}
+use Rattle.board_prelude.specs.Common.{IsDisk, IsDiskSize, is_free_line, is_hard_reset, plain_at_reset, device_reached}
+use Rattle.board_prelude.specs.Common.{wire_set, wire_of, line_set, irq_of, triggers_after, triggers_of, plain_after}
+use Rattle.board_prelude.specs.Common.{plain_of, timer_after, timer_of, clock_after, clock_of, disk_after, disk_with}
+use Rattle.board_prelude.specs.Common.{disk_of, routes_of, pirq_levels, own_level, level_with, all_lines, levels_with}
+use Rattle.board_prelude.specs.Common.{levels_of, elcr_of, device_value, pair_after, pair_reset_or_after, pair_stepped}
+use Rattle.board_prelude.specs.Common.{pair_of, after_bad, byte_of, config_store, is_line_driven, list_any}
+use Rattle.board_prelude.specs.Common.{is_interrupt, config_address}
 use Rattle.std.proofs.Common.{◌≡◌, ℕ, ◌<◌, ◌≤◌, Bool, true, false, ◌||◌, ◌&&◌, List, [], ◌∷◌, Option, Some, None}
 use Rattle.std.proofs.Common.{length, get_or, refl, sym, ◌∙◌, ap, subst, arith, ◌*◌, ◌/◌, ◌%◌, replicate, eq-eqb}
 use Rattle.std.proofs.Common.{ne_eqb, get_or-set_same, get_or-set_other, length-set, ◌↔◌, Result, Err, ◌==◌, unwrap_or}
 use Rattle.std.proofs.Common.{map, option_map, slice_index_or, slice_set, if◌then◌else◌}
-use Rattle.board_devices.specs.Common.{LeavesDevices, DevicesValue, AreIrqsOf, AreAfter, AreDevicesOf, ReachesDevice}
-use Rattle.board_devices.specs.Common.{Asks, is_chip, PassesBy, Leaves, value_read, after_read, after_write}
-use Rattle.board_devices.specs.Common.{devices_accessed, driven, fitted_accessed, level_driven}
+use Rattle.board_devices.specs.Common.{LeavesDevices, DevicesValue, AreIrqsOf, AreRoutesOf, AreAfter, AreDevicesOf}
+use Rattle.board_devices.specs.Common.{ReachesDevice, Asks, is_chip, PassesBy, Leaves, value_read, after_read}
+use Rattle.board_devices.specs.Common.{after_write, devices_accessed, driven, fitted_accessed, level_driven}
 use Rattle.ata_pio.specs.declared.ata.AtaOpen.{AtaOpen}
 use Rattle.board_base.specs.declared.target.Dev.TheVariants.{Clock}
 use Rattle.device_spec.specs.Clock.{interrupt_line, power_on as clock_at_power_on}
@@ -56,12 +56,14 @@ with_pair setup history devices pair is = grind (arith, nat_tests)
 
 -- ---- levels from outside
 
+-- a place is the one that is set, or another
+ruleset set_levels = (cases_eq, eq-eqb, get_or-set_same, ne_eqb, get_or-set_other)
+
 -- a level that was set at one place
 level_set : (levels : List Bool) (at n : ℕ) (on : Bool) → at < length levels →
     slice_index_or (slice_set levels at on) n false
     ≡ unwrap_or (if at == n then Some on else None) (slice_index_or levels n false)
-level_set levels at n on below =
-    grind (arith, nat_tests, common_steps, cases_eq, eq-eqb, get_or-set_same, ne_eqb, get_or-set_other)
+level_set levels at n on below = grind (arith, nat_tests, common_steps, set_levels)
 
 -- the lines that can be set are below 16
 free_low : (line : ℕ) → is_free_line line ≡ true → line < 16
@@ -72,8 +74,7 @@ free_set : (irqs : List Bool) (at line : ℕ) (on was : Bool) → is_free_line a
     slice_index_or irqs line false ≡ (is_free_line line && was) →
     slice_index_or (slice_set irqs at on) line false
     ≡ (is_free_line line && unwrap_or (if at == line then Some on else None) was)
-free_set irqs at line on was free size low is =
-    grind (arith, nat_tests, common_steps, cases_eq, eq-eqb, get_or-set_same, ne_eqb, get_or-set_other)
+free_set irqs at line on was free size low is = grind (arith, nat_tests, common_steps, set_levels)
 
 abbrev wires_after : Event → List Bool → List Bool
 wires_after (Wire dev on) wires = slice_set wires dev on
@@ -89,27 +90,12 @@ HasRoom (Wire dev on) devices = dev < length devices.wires
 HasRoom (Line irq on) devices = (is_free_line irq ≡ true) × (length devices.irqs ≡ 16)
 HasRoom _ devices = Unit {0}
 
-wire_stepped : (event : Event) (devices : DevicesValue) (n : ℕ) (was : Bool) → HasRoom event devices →
-    slice_index_or devices.wires n false ≡ was →
-    slice_index_or (wires_after event devices.wires) n false ≡ unwrap_or (wire_set n event) was
-wire_stepped event devices n was room is = grind (arith, nat_tests, level_set)
-
-irq_stepped : (event : Event) (devices : DevicesValue) (line : ℕ) (was : Bool) → HasRoom event devices →
-    slice_index_or devices.irqs line false ≡ (is_free_line line && was) →
-    slice_index_or (irqs_after event devices.irqs) line false
-    ≡ (is_free_line line && unwrap_or (line_set line event) was)
-irq_stepped event devices line was room is = grind (arith, nat_tests, free_set, free_low)
-
 -- ---- the disk, where one is fitted
 
 abbrev fitted_after : Event → Reply → Option Disk → Option Disk
 fitted_after (Port access) reply disk = fitted_accessed (device_reached reply) access disk
 fitted_after (BadSector sector) reply disk = option_map (λ disk. after_bad sector disk) disk
 fitted_after _ reply disk = disk
-
-fitted_stepped : (event : Event) (reply : Reply) (disk : Option Disk) →
-    fitted_after event reply disk ≡ option_map (λ disk. disk_after event reply disk) disk
-fitted_stepped event reply disk = grind (arith, nat_tests)
 
 -- ---- the devices after an entry that is no hard reset
 
@@ -127,28 +113,21 @@ devices_after event reply devices = record {
 }
 
 module _ (setup : Setup) (history : List Entry) (entry : Entry) (soft : is_hard_reset history entry.event ≡ false) where
-  disk_soft : (fitted : Option (List ℕ)) →
-      option_map (λ disk. disk_after entry.event entry.reply disk)
-      (option_map (λ bytes. disk_with bytes history) fitted)
-      ≡ option_map (λ bytes. disk_with bytes (entry ∷ history)) fitted
-  unfolding disk_with
-  disk_soft fitted = grind (arith, nat_tests)
-
   -- what the entry leaves of all of them
   others_soft : (devices : DevicesValue) → HasRoom entry.event devices → AreAfter setup history devices →
       AreAfter setup (entry ∷ history) (devices_after entry.event entry.reply devices)
-  unfolding timer_of clock_of triggers_of plain_of wire_of irq_of
+  unfolding timer_of clock_of triggers_of plain_of wire_of irq_of disk_with
   others_soft devices room are = record {
     timer = rw soft (ap (λ t. timer_after entry.event entry.reply t) are.timer);
     clock = rw soft (ap (λ t. clock_after entry.event entry.reply t) are.clock);
     disk =
-        fitted_stepped entry.event entry.reply devices.disk
+        (grind (arith, nat_tests))
         ∙ (ap (λ (d : Option Disk). option_map (λ disk. disk_after entry.event entry.reply disk) d) are.disk
-        ∙ disk_soft setup.disk);
+        ∙ (grind (arith, nat_tests)));
     triggers = rw soft (ap (λ t. triggers_after entry.event entry.reply t) are.triggers);
     plain = rw soft (ap (λ t. plain_after entry.event entry.reply t) are.plain);
-    wires = λ n low high. wire_stepped entry.event devices n (wire_of history n) room (are.wires n low high);
-    irqs = λ line below. irq_stepped entry.event devices line (irq_of history line) room (are.irqs line below);
+    wires = λ n low high. grind (arith, nat_tests, level_set, are.wires n low high);
+    irqs = λ line below. grind (arith, nat_tests, free_set, free_low, are.irqs line below);
   }
 
   pub pair_soft : NotPulses entry.event → pair_of setup (entry ∷ history) ≡ lined setup (entry ∷ history)
@@ -163,31 +142,37 @@ pub settled_as : (setup : Setup) (history : List Entry) (before after : DevicesV
     pair_of setup history ≡ lined setup history before.pair → AreDevicesOf setup history after
 settled_as setup history before after are others seen pair = grind (arith, nat_tests)
 
-module _ (setup : Setup) (history : List Entry) (entry : Entry) (event : Event) (asks : Asks history entry event) where
+pair_asked : (setup : Setup) {history : List Entry} {entry : Entry} {event : Event} → Asks history entry event →
+    NotPulses event → pair_of setup (entry ∷ history) ≡ lined setup (entry ∷ history)
+    (pair_after event entry.reply (pair_of setup history))
+pair_asked setup asks not = grind (arith, nat_tests, common_steps, pair_of, pair_after, pair_soft)
+
+module _ {setup : Setup} {history : List Entry} {entry : Entry} {event : Event} (asks : Asks history entry event) where
   pub others_asked : (devices : DevicesValue) → HasRoom event devices → AreAfter setup history devices →
       AreAfter setup (entry ∷ history) (devices_after event entry.reply devices)
   others_asked devices room are =
       subst (λ (e : Event). HasRoom e devices → AreAfter setup (entry ∷ history) (devices_after e entry.reply devices))
       asks.event_is (λ room. others_soft setup history entry asks.soft devices room are) room
 
-  pub pair_asked : NotPulses event → pair_of setup (entry ∷ history) ≡ lined setup (entry ∷ history)
-      (pair_after event entry.reply (pair_of setup history))
-  pair_asked not = grind (arith, nat_tests, common_steps, pair_of, pair_after, pair_soft)
-
   -- the lines then reach the pair: the devices are those of the history with the entry
-  pub lined_as : NotPulses event → (old between after : DevicesValue) → HasRoom event old →
-      AreDevicesOf setup history old → between ≡ devices_after event entry.reply old →
+  pub lined_as : {old between after : DevicesValue} {routes : List ℕ} → AreDevicesOf setup history old →
+      NotPulses event → HasRoom event old → between ≡ devices_after event entry.reply old →
       after ≡ record between { pair = after.pair } →
-      (AreAfter setup (entry ∷ history) between → after.pair ≡ lined setup (entry ∷ history) between.pair) →
-      AreDevicesOf setup (entry ∷ history) after
-  lined_as not old between after room is made kept seen =
-      grind (arith, nat_tests, common_steps, others_asked, room, pair_after, pair_of, settled_as, pair_asked)
+      ((setup : Setup) (history : List Entry) → AreAfter setup history between → AreRoutesOf setup history routes →
+      after.pair ≡ lined setup history between.pair) →
+      AreRoutesOf setup (entry ∷ history) routes → AreDevicesOf setup (entry ∷ history) after
+  lined_as {old} {between} {after} are not room made kept seen routes =
+      let lines : AreAfter setup (entry ∷ history) between → after.pair ≡ lined setup (entry ∷ history) between.pair =
+      λ others. seen setup (entry ∷ history) others routes in
+      let whole = pair_asked setup asks not in
+      grind (arith, nat_tests, common_steps, others_asked, room, pair_after, pair_of, settled_as, whole)
 
   -- no line can have moved, so that the lines do not reach the pair
   pub stood_as : pair_of setup (entry ∷ history) ≡ pair_after event entry.reply (pair_of setup history) →
-      (old after : DevicesValue) → HasRoom event old → AreDevicesOf setup history old →
+      {old after : DevicesValue} → AreDevicesOf setup history old → HasRoom event old →
       after ≡ devices_after event entry.reply old → AreDevicesOf setup (entry ∷ history) after
-  stood_as stands old after room is made = grind (arith, nat_tests, common_steps, others_asked, room, pair_after)
+  stood_as stands {old} {after} are room made =
+      grind (arith, nat_tests, common_steps, others_asked, room, pair_after)
 
 -- ---- an access at a port of a device
 
@@ -251,18 +236,7 @@ pub own_levels : (setup : Setup) (history : List Entry) (irqs : List Bool) (time
     slice_index_or (slice_set (slice_set (slice_set irqs 0 timer) 8 clock) 14 disk) line false ≡ own_level setup history
     (timer_of history) line
 own_levels setup history irqs timer clock disk line size timer_is clock_is disk_is are below =
-    grind (
-      arith,
-      nat_tests,
-      common_steps,
-      slice_set,
-      length-set,
-      cases_eq,
-      line,
-      get_or-set_same,
-      get_or-set_other,
-      ne_eqb,
-    )
+    grind (arith, nat_tests, common_steps, slice_set, length-set, line, set_levels)
 
 -- ---- the devices that a history leaves
 
@@ -300,11 +274,6 @@ pub record Stays (setup : Setup) (history : List Entry) (entry : Entry) : Type 0
   pub level : (dev : Dev) → level_driven dev setup (entry ∷ history) ≡ level_driven dev setup history
   pub triggers : triggers_of (entry ∷ history) ≡ triggers_of history
 
--- devices that are those before the entry and after it
-pub stays_as : (setup : Setup) (history : List Entry) (entry : Entry) (devices : DevicesValue) →
-    AreAfter setup history devices → AreAfter setup (entry ∷ history) devices → Stays setup history entry
-stays_as setup history entry devices before after = grind (arith, nat_tests)
-
 any-same : (p q : ℕ → Bool) (xs : List ℕ) → ((x : ℕ) → p x ≡ q x) → list_any p xs ≡ list_any q xs
 any-same p q [] same = refl
 any-same p q (x ∷ xs) same =
@@ -321,26 +290,21 @@ module _ (setup : Setup) (history : List Entry) (entry : Entry) (sets : SetsNoLe
   unfolding wire_of
   wire_stays dev = rw (sets.wire dev) refl
 
-  irq_stays : (line : ℕ) → irq_of (entry ∷ history) line ≡ irq_of history line
-  unfolding irq_of
-  irq_stays line = rw (sets.line line) refl
-
-  pins_stand : pirq_levels (entry ∷ history) ≡ pirq_levels history
-  pins_stand = grind (arith, nat_tests, common_steps, map-same, any-same, wire_stays)
-
   level_stands : Stays setup history entry → routes_of setup (entry ∷ history) ≡ routes_of setup history → (line : ℕ) →
       level_with setup (entry ∷ history) (timer_of (entry ∷ history)) line
       ≡ level_with setup history (timer_of history) line
+  unfolding irq_of
   level_stands stays routes line =
       let timer = stays.level Pit in
       let clock = stays.level Clock in
       let disk = stays.level Ata in
       let free : (is_free_line line && irq_of (entry ∷ history) line) ≡ (is_free_line line && irq_of history line) =
-      ap (λ (b : Bool). is_free_line line && b) (irq_stays line) in
+      ap (λ (b : Bool). is_free_line line && b) (rw (sets.line line) refl) in
       let driven : is_line_driven (routes_of setup (entry ∷ history)) (pirq_levels (entry ∷ history)) line
       ≡ is_line_driven (routes_of setup history) (pirq_levels history) line =
       ap (λ (routes : List ℕ). is_line_driven routes (pirq_levels (entry ∷ history)) line) routes
-      ∙ ap (λ (levels : List Bool). is_line_driven (routes_of setup history) levels line) pins_stand in
+      ∙ ap (λ (levels : List Bool). is_line_driven (routes_of setup history) levels line)
+      (grind (arith, nat_tests, common_steps, map-same, any-same, wire_stays)) in
       rw (timer, clock, disk, free, driven) refl
 
   -- the lines reach the pair as they did before it
@@ -384,15 +348,14 @@ leaves_devices setup history entry devices are leaves routes =
     let asks = left_asks leaves in
     let sets = left_levels leaves in
     let after : AreAfter setup (entry ∷ history) devices =
-    subst (λ (d : DevicesValue). AreAfter setup (entry ∷ history) d) (sym (left_as leaves devices))
-    (others_asked setup history entry entry.event asks devices (sets.room devices) are.others) in
+    rw (left_as leaves devices) (others_asked asks devices (sets.room devices) are.others) in
     let made : pair_after entry.event entry.reply devices.pair ≡ devices.pair =
     ap (λ (d : DevicesValue). d.pair) (sym (left_as leaves devices)) in
     record {
       others = after;
       pair =
-          sym (pair_asked setup history entry entry.event asks sets.still
-          ∙ (lines_stand setup history entry sets (stays_as setup history entry devices are.others after) routes
+          sym (pair_asked setup asks sets.still
+          ∙ (lines_stand setup history entry sets (grind (arith, nat_tests, are.others)) routes
           (pair_after entry.event entry.reply (pair_of setup history))
           ∙ (ap (λ pair. lined setup history (pair_after entry.event entry.reply pair)) (sym are.pair)
           ∙ (ap (lined setup history) made
@@ -402,19 +365,9 @@ leaves_devices setup history entry devices are leaves routes =
 -- ---- a hard reset
 
 module _ (setup : Setup) (history : List Entry) (entry : Entry) (hard : is_hard_reset history entry.event ≡ true) where
-  disk_hard : (fitted : Option (List ℕ)) →
-      option_map (λ disk. disk_after_reset disk) (option_map (λ bytes. disk_with bytes history) fitted)
-      ≡ option_map (λ bytes. disk_with bytes (entry ∷ history)) fitted
-  unfolding disk_with
-  disk_hard fitted = grind (arith, nat_tests)
-
   -- an event that resets is an access at a port, which sets no level
-  resets_by_port : (event : Event) → resets_hard (reset_control history) (control_written event) ≡ true →
-      SetsNoLevel event
-  resets_by_port event is = grind (arith, nat_tests)
-
   no_level : SetsNoLevel entry.event
-  no_level = resets_by_port entry.event hard
+  no_level = grind (arith, nat_tests)
 
   pub reset_after : (devices after : DevicesValue) → AreAfter setup history devices →
       after ≡ record devices {
@@ -424,19 +377,19 @@ module _ (setup : Setup) (history : List Entry) (entry : Entry) (hard : is_hard_
         triggers = triggers_at_reset;
         plain = plain_at_reset;
       } → AreAfter setup (entry ∷ history) after
-  unfolding timer_of clock_of triggers_of plain_of
+  unfolding timer_of clock_of triggers_of plain_of irq_of disk_with
   reset_after devices after are is =
-      subst (λ (d : DevicesValue). AreAfter setup (entry ∷ history) d) (sym is)
-      (record {
+      rw is (record {
         timer = rw hard refl;
         clock = rw hard (ap (λ t. clock_after_reset t) are.clock);
-        disk = ap (λ (d : Option Disk). option_map (λ disk. disk_after_reset disk) d) are.disk ∙ disk_hard setup.disk;
+        disk = ap (λ (d : Option Disk). option_map (λ disk. disk_after_reset disk) d) are.disk ∙
+            (grind (arith, nat_tests));
         triggers = rw hard refl;
         plain = rw hard refl;
         wires = λ dev low high. are.wires dev low high ∙ sym (wire_stays setup history entry no_level dev);
         irqs = λ line below.
             are.irqs line below
-            ∙ ap (λ (on : Bool). is_free_line line && on) (sym (irq_stays setup history entry no_level line));
+            ∙ ap (λ (on : Bool). is_free_line line && on) (sym (rw (no_level.line line) refl));
       })
 
   pub reset_pair : pair_of setup (entry ∷ history)

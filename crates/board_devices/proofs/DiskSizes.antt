@@ -2,9 +2,9 @@
 use Rattle.board_prelude.proofs.Common.{common_steps, nat_tests, PortAccess, Dev, Ata, Width, One, Setup, Disk, IsDisk}
 use Rattle.board_prelude.proofs.Common.{IsDiskSize, disk_with, disk_of}
 use Rattle.std.proofs.Common.{◌≡◌, ℕ, ◌*◌, ◌/◌, ◌%◌, Bool, true, false, cond, eqb, List, [], length, Option, Some, None}
-use Rattle.std.proofs.Common.{refl, sym, ◌∙◌, ap, arith, option_map, length-set}
+use Rattle.std.proofs.Common.{refl, ◌∙◌, arith, option_map, length-set}
 use Rattle.device_spec.proofs.Common.{Two, Four, length-replicate, Activity, sectors_of, is_drq, bytes_written}
-use Rattle.device_spec.proofs.Common.{activity_written, word_written, byte_written, disk_status_port}
+use Rattle.device_spec.proofs.Common.{activity_written, word_written}
 use Rattle.device_spec.specs.Ata.Steps.{after_read as disk_after_read, after_write as disk_after_write, after_bad}
 use Rattle.board_devices.specs.Devices.{DevicesValue, HasDisk, sectors_fitted}
 use Rattle.board_devices.specs.Steps.{after_read, after_write, devices_accessed, fitted_accessed}
@@ -32,12 +32,9 @@ unfolding word_written
 word_written-has word disk =
     grind (arith, nat_tests, common_steps, either_has, sectors_of, is_drq, activity_written-has)
 
-byte_written-has : (port byte : ℕ) (disk : Disk) → HasSectors (sectors_of disk.medium) (byte_written port byte disk)
-byte_written-has port byte disk = grind (arith, nat_tests)
-
 written_has : (port : ℕ) (width : Width) (value : ℕ) (disk : Disk) →
     HasSectors (sectors_of disk.medium) (disk_after_write port width value disk)
-written_has port One value disk = byte_written-has port (value % 256) disk
+written_has port One value disk = grind (arith, nat_tests)
 written_has port Two value disk = word_written-has (value % 65536) disk
 written_has port Four value disk =
     word_written-has (value / 65536) (word_written (value % 65536) disk) ∙ word_written-has (value % 65536) disk
@@ -78,9 +75,6 @@ has_opened : (bytes : List ℕ) → IsDiskSize (length bytes) →
 unfolding disk_with
 has_opened bytes is = grind (arith, nat_tests, common_steps, sectors_of, disk_with, length-replicate)
 
-fitted_opened : (disk : Option (List ℕ)) → IsDisk disk → HasDisk disk (option_map (λ bytes. disk_with bytes []) disk)
-fitted_opened disk is = grind (arith, nat_tests, has_opened)
-
 pub opened_has : (setup : Setup) (devices : DevicesValue) → IsDisk setup.disk → devices.disk ≡ disk_of setup [] →
     HasDisk setup.disk devices.disk
-opened_has setup devices is opened = rw opened (fitted_opened setup.disk is)
+opened_has setup devices is opened = rw opened (grind (arith, nat_tests, has_opened))

@@ -37,17 +37,9 @@ settled_fresh pair is = record { fresh = settled_stale pair ∙ is.fresh }
 
 -- ---- what an event leaves fresh
 
-edge_fresh : (latch before now : Bool) → (latch && not before) ≡ false →
-    (((latch || (now && not before)) && not (before && not now)) && not now) ≡ false
-edge_fresh latch before now h = grind (arith, nat_tests)
-
-inputs_fresh : (chip : Chip) (inputs triggers : Levels) → is_stale chip ≡ false →
-    is_stale (chip_after_inputs chip inputs triggers) ≡ false
-unfolding levels_where
-inputs_fresh chip inputs triggers h = edge_fresh (has chip.latches 0) (has chip.inputs 0) (has inputs 0) h
-
 pub lines_fresh : (pair : Pair) (levels : List Bool) (elcr : ℕ) → IsFresh pair →
     IsFresh (pair_after_lines pair levels elcr)
+unfolding levels_where
 lines_fresh pair levels elcr is =
     let low = master_inputs (take 8 levels) in
     let triggers = master_inputs (levels_of_byte (elcr % 256)) in
@@ -56,15 +48,11 @@ lines_fresh pair levels elcr is =
       master = chip_after_inputs pair.master low triggers;
       slave = chip_after_inputs pair.slave (drop 8 levels) (levels_of_byte (elcr / 256));
     })
-    (record { fresh = inputs_fresh pair.master low triggers is.fresh })
-
-fewer_fresh : (kept latch before : Bool) → (latch && not before) ≡ false → ((kept && latch) && not before) ≡ false
-fewer_fresh kept latch before h = grind (arith, nat_tests)
+    (record { fresh = (grind (arith, nat_tests, is.fresh)) })
 
 -- a step of the chip itself makes no latch stale
 keeps_fresh : (old new : Chip) → Keeps old new → is_stale old ≡ false → is_stale new ≡ false
-keeps_fresh old new keeps h =
-    rw (keeps.latches 0 (lit< tt), keeps.inputs) (fewer_fresh (keeps.kept 0) (has old.latches 0) (has old.inputs 0) h)
+keeps_fresh old new keeps h = rw (keeps.latches 0 (lit< tt), keeps.inputs) (grind (arith, nat_tests))
 
 -- nor does what follows it
 steps_fresh : (old new : Pair) → Keeps old.master new.master → Keeps old.slave new.slave → IsFresh old →
@@ -91,13 +79,6 @@ same_above (x ∷ rest) l h = grind (arith, nat_tests, common_steps, has-levels_
 abbrev after_at : Bool → Bool → Bool → Bool
 after_at latch before now = (latch || (now && not before)) && not (before && not now)
 
-stays_put : (latch now : Bool) → after_at latch now now ≡ latch
-stays_put latch now = grind (arith, nat_tests)
-
-rises_and_falls : (latch input : Bool) → (latch && not input) ≡ false →
-    after_at (after_at latch input true) true false ≡ after_at latch input false
-rises_and_falls latch input h = grind (arith, nat_tests)
-
 module _ (rest : List Bool) (latches inputs : Levels) (fresh : (has latches 0 && not (has inputs 0)) ≡ false) where
   abbrev high_at : Levels
   high_at = master_inputs (take 8 (true ∷ rest))
@@ -115,9 +96,8 @@ module _ (rest : List Bool) (latches inputs : Levels) (fresh : (has latches 0 &&
 
   base : (l : ℕ) → l < 8 → after_at (after_at (has latches l) (has inputs l) (has high_at l)) (has high_at l)
       (has low_at l) ≡ after_at (has latches l) (has inputs l) (has low_at l)
-  base zero h = rw (first_high, first_low) (rises_and_falls (has latches 0) (has inputs 0) fresh)
-  base (suc l) h = rw (same_above (true ∷ rest) l h)
-      (stays_put (after_at (has latches (suc l)) (has inputs (suc l)) (has low_at (suc l))) (has low_at (suc l)))
+  base zero h = rw (first_high, first_low) (grind (arith, nat_tests))
+  base (suc l) h = rw (same_above (true ∷ rest) l h) (grind (arith, nat_tests))
 
   forgets : latches_after (latches_after latches inputs high_at) high_at low_at ≡ latches_after latches inputs low_at
   forgets = levels_where-same _ _
@@ -253,19 +233,14 @@ pulsed_fresh setup history (suc k) pair is =
     lines_fresh (pair_pulsed setup history k pair) (levels_with setup history (pulses (suc k) (timer_of history)))
     (elcr_of history) (pulsed_fresh setup history k pair is)
 
-other_fresh : (setup : Setup) (entry : Entry) (before : List Entry) (pair : Pair) → IsFresh pair →
-    IsFresh (pair_after_lines (pair_reset_or_after setup entry before pair) (levels_of setup (entry ∷ before))
-    (elcr_of (entry ∷ before)))
-other_fresh setup entry before pair is =
+stepped_fresh : (setup : Setup) (entry : Entry) (before : List Entry) (event : Event) (pair : Pair) → IsFresh pair →
+    IsFresh (pair_stepped setup entry before event pair)
+stepped_fresh setup entry before (Pulses count) pair is = pulsed_fresh setup before count pair is
+stepped_fresh setup entry before _ pair is =
     lines_fresh (pair_reset_or_after setup entry before pair) (levels_of setup (entry ∷ before))
     (elcr_of (entry ∷ before))
     (by_cond IsFresh (is_hard_reset before entry.event) _ _ (reset_fresh (levels_of setup (entry ∷ before)))
     (event_keeps IsFresh steps_fresh entry.event entry.reply pair is))
-
-stepped_fresh : (setup : Setup) (entry : Entry) (before : List Entry) (event : Event) (pair : Pair) → IsFresh pair →
-    IsFresh (pair_stepped setup entry before event pair)
-stepped_fresh setup entry before (Pulses count) pair is = pulsed_fresh setup before count pair is
-stepped_fresh setup entry before _ pair is = other_fresh setup entry before pair is
 
 pub always_fresh : (setup : Setup) (history : List Entry) → IsFresh (pair_of setup history)
 unfolding pair_of
@@ -287,12 +262,12 @@ same_run : (levels lines : List Bool) (elcr bits n m : ℕ) (out level : Bool) (
 same_run levels lines elcr bits n m out level pair same a b c d e = rw (a, b, c, d, e) refl
 
 -- no route moves
-pub routes_pulsed : (setup : Setup) (history : List Entry) (entry : Entry) (count : ℕ) →
+pub routes_pulsed : (setup : Setup) {history : List Entry} {entry : Entry} {count : ℕ} →
     Asks history entry (Pulses count) → routes_of setup (entry ∷ history) ≡ routes_of setup history
-routes_pulsed setup history entry count asks = routes_stand setup history entry asks.soft (rw asks.event_is refl)
+routes_pulsed setup {history} {entry} asks = routes_stand setup history entry asks.soft (rw asks.event_is refl)
 
 -- `run` are the devices whose timer alone ran
-module _ (setup : Setup) (history : List Entry) (entry : Entry) (old run : DevicesValue) (count : ℕ)
+module _ {setup : Setup} {history : List Entry} {entry : Entry} {old run : DevicesValue} {count : ℕ}
     (are : AreDevicesOf setup history old) (asks : Asks history entry (Pulses count))
     (is : run ≡ record old { timer = pulses count old.timer }) where
   abbrev stood : List Bool
@@ -306,9 +281,6 @@ module _ (setup : Setup) (history : List Entry) (entry : Entry) (old run : Devic
 
   abbrev saw : Pair
   saw = pair_of setup history
-
-  timer_is : pulses count old.timer ≡ after
-  timer_is = ap (λ (t : PitState). pulses count t) are.others.timer
 
   pair_is : run.pair ≡ saw
   pair_is = ap (λ (d : DevicesValue). d.pair) is ∙ are.pair
@@ -325,9 +297,7 @@ module _ (setup : Setup) (history : List Entry) (entry : Entry) (old run : Devic
 
   -- all but the pair
   pub after_run : AreAfter setup (entry ∷ history) run
-  after_run =
-      subst (λ (d : DevicesValue). AreAfter setup (entry ∷ history) d) (sym is)
-      (others_asked setup history entry (Pulses count) asks old tt are.others)
+  after_run = rw is (others_asked asks old tt are.others)
 
   whole : (devices : DevicesValue) → devices ≡ record run { pair = devices.pair } →
       devices.pair ≡ pair_pulsed setup history count saw →
@@ -335,13 +305,13 @@ module _ (setup : Setup) (history : List Entry) (entry : Entry) (old run : Devic
   whole devices others pair = grind (arith, nat_tests, common_steps, with_pair, after_run, pair-pulsed)
 
   -- the lines then reach the pair
-  pub gave : (devices : DevicesValue) (rose : ℕ) (out : Bool) → rose ≡ rises count old.timer →
+  pub gave : {devices : DevicesValue} {rose : ℕ} {out : Bool} → rose ≡ rises count old.timer →
       out ≡ out_of 0 (pulses count old.timer) →
       devices ≡ record run { pair = devices.pair } →
       devices.pair ≡ pair_after_run (levels_of setup (entry ∷ history)) (elcr_of (entry ∷ history))
       (nat_lt 0 rose) out run.pair →
       AreDevicesOf setup (entry ∷ history) devices
-  gave devices rose out rose_is out_is others lined =
+  gave {devices} {rose} {out} rose_is out_is others lined =
       let lines : levels_of setup (entry ∷ history) ≡ slice_set stood 0 (out_of 0 after) =
       ap (λ (t : PitState). levels_with setup (entry ∷ history) t) (timer-pulsed history entry count asks.event_is)
       ∙ (levels-pulsed setup history entry count after asks.event_is
@@ -352,7 +322,7 @@ module _ (setup : Setup) (history : List Entry) (entry : Entry) (old run : Devic
       (lined
       ∙ (same_run _ _ _ _ rose (rises count before) out (out_of 0 after) run.pair saw lines bits
       (rose_is ∙ ap (λ (t : PitState). rises count t) are.others.timer)
-      (out_is ∙ ap (λ (t : PitState). out_of 0 t) timer_is)
+      (out_is ∙ ap (λ (t : PitState). out_of 0 (pulses count t)) are.others.timer)
       pair_is
       ∙ (run_again stood (elcr_of history) (out_of 0 after) (nat_lt 0 (rises count before)) (out_of 0 after) saw
       ∙ sym ran)))
@@ -367,6 +337,7 @@ module _ (setup : Setup) (history : List Entry) (entry : Entry) (old run : Devic
       ∙ (same_run stood stood (elcr_of history) (elcr_of history) (rises count before) 0 (out_of 0 after)
       (out_of 0 before) saw saw refl refl
       (sym (ap (λ (t : PitState). rises count t) are.others.timer) ∙ none)
-      (sym (ap (λ (t : PitState). out_of 0 t) timer_is) ∙ (same ∙ ap (λ (t : PitState). out_of 0 t) are.others.timer))
+      (sym (ap (λ (t : PitState). out_of 0 (pulses count t)) are.others.timer)
+      ∙ (same ∙ ap (λ (t : PitState). out_of 0 t) are.others.timer))
       refl
       ∙ seen)))

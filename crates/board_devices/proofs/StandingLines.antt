@@ -1,13 +1,13 @@
 -- Events that move no line: the lines reach the pair as it saw them, and leave it.
 use Rattle.board_prelude.proofs.Common.{common_steps, cases_Bool, and-true, and-false, nat_tests, is_bit, Levels, has}
-use Rattle.board_prelude.proofs.Common.{levels_of_byte, levels_where-same, Chip, interrupt, latches_after}
-use Rattle.board_prelude.proofs.Common.{chip_after_inputs, Pair, settled, master_inputs, pair_after_lines, same-levels}
-use Rattle.board_prelude.proofs.Common.{settled-asks, settled-quiet, PortAccess, Dev, System, bytes_of, PitState}
-use Rattle.board_prelude.proofs.Common.{out_of, set_gate2, port_read, Event, Port, Ack, Entry, Setup, is_hard_reset}
-use Rattle.board_prelude.proofs.Common.{is_config_port, timer_accessed, triggers_of, config_store, levels_of, elcr_of}
-use Rattle.board_prelude.proofs.Common.{pair_accessed, pair_after, pair_of, pair_has_seen, Triggers, triggers_accessed}
-use Rattle.std.proofs.Common.{◌≡◌, ℕ, ◌/◌, ◌%◌, ◌&&◌, ◌||◌, not, Bool, true, false, List, ◌∷◌, Option, Some, None}
-use Rattle.std.proofs.Common.{length, take, drop, refl, sym, ap, subst, ◌∙◌, is_some, arith}
+use Rattle.board_prelude.proofs.Common.{levels_of_byte, levels_where-same, Chip, interrupt, chip_after_inputs, Pair}
+use Rattle.board_prelude.proofs.Common.{settled, master_inputs, pair_after_lines, same-levels, settled-asks}
+use Rattle.board_prelude.proofs.Common.{settled-quiet, PortAccess, Dev, System, bytes_of, PitState, out_of, set_gate2}
+use Rattle.board_prelude.proofs.Common.{port_read, Event, Port, Ack, Entry, Setup, is_hard_reset, is_config_port}
+use Rattle.board_prelude.proofs.Common.{timer_accessed, config_store, levels_of, elcr_of, pair_accessed, pair_after}
+use Rattle.board_prelude.proofs.Common.{pair_of, pair_has_seen}
+use Rattle.std.proofs.Common.{◌≡◌, ℕ, ◌/◌, ◌%◌, ◌&&◌, Bool, true, false, List, ◌∷◌, Option, Some, None, length, take}
+use Rattle.std.proofs.Common.{drop, refl, sym, ap, subst, ◌∙◌, is_some, arith}
 use Rattle.device_spec.specs.Pit.{Access, CounterState, read, read_live}
 use Rattle.device_spec.proofs.Common.{levels_where-has}
 use Rattle.board_spec.specs.Registers.{config_address}
@@ -15,9 +15,9 @@ use Rattle.board_devices.specs.Common.{DevicesValue, AreAfter, AreDevicesOf, dri
 use Rattle.board_devices.specs.Common.{AccessLeavesLines, StillLeavesLines, AcknowledgeLeavesLines, is_chip_port}
 use Rattle.board_devices.specs.Common.{moves_lines, ReachesDevice, devices_accessed}
 use Rattle.board_devices.proofs.ChipSteps.{Keeps, eight, same_chips, event_keeps}
-use Rattle.board_devices.proofs.DeviceLemmas.{stood_as, pair_soft, with_pair, SetsNoLevel, Stays, stays_as, passing}
-use Rattle.board_devices.proofs.DeviceLemmas.{lines_stand, routes_stand, others_asked, port_asked, reached_as}
-use Rattle.board_devices.proofs.DeviceLemmas.{devices_after, devices_of, they_are, driven_is}
+use Rattle.board_devices.proofs.DeviceLemmas.{stood_as, pair_soft, with_pair, SetsNoLevel, Stays, passing, lines_stand}
+use Rattle.board_devices.proofs.DeviceLemmas.{routes_stand, others_asked, port_asked, reached_as, devices_after}
+use Rattle.board_devices.proofs.DeviceLemmas.{devices_of, they_are, driven_is}
 
 -- ---- a chip whose inputs stand
 
@@ -27,27 +27,16 @@ record Holds (inputs triggers : Levels) (chip : Chip) : Type 0 where
   triggers_are : chip.triggers ≡ triggers
   whole : length chip.latches ≡ 8
 
-no_edge : (latch level : Bool) → ((latch || (level && not level)) && not (level && not level)) ≡ latch
-no_edge latch level = grind (arith, nat_tests)
-
-latches_stay : (latches inputs : Levels) → length latches ≡ 8 → latches_after latches inputs inputs ≡ latches
-latches_stay latches inputs whole =
-    levels_where-same _ (λ l. has latches l) (λ l small. no_edge (has latches l) (has inputs l))
-    ∙ levels_where-has latches whole
-
 -- given once more they change nothing
 given_again : (chip : Chip) (inputs triggers : Levels) → Holds inputs triggers chip →
     chip_after_inputs chip inputs triggers ≡ chip
 given_again chip inputs triggers holds =
     rw (← holds.inputs_are, ← holds.triggers_are) (ap (λ (latches : Levels). record chip { latches = latches })
-    (latches_stay chip.latches chip.inputs holds.whole))
+    (levels_where-same _ (λ l. has chip.latches l) (λ l small. grind (arith, nat_tests)) ∙ levels_where-has chip.latches
+    holds.whole))
 
 given_holds : (chip : Chip) (inputs triggers : Levels) → Holds inputs triggers (chip_after_inputs chip inputs triggers)
 given_holds chip inputs triggers = record { inputs_are = refl; triggers_are = refl; whole = eight _ }
-
-keeps_holds : (inputs triggers : Levels) (old new : Chip) → Keeps old new → Holds inputs triggers old →
-    Holds inputs triggers new
-keeps_holds inputs triggers old new keeps holds = grind (arith, nat_tests)
 
 -- ---- a pair whose lines stand
 
@@ -80,9 +69,6 @@ module _ (levels : List Bool) (elcr : ℕ) where
 
   -- ---- what an event itself makes of the pair
 
-  seen_sees : (pair : Pair) → pair_after_lines pair levels elcr ≡ pair → Sees levels elcr pair
-  seen_sees pair seen = subst (Sees levels elcr) seen (lines_seen pair)
-
   -- the lines, which the pair saw as they are
   abbrev Again : Pair → Type 0
   Again pair = pair_after_lines pair levels elcr ≡ pair
@@ -90,10 +76,10 @@ module _ (levels : List Bool) (elcr : ℕ) where
   steps_again : (old new : Pair) → Keeps old.master new.master → Keeps old.slave new.slave → Again old →
       Again (settled new)
   steps_again old new master slave seen =
-      let sees = seen_sees old seen in
+      let sees = subst (Sees levels elcr) seen (lines_seen old) in
       stands new (record {
-        master = keeps_holds _ _ old.master new.master master sees.master;
-        slave = keeps_holds _ _ old.slave new.slave slave sees.slave;
+        master = grind (arith, nat_tests, sees.master);
+        slave = grind (arith, nat_tests, sees.slave);
       })
 
 -- ---- OUT of counter 0 after a read of the timer, and after its gate 2 moved
@@ -131,29 +117,8 @@ pair_stands setup history entry soft sets none stays =
 system_out : (access : PortAccess) (t : PitState) → out_of 0 (timer_accessed (Some System) access t) ≡ out_of 0 t
 system_out access t = grind (arith, nat_tests, common_steps, cases_Bool, gate_out, is_bit)
 
--- an access leaves the level that every other device drives
-others_drive : (other dev : Dev) (access : PortAccess) (devices : DevicesValue) →
-    driven dev (devices_accessed (Some dev) access devices) ≡ driven dev devices →
-    driven other (devices_accessed (Some dev) access devices) ≡ driven other devices
-unfolding devices_accessed
-others_drive other dev access devices level = grind (arith, nat_tests, system_out)
-
--- one that can move no line leaves the level of its own device
-own_stands : (dev : Dev) (access : PortAccess) (devices : DevicesValue) → moves_lines dev access.write ≡ false →
-    driven dev (devices_accessed (Some dev) access devices) ≡ driven dev devices
-unfolding devices_accessed
-own_stands dev access devices moves = grind (arith, nat_tests, port_read_out)
-
-triggers_stay : (dev : Dev) (access : PortAccess) (triggers : Triggers) → (access.write && sets_triggers dev) ≡ false →
-    triggers_accessed (Some dev) access triggers ≡ triggers
-triggers_stay dev access triggers none = grind (arith, nat_tests, and-true)
-
 triggers_none : (dev : Dev) (write : Bool) → moves_lines dev write ≡ false → (write && sets_triggers dev) ≡ false
 triggers_none dev write none = grind (arith, nat_tests, and-true, and-false)
-
--- a port of a device is none of configuration data
-no_config_port : (dev : Dev) (port bytes : ℕ) → is_chip_port dev port bytes ≡ true → is_config_port port ≡ false
-no_config_port dev port bytes is = grind (arith, nat_tests)
 
 no_store : (setup : Setup) (address : ℕ) (access : PortAccess) → is_config_port access.port ≡ false →
     config_store setup address (Port access) ≡ None
@@ -171,10 +136,9 @@ module _ (setup : Setup) (history : List Entry) (entry : Entry) (dev : Dev) (acc
   were = they_are setup history
 
   are : AreAfter setup (entry ∷ history) next
-  are =
-      subst (λ (d : DevicesValue). AreAfter setup (entry ∷ history) d) (sym (reached_as reaches old))
-      (others_asked setup history entry (Port access) (port_asked reaches) old tt were)
+  are = rw (reached_as reaches old) (others_asked (port_asked reaches) old tt were)
 
+  -- an access leaves the level that every other device drives
   stays_by : (access.write && sets_triggers dev) ≡ false →
       level_driven dev setup (entry ∷ history) ≡ level_driven dev setup history → Stays setup history entry
   unfolding devices_accessed
@@ -184,25 +148,27 @@ module _ (setup : Setup) (history : List Entry) (entry : Entry) (dev : Dev) (acc
       record {
         level = λ other.
             sym (driven_is setup (entry ∷ history) next are other)
-            ∙ (others_drive other dev access old still ∙ driven_is setup history old were other);
-        triggers = sym are.triggers ∙ triggers_stay dev access (triggers_of history) none;
+            ∙ ((grind (arith, nat_tests, system_out)) ∙ driven_is setup history old were other);
+        triggers = sym are.triggers ∙ (grind (arith, nat_tests, and-true));
       }
 
+  -- one that can move no line leaves the level of its own device
   own_level_stands : moves_lines dev access.write ≡ false →
       level_driven dev setup (entry ∷ history) ≡ level_driven dev setup history
+  unfolding devices_accessed
   own_level_stands none =
       sym (driven_is setup (entry ∷ history) next are dev)
-      ∙ (own_stands dev access old none ∙ driven_is setup history old were dev)
+      ∙ ((grind (arith, nat_tests, port_read_out)) ∙ driven_is setup history old were dev)
 
+  -- a port of a device is none of configuration data, so that no route moves
   still_stands : is_chip_port dev access.port (bytes_of access.width) ≡ true →
       (access.write && sets_triggers dev) ≡ false →
       level_driven dev setup (entry ∷ history) ≡ level_driven dev setup history →
       pair_of setup (entry ∷ history) ≡ pair_after (Port access) entry.reply (pair_of setup history)
   still_stands port none level =
-      let sets : SetsNoLevel entry.event =
-      subst (λ (e : Event). SetsNoLevel e) (sym reaches.event) (passing (Port access) None refl) in
+      let sets : SetsNoLevel entry.event = rw reaches.event (passing (Port access) None refl) in
       let none_there : is_config_port access.port ≡ false =
-      no_config_port dev access.port (bytes_of access.width) port in
+      grind (arith, nat_tests) in
       let store : config_store setup (config_address history) entry.event ≡ None =
       rw reaches.event (no_store setup (config_address history) access none_there) in
       pair_stands setup history entry reaches.soft sets store (stays_by none level)
@@ -218,20 +184,17 @@ access_leaves_lines setup history entry dev access port reaches none =
     grind (arith, nat_tests, common_steps, still_leaves_lines, triggers_none, own_level_stands)
 
 -- the devices after an access that moved no line
-pub still_as : (setup : Setup) (history : List Entry) (entry : Entry) (dev : Dev) (access : PortAccess) →
-    is_chip_port dev access.port (bytes_of access.width) ≡ true → ReachesDevice history entry dev access →
-    (access.write && sets_triggers dev) ≡ false → (old after : DevicesValue) → AreDevicesOf setup history old →
+pub still_as : {setup : Setup} {history : List Entry} {entry : Entry} {dev : Dev} {access : PortAccess}
+    {old after : DevicesValue} → ReachesDevice history entry dev access → AreDevicesOf setup history old →
+    is_chip_port dev access.port (bytes_of access.width) ≡ true → (access.write && sets_triggers dev) ≡ false →
     after ≡ devices_after (Port access) entry.reply old → driven dev after ≡ driven dev old →
     AreDevicesOf setup (entry ∷ history) after
-still_as setup history entry dev access port reaches none old after is made same =
-    let asks = port_asked reaches in
+still_as {setup} {history} {entry} {dev} {access} {old} {after} reaches is port none made same =
     let are : AreAfter setup (entry ∷ history) after =
-    subst (λ (d : DevicesValue). AreAfter setup (entry ∷ history) d) (sym made)
-    (others_asked setup history entry (Port access) asks old tt is.others) in
+    rw made (others_asked (port_asked reaches) old tt is.others) in
     let level : level_driven dev setup (entry ∷ history) ≡ level_driven dev setup history =
     sym (driven_is setup (entry ∷ history) after are dev) ∙ (same ∙ driven_is setup history old is.others dev) in
-    stood_as setup history entry (Port access) asks
-    (still_stands setup history entry dev access reaches port none level) old after tt is made
+    stood_as (port_asked reaches) (still_stands setup history entry dev access reaches port none level) is tt made
 
 -- ---- acknowledges
 
@@ -241,9 +204,8 @@ acknowledge_leaves_lines setup history entry asks =
     let were = they_are setup history in
     let are : AreAfter setup (entry ∷ history) old =
     with_pair setup (entry ∷ history) (devices_after Ack entry.reply old) old.pair
-    (others_asked setup history entry Ack asks old tt were) in
+    (others_asked asks old tt were) in
     let sets : SetsNoLevel entry.event =
-    subst (λ (e : Event). SetsNoLevel e) (sym asks.event_is)
-    (record { wire = λ n. refl; line = λ n. refl; room = λ d. tt; still = tt }) in
-    pair_stands setup history entry asks.soft sets (rw asks.event_is refl) (stays_as setup history entry old were are)
+    rw asks.event_is (record { wire = λ n. refl; line = λ n. refl; room = λ d. tt; still = tt }) in
+    pair_stands setup history entry asks.soft sets (rw asks.event_is refl) (grind (arith, nat_tests))
     ∙ ap (λ (e : Event). pair_after e entry.reply (pair_of setup history)) asks.event_is

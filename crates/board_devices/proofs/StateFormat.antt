@@ -48,21 +48,7 @@ machines_format =
           & (d.wires, m.wires) & (d.irqs, m.irqs),
       ap (λ (disk : Option Disk). record d { disk = disk }) is.1,
     ))
-    (λ t. (
-      (
-        record {
-          pair = t.1;
-          timer = t.2.1;
-          clock = t.2.2.1;
-          triggers = t.2.2.2.1;
-          plain = t.2.2.2.2.1;
-          wires = t.2.2.2.2.2.1;
-          irqs = t.2.2.2.2.2.2.1;
-        },
-        refl,
-      ),
-      refl,
-    ))
+    (λ t. ((assumption, refl), refl))
 
 -- ---- the disk, where one is fitted
 
@@ -87,11 +73,6 @@ fitted_format (Some bytes) is =
 abbrev pub most_of : Option (List ℕ) → ℕ
 most_of fitted = 263 + fitted_most fitted
 
--- the machines are the same with any disk
-with_disk : (devices : DevicesValue) (disk : Option Disk) → AreMachines devices →
-    AreMachines (record devices { disk = disk })
-with_disk devices disk are = grind (arith, nat_tests)
-
 pub devices_format : (fitted : Option (List ℕ)) → IsDisk fitted →
     IsFormat (most_of fitted) (devices_fields fitted) (devices_bytes fitted) (AreDevices fitted)
 unfolding devices_fields devices_bytes machines_bytes
@@ -99,5 +80,5 @@ devices_format fitted is =
     fields_format
     (machines_format then λ machines good.
     last_field _ (fitted_format fitted is))
-    (λ d are. ((record d { disk = None }, (with_disk d None are.machines, refl)) & (d.disk, are.disk), refl))
-    (λ t. (record { machines = with_disk t.0 t.2.0 t.1.0; disk = t.2.1 }, refl))
+    (λ d are. ((record d { disk = None }, (grind (arith, nat_tests, are.machines), refl)) & (d.disk, are.disk), refl))
+    (λ t. (record { machines = grind (arith, nat_tests, t.1.0); disk = t.2.1 }, refl))

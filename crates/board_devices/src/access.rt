@@ -24,6 +24,7 @@ const GATE_2: u32 = 0;
 impl Devices {
     /// Reads a port of a device, which may change its state, and then the lines reach the pair where one moved. Without
     /// a disk its ports read all ones.
+    #[tactic(auto, using(crate::proofs::DiskSizes::read_fitted, crate::proofs::DeviceLemmas::value_at))]
     pub fn read(&mut self, routes: &Pirq, dev: Dev, access: &PortAccess) -> u32
         requires port { is_chip_port dev access.now.port (bytes_of access.now.width) ≡ true }
         ensures value { (setup : Setup) (history : List Entry) → AreDevicesOf setup history self.old
@@ -42,6 +43,7 @@ impl Devices {
     }
 
     /// Writes a port of a device, and then the lines reach the pair where one moved, or which are level triggered.
+    #[tactic(auto, using(crate::proofs::DiskSizes::write_fitted))]
     pub fn write(&mut self, routes: &Pirq, dev: Dev, access: &PortAccess)
         requires port { is_chip_port dev access.now.port (bytes_of access.now.width) ≡ true }
         requires fits { access.now.value ≤ largest_of access.now.width }

@@ -77,6 +77,7 @@ impl Devices {
     }
 
     /// Whether a disk is fitted.
+    #[tactic(auto, using(std::proofs::lemmas::Bool::Decides::nat_tests))]
     pub fn has_disk(&self) -> bool
         ensures fitted { (setup : Setup) (history : List Entry) → AreDevicesOf setup history self.now
             → result ≡ is_some setup.disk }
@@ -94,6 +95,7 @@ impl Devices {
 
     /// A hard reset: each device takes its reset state, and then the pair with the levels of that moment. The levels
     /// set from outside stay, and so do the disk's sectors and the clock's memory. `routes` are as the reset left them.
+    #[tactic(auto, using(std::proofs::lemmas::Bool::Decides::nat_tests))]
     pub fn reset(&mut self, routes: &Pirq)
         ensures reset { (setup : Setup) (history : List Entry) (entry : Entry) → AreDevicesOf setup history self.old
             → is_hard_reset history entry.event ≡ true → AreRoutesOf setup (entry ∷ history) routes.now

@@ -86,6 +86,7 @@ impl Devices {
     }
 
     /// What the devices on the board and the levels set from outside drive.
+    #[tactic(auto, using(crate::proofs::DeviceLemmas::own_levels))]
     fn own_levels(&self) -> Lines
         ensures own { (setup : Setup) (history : List Entry) (line : ℕ) → AreAfter setup history self.now → line < 16
             → slice_index_or result line false ≡ own_level setup history (timer_of history) line }

@@ -19,6 +19,7 @@ use pirq_router::Pirq;
 
 impl Devices {
     /// Whether the pair requests an interrupt: its INT is 1, and an acknowledge would not be the master's spurious one.
+    #[tactic(auto, using(crate::proofs::OutsideLemmas::spurious_is))]
     pub fn interrupt(&self) -> bool
         ensures interrupt { (setup : Setup) (history : List Entry) → AreDevicesOf setup history self.now
             → result ≡ is_interrupting setup history }
@@ -86,6 +87,7 @@ impl Devices {
     /// Writes the byte of the clock at an address below 128, and then the lines reach the pair. It is as if a
     /// processor had written the address to port 70h, the byte to port 71h, and the index as it was to port 70h; so
     /// registers A and B take what a write changes of them, and C and D nothing.
+    #[tactic(auto, using(std::proofs::lemmas::Bool::Decides::nat_tests))]
     pub fn set_clock_byte(&mut self, routes: &Pirq, address: u8, byte: u8)
         requires address { address < 128 }
         ensures clock { self.new.clock ≡ with_byte self.old.clock address byte }
@@ -100,6 +102,7 @@ impl Devices {
     }
 
     /// Writes a byte to a port of the clock, and then the lines reach the pair.
+    #[tactic(auto, using(crate::proofs::OutsideLemmas::clock_written))]
     fn write_clock(&mut self, routes: &Pirq, port: u16, byte: u8)
         requires port { is_chip_port ClockChip port 1 ≡ true }
         ensures clock { self.new.clock ≡ after_write self.old.clock port byte }

@@ -71,6 +71,7 @@ impl Devices {
     }
 
     /// A sector of the disk goes bad. Where there is none of this number, nothing happens.
+    #[tactic(auto, using(crate::proofs::DiskSizes::fitted_spoiled))]
     pub fn mark_bad(&mut self, routes: &Pirq, sector: u32)
         ensures devices { (setup : Setup) (history : List Entry) (entry : Entry) → AreDevicesOf setup history self.old
             → Asks history entry (BadSector sector) → AreRoutesOf setup (entry ∷ history) routes.now

@@ -101,6 +101,7 @@ fn save_over(disk: &Ata, fitted: &[u8], into: &mut Vec<u8>) -> Result<(), NoMemo
 impl Devices {
     /// Adds the state. `fitted` are the bytes of the disk as it was fitted, where there is one: of its sectors those
     /// that differ are in the state.
+    #[tactic(auto, using(pit_8254::proofs::Saved::joined, std::proofs::lemmas::Bool::Decides::nat_tests), unfolding(crate::specs::State::devices_bytes))]
     pub fn save_state(&self, fitted: Option<&[u8]>, into: &mut Vec<u8>) -> Result<(), NoMemory>
         requires disk { HasDisk (option_map (λ bytes. bytes.now) fitted) self.now.disk }
         ensures saved { OnOk result (into.new.items
@@ -128,6 +129,7 @@ impl Devices {
     }
 
     /// Adds all but the disk.
+    #[tactic(auto, using(std::proofs::lemmas::Bool::Decides::nat_tests))]
     fn save_machines(&self, into: &mut Vec<u8>) -> Result<(), NoMemory>
         ensures saved { OnOk result (into.new.items ≡ into.old.items ++ machines_bytes self.now) }
         ensures sound { OnOk result (AreMachines self.now) }

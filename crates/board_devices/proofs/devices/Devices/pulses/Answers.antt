@@ -6,19 +6,13 @@ use Rattle.board_devices.proofs.devices.Devices.pulses.Goals as goal
 
 pub returns-then-moved-clause-devices : goal.returns-then-moved-clause-devices
 returns-then-moved-clause-devices c = λ setup history entry is asks routes.
-    let old = c.args.self.now in
-    let run = c.run-rises.new.self in
-    let count = c.args.count in
-    let after = after_run setup history entry old run count is asks c.run-rises.ensures.after in
-    let routed = routes ∙ sym (routes_pulsed setup history entry count asks) in
-    gave setup history entry old run count is asks c.run-rises.ensures.after c.give.new.self _ _
-    c.run-rises.ensures.rose c.run-rises.ensures.out0 c.give.ensures.others
-    (c.give.ensures.pair setup (entry ∷ history) after routed)
+    let after = c.run-rises.ensures.after in
+    gave is asks after c.run-rises.ensures.rose c.run-rises.ensures.out0 c.give.ensures.others
+    (c.give.ensures.pair setup (entry ∷ history) (after_run is asks after) (routes ∙ sym (routes_pulsed setup asks)))
 
 -- line 0 did not move
 pub returns-else-moved-clause-devices : goal.returns-else-moved-clause-devices
 returns-else-moved-clause-devices c = λ setup history entry is asks routes.
-    rested setup history entry c.args.self.now c.run-rises.new.self c.args.count is asks c.run-rises.ensures.after
-    (sym c.run-rises.ensures.rose ∙ c.moved.ensures.rose c.if-moved.false)
+    rested is asks c.run-rises.ensures.after (sym c.run-rises.ensures.rose ∙ c.moved.ensures.rose c.if-moved.false)
     (sym c.run-rises.ensures.out0 ∙ (c.moved.ensures.level c.if-moved.false
     ∙ (c.out-before.ensures.level ∙ ap (λ (d : DevicesValue). out_of 0 d.timer) c.self.view_is)))

@@ -1,5 +1,3 @@
-use Rattle.std.proofs.Common.{arith}
-use Rattle.board_prelude.proofs.Common.{nat_tests}
 use Rattle.pit_8254.proofs.Saved.{joined}
 use Rattle.pic_pair.specs.State.{pair_bytes, lines_bytes}
 use Rattle.pit_8254.specs.State.{pit_bytes}
@@ -29,6 +27,3 @@ returns-clause-saved c =
     (joined result four five new (plain_bytes are.plain) _ c.in_ok-save_state-5.ensures.saved
     (joined result five six new (lines_bytes are.wires) (lines_bytes are.irqs) c.in_ok-save_state-6.ensures.saved
     c.save_state-7.ensures.saved))))))
-
-pub returns-clause-sound : goal.returns-clause-sound
-returns-clause-sound c = grind (arith, nat_tests)
