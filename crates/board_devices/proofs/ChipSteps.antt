@@ -2,7 +2,7 @@
 use Rattle.std.proofs.Common.{arith, ◌≡◌, ℕ, ◌/◌, ◌%◌, ◌<◌, ◌==◌, ◌&&◌, not, Bool, true, false, cond, List, [], ◌∷◌}
 use Rattle.std.proofs.Common.{Option, Some, None, length, refl, ap, ◌∙◌}
 use Rattle.board_prelude.proofs.Common.{common_steps, nat_tests, Levels, has, levels_where, Chip, Word, interrupt}
-use Rattle.board_prelude.proofs.Common.{acknowledged, acknowledged_if, first_blocking, chip_after_word}
+use Rattle.board_prelude.proofs.Common.{acknowledged, acknowledged_if, chip_after_word}
 use Rattle.board_prelude.proofs.Common.{chip_after_odd_write, is_complete, chip_after_ocw2, chip_after_even_write}
 use Rattle.board_prelude.proofs.Common.{chip_after_write, chip_after_read, has-levels_where, Pair, settled}
 use Rattle.board_prelude.proofs.Common.{pair_after_write, pair_after_read, pair_acknowledged, pair_acknowledged_at}
@@ -67,14 +67,7 @@ odd_keeps chip [] byte = all_kept chip (chip_after_odd_write chip [] byte) refl 
 odd_keeps chip (word ∷ later) byte = grind (arith, nat_tests, common_steps, is_complete, word_keeps, all_kept)
 
 ocw2_keeps : (chip : Chip) (command level : ℕ) → Keeps chip (chip_after_ocw2 chip command level)
-ocw2_keeps chip command level =
-    by_cond (Keeps chip) (command == 0b001) _ _ (ended_keeps false chip (first_blocking chip))
-    (by_cond (Keeps chip) (command == 0b011) _ _ (ended_keeps false chip (Some level))
-    (by_cond (Keeps chip) (command == 0b101) _ _ (ended_keeps true chip (first_blocking chip))
-    (by_cond (Keeps chip) (command == 0b111) _ _ (ended_keeps true chip (Some level))
-    (by_cond (Keeps chip) (command == 0b100) _ _ (all_kept chip _ refl refl refl)
-    (by_cond (Keeps chip) (command == 0b000) _ _ (all_kept chip _ refl refl refl)
-    (by_cond (Keeps chip) (command == 0b110) _ _ (all_kept chip _ refl refl refl) (unmoved chip)))))))
+ocw2_keeps chip command level = grind (arith, nat_tests, ended_keeps, all_kept, unmoved)
 
 even_keeps : (chip : Chip) (byte : ℕ) → Keeps chip (chip_after_even_write chip byte)
 even_keeps chip byte =

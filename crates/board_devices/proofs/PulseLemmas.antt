@@ -7,7 +7,7 @@ use Rattle.board_prelude.proofs.Common.{latches_after, chip_after_inputs, Pair, 
 use Rattle.board_prelude.proofs.Common.{levels_at_power_on, pair_after_lines, PitState, out_of, pulses, rises, Event}
 use Rattle.board_prelude.proofs.Common.{Pulses, Entry, Setup, is_hard_reset, timer_of, routes_of, levels_with}
 use Rattle.board_prelude.proofs.Common.{levels_of, elcr_of, pair_pulsed, pair_reset_or_after, pair_stepped, pair_of}
-use Rattle.std.proofs.Common.{◌≡◌, ℕ, zero, suc, ◌+◌, ◌/◌, ◌%◌, ◌<◌, ◌==◌, nat_lt, ◌&&◌, ◌||◌, not, Bool, true, false}
+use Rattle.std.proofs.Common.{◌≡◌, ℕ, zero, suc, ◌+◌, ◌/◌, ◌%◌, ◌<◌, nat_lt, ◌&&◌, ◌||◌, not, Bool, true, false}
 use Rattle.std.proofs.Common.{cond, List, [], ◌∷◌, is_some, take, drop, inl, inr, refl, ap, sym, subst, ◌∙◌, arith}
 use Rattle.std.proofs.Common.{lit<, slice_set}
 use Rattle.board_devices.specs.Common.{DevicesValue, AreAfter, AreDevicesOf, Asks, lines_at, pair_after_run}
@@ -86,17 +86,13 @@ module _ (rest : List Bool) (latches inputs : Levels) (fresh : (has latches 0 &&
   abbrev low_at : Levels
   low_at = master_inputs (take 8 (false ∷ rest))
 
-  first_high : has high_at 0 ≡ true
+  first : (level : Bool) → has (master_inputs (take 8 (level ∷ rest))) 0 ≡ level
   unfolding levels_where
-  first_high = refl
-
-  first_low : has low_at 0 ≡ false
-  unfolding levels_where
-  first_low = refl
+  first level = refl
 
   base : (l : ℕ) → l < 8 → after_at (after_at (has latches l) (has inputs l) (has high_at l)) (has high_at l)
       (has low_at l) ≡ after_at (has latches l) (has inputs l) (has low_at l)
-  base zero h = rw (first_high, first_low) (grind (arith, nat_tests))
+  base zero h = rw (first true, first false) (grind (arith, nat_tests))
   base (suc l) h = rw (same_above (true ∷ rest) l h) (grind (arith, nat_tests))
 
   forgets : latches_after (latches_after latches inputs high_at) high_at low_at ≡ latches_after latches inputs low_at
@@ -105,19 +101,7 @@ module _ (rest : List Bool) (latches inputs : Levels) (fresh : (has latches 0 &&
 
   forgets_latched : with_level (latches_after (with_level (latches_after latches inputs high_at) 2) high_at low_at) 2
       ≡ with_level (latches_after latches inputs low_at) 2
-  forgets_latched = levels_where-same _ _ (λ l h. elim (cases_Bool (l == 2)) [
-    | inl two ↦ rw two refl
-    | inr apart ↦
-        rw (
-          apart,
-          has-levels_where (λ k. after_at (has (with_level (latches_after latches inputs high_at) 2) k) (has high_at k)
-              (has low_at k)) l h,
-          has-levels_where (λ k. (k == 2) || has (latches_after latches inputs high_at) k) l h,
-          apart,
-          has-levels_where (λ k. after_at (has latches k) (has inputs k) (has high_at k)) l h,
-          has-levels_where (λ k. after_at (has latches k) (has inputs k) (has low_at k)) l h,
-        ) (base l h)
-  ])
+  forgets_latched = levels_where-same _ _ (λ l h. grind (arith, nat_tests, has-levels_where, base l h))
 
 -- ---- the pair forgets a rise and a fall
 
