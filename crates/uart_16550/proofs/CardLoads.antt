@@ -4,8 +4,8 @@ use Rattle.board_prelude.proofs.Common.{length-map, Event, Memory, Port, Entry, 
 use Rattle.board_chipset.specs.Common.{WriteCardInTurn, WriteCard}
 use Rattle.board_chipset.specs.CardLoads.{WritesByte}
 use Rattle.board_chipset.proofs.CardLoadSteps.{some_card_entries}
-use Rattle.uart_16550.specs.Common.{com1_irq, AreOwn}
-use Rattle.uart_16550.proofs.Loads.{IsWriting, by_processor, own_by, own_with}
+use Rattle.uart_16550.specs.Common.{com1_irq}
+use Rattle.uart_16550.proofs.Loads.{IsWriting, by_processor, writes_in_turn}
 
 no_line : (byte line : ℕ) (event : Event) → WritesByte byte event → line_set line event ≡ None
 no_line byte line (Memory access) is = refl
@@ -30,19 +30,11 @@ module _ (dev base off : ℕ) (bytes : List ℕ) where
     in_turn_by entries each.1,
   )
 
-  -- there are entries that write these bytes, and none is the port's own
-  own_entries : (entries : List Entry) × WriteCard dev base off bytes entries × AreOwn entries
-  own_entries =
-      let some = some_card_entries dev base off bytes in (
-        map by_processor some.0,
-        record { all = length-map some.0 by_processor ∙ some.1.all; each = in_turn_by some.0 some.1.each },
-        own_by some.0,
-      )
-
   pub writes_card :
       IsWriting (λ entries history. entries ++ history) (λ entries history. WriteCard dev base off bytes entries)
-  writes_card = record {
-    line = λ entries history all. line_in_turn entries history all.each;
-    own = own_with;
-    some = λ history own. own_entries;
-  }
+  writes_card =
+      writes_in_turn (WriteCard dev base off bytes) (λ entries history all. line_in_turn entries history all.each)
+      (λ entries all. record {
+        all = length-map entries by_processor ∙ all.all;
+        each = in_turn_by entries all.each;
+      }) (some_card_entries dev base off bytes)

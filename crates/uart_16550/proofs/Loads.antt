@@ -30,6 +30,18 @@ pub record IsWriting (later : List Entry → List Entry → List Entry) (Write :
   pub own : (entries history : List Entry) → AreOwn entries → AreOwn history → AreOwn (later entries history)
   pub some : (history : List Entry) → AreOwn history → (entries : List Entry) × Write entries history × AreOwn entries
 
+-- entries in a row that do so are some as entries of processor 0 too
+pub writes_in_turn : (Write : List Entry → Type 0) →
+    ((entries history : List Entry) → Write entries → irq_of (entries ++ history) com1_irq ≡ irq_of history com1_irq) →
+    ((entries : List Entry) → Write entries → Write (map by_processor entries)) →
+    ((entries : List Entry) × Write entries) →
+    IsWriting (λ entries history. entries ++ history) (λ entries history. Write entries)
+writes_in_turn Write line by some = record {
+  line = line;
+  own = own_with;
+  some = λ history own. (map by_processor some.0, by some.0 some.1, own_by some.0);
+}
+
 module _ {later : List Entry → List Entry → List Entry} {Write : List Entry → List Entry → Type 0}
     (writing : IsWriting later Write) (old new : Serial Running) (same : old.com1 ≡ new.com1) where
   abbrev LeavesChipset : Type 0
@@ -87,28 +99,15 @@ module _ (addr : ℕ) (bytes : List ℕ) where
         in_turn_by entries each.1,
       )
 
-  -- there are entries that write these bytes, and none is the port's own
-  own_entries : (entries : List Entry) × WriteAll addr bytes entries × AreOwn entries
-  own_entries =
-      let some = some_entries addr bytes in (
-        map by_processor some.0,
-        record { all = length-map some.0 by_processor ∙ some.1.all; each = in_turn_by some.0 some.1.each },
-        own_by some.0,
-      )
-
   pub writes_dram : IsWriting (λ entries history. entries ++ history) (λ entries history. WriteAll addr bytes entries)
-  writes_dram = record {
-    line = λ entries history all. line_in_turn entries history all.each;
-    own = own_with;
-    some = λ history own. own_entries;
-  }
+  writes_dram =
+      writes_in_turn (WriteAll addr bytes) (λ entries history all. line_in_turn entries history all.each)
+      (λ entries all. record {
+        all = length-map entries by_processor ∙ all.all;
+        each = in_turn_by entries all.each;
+      }) (some_entries addr bytes)
 
 -- ---- a byte of the clock
-
-line_stays_for : {history later : List Entry} {address byte : ℕ} → WriteClockByte history address byte later →
-    irq_of later com1_irq ≡ irq_of history com1_irq
-unfolding irq_of
-line_stays_for puts = rw (puts.are_last, puts.first.event, puts.second.event, puts.third.event) refl
 
 -- there are such entries, and none is the port's own
 own_clock_entries : (history : List Entry) (address byte : ℕ) → AreOwn history →
@@ -130,8 +129,9 @@ own_clock_entries history address byte own =
 
 pub writes_clock : (address byte : ℕ) →
     IsWriting (λ later history. later) (λ later history. WriteClockByte history address byte later)
+unfolding irq_of
 writes_clock address byte = record {
-  line = λ later history puts. line_stays_for puts;
+  line = λ later history puts. rw (puts.are_last, puts.first.event, puts.second.event, puts.third.event) refl;
   own = λ later history own before. own;
   some = λ history own. own_clock_entries history address byte own;
 }

@@ -70,18 +70,12 @@ pub same_level : (level : Bool) → line_steps level level ≡ []
 same_level true = refl
 same_level false = refl
 
--- nothing happened yet
-pub fresh_left : {B : Type 0} (left_by : B → List Entry → Type 0) (board : B) → left_by board [] →
-    IsLeftAt left_by board false []
-unfolding irq_of
-fresh_left left_by board left = record { left = left; level_is = refl; own = tt }
-
-module _ {B : Type 0} (is_answer : Setup → List Entry → Event → Reply → Type 0) (setup_of : B → Setup)
-    (left_by : B → List Entry → Type 0) where
+module _ {B : Type 0} {is_answer : Setup → List Entry → Event → Reply → Type 0} {setup_of : B → Setup}
+    {left_by : B → List Entry → Type 0} where
   -- the board does nothing
-  pub no_step : (board : B) (level : Bool) (history : List Entry) → IsLeftAt left_by board level history →
+  pub no_step : {board : B} {level : Bool} {history : List Entry} → IsLeftAt left_by board level history →
       IsLeftAfter is_answer setup_of left_by board level history []
-  no_step board level history left_at = record {
+  no_step {history = history} left_at = record {
     after = history;
     left_at = left_at;
     goes_on = record { more = []; grows = refl; same = refl };
@@ -110,7 +104,7 @@ module _ {B : Type 0} (is_answer : Setup → List Entry → Event → Reply → 
       }
 
   -- the board does one event
-  module _ (old new : B) (level : Bool) (history : List Entry) (actor : ℕ) (event : Event) (reply : Reply)
+  module _ {old new : B} {level : Bool} {history : List Entry} {actor : ℕ} {event : Event} {reply : Reply}
       (left_at : IsLeftAt left_by old level history) (same : setup_of new ≡ setup_of old)
       (answer : is_answer (setup_of old) history event reply)
       (left : left_by new (next_entry history actor event reply ∷ history)) where

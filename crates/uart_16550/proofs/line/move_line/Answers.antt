@@ -1,7 +1,6 @@
 use Rattle.std.proofs.Common.{◌≡◌, Bool, true, false, refl, not}
 use Rattle.std.proofs.Math.Bool.{beq}
-use Rattle.board_spec.specs.declared.event.Event.TheVariants.{Line}
-use Rattle.uart_16550.specs.Common.{com1_irq, com1_actor, differ}
+use Rattle.uart_16550.specs.Common.{differ}
 use Rattle.uart_16550.proofs.SerialSteps.{no_step, one_step}
 use Rattle.uart_16550.proofs.line.move_line.Goals as goal
 
@@ -13,9 +12,7 @@ differs _ _ is = refl
 pub returns-then-old-new-clause-moved : goal.returns-then-old-new-clause-moved
 returns-then-old-new-clause-moved g c = λ history left_at.
     rw (differs c.args.old c.args.new c.if-old-new.true)
-    (one_step g.B.SteppedBoard.is_answer g.B.SteppedBoard.setup g.B.SteppedBoard.is_left_by c.args.board.now
-    c.step.new.self c.args.old history com1_actor (Line com1_irq c.args.new) c.step.result left_at
-    c.step.ensures.setup (c.step.ensures.answer history left_at.left) (c.step.ensures.left history left_at.left)
+    (one_step left_at c.step.ensures.setup (c.step.ensures.answer history left_at.left) (c.step.ensures.left history left_at.left)
     c.args.new refl (λ _. refl))
 
 agrees : (old new : Bool) → not (beq old new) ≡ false → (old ≡ new) × (differ old new ≡ false)
@@ -27,6 +24,4 @@ pub returns-else-old-new-clause-moved : goal.returns-else-old-new-clause-moved
 returns-else-old-new-clause-moved g c =
     let stays = agrees c.args.old c.args.new c.if-old-new.false in
     λ history left_at.
-    rw (stays.1)
-    (no_step g.B.SteppedBoard.is_answer g.B.SteppedBoard.setup g.B.SteppedBoard.is_left_by c.args.board.now c.args.new
-    history (rw (stays.0) at left_at))
+    rw (stays.1) (no_step (rw (stays.0) at left_at))

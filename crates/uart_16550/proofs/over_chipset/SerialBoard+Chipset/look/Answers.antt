@@ -1,8 +1,7 @@
 use Rattle.std.proofs.Common.{refl}
-use Rattle.board_prelude.proofs.Common.{next_entry, Saw}
+use Rattle.board_prelude.proofs.Common.{next_entry}
 use Rattle.board_spec.specs.declared.event.Event.TheVariants.{Look as LookAt}
-use Rattle.board_chipset.specs.Common.{Running, IsAnswerModulo, IsLeftBy}
-use Rattle.uart_16550.specs.Common.{level_of}
+use Rattle.board_spec.specs.declared.event.Reply.TheVariants.{Saw}
 use Rattle.uart_16550.proofs.SerialSteps.{quiet_step}
 use Rattle.uart_16550.proofs.over_chipset.SerialBoard+Chipset.look.Goals as goal
 
@@ -12,6 +11,5 @@ returns-clause-history c =
     let reply = Saw c.look.result in
     rw (← c.self.view_is)
     (λ history actor below left_at.
-    quiet_step IsAnswerModulo (λ (chipset : Running). chipset.setup) IsLeftBy c.self.inside.board c.self.inside.board
-    (level_of c.self.inside.com1) history actor event reply left_at refl (c.look.ensures.answer history left_at.left)
+    quiet_step left_at refl (c.look.ensures.answer history left_at.left)
     (c.look.ensures.left history (next_entry history actor event reply) left_at.left refl) refl below)

@@ -1,7 +1,6 @@
 use Rattle.std.proofs.Common.{refl}
 use Rattle.board_prelude.proofs.Common.{Memory, next_entry}
-use Rattle.board_chipset.specs.Common.{Running, IsAnswerModulo, IsLeftBy, reply_of}
-use Rattle.uart_16550.specs.Common.{level_of}
+use Rattle.board_chipset.specs.Common.{reply_of}
 use Rattle.uart_16550.proofs.SerialSteps.{quiet_step}
 use Rattle.uart_16550.proofs.over_chipset.SerialBoard+Chipset.memory.Goals as goal
 
@@ -11,7 +10,5 @@ returns-clause-history c =
     let reply = reply_of c.memory.result in
     rw (← c.self.view_is)
     (λ history actor below left_at.
-    quiet_step IsAnswerModulo (λ (chipset : Running). chipset.setup) IsLeftBy c.self.inside.board c.memory.new.self
-    (level_of c.self.inside.com1) history actor event reply left_at c.memory.ensures.setup
-    (c.memory.ensures.answer history left_at.left)
+    quiet_step left_at c.memory.ensures.setup (c.memory.ensures.answer history left_at.left)
     (c.memory.ensures.left history (next_entry history actor event reply) left_at.left refl refl) refl below)

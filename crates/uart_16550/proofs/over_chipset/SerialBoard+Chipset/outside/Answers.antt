@@ -1,8 +1,7 @@
 use Rattle.std.proofs.Common.{◌≡◌, ℕ, Bool, List, refl, sym}
 use Rattle.board_prelude.proofs.Common.{Event, Line, Reply, Entry, Setup, IsAnswer, next_entry}
-use Rattle.board_chipset.specs.Common.{Running, IsAnswerModulo, IsForDevices, IsLeftBy, reply_of}
+use Rattle.board_chipset.specs.Common.{IsAnswerModulo, IsForDevices, reply_of}
 use Rattle.board_chipset.proofs.Exact.{modulo}
-use Rattle.uart_16550.specs.Common.{level_of}
 use Rattle.uart_16550.proofs.SerialSteps.{IsPlain, is_plain, plain_step}
 use Rattle.uart_16550.proofs.over_chipset.SerialBoard+Chipset.outside.Goals as goal
 
@@ -37,8 +36,7 @@ returns-clause-history c =
     let reply = reply_of c.outside.result in
     rw (← c.self.view_is)
     (λ history actor resets below left_at.
-    plain_step IsAnswerModulo (λ (chipset : Running). chipset.setup) IsLeftBy c.self.inside.board c.outside.new.self
-    (level_of c.self.inside.com1) history actor event reply left_at c.outside.ensures.setup
+    plain_step left_at c.outside.ensures.setup
     (answer_outside c.self.inside.board.setup history event reply c.requires.devices
     (c.outside.ensures.answer history left_at.left))
     (c.outside.ensures.left history (next_entry history actor event reply) left_at.left refl refl)

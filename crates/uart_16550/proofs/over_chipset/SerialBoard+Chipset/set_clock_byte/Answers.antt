@@ -5,15 +5,11 @@ use Rattle.uart_16550.proofs.over_chipset.SerialBoard+Chipset.set_clock_byte.Goa
 pub returns-clause-goes_on : goal.returns-clause-goes_on
 returns-clause-goes_on c =
     rw (← c.self.view_is)
-    (written_on (writes_clock c.args.address c.args.byte)
-    (record { board = c.self.inside.board; com1 = c.self.inside.com1 })
-    (record { board = c.set_clock_byte.new.self; com1 = c.self.inside.com1 }) refl c.set_clock_byte.result
-    c.set_clock_byte.ensures.left c.set_clock_byte.ensures.unchanged)
+    (written_on (writes_clock c.args.address c.args.byte) _ _ (refl {a = c.self.inside.com1})
+    c.set_clock_byte.result c.set_clock_byte.ensures.left c.set_clock_byte.ensures.unchanged)
 
 pub returns-clause-left : goal.returns-clause-left
 returns-clause-left c =
     rw (← c.self.view_is)
-    (written (writes_clock c.args.address c.args.byte)
-    (record { board = c.self.inside.board; com1 = c.self.inside.com1 })
-    (record { board = c.set_clock_byte.new.self; com1 = c.self.inside.com1 }) refl
+    (written (writes_clock c.args.address c.args.byte) _ _ (refl {a = c.self.inside.com1})
     c.set_clock_byte.result c.set_clock_byte.ensures.left)

@@ -1,7 +1,6 @@
 use Rattle.std.proofs.Common.{refl}
 use Rattle.board_prelude.proofs.Common.{Wide, next_entry}
-use Rattle.board_chipset.specs.Common.{Running, IsAnswerModulo, IsLeftBy, wide_reply_of}
-use Rattle.uart_16550.specs.Common.{level_of}
+use Rattle.board_chipset.specs.Common.{wide_reply_of}
 use Rattle.uart_16550.proofs.SerialSteps.{quiet_step}
 use Rattle.uart_16550.proofs.over_chipset.SerialBoard+Chipset.wide.Goals as goal
 
@@ -11,7 +10,5 @@ returns-clause-history c =
     let reply = wide_reply_of c.wide.result in
     rw (← c.self.view_is)
     (λ history actor below left_at.
-    quiet_step IsAnswerModulo (λ (chipset : Running). chipset.setup) IsLeftBy c.self.inside.board c.wide.new.self
-    (level_of c.self.inside.com1) history actor event reply left_at c.wide.ensures.setup
-    (c.wide.ensures.answer history left_at.left)
+    quiet_step left_at c.wide.ensures.setup (c.wide.ensures.answer history left_at.left)
     (c.wide.ensures.left history (next_entry history actor event reply) left_at.left refl refl) refl below)

@@ -1,6 +1,4 @@
 use Rattle.std.proofs.Common.{refl}
-use Rattle.board_prelude.proofs.Common.{Port}
-use Rattle.uart_16550.specs.Common.{level_of}
 use Rattle.uart_16550.proofs.SerialSteps.{accessed_alone, accessed_and_moved}
 use Rattle.uart_16550.proofs.serial.SerialBoard.board_access.Goals as goal
 
@@ -8,17 +6,15 @@ pub returns-then-not-resets-clause-history : goal.returns-then-not-resets-clause
 returns-then-not-resets-clause-history g c =
     rw (← c.self.view_is)
     (λ history left_at.
-    accessed_alone g.B.SteppedBoard.is_answer g.B.SteppedBoard.setup g.B.SteppedBoard.is_left_by c.self.inside.board
-    c.step-reply.new.self (level_of c.self.inside.com1) history c.args.actor (Port c.args.access.now)
-    c.step-reply.result left_at c.step-reply.ensures.setup (c.step-reply.ensures.answer history left_at.left)
-    (c.step-reply.ensures.left history left_at.left) c.self.inside.com1 refl c.requires.actor)
+    accessed_alone left_at c.step-reply.ensures.setup
+    (c.step-reply.ensures.answer history left_at.left) (c.step-reply.ensures.left history left_at.left)
+    c.self.inside.com1 refl c.requires.actor)
 
 pub returns-clause-history : goal.returns-clause-history
 returns-clause-history g c =
     rw (← c.self.view_is)
     (λ history left_at.
-    accessed_and_moved g.B.SteppedBoard.is_answer g.B.SteppedBoard.setup g.B.SteppedBoard.is_left_by c.self.inside.board
-    c.step-reply.new.self (level_of c.self.inside.com1) history c.args.actor (Port c.args.access.now)
-    c.step-reply.result left_at c.step-reply.ensures.setup (c.step-reply.ensures.answer history left_at.left)
-    (c.step-reply.ensures.left history left_at.left) c.renew.new.self.board c.self.inside.com1
-    c.renew.new.self.com1 refl c.requires.actor c.renew.ensures.setup c.renew.ensures.history)
+    accessed_and_moved left_at c.step-reply.ensures.setup
+    (c.step-reply.ensures.answer history left_at.left) (c.step-reply.ensures.left history left_at.left)
+    c.renew.new.self.board c.self.inside.com1 c.renew.new.self.com1 refl c.requires.actor
+    c.renew.ensures.setup c.renew.ensures.history)

@@ -11,9 +11,7 @@ returns-then-irq-eq-COM1_IRQ-clause-history g c =
     let level = c.level-on.ensures.level in
     rw (← c.self.view_is)
     (λ history left_at.
-    named_step g.B.SteppedBoard.is_answer g.B.SteppedBoard.setup g.B.SteppedBoard.is_left_by c.self.inside.board
-    c.step.new.self (level_of com1) history c.args.actor (Line c.args.irq c.level-on.result) c.step.result left_at
-    c.step.ensures.setup (c.step.ensures.answer history left_at.left) (c.step.ensures.left history left_at.left)
+    named_step left_at c.step.ensures.setup (c.step.ensures.answer history left_at.left) (c.step.ensures.left history left_at.left)
     (level_of (with_level com1 c.args.on)) (board_event com1 (Line c.args.irq c.args.on)) (rw own level)
     c.requires.actor (rw (own, level) refl))
 
@@ -23,8 +21,6 @@ returns-clause-history g c =
     let other : (c.args.irq == com1_irq) ≡ false = ne_eqb _ _ c.if-irq-eq-COM1_IRQ.false in
     rw (← c.self.view_is)
     (λ history left_at.
-    named_step g.B.SteppedBoard.is_answer g.B.SteppedBoard.setup g.B.SteppedBoard.is_left_by c.self.inside.board
-    c.step-2.new.self (level_of com1) history c.args.actor (Line c.args.irq c.args.on) c.step-2.result left_at
-    c.step-2.ensures.setup (c.step-2.ensures.answer history left_at.left)
+    named_step left_at c.step-2.ensures.setup (c.step-2.ensures.answer history left_at.left)
     (c.step-2.ensures.left history left_at.left) (level_of com1) (board_event com1 (Line c.args.irq c.args.on))
     (rw other refl) c.requires.actor (rw other refl))

@@ -1,5 +1,7 @@
-use Rattle.uart_16550.proofs.SerialSteps.{fresh_left}
+use Rattle.std.proofs.Common.{refl}
+use Rattle.board_prelude.proofs.Common.{irq_of}
 use Rattle.uart_16550.proofs.serial.SerialBoard.open.Goals as goal
 
 pub returns-clause-left : goal.returns-clause-left
-returns-clause-left g c = rw c.new.ensures.reset (fresh_left g.B.SteppedBoard.is_left_by c.args.board c.requires.fresh)
+unfolding irq_of
+returns-clause-left g c = rw c.new.ensures.reset (record { left = c.requires.fresh; level_is = refl; own = tt })

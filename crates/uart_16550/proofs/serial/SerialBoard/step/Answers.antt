@@ -1,6 +1,5 @@
 use Rattle.std.proofs.Common.{refl, sym, ◌∙◌}
 use Rattle.board_spec.specs.Registers.{is_hard_reset}
-use Rattle.uart_16550.specs.Common.{level_of}
 use Rattle.uart_16550.proofs.SerialSteps.{is_plain, plain_step}
 use Rattle.uart_16550.proofs.serial.SerialBoard.step.Goals as goal
 
@@ -9,9 +8,7 @@ returns-in_default-clause-history g c =
     let plain = is_plain c.args.event.now c.in_default.not-Port c.in_default.not-Line in
     rw (← c.self.view_is)
     (λ history left_at.
-    plain_step g.B.SteppedBoard.is_answer g.B.SteppedBoard.setup g.B.SteppedBoard.is_left_by c.self.inside.board
-    c.step.new.self (level_of c.self.inside.com1) history c.args.actor c.args.event.now c.step.result left_at
-    c.step.ensures.setup (c.step.ensures.answer history left_at.left) (c.step.ensures.left history left_at.left)
+    plain_step left_at c.step.ensures.setup (c.step.ensures.answer history left_at.left) (c.step.ensures.left history left_at.left)
     c.self.inside.com1 (is_hard_reset history c.args.event.now) plain c.requires.actor)
 
 pub returns-in_default-clause-com1 : goal.returns-in_default-clause-com1
