@@ -12,7 +12,7 @@ use Rattle.board_prelude.specs.Common.{wire_set, wire_of, line_set, irq_of, trig
 use Rattle.board_prelude.specs.Common.{plain_of, timer_after, timer_of, clock_after, clock_of, disk_after, disk_with}
 use Rattle.board_prelude.specs.Common.{disk_of, routes_of, pirq_levels, own_level, level_with, all_lines, levels_with}
 use Rattle.board_prelude.specs.Common.{levels_of, elcr_of, device_value, pair_after, pair_reset_or_after, pair_stepped}
-use Rattle.board_prelude.specs.Common.{pair_of, after_bad, byte_of, config_store, is_line_driven, list_any}
+use Rattle.board_prelude.specs.Common.{pair_of, after_bad, byte_of, config_store, list_any}
 use Rattle.board_prelude.specs.Common.{is_interrupt, config_address}
 use Rattle.std.proofs.Common.{◌≡◌, ℕ, ◌<◌, ◌≤◌, Bool, true, false, ◌||◌, ◌&&◌, List, [], ◌∷◌, Option, Some, None}
 use Rattle.std.proofs.Common.{length, get_or, refl, sym, ◌∙◌, ap, subst, arith, ◌*◌, ◌/◌, ◌%◌, replicate, eq-eqb}
@@ -298,14 +298,7 @@ module _ (setup : Setup) (history : List Entry) (entry : Entry) (sets : SetsNoLe
       let timer = stays.level Pit in
       let clock = stays.level Clock in
       let disk = stays.level Ata in
-      let free : (is_free_line line && irq_of (entry ∷ history) line) ≡ (is_free_line line && irq_of history line) =
-      ap (λ (b : Bool). is_free_line line && b) (rw (sets.line line) refl) in
-      let driven : is_line_driven (routes_of setup (entry ∷ history)) (pirq_levels (entry ∷ history)) line
-      ≡ is_line_driven (routes_of setup history) (pirq_levels history) line =
-      ap (λ (routes : List ℕ). is_line_driven routes (pirq_levels (entry ∷ history)) line) routes
-      ∙ ap (λ (levels : List Bool). is_line_driven (routes_of setup history) levels line)
-      (grind (arith, nat_tests, common_steps, map-same, any-same, wire_stays)) in
-      rw (timer, clock, disk, free, driven) refl
+      grind (arith, nat_tests, common_steps, map-same, any-same, wire_stays, sets.line line, timer, clock, disk)
 
   -- the lines reach the pair as they did before it
   pub lines_stand : Stays setup history entry → routes_of setup (entry ∷ history) ≡ routes_of setup history →
