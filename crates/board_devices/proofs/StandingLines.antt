@@ -7,7 +7,7 @@ use Rattle.board_prelude.proofs.Common.{port_read, Event, Port, Ack, Entry, Setu
 use Rattle.board_prelude.proofs.Common.{timer_accessed, config_store, levels_of, elcr_of, pair_accessed, pair_after}
 use Rattle.board_prelude.proofs.Common.{pair_of, pair_has_seen}
 use Rattle.std.proofs.Common.{◌≡◌, ℕ, ◌/◌, ◌%◌, ◌&&◌, Bool, true, false, List, ◌∷◌, Option, Some, None, length, take}
-use Rattle.std.proofs.Common.{drop, refl, sym, ap, subst, ◌∙◌, is_some, arith}
+use Rattle.std.proofs.Common.{rules, drop, refl, sym, ap, subst, ◌∙◌, is_some, arith}
 use Rattle.device_spec.specs.Pit.{Access, CounterState, read, read_live}
 use Rattle.device_spec.proofs.Common.{levels_where-has}
 use Rattle.board_spec.specs.Registers.{config_address}
@@ -50,14 +50,7 @@ module _ (levels : List Bool) (elcr : ℕ) where
       grind (arith, nat_tests, common_steps, cases_Bool, is_some, interrupt, settled-asks, settled-quiet, eight)
 
   lines_seen : (pair : Pair) → Sees levels elcr (pair_after_lines pair levels elcr)
-  lines_seen pair = settled_sees (record {
-    master = chip_after_inputs pair.master (master_inputs (take 8 levels))
-        (master_inputs (levels_of_byte (elcr % 256)));
-    slave = chip_after_inputs pair.slave (drop 8 levels) (levels_of_byte (elcr / 256));
-  }) (record {
-    master = given_holds pair.master (master_inputs (take 8 levels)) (master_inputs (levels_of_byte (elcr % 256)));
-    slave = given_holds pair.slave (drop 8 levels) (levels_of_byte (elcr / 256));
-  })
+  lines_seen pair = search (rules, settled_sees, given_holds)
 
   -- the lines change nothing of a pair that sees them so, once its slave is heard
   stands : (pair : Pair) → Sees levels elcr pair → pair_after_lines (settled pair) levels elcr ≡ settled pair

@@ -10,20 +10,12 @@ pub returns-clause-saved : goal.returns-clause-saved
 unfolding machines_bytes
 returns-clause-saved c =
     let are = c.self.inside in
-    let old = c.args.into.now.items in
-    let one = c.save_state.new.into.items in
-    let two = c.save_state-2.new.into.items in
-    let three = c.save_state-3.new.into.items in
-    let four = c.save_state-4.new.into.items in
-    let five = c.save_state-5.new.into.items in
-    let six = c.save_state-6.new.into.items in
-    let new = c.save_state-7.new.into.items in
     let result = c.save_state-7.result in
     rw (← c.self.view_is)
-    (joined result old one new (pair_bytes are.pair) _ c.in_ok-save_state.ensures.saved
-    (joined result one two new (pit_bytes are.timer) _ c.in_ok-save_state-2.ensures.saved
-    (joined result two three new (clock_bytes are.clock) _ c.in_ok-save_state-3.ensures.saved
-    (joined result three four new (triggers_bytes are.triggers) _ c.in_ok-save_state-4.ensures.saved
-    (joined result four five new (plain_bytes are.plain) _ c.in_ok-save_state-5.ensures.saved
-    (joined result five six new (lines_bytes are.wires) (lines_bytes are.irqs) c.in_ok-save_state-6.ensures.saved
-    c.save_state-7.ensures.saved))))))
+    (joined result c.args.into.now.items _ _ (pair_bytes are.pair) _ c.in_ok-save_state.ensures.saved
+    (joined result c.save_state.new.into.items _ _ (pit_bytes are.timer) _ c.in_ok-save_state-2.ensures.saved
+    (joined result c.save_state-2.new.into.items _ _ (clock_bytes are.clock) _ c.in_ok-save_state-3.ensures.saved
+    (joined result c.save_state-3.new.into.items _ _ (triggers_bytes are.triggers) _ c.in_ok-save_state-4.ensures.saved
+    (joined result c.save_state-4.new.into.items _ _ (plain_bytes are.plain) _ c.in_ok-save_state-5.ensures.saved
+    (joined result c.save_state-5.new.into.items _ _ (lines_bytes are.wires) (lines_bytes are.irqs)
+    c.in_ok-save_state-6.ensures.saved c.save_state-7.ensures.saved))))))
