@@ -11,7 +11,8 @@ returns-then-irq-eq-COM1_IRQ-clause-history g c =
     let level = c.level-on.ensures.level in
     rw (← c.self.view_is)
     (λ history left_at.
-    named_step left_at c.step.ensures.setup (c.step.ensures.answer history left_at.left) (c.step.ensures.left history left_at.left)
+    named_step left_at c.step.ensures.setup (c.step.ensures.answer history left_at.left)
+    (c.step.ensures.left history left_at.left)
     (level_of (with_level com1 c.args.on)) (board_event com1 (Line c.args.irq c.args.on)) (rw own level)
     c.requires.actor (rw (own, level) refl))
 

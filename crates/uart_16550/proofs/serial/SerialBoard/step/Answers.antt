@@ -8,7 +8,8 @@ returns-in_default-clause-history g c =
     let plain = is_plain c.args.event.now c.in_default.not-Port c.in_default.not-Line in
     rw (← c.self.view_is)
     (λ history left_at.
-    plain_step left_at c.step.ensures.setup (c.step.ensures.answer history left_at.left) (c.step.ensures.left history left_at.left)
+    plain_step left_at c.step.ensures.setup (c.step.ensures.answer history left_at.left)
+    (c.step.ensures.left history left_at.left)
     c.self.inside.com1 (is_hard_reset history c.args.event.now) plain c.requires.actor)
 
 pub returns-in_default-clause-com1 : goal.returns-in_default-clause-com1
