@@ -91,7 +91,8 @@ high_bit : (n l : ℕ) → is_bit (n / 256) l ≡ is_bit n (8 + l)
 high_bit n l =
     let whole : n / 256 * 2 ^ 8 + n % 256 ≡ n = omega arith in
     let place : 8 + l - 8 ≡ l = omega arith in
-    ap (λ x. eqb x 1) (rw (whole, place) at (sym (bit_at_cat_high (n / 256) 8 (n % 256) (8 + l) (omega arith) (omega arith))))
+    ap (λ x. eqb x 1)
+    (rw (whole, place) at (sym (bit_at_cat_high (n / 256) 8 (n % 256) (8 + l) (omega arith) (omega arith))))
 
 pub low_lines : (n : ℕ) → levels_of_byte (n % 256) ≡ take 8 (lines_of n)
 unfolding lines_where levels_where
