@@ -90,8 +90,7 @@ lines_are : (version number : ℕ) (lines : List (List ℕ)) (before : List Item
 unfolding judged_lines
 lines_are version number [] before = grind (arith, nat_tests)
 lines_are version number (line ∷ later) before =
-    next_are version number line later before (λ items. judged_lines version items (number + 1) later)
-    (judged_line version before line) (line_is version before line)
+    next_are _ _ _ _ _ (λ items. judged_lines version items (number + 1) later) _ (line_is version before line)
     (λ items. lines_are version (number + 1) later items)
 
 -- ---- the whole

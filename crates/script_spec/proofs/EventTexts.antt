@@ -66,8 +66,7 @@ access_back : (version actor : ℕ) (kind : Kind) (bytes addr value : ℕ) (smm 
     → parse_statement_words version actor fields ≡ Some (ask actor (memory_event version kind bytes addr value smm))
 unfolding parse_by_verb parse_read read_event parse_write write_event
 access_back version actor Write bytes addr value smm fields size small fits =
-    with_verb version actor (codes "w") _ _ refl
-    (λ rest reads. grind (arith, nat_tests, smm_back, size_back, hex_back 4, hex_back bytes)) fields
+    with_verb _ _ _ _ _ refl (λ rest reads. grind (arith, nat_tests, smm_back, size_back, hex_back 4, hex_back bytes)) _
 access_back version actor kind bytes addr value smm fields size small none =
     with_verb version actor (kind_text kind) _ _ refl
     (λ rest reads. grind (arith, nat_tests, smm_back, size_back, hex_back 4)) fields

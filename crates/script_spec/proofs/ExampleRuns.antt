@@ -37,8 +37,7 @@ each_bad : (texts : List BadText) →
     → All IsBadText texts
 each_bad [] e = All-nil IsBadText
 each_bad (text ∷ texts) e =
-    All-cons IsBadText text texts (is_bad (text_of_lines text.lines) text.line text.why (same_head _ _ _ _ e))
-    (each_bad texts (ap (λ l. drop 1 l) e))
+    All-cons IsBadText text texts (is_bad _ text.line _ (same_head _ _ _ _ e)) (each_bad texts (ap (λ l. drop 1 l) e))
 
 -- ---- the numbers of a script
 

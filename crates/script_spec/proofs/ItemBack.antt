@@ -1,6 +1,6 @@
 -- Each line of a form is read as what it says.
 use Rattle.std.proofs.Common.{◌≡◌, ℕ, true, false, Some, List, [], ◌∷◌, inl, inr, arith, decimal, bytes_eq}
-use Rattle.board_prelude.proofs.Common.{nat_tests, AllDigits, cases_Bool, Stimulus, stimulus_form}
+use Rattle.board_prelude.proofs.Common.{nat_tests, AllDigits, cases_Bool, Stimulus}
 use Rattle.script_spec.specs.Common.{Item, Ask, AskLevel, IsDecimal, IsName, IsForm, IsLevelForm, HasForm, fields_of}
 use Rattle.script_spec.specs.Common.{parse_given, parse_statement_words, parse_statement, parse_by_key, parse_item}
 use Rattle.script_spec.specs.Common.{parse_number, parse_two_numbers, is_name, parse_name, parse_phase, parse_by_verb}
@@ -32,8 +32,7 @@ level_back : (version n : ℕ) (one : Stimulus) (number level : ℕ) → IsLevel
     → parse_item version (item_words (AskLevel n one number level)) ≡ Some (AskLevel n one number level)
 unfolding parse_statement_words parse_by_verb parse_stimulus_item parse_given parse_two_numbers
 level_back version n one number level form =
-    number_first version n ((stimulus_form one).word ∷ decimal number ∷ decimal level ∷ []) _ form.who
-    (grind (arith, nat_tests, decimal_back, form.what, form.which, form.few, form.high))
+    number_first _ n _ _ form.who (grind (arith, nat_tests, decimal_back, form.what, form.which, form.few, form.high))
 
 -- ---- all lines
 
@@ -56,5 +55,4 @@ item_back version fields item form are = grind (arith, nat_tests, decimal_back, 
 -- a line that has a form is read as the item that it says
 pub line_back : (version : ℕ) (line : List ℕ) (item : Item) → HasForm version line item
     → parse_item version (fields_of line) ≡ Some item
-line_back version line item has =
-    item_back version (fields_of line) item has.form (fields_said version line item has.form has.says)
+line_back version line item has = item_back _ _ _ has.form (fields_said _ _ _ has.form has.says)

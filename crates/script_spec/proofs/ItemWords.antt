@@ -91,8 +91,7 @@ item_are version item form = grind (arith, nat_tests, decimal_word, name_word, e
 
 pub fields_say : (fields : List (List ℕ)) (item : Item) → AreFields fields item
     → Says (join_with_byte space fields) item
-fields_say fields (Ask statement) are =
-    rw (← item_joined (Ask statement)) (joined fields (item_words (Ask statement)) are)
+fields_say fields (Ask statement) are = rw (← item_joined (Ask statement)) (joined _ _ are)
 fields_say fields item are = ap (join_with_byte space) are ∙ item_joined item
 
 pub fields_said : (version : ℕ) (line : List ℕ) (item : Item) → IsForm version item → Says line item

@@ -96,8 +96,7 @@ line_says_entry version n m entry other formed others same = (
   λ first second.
       decimal_injective n m first second
       (sym (number_read n entry) ∙ ap (front space) same ∙ number_read m other),
-  some_is entry other
-      (sym (entry_read version n entry formed) ∙ ap (entry_in version) same ∙ entry_read version m other others),
+  some_is _ _ (sym (entry_read _ n _ formed) ∙ ap (entry_in version) same ∙ entry_read _ m _ others),
 )
 
 -- ---- whole logs
@@ -147,8 +146,7 @@ history_read : (version : ℕ) (history : List Entry) → All (IsWellFormed vers
     map (entry_of version) (log_lines history) ≡ reverse history
 history_read version [] each = refl
 history_read version (entry ∷ before) each =
-    let this = ap from_some (entry_read version (length before + 1) entry
-    (All-head (IsWellFormed version) entry before each)) in
+    let this = ap from_some (entry_read _ (length before + 1) _ (All-head (IsWellFormed version) entry before each)) in
     let rest = history_read version before (All-tail (IsWellFormed version) entry before each) in
     simp (map-append, reverse-append (entry ∷ []) before, rest, this)
 

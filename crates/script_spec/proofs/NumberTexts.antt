@@ -1,7 +1,7 @@
 -- Fields are read as numbers exactly where they spell them.
 use Rattle.script_spec.proofs.Chains.{then_read, some_is, guarded, Spells}
-use Rattle.std.proofs.Common.{Bool, true, ◌≡◌, ℕ, zero, suc, ◌+◌, ◌*◌, ◌/◌, ◌%◌, ◌^◌, ◌<◌, ◌≤◌, false, not, eqb, leb}
-use Rattle.std.proofs.Common.{◌&&◌, Some, List, [], ◌∷◌, length, refl, sym, ap, ◌∙◌, arith, pow-suc, lit<, decimal, ◌-◌}
+use Rattle.std.proofs.Common.{Bool, true, ◌≡◌, ℕ, zero, suc, ◌+◌, ◌*◌, ◌/◌, ◌%◌, ◌^◌, ◌<◌, ◌≤◌, false, not, eqb, ◌&&◌}
+use Rattle.std.proofs.Common.{Some, List, [], ◌∷◌, length, refl, sym, ap, ◌∙◌, arith, pow-suc, lit<, decimal, ◌-◌}
 use Rattle.std.proofs.Common.{subst, leb-true, eqb-true, lt-ltb, le-leb, eq-eqb}
 use Rattle.board_prelude.proofs.Common.{nat_tests, AllZip, AllDigits, digits_value, pow-le-pow_right, byte, hex_digit}
 use Rattle.board_prelude.proofs.Common.{hex_number, list_all, and_parts, is_within}
@@ -34,11 +34,10 @@ parts a b c test = grind (arith, nat_tests)
 
 pub decimal_read : (field : List ℕ) (n : ℕ) → parse_decimal field ≡ Some n → (field ≡ decimal n) × IsDecimal n
 decimal_read field n e =
-    let g = guarded (leb 1 (length field) && leb (length field) 9 && not (has_leading_zero field))
-    (parse_digits 10 field) n e in
-    let test = parts (leb 1 (length field)) (leb (length field) 9) (has_leading_zero field) g.0 in
+    let g = guarded _ _ n e in
+    let test = parts _ _ _ g.0 in
     let some = leb-true 1 (length field) test.0 in
-    let read = digits 0 n field g.1 in
+    let read = digits 0 n _ g.1 in
     let most = pow-le-pow_right {n = 10} (lit< tt) (leb-true (length field) 9 test.1) in
     let small : digits_value 10 field < 1_000_000_000 = omega (arith, digits_value-lt 10 field read.0) in
     let text = decimal-digits_value own field read.0 (omega (arith, some)) (λ first. grind (arith, nat_tests, test.2))
@@ -145,12 +144,11 @@ hex_after (suc k) high n (c ∷ d ∷ cs) is spells =
     let b : ℕ = byte n k in
     let above : high ≡ n / 256 ^ k / 256 = is ∙ ap (λ (p : ℕ). n / p) (pow-suc 256 k) ∙
     (sym (div-div-eq-div-mul n (256 ^ k) 256)) in
-    let first : parse_digit 16 c ≡ Some (b / 16) = hex_digit_read c (b / 16) (omega arith) spells.0 in
-    let low : hex_digit b ≡ hex_digit (b % 16) = digit_again b (b % 16) refl in
-    let second : parse_digit 16 d ≡ Some (b % 16) = hex_digit_read d (b % 16) (omega arith)
+    let first : parse_digit 16 c ≡ Some (b / 16) = hex_digit_read c _ (omega arith) spells.0 in
+    let low : hex_digit b ≡ hex_digit (b % 16) = digit_again b _ refl in
+    let second : parse_digit 16 d ≡ Some (b % 16) = hex_digit_read d _ (omega arith)
     (subst (StandsFor d) low spells.1.0) in
-    rw (first, second)
-    (hex_after k ((high * 16 + b / 16) * 16 + b % 16) n cs (next_value (n / 256 ^ k) high b above refl) spells.1.1)
+    rw (first, second) (hex_after k ((high * 16 + b / 16) * 16 + b % 16) n cs (next_value _ _ b above refl) spells.1.1)
 
 hex_length : (k n : ℕ) → length (hex_number k n) ≡ 2 * k
 hex_length zero n = refl

@@ -71,9 +71,8 @@ all_scripted version cpus setup (item ∷ before) above cards good =
     let above_before = λ (actor : ℕ) (any : list_any (is_cpus_above actor) before ≡ true).
     above actor (or_right (is_cpus_above actor item) (list_any (is_cpus_above actor) before) any) in
     let cards_before : HasCards before setup = λ dev has. cards dev (grind (arith, nat_tests)) in
-    All-cons (OnAsk (IsScripted setup version cpus)) item before
-    (scripted version cpus setup before item above_before cards_before good.0 good.1)
-    (all_scripted version cpus setup before above_before cards_before good.2)
+    All-cons (OnAsk (IsScripted setup version cpus)) item before (scripted _ _ _ _ _ above_before cards_before good.0
+    good.1) (all_scripted version cpus setup before above_before cards_before good.2)
 
 -- what holds of each statement of the items holds of each statement of the phases
 phase_asks : (P : Statement → Type 0) (phase : List Statement) (later : List Item) → All (OnAsk P)
@@ -87,8 +86,7 @@ all_asks : (P : Statement → Type 0) (phases : List (List Statement)) → All (
     All P (flat_map (λ phase. phase) phases)
 all_asks P [] all = All-nil P
 all_asks P (phase ∷ later) all =
-    let both = phase_asks P phase (phase_items later)
-    (All-tail (OnAsk P) BeginPhase (map Ask phase ++ phase_items later) all) in
+    let both = phase_asks P _ _ (All-tail (OnAsk P) BeginPhase (map Ask phase ++ phase_items later) all) in
     All-append P phase (flat_map (λ phase. phase) later) both.0 (all_asks P later both.1)
 
 -- ---- cards

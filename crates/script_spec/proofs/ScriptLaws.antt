@@ -52,10 +52,9 @@ rising_same (x ∷ xs) (y ∷ ys) one two there back =
 one_order : (cards left right : List FittedCard) → IsPermutation cards left → IsPermutation cards right →
     Rises left → Rises right → left ≡ right
 one_order cards left right one two rises others =
-    rising_same left right rises others
-    (All-permutation (In right) cards left one (All-permutation (In right) right cards
-    (IsPermutation-sym cards right two) (all_in right)))
-    (All-permutation (In left) cards right two (All-permutation (In left) left cards
+    rising_same _ _ rises others (All-permutation (In right) cards left one (All-permutation (In right) right cards
+    (IsPermutation-sym cards right two) (all_in right))) (All-permutation (In left) cards right two (All-permutation (In
+    left) left cards
     (IsPermutation-sym cards left one) (all_in left)))
 
 -- ---- phases
