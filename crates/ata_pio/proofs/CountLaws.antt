@@ -160,23 +160,21 @@ verifies_on : (n : ℕ) (m : Medium) (sector : ℕ) (d : Drive) → IsChosen d �
 unfolding moved_on
 verifies_on zero m sector d h e n l r = refl
 verifies_on (suc n) m sector d h e more l r =
-    let first = goes_on d sector h (omega arith) (omega arith) in
+    let first = goes_on d _ h (omega arith) (omega arith) in
     let fits : n ≤ left_of (next sector d).registers = omega (arith, first.left) in
-    verified-more m sector d (ap (readable m) e ∙ first_readable m sector n r) (λ z. omega arith)
-    ∙ verifies_on n m (sector + 1) (next sector d) first.chosen first.names fits (omega arith)
-    (later_readable m sector n r)
+    verified-more m _ d (ap (readable m) e ∙ first_readable m _ n r) (λ z. omega arith)
+    ∙ verifies_on n m (sector + 1) (next sector d) first.chosen first.names fits (omega arith) (later_readable m _ n r)
 
 pub verify_looks_at_its_sectors : VerifyLooksAtItsSectors
 verify_looks_at_its_sectors m sector n drive h e more l r =
-    let on = verifies_on n m sector drive h e more l r in
+    let on = verifies_on n m _ _ h e more l r in
     let d = moved_on sector n drive in
     let stands = moves_on drive sector n h e more l in
     record {
-      fails = λ error bad. on ∙ verified-fails m (left_of d.registers) error d (ap (readable m) stands.names ∙ bad);
+      fails = λ error bad. on ∙ verified-fails m (left_of d.registers) _ d (ap (readable m) stands.names ∙ bad);
       ends = λ good last.
           let none : left_of d.registers ≡ 0 = omega (arith, stands.left) in
-          on ∙ (ap (λ left. verified m left d) none ∙ verified-end m (sector + n) d
-          (ap (readable m) stands.names ∙ good));
+          on ∙ (ap (λ left. verified m left d) none ∙ verified-end m _ d (ap (readable m) stands.names ∙ good));
     }
 
 -- words that are written, one run after another

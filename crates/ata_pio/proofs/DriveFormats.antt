@@ -67,9 +67,8 @@ sector_small there bound few = grind (arith, nat_tests)
 came_format : (number word : ℕ) → number ≤ 4 → word ≤ bound_where (nat_lt 1 number) 255 →
     IsFormat 512 (plain (came_size number word)) (λ bytes. bytes) (λ bytes. length bytes ≡ came_size number word)
 came_format number word few small =
-    format_as 512 (λ bytes. bytes) (λ bytes. length bytes ≡ came_size number word)
-    (plain_format (came_size number word)) (grind (arith, nat_tests)) (λ bytes long. long) (λ bytes long. long)
-    (λ bytes long. refl)
+    format_as _ (λ bytes. bytes) (λ bytes. length bytes ≡ came_size number word) (plain_format (came_size number word))
+    (grind (arith, nat_tests)) (λ bytes long. long) (λ bytes long. long) (λ bytes long. refl)
 
 activity_format : (sectors : ℕ) → 0 < sectors → sectors ≤ 65536 →
     IsFormat 518 (activity_fields sectors) activity_bytes (IsActivity sectors)

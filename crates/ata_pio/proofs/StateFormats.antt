@@ -44,8 +44,7 @@ all_good state (flag ∷ later) = (tt, all_good state later)
 
 flags_format : (count : ℕ) → IsFormat count (flags_fields count) (map flag_byte) (λ flags. length flags ≡ count)
 flags_format count =
-    format_as count (map flag_byte) (λ flags. length flags ≡ count)
-    (many_format flags_loop (λ state. flag_format) tt count) (omega arith)
+    format_as _ _ (λ flags. length flags ≡ count) (many_format flags_loop (λ state. flag_format) tt count) (omega arith)
     (λ flags long. (long, all_good tt flags))
     (λ flags good. good.0)
     (λ flags good. one_each flags)

@@ -1,27 +1,22 @@
-use Rattle.std.proofs.Common.{◌+◌, length, ap, ◌∙◌}
+use Rattle.std.proofs.Common.{◌+◌, ap, ◌∙◌}
 use Rattle.board_base.proofs.Common.{err_from_is_err_and, length_push}
 use Rattle.byte_fields.proofs.Loops.{goes_on, stops, is_done}
-use Rattle.ata_pio.specs.State.{flags_fields}
-use Rattle.ata_pio.proofs.StateFormats.{a_flag, past_flag, flags_after, flags_loop}
+use Rattle.ata_pio.proofs.StateFormats.{flags_loop}
 use Rattle.ata_pio.proofs.state.read_flags.Goals as goal
 
 pub returns-in_err-flag-clause-filled : goal.returns-in_err-flag-clause-filled
 returns-in_err-flag-clause-filled c =
     let p = err_from_is_err_and c.from_residual-in_err-flag.result c.from_residual-in_err-flag.ensures.1 in
-    rw (p.1, p.2) (stops a_flag past_flag flags_after flags_loop c.loop.flags.items tt c.args.count c.loop.counter
-    c.loop.fields (length c.flag.new.self) (flags_fields c.args.count c.args.fields.now) c.loop-test.true
-    c.in_err-flag.ensures.took c.loop.invariant.read)
+    rw (p.1, p.2) (stops _ _ _ flags_loop _ tt _ _ _ _ _ c.loop-test.true c.in_err-flag.ensures.took
+    c.loop.invariant.read)
 
 pub loop-preserved : goal.loop-preserved
 loop-preserved c = record {
-  read = rw c.in_ok-push.ensures.items (goes_on a_flag past_flag flags_after flags_loop c.loop.flags.items tt
-      c.args.count c.loop.counter c.loop.fields c.flag.new.self c.in_ok-flag.flag
-      (flags_fields c.args.count c.args.fields.now) c.loop-test.true c.in_ok-flag.ensures.took c.loop.invariant.read);
+  read = rw c.in_ok-push.ensures.items (goes_on _ _ _ flags_loop _ tt _ _ _ _ c.in_ok-flag.flag _ c.loop-test.true
+      c.in_ok-flag.ensures.took c.loop.invariant.read);
   count = rw c.in_ok-push.ensures.items
       (length_push c.loop.flags.items c.in_ok-flag.flag ∙ ap (λ n. n + 1) c.loop.invariant.count);
 }
 
 pub returns-clause-filled : goal.returns-clause-filled
-returns-clause-filled c =
-    is_done a_flag past_flag flags_after flags_loop c.loop.flags.items tt c.args.count c.loop.counter c.loop.fields
-    (flags_fields c.args.count c.args.fields.now) c.loop-test.false c.loop.invariant.read
+returns-clause-filled c = is_done _ _ _ flags_loop _ tt _ _ _ _ c.loop-test.false c.loop.invariant.read

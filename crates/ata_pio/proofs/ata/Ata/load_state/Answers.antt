@@ -4,6 +4,5 @@ use Rattle.ata_pio.proofs.ata.Ata.load_state.Goals as goal
 
 pub returns : goal.returns
 returns c = record {
-  loaded = loads_with (disk_format c.args.fitted.now c.requires.size) c.args.fields.now _ c.read_state.result
-      c.are_bytes.ensures.bytes c.read_state.ensures.filled;
+  loaded = loads_with (disk_format _ c.requires.size) _ _ _ c.are_bytes.ensures.bytes c.read_state.ensures.filled;
 }
