@@ -4,5 +4,4 @@ use Rattle.pit_8254.proofs.counting.Counter.pass_periods.Goals as goal
 
 pub returns-clause-part : goal.returns-clause-part
 returns-clause-part c =
-    part_periods c.args.gate c.args.self.now c.args.run _ c.requires.at_period (rw (← c.self.view_is) refl)
-    (rw (← c.self.view_is) refl)
+    part_periods _ _ c.args.run _ c.requires.at_period (rw (← c.self.view_is) refl) (rw (← c.self.view_is) refl)

@@ -14,15 +14,13 @@ returns-in_err-more-clause-rise g c =
     let none : c.from_residual.result ≡ None = search rules in
     subst (λ (answer : Option ℕ). IsFirstRise c.args.gate c.args.self.now answer) (sym none)
     (subst (λ (d : CounterState). IsFirstRise c.args.gate d None) c.copy-counter.ensures.copy
-    (never_later c.args.gate 1 c.copy-counter.result c.step-run.new.self
-    (passes_first _ _ _ _ _ c.step-run.ensures.part refl refl c.step-run.ensures.left
+    (never_later _ 1 _ _ (passes_first _ _ _ _ _ c.step-run.ensures.part refl refl c.step-run.ensures.left
     (omega (arith, c.if-run-gt0.false)))
     c.in_err-more.ensures.rise))
 
 pub returns-clause-rise : goal.returns-clause-rise
 returns-clause-rise g c =
     subst (λ (d : CounterState). IsFirstRise c.args.gate d (Some (1 + c.in_ok-more.more))) c.copy-counter.ensures.copy
-    (rises_after c.args.gate 1 c.in_ok-more.more c.copy-counter.result c.step-run.new.self
-    (passes_first _ _ _ _ _ c.step-run.ensures.part refl refl c.step-run.ensures.left
+    (rises_after _ 1 _ _ _ (passes_first _ _ _ _ _ c.step-run.ensures.part refl refl c.step-run.ensures.left
     (omega (arith, c.if-run-gt0.false)))
     c.in_ok-more.ensures.rise)

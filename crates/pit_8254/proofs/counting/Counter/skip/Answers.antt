@@ -4,5 +4,4 @@ use Rattle.pit_8254.proofs.counting.Counter.skip.Goals as goal
 
 pub returns-clause-part : goal.returns-clause-part
 returns-clause-part c =
-    part_quiet c.args.gate c.args.self.now c.pass_quietly.new.self c.args.run _ c.min-pulses.result (omega arith)
-    (omega arith) c.pass_quietly.ensures.state refl refl
+    part_quiet _ _ _ c.args.run _ _ (omega arith) (omega arith) c.pass_quietly.ensures.state refl refl

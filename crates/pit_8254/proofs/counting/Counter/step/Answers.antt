@@ -9,6 +9,4 @@ returns-clause-part g c =
     (rw (c.rise.ensures.rise, ← c.self.view_is, ← c.self-2.view_is) refl)
 
 pub returns-clause-settled : goal.returns-clause-settled
-returns-clause-settled g c =
-    pulse_settles c.args.gate c.args.self.now c.pulse.new.self (rw (← c.self.view_is) c.self.invariant.0)
-    c.pulse.ensures.state
+returns-clause-settled g c = pulse_settles _ _ _ (rw (← c.self.view_is) c.self.invariant.0) c.pulse.ensures.state
