@@ -89,14 +89,12 @@ module _ (chip : Chip) (place level : ℕ) (here : level ≡ get_or (priority_or
 
   pub blocked-here : place < 8 → asks level ≡ false → is_blocking chip level ≡ true → scan chip rest ≡ None
   blocked-here small passes blocks =
-      scan-blocked chip (priority_order chip.lowest) place (within small) (sym (ap asks here) ∙ passes)
-      (sym (ap (is_blocking chip) here) ∙ blocks)
+      scan-blocked _ _ _ (within small) (sym (ap asks here) ∙ passes) (sym (ap (is_blocking chip) here) ∙ blocks)
 
   pub past-here : place < 8 → asks level ≡ false → is_blocking chip level ≡ false →
       scan chip rest ≡ scan chip (drop (place + 1) (priority_order chip.lowest))
   past-here small passes none =
-      scan-past chip (priority_order chip.lowest) place (within small) (sym (ap asks here) ∙ passes)
-      (sym (ap (is_blocking chip) here) ∙ none)
+      scan-past _ _ _ (within small) (sym (ap asks here) ∙ passes) (sym (ap (is_blocking chip) here) ∙ none)
 
 pub none-left : (chip : Chip) (place : ℕ) → 8 ≤ place → scan chip (drop place (priority_order chip.lowest)) ≡ None
 none-left chip place past = scan-end chip (priority_order chip.lowest) place (omega (arith, order-length chip.lowest))

@@ -41,8 +41,7 @@ set-lines_where : (p : ℕ → Bool) (k : ℕ) (on : Bool) → k < 16 →
     set (lines_where p) k on ≡ lines_where (λ l. cond (eqb l k) on (p l))
 set-lines_where p k on within =
     let size = lines_where_length p in
-    lines_where-is (λ l. cond (eqb l k) on (p l)) (set (lines_where p) k on) (length-set (lines_where p) k on ∙ size)
-    (λ l small.
+    lines_where-is (λ l. cond (eqb l k) on (p l)) _ (length-set (lines_where p) k on ∙ size) (λ l small.
     elim (cases_eq l k) [
       | inl same ↦
           rw (same, eq-eqb k k refl) (get_or-set_same (lines_where p) k on false

@@ -16,16 +16,14 @@ returns-then-asks-clause-request c =
 pub returns-then-is_blocking-clause-request : goal.returns-then-is_blocking-clause-request
 returns-then-is_blocking-clause-request c =
     sym (c.loop-place.invariant
-    ∙ blocked-here c.args.self.now c.loop-place.place c.level_at-level.result c.level_at-level.ensures.level
-    (omega (arith, c.loop-place-test.true)) (sym c.asks.ensures.asks ∙ c.if-asks.false)
-    (sym c.is_blocking.ensures.blocking ∙ c.if-is_blocking.true))
+    ∙ blocked-here _ _ _ c.level_at-level.ensures.level (omega (arith, c.loop-place-test.true))
+    (sym c.asks.ensures.asks ∙ c.if-asks.false) (sym c.is_blocking.ensures.blocking ∙ c.if-is_blocking.true))
 
 pub loop-place-preserved : goal.loop-place-preserved
 loop-place-preserved c =
     c.loop-place.invariant
-    ∙ past-here c.args.self.now c.loop-place.place c.level_at-level.result c.level_at-level.ensures.level
-    (omega (arith, c.loop-place-test.true)) (sym c.asks.ensures.asks ∙ c.if-asks.false)
-    (sym c.is_blocking.ensures.blocking ∙ c.if-is_blocking.false)
+    ∙ past-here _ _ _ c.level_at-level.ensures.level (omega (arith, c.loop-place-test.true))
+    (sym c.asks.ensures.asks ∙ c.if-asks.false) (sym c.is_blocking.ensures.blocking ∙ c.if-is_blocking.false)
 
 pub returns-clause-request : goal.returns-clause-request
 returns-clause-request c =
