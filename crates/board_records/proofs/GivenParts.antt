@@ -37,9 +37,3 @@ pub given_exact :
     (result ≡ Err no_memory) ⊎ (result ≡ Ok (on_board (with_given given) behind))
 given_exact (Ok it) given loaded behind puts read as_many = grind (arith, nat_tests)
 given_exact (Err status) given loaded behind puts read as_many = grind (arith, nat_tests)
-
--- nothing was loaded
-pub exact_refused : (status : ℕ) (behind other : Behind) →
-    let read : Result Behind ℕ = Err status in
-    (read ≡ Err no_memory) ⊎ (read ≡ Ok behind) → (read ≡ Err no_memory) ⊎ (read ≡ Ok other)
-exact_refused status behind other read = grind (arith, nat_tests)

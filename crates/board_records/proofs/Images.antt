@@ -39,15 +39,6 @@ state_exact before after serial identities loads behind rest is same begins =
       | inr given ↦ let read : serial ≡ behind.serial = cc (given.0) in inr (rw (read, ← say) refl, given.1)
     ]
 
-pub state_refused :
-    {setup : Setup} (before after : List ℕ) (fault : Fault) → LoadsSerial setup before after (Err fault) →
-    (behind : Behind) (rest : List ℕ) → IsBehind behind → behind.serial.board.setup ≡ setup →
-    before ≡ serial_bytes behind.serial ++ rest →
-    (◌≡◌ {A = Result Behind Fault} (Err fault) (Err NoMemory)) ⊎
-    ((◌≡◌ {A = Result Behind Fault} (Err fault) (Ok behind)) × (after ≡ rest))
-state_refused before after fault loads behind rest is same begins =
-    grind (arith, nat_tests, loads.exact behind.serial rest same is.state begins)
-
 -- ---- the state, after which nothing follows
 
 pub last_loaded : (result : Result Behind Fault) (behind : Behind) (fitted : Fitting) (before mid : List ℕ) →
@@ -61,10 +52,6 @@ last_loaded (Err fault) behind fitted before mid told is = tt
 -- what a call says of a state and of what follows it, where nothing does
 abbrev GivesThen : Result Behind Fault → (after : List ℕ) → Behind → Type 0
 GivesThen result after behind = (result ≡ Err NoMemory) ⊎ ((result ≡ Ok behind) × (after ≡ []))
-
-pub last_exact : (result : Result Behind Fault) (read behind : Behind) (after : List ℕ) →
-    (after ≡ [] → result ≡ Ok read) → GivesThen (Ok read) after behind → Gives result behind
-last_exact result read behind after last given = grind (arith, nat_tests)
 
 pub last_refused : (fault : Fault) (behind : Behind) (after : List ℕ) → GivesThen (Err fault) after behind →
     Gives (Err fault) behind

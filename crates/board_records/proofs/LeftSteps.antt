@@ -2,7 +2,6 @@
 use Rattle.std.proofs.Common.{◌≡◌, ◌≢◌, ℕ, ◌/◌, true, false, Bool, if◌then◌else◌, List, [], ◌∷◌, length, option_map}
 use Rattle.std.proofs.Common.{unwrap_or, Option, Some, None, Result, Ok, Err, ◌⊎◌, refl, sym, ap, arith, subst, ◌∙◌}
 use Rattle.board_prelude.proofs.Common.{Disk, IsDisk, IsDiskSize, installed, nat_tests}
-use Rattle.ata_pio.specs.State.{IsDisk as IsDiskOver}
 use Rattle.board_devices.specs.Common.{holding, sectors_in}
 use Rattle.board_devices.specs.State.{IsFittedDisk}
 use Rattle.board_chipset.specs.ChipsetState.{IsChipset}
@@ -23,9 +22,10 @@ disk_refitted : (bytes : List ℕ) (disk : Option (List ℕ)) → length bytes �
 disk_refitted bytes None same is = tt
 disk_refitted bytes (Some own) same is = subst IsDiskSize (sym same) is
 
-over_other : (fitted sectors own : List ℕ) (disk : Disk) → length fitted ≡ length own →
-    length sectors ≡ length disk.medium.bytes → IsDiskOver own disk → IsDiskOver fitted (holding sectors disk)
-over_other fitted sectors own disk fits same is = record {
+disk_over_other : (fitted sectors : List ℕ) (own : Option (List ℕ)) (disk : Option Disk) →
+    length fitted ≡ length (unwrap_or own []) → length sectors ≡ length (unwrap_or (sectors_in disk) []) →
+    IsFittedDisk own disk → IsFittedDisk (option_map {T = List ℕ} (λ _. fitted) own) (option_map (holding sectors) disk)
+disk_over_other fitted sectors (Some own) (Some disk) fits same is = record {
   size = rw fits is.size;
   drive = rw fits is.drive;
   medium = record {
@@ -33,11 +33,6 @@ over_other fitted sectors own disk fits same is = record {
     bad = is.medium.bad ∙ ap (λ (n : ℕ). n / 512) (sym fits);
   };
 }
-
-disk_over_other : (fitted sectors : List ℕ) (own : Option (List ℕ)) (disk : Option Disk) →
-    length fitted ≡ length (unwrap_or own []) → length sectors ≡ length (unwrap_or (sectors_in disk) []) →
-    IsFittedDisk own disk → IsFittedDisk (option_map {T = List ℕ} (λ _. fitted) own) (option_map (holding sectors) disk)
-disk_over_other fitted sectors (Some own) (Some disk) fits same is = over_other fitted sectors own disk fits same is
 disk_over_other fitted sectors (Some own) None fits same is = is
 disk_over_other fitted sectors None None fits same is = is
 disk_over_other fitted sectors None (Some disk) fits same is = is

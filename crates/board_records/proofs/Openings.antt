@@ -1,7 +1,7 @@
 -- What an open looks at before it copies: the cards that records say are as many as the records.
-use Rattle.board_prelude.proofs.Common.{common_steps, nat_tests, drop_more, FittedCard, IsCardList, IsSetup, Setup}
-use Rattle.std.proofs.Common.{◌≡◌, ℕ, suc, ◌+◌, ◌<◌, ◌&&◌, true, arith, IsSomeAnd, List, [], ◌∷◌, length, get_or, drop}
-use Rattle.std.proofs.Common.{is_some, Option, Some, None, option_map, option_and_then, refl, ap}
+use Rattle.board_prelude.proofs.Common.{common_steps, nat_tests, drop_more, FittedCard, IsCardList, Setup}
+use Rattle.std.proofs.Common.{◌≡◌, ℕ, suc, ◌+◌, ◌<◌, ◌&&◌, true, arith, List, [], ◌∷◌, length, get_or, drop, is_some}
+use Rattle.std.proofs.Common.{Option, Some, None, option_map, option_and_then, refl, ap}
 use Rattle.board_chipset.specs.Setups.{IsMemory}
 use Rattle.board_records.specs.Doors.{IsSetupRefusal, disk_of, setup_said}
 use Rattle.board_records.specs.Statuses.{bad_cards}
@@ -52,8 +52,3 @@ pub many_cards : (mib : ℕ) (records : List CardRecord) (rom disk : List ℕ) �
 many_cards mib records rom disk test many memory = grind (arith, nat_tests, common_steps, some_there, no_list)
 
 -- ---- at most eight
-
-pub said_fits : (mib : ℕ) (records : List CardRecord) (rom disk : List ℕ) (cards : List FittedCard) →
-    Some cards ≡ cards_said records → IsSetup (setup_of mib cards rom disk) →
-    IsSomeAnd (setup_said mib records rom disk) IsSetup
-said_fits mib records rom disk cards is fits = rw (← is) fits

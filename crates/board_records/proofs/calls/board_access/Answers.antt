@@ -1,7 +1,6 @@
 use Rattle.std.proofs.Common.{◌∙◌, lit<, refl}
 use Rattle.board_chipset.specs.Common.{reply_of}
 use Rattle.uart_16550.specs.declared.com1.SerialReply.TheVariants.{Board as OfBoard}
-use Rattle.board_records.proofs.AskedSteps.{board_steps_are}
 use Rattle.board_records.proofs.EventReplies.{after_as}
 use Rattle.board_records.specs.Replies.{record_said, serial_said}
 use Rattle.board_records.proofs.calls.board_access.Goals as goal
@@ -24,7 +23,7 @@ returns c =
               com1 = com1;
               goes_on =
                   after_as new history _ _
-                  (board_steps_are c.args.serial.now new.com1 history c.args.access.now c.requires.board com1) gone;
+                  (rw (com1, c.requires.board) refl) gone;
               told =
                   c.tell_cycle.ensures.said gone.after gone.left_at.left
                   ∙ rw (step.setup, c.reset_by-reset.ensures.kind history (rw c.board.ensures.board left.left)) refl;

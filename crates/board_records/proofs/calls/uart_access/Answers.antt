@@ -1,6 +1,5 @@
 use Rattle.std.proofs.Common.{◌∙◌, refl}
 use Rattle.uart_16550.specs.Common.{from_uart}
-use Rattle.board_records.proofs.AskedSteps.{uart_steps_are, uart_com1_is}
 use Rattle.board_records.proofs.EventReplies.{after_as}
 use Rattle.board_records.specs.Replies.{serial_said}
 use Rattle.board_records.proofs.calls.uart_access.Goals as goal
@@ -20,10 +19,10 @@ returns c =
             let gone = step.history history left in
             record {
               answer = rw (c.requires.uart) step.reply;
-              com1 = uart_com1_is old new.com1 history c.args.access.now c.requires.uart step.com1;
+              com1 = rw (step.com1, c.requires.uart) refl;
               goes_on =
                   after_as new history _ _
-                  (uart_steps_are old new.com1 history c.args.access.now c.requires.uart step.com1) gone;
+                  (rw (step.com1, c.requires.uart) refl) gone;
               told =
                   c.tell_uart.ensures.said
                   ∙ rw (

@@ -1,10 +1,11 @@
-use Rattle.std.proofs.Common.{◌≡◌, ◌⊎◌, ℕ, Result, Err, Ok}
+use Rattle.std.proofs.Common.{◌≡◌, ◌⊎◌, ℕ, Result, Err, Ok, arith}
 use Rattle.board_records.specs.Doors.{Behind}
 use Rattle.board_records.specs.Given.{AreAsMany, Given, on_board, with_given}
 use Rattle.board_records.specs.Images.{IsBehind, image_bytes}
 use Rattle.board_records.specs.Statuses.{no_memory}
-use Rattle.board_records.proofs.GivenParts.{Puts, exact_refused, given_exact, given_loaded, given_refused, given_sound}
+use Rattle.board_records.proofs.GivenParts.{Puts, given_exact, given_loaded, given_refused, given_sound}
 use Rattle.board_records.proofs.LeftSteps.{loaded_back}
+use Rattle.board_prelude.proofs.Common.{nat_tests}
 use Rattle.board_records.proofs.given.load_with.Goals as goal
 
 pub returns-in-Ok : goal.returns-in-Ok
@@ -29,4 +30,4 @@ returns-in-Ok c =
 pub returns-in-Err-clause-saved : goal.returns-in-Err-clause-saved
 returns-in-Err-clause-saved c left behind is same own =
     loaded_back (Err c.in-Err.status) c.args.from.now c.args.given.now left behind
-    (λ any sound image fits. exact_refused c.in-Err.status any _ (c.in-Err.ensures.exact any sound image)) is same own
+    (λ any sound image fits. grind (arith, nat_tests, c.in-Err.ensures.exact any sound image)) is same own

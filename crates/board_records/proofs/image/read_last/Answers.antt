@@ -1,6 +1,7 @@
-use Rattle.std.proofs.Common.{[], sym, ◌∙◌, append-nil}
+use Rattle.std.proofs.Common.{[], sym, ◌∙◌, append-nil, arith}
 use Rattle.uart_16550.specs.SerialState.{serial_bytes}
-use Rattle.board_records.proofs.Images.{last_exact, last_loaded}
+use Rattle.board_records.proofs.Images.{last_loaded}
+use Rattle.board_prelude.proofs.Common.{nat_tests}
 use Rattle.board_records.proofs.image.read_last.Goals as goal
 
 pub returns-in-Ok : goal.returns-in-Ok
@@ -8,6 +9,11 @@ returns-in-Ok c = record {
   loaded = last_loaded c.alone.result c.in-Ok.behind c.args.fitted c.args.fields.now c.read_state.new.fields
       c.alone.ensures.same c.in-Ok.ensures.loaded;
   exact = λ behind is same begins.
-      last_exact c.alone.result c.in-Ok.behind behind c.read_state.new.fields c.alone.ensures.last
-      (c.in-Ok.ensures.exact behind [] is same (begins ∙ sym (append-nil (serial_bytes behind.serial))));
+      grind (
+        arith,
+        nat_tests,
+        c.alone.ensures.last,
+        c.in-Ok.ensures.exact behind [] is same
+            (begins ∙ sym (append-nil (serial_bytes behind.serial))),
+      );
 }
