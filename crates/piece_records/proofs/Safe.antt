@@ -1,7 +1,6 @@
 -- No part of a piece is SMRAM, nor memory at A0000h to BFFFFh.
-use Rattle.board_prelude.proofs.Common.{common_steps, nat_tests, Area, Denial, Kind, Read, Setup, Bytes, is_smram_range}
-use Rattle.board_prelude.proofs.Common.{target_at}
-use Rattle.std.proofs.Common.{◌≡◌, ℕ, ◌*◌, ◌%◌, ◌<◌, ◌^◌, false, Option, sym, ap, ◌∙◌, arith}
+use Rattle.board_prelude.proofs.Common.{common_steps, nat_tests, Area, Denial, Kind, Read, Setup, Bytes, target_at}
+use Rattle.std.proofs.Common.{◌≡◌, ℕ, ◌*◌, ◌%◌, ◌<◌, ◌^◌, Option, sym, ap, ◌∙◌, arith}
 use Rattle.board_base.specs.declared.target.Area.TheVariants.{Dram as DramArea, Shadow as ShadowArea}
 use Rattle.addr_decode.specs.Common.{master_area}
 use Rattle.board_chipset.specs.Common.{master_part}
@@ -18,10 +17,6 @@ use Rattle.piece_records.specs.Pieces.{AreSafe, IsSafe, piece_said}
 
 -- ---- a doubleword
 
-beside : (addr i : ℕ) → addr < 2 ^ 32 → addr % 4 ≡ 0 → i < 4 → is_smram_range addr ≡ false →
-    is_smram_range (address_after addr i) ≡ false
-beside addr i fits aligned below outside = grind (arith, nat_tests)
-
 doubleword_safe : (setup : Setup) (bytes : Bytes) (addr : ℕ) → addr < 2 ^ 32 → addr % 4 ≡ 0 →
     IsSafe (of_part (master_part setup bytes Read addr)) addr 4
 doubleword_safe setup bytes addr fits aligned =
@@ -29,8 +24,12 @@ doubleword_safe setup bytes addr fits aligned =
     record {
       no_smram = no_smram_said part.target part.denial (no_smram setup bytes Read addr);
       outside = λ memory i below.
-          beside addr i fits aligned below
-          (outside_said part.target part.denial addr (outside_smram setup bytes Read addr) memory);
+          grind (
+            arith,
+            nat_tests,
+            outside_said part.target part.denial addr (outside_smram setup bytes Read addr)
+                memory,
+          );
     }
 
 -- ---- words in one area
