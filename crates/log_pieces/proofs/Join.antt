@@ -19,16 +19,6 @@ lines_after n size entries = elim (cases_lt (length entries) n) [
       (ap (λ (first : ℕ). lines_from first (take size (drop n entries))) (omega arith))
 ]
 
-lines_more : (n size : ℕ) (entries : List Entry) →
-    lines_from 1 (take (n + size) entries) ≡ lines_from 1 (take n entries) ++ lines_from (n + 1)
-    (take size (drop n entries))
-lines_more n size entries =
-    rw (
-      take-add n size entries,
-      lines_of_parts 1 (take n entries) (take size (drop n entries)),
-      lines_after n size entries,
-    ) refl
-
 -- of no entries there are no lines
 pub no_lines : (first n : ℕ) (entries : List Entry) (text : List ℕ) → n ≡ 0
     → text ≡ text ++ lines_from first (take n entries)
@@ -56,22 +46,21 @@ piece_added size entries done rest lines piece old text new are is so_far added 
     ∙ ap (λ (t : List ℕ). t ++ string_bytes lines) so_far
     ∙ ap (λ (t : List ℕ). (old ++ front) ++ t) (piece_at size entries done rest lines piece are is)
     ∙ append_assoc old front more
-    ∙ ap (λ (t : List ℕ). old ++ t) (sym (lines_more (length done * size) size entries))
+    ∙ ap (λ (t : List ℕ). old ++ t)
+    (sym (rw (
+      take-add (length done * size) size entries,
+      lines_of_parts 1 (take (length done * size) entries)
+          (take size (drop (length done * size) entries)),
+      lines_after (length done * size) size entries,
+    ) refl))
     ∙ ap (λ (n : ℕ). old ++ lines_from 1 (take n entries)) count
-
--- a heading, and the lines of all entries
-pub log_of_lines : (version : ℕ) (entries : List Entry) (before heading text : List ℕ) → before ≡ [] →
-    heading ≡ before ++ log_text version [] → text ≡ heading ++ lines_from 1 entries →
-    text ≡ log_text version (reverse entries)
-log_of_lines version entries before heading text none first lines =
-    rw (lines, first, none, log_text-lines version entries) refl
 
 pub whole_of_lines :
     {E : Type 0} (version : ℕ) (entries : List Entry) (before heading text : List ℕ) (result : Result (List ℕ) E)
     → before ≡ [] → heading ≡ before ++ log_text version [] → text ≡ heading ++ lines_from 1 entries
     → IfOk result (λ whole. whole ≡ text) → IfOk result (λ whole. whole ≡ log_text version (reverse entries))
 whole_of_lines version entries before heading text (Ok whole) none first lines is =
-    is ∙ log_of_lines version entries before heading text none first lines
+    is ∙ (rw (lines, first, none, log_text-lines version entries) refl)
 whole_of_lines version entries before heading text (Err fault) none first lines is = tt
 
 -- the line of the entry at i makes the lines from a place on one entry longer
