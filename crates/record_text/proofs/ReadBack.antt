@@ -1,12 +1,12 @@
 -- What the record of a reply says is this reply.
 use Rattle.std.proofs.Common.{◌≡◌, ℕ, ◌<◌, ◌≤◌, ◌^◌, Bool, false, Option, Some, None, length, All, refl, arith, lit<}
 use Rattle.std.proofs.Common.{IfSome}
-use Rattle.board_prelude.proofs.Common.{nat_tests, Dev, Target, Device, Denial, bytes_of, Event, Memory, Wide, Port}
-use Rattle.board_prelude.proofs.Common.{Ack, Parts, Two, Three, Four, Look, Reply, Bus, Saw, is_write, outside_answer}
-use Rattle.board_prelude.proofs.Common.{answers_outside, parts_list, parts_of as cut_of, bytes_few}
+use Rattle.board_prelude.proofs.Common.{nat_tests, Target, Device, Denial, bytes_of, Event, Memory, Wide, Port, Ack}
+use Rattle.board_prelude.proofs.Common.{Parts, Two, Three, Four, Reply, Bus, Saw, is_write, answers_outside, parts_list}
+use Rattle.board_prelude.proofs.Common.{parts_of as cut_of, bytes_few}
 use Rattle.board_spec.specs.declared.event.Event.TheVariants.{Look as LookAt}
 use Rattle.board_spec.specs.declared.event.Reply.TheVariants.{Parts as InParts}
-use Rattle.script_spec.specs.WellFormed.{FitsPart, FitsTarget, IsBusReply, IsWideReply, IsLookReply, HasShape}
+use Rattle.script_spec.specs.WellFormed.{FitsPart, IsBusReply, IsWideReply, IsLookReply, HasShape}
 use Rattle.board_records.specs.declared.reply.AfterStep.{AfterStep}
 use Rattle.board_records.specs.Replies.{record_said, bus_said, wide_said, look_said, blank}
 use Rattle.record_text.specs.Common.{bus_recorded, two_parts_recorded, three_parts_recorded, four_parts_recorded}
@@ -23,10 +23,6 @@ cycle_back : (value : Option ℕ) (target : Target) (denial : Option Denial) (af
 unfolding reply_recorded form_recorded bus_recorded cycle_value_recorded bus_said blank
 cycle_back value target denial after small fits =
     grind (arith, nat_tests, part_back (record { target = target; denial = denial }) fits)
-
-area_seen : (look : Look) (after : AfterStep) → reply_recorded (look_said look after) ≡ Some (Saw look)
-unfolding reply_recorded form_recorded look_recorded look_said blank
-area_seen look after = rw (area_back look.area) refl
 
 wide_back : (parts : Parts) (value : Option ℕ) (after : AfterStep) → All FitsPart (parts_list parts) →
     reply_recorded (wide_said parts value after) ≡ Some (InParts parts value)
@@ -69,17 +65,13 @@ parted_back writes bytes count _ after fits = absurd fits
 
 look_back : (reply : Reply) (after : AfterStep) → IsLookReply reply
     → reply_recorded (record_said reply after) ≡ Some reply
-unfolding record_said
-look_back (Saw look) after fits = area_seen look after
+unfolding record_said reply_recorded form_recorded look_recorded look_said blank
+look_back (Saw look) after fits = rw (area_back look.area) refl
 look_back _ after fits = absurd fits
-
-outside_back : (dev : Dev) (reply : Reply) (after : AfterStep) → FitsTarget (Device dev) → reply ≡ outside_answer dev →
-    reply_recorded (record_said reply after) ≡ Some reply
-unfolding record_said
-outside_back dev reply after fits is = rw is (cycle_back None (Device dev) None after tt (fits, tt))
 
 reply_back : (event : Event) (reply : Reply) (after : AfterStep) → HasShape event reply →
     reply_recorded (record_said reply after) ≡ Some reply
+unfolding record_said
 reply_back (Memory access) reply after shape =
     bus_back (is_write access.kind) (bytes_of access.width) reply after (bytes_few access.width) shape
 reply_back (Wide access) reply after shape =
@@ -88,7 +80,7 @@ reply_back (Port access) reply after shape =
     bus_back access.write (bytes_of access.width) reply after (bytes_few access.width) shape
 reply_back (LookAt kind addr smm) reply after shape = look_back reply after shape
 reply_back Ack reply after shape = bus_back false 1 reply after (omega arith) shape
-reply_back event reply after shape = outside_back (answers_outside event) reply after tt shape
+reply_back event reply after shape = rw shape (cycle_back None (Device (answers_outside event)) None after tt (tt, tt))
 
 pub read_back : RecordSaysReply
 read_back version entry after formed = reply_back entry.event entry.reply after formed.shape
