@@ -10,7 +10,7 @@ use Rattle.card_identity.specs.Header.{is_blank}
 use Rattle.board_records.specs.declared.card.CardRecord.{CardRecord}
 use Rattle.board_records.specs.declared.event.EventRecord.{EventRecord}
 use Rattle.board_records.specs.declared.reply.ReplyRecord.{ReplyRecord}
-use Rattle.board_records.specs.Cards.{cards_said, identities_said, identity_said}
+use Rattle.board_records.specs.Cards.{identities_said, identity_said}
 use Rattle.board_records.specs.Doors.{Held, IsDoorStep, IsOpenedWith, disk_of, setup_said}
 use Rattle.board_records.specs.Identified.{fitted_record}
 use Rattle.board_records.specs.Steps.{IsAskedStep}
@@ -35,8 +35,7 @@ some_few count mib rom disk serial (Some cards) each opened = omega (arith, each
 
 pub few_opened : (mib : ℕ) (records : List CardRecord) (rom disk : List ℕ) (serial : Serial Running) →
     IsSomeAnd (setup_said mib records rom disk) (IsOpenedWith serial) → length records ≤ 8
-few_opened mib records rom disk serial opened =
-    some_few (length records) mib rom disk serial (cards_said records) (said_count records) opened
+few_opened mib records rom disk serial opened = some_few _ _ _ _ _ _ (said_count records) opened
 
 -- ---- steps
 

@@ -42,18 +42,16 @@ pub whole_with : (dram fitted sectors : List ℕ) (chipset : Running) → length
     IsChipset (with_dram dram (with_fitted fitted (with_sectors sectors chipset)))
 whole_with dram fitted sectors chipset of_dram of_fitted of_sectors is =
     assumption (
-      disk_refitted fitted chipset.setup.disk of_fitted is.fits.disk,
+      disk_refitted _ _ of_fitted is.fits.disk,
       of_dram ∙ is.whole.stores.dram,
-      disk_over_other fitted sectors chipset.setup.disk chipset.state.devices.disk of_fitted of_sectors
-          is.whole.devices.disk,
+      disk_over_other _ _ _ _ of_fitted of_sectors is.whole.devices.disk,
     )
 
 pub sound_without : (left : LeftOut) (behind : Behind) → IsBehind behind → IsBehind (without left behind)
 sound_without left behind is =
     let board : Running = behind.serial.board in
-    assumption (whole_with (unless_left left.dram (dram_on board)) (unless_left left.disk (fitted_on board))
-    (unless_left left.disk (sectors_on board)) board (left_length left.dram (dram_on board))
-    (left_length left.disk (fitted_on board)) (left_length left.disk (sectors_on board)) is.state.chipset)
+    assumption (whole_with _ _ _ _ (left_length left.dram (dram_on board)) (left_length left.disk (fitted_on board))
+    (left_length left.disk (sectors_on board)) is.state.chipset)
 
 -- ---- what is given in their place
 
@@ -73,13 +71,10 @@ pub sound_with : (given : Given) (behind : Behind) → AreAsMany given behind.se
 sound_with given behind many is =
     let chipset : Running = behind.serial.board in
     let fitted : List ℕ = fitted_on chipset in
-    assumption (whole_with (given_or given.dram (dram_on chipset)) (given_or given.fitted fitted)
-    (given_or given.sectors (sectors_on chipset)) chipset
-    (given_length given.dram (dram_on chipset) (installed chipset.setup) many.dram
+    assumption (whole_with _ _ _ _ (given_length _ _ _ many.dram
     is.state.chipset.whole.stores.dram)
-    (given_length given.fitted fitted (length fitted) many.fitted refl)
-    (given_length given.sectors (sectors_on chipset) (length fitted) many.sectors
-    (sectors_long chipset.setup.disk chipset.state.devices.disk is.state.chipset.whole.devices.disk))
+    (given_length _ _ _ many.fitted refl)
+    (given_length _ _ _ many.sectors (sectors_long _ _ is.state.chipset.whole.devices.disk))
     is.state.chipset)
 
 -- ---- its own put in again
@@ -134,8 +129,7 @@ own_as_many left behind is =
       dram = as_many left.dram (dram_on chipset) (installed chipset.setup) is.state.chipset.whole.stores.dram;
       fitted = as_many left.disk (fitted_on chipset) _ (sym size);
       sectors =
-          as_many left.disk (sectors_on chipset) _
-          (sectors_long chipset.setup.disk chipset.state.devices.disk is.state.chipset.whole.devices.disk ∙ sym size);
+          as_many left.disk (sectors_on chipset) _ (sectors_long _ _ is.state.chipset.whole.devices.disk ∙ sym size);
     }
 
 -- so a load with them gives the board that was saved

@@ -19,8 +19,7 @@ one_more n (Some it) (Some later) all each is = let same : it ∷ later ≡ all 
 pub said_count : (records : List CardRecord) (cards : List FittedCard) → cards_said records ≡ Some cards →
     length cards ≡ length records
 said_count [] cards is = let same : [] ≡ cards = cc in rw (← same) refl
-said_count (first ∷ later) cards is = one_more (length later) (card_said first) (cards_said later) cards
-    (said_count later) is
+said_count (first ∷ later) cards is = one_more _ _ _ _ (said_count later) is
 
 both_said : {B : Type 0} (one : Option B) (others : Option (List B)) →
     is_some (option_and_then (λ it. option_map (λ later. it ∷ later) others) one) ≡ (is_some one && is_some others)

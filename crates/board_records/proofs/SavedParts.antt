@@ -99,7 +99,6 @@ pub written_in_three : (bytes dram last room one two three : List ℕ) (at start
 written_in_three bytes dram last room one two three at start end first starts second ends third is =
     let all : List ℕ = with_dram bytes at dram in
     let put : IsPutAt 0 all room three =
-    put_then 0 start (take at bytes) (dram_bytes dram ++ drop at bytes) all room one three first (omega (arith, starts))
-    (put_then start end (dram_bytes dram) last (dram_bytes dram ++ drop at bytes) one two three second ends third
-    (rw is refl)) refl in
+    put_then 0 _ _ _ _ _ _ _ first (omega (arith, starts)) (put_then _ _ _ _ _ _ _ _ second ends third (rw is refl))
+    refl in
     record { fits = omega (arith, put.fits); written = put.put ∙ ap (λ (n : ℕ). all ++ drop n room) (omega arith) }

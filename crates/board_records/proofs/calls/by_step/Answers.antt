@@ -1,6 +1,5 @@
 -- `by_step`: the reply is that of the step, and what stands after it is what the chipset tells then.
 use Rattle.std.proofs.Common.{◌∙◌, refl}
-use Rattle.uart_16550.specs.Common.{uart_access}
 use Rattle.board_records.proofs.EventReplies.{reply_is}
 use Rattle.board_records.proofs.calls.by_step.Goals as goal
 
@@ -16,9 +15,7 @@ returns c =
         answered = λ history left.
             let gone = step.history history left in
             record {
-              answer =
-                  reply_is c.args.serial.now history event (uart_access event) c.step-said.result left step.uart
-                  step.board;
+              answer = reply_is _ _ _ _ _ left step.uart step.board;
               com1 = step.com1 history left;
               goes_on = gone;
               told =

@@ -6,8 +6,7 @@ use Rattle.board_records.proofs.image.read_last.Goals as goal
 
 pub returns-in-Ok : goal.returns-in-Ok
 returns-in-Ok c = record {
-  loaded = last_loaded c.alone.result c.in-Ok.behind c.args.fitted c.args.fields.now c.read_state.new.fields
-      c.alone.ensures.same c.in-Ok.ensures.loaded;
+  loaded = last_loaded _ _ _ _ _ c.alone.ensures.same c.in-Ok.ensures.loaded;
   exact = λ behind is same begins.
       grind (
         arith,

@@ -6,8 +6,7 @@ use Rattle.board_records.proofs.image.read_state.Goals as goal
 
 pub returns-in-Ok-clause-exact : goal.returns-in-Ok-clause-exact
 returns-in-Ok-clause-exact c behind rest is same begins =
-    state_exact c.args.fields.now c.load_fields.new.fields c.in-Ok.serial c.fitted.inside.identities.items
-    c.in-Ok.ensures.loaded behind rest is (same ∙ sym c.fitted.view_is) begins
+    state_exact _ _ _ _ c.in-Ok.ensures.loaded _ _ is (same ∙ sym c.fitted.view_is) begins
 
 pub returns-in-Err-clause-exact : goal.returns-in-Err-clause-exact
 returns-in-Err-clause-exact c behind rest is same begins =

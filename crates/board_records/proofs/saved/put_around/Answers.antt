@@ -1,5 +1,5 @@
 use Rattle.board_prelude.proofs.Common.{common_steps, nat_tests, length-take, length-drop, take_rest}
-use Rattle.std.proofs.Common.{◌-◌, arith}
+use Rattle.std.proofs.Common.{arith}
 use Rattle.state_room.proofs.Puts.{put_length}
 use Rattle.board_records.proofs.SavedParts.{written_in_three}
 use Rattle.board_records.proofs.saved.put_around.Goals as goal
@@ -16,8 +16,7 @@ put-requires c = grind (arith, nat_tests, common_steps, length-take, length-drop
 pub returns : goal.returns
 returns c = record {
   written =
-      written_in_three c.args.bytes.now c.args.dram.now _ c.args.into.now c.put-start.new.into c.put_dram-end.new.into
-      c.put.new.into c.args.dram_at c.put-start.result c.put_dram-end.result c.put-start.ensures.put
-      (omega (arith, c.put-start.ensures.end)) c.put_dram-end.ensures.put c.put_dram-end.ensures.end c.put.ensures.put
+      written_in_three _ _ _ _ _ _ _ _ _ _ c.put-start.ensures.put (omega (arith, c.put-start.ensures.end))
+      c.put_dram-end.ensures.put c.put_dram-end.ensures.end c.put.ensures.put
       (take_rest c.args.bytes.now c.args.dram_at);
 }

@@ -1,11 +1,10 @@
-use Rattle.std.proofs.Common.{arith, replicate}
+use Rattle.std.proofs.Common.{arith}
 use Rattle.board_records.proofs.Filled.{filled_all}
 use Rattle.board_records.proofs.standing.padded.Goals as goal
 
 pub returns : goal.returns
 returns c = record {
   padded =
-      filled_all c.args.bytes.now c.loop-index.all (replicate 16 0) c.loop-index.index c.requires.few
-      (omega (arith, c.loop-index-test.false, c.loop-index.auto.index-end)) c.loop-index.invariant.front
-      c.loop-index.invariant.rest;
+      filled_all _ _ _ _ c.requires.few (omega (arith, c.loop-index-test.false, c.loop-index.auto.index-end))
+      c.loop-index.invariant.front c.loop-index.invariant.rest;
 }
