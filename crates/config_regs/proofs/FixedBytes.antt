@@ -1,7 +1,7 @@
 -- A register that nothing changes holds after every history what a reset leaves.
 use Rattle.std.proofs.Common.{◌≡◌, ◌≢◌, ◌<◌, ℕ, lit<, List, [], ◌∷◌, false, Option, Some, None, refl, arith}
-use Rattle.board_prelude.proofs.Common.{nat_tests, ne_eqb, Reg, Entry, MapChange, Store, Reset, Setup, bridge, isa}
-use Rattle.board_prelude.proofs.Common.{smram, is_same, reset_byte, byte_with, register_change, byte_of}
+use Rattle.board_prelude.proofs.Common.{nat_tests, ne_eqb, Reg, Entry, MapChange, Store, Reset, Setup, bridge, smram}
+use Rattle.board_prelude.proofs.Common.{is_same, reset_byte, byte_with, register_change, byte_of}
 use Rattle.pmc_regs.specs.Pmc.{IsFixedOffset}
 use Rattle.pmc_regs.proofs.Common.{writable_bits-fixed, reset_byte-small}
 use Rattle.xbus_select.proofs.Common.{IsFixedAt, kept_byte, fixed_at}
@@ -17,29 +17,26 @@ stays : (setup : Setup) (change : Option MapChange) (reg : Reg) (old : ℕ) → 
     IsFixed setup reg → old ≡ reset_byte setup reg → byte_with setup change reg old ≡ reset_byte setup reg
 stays setup None reg old plain fixed is = is
 stays setup (Some Reset) reg old plain fixed is = refl
-stays setup (Some (Store at width value)) reg old plain fixed is =
-    kept_byte setup at width value reg old (reset_byte setup reg) plain fixed is
+stays setup (Some (Store at width value)) reg old plain fixed is = kept_byte _ at width value _ _ _ plain fixed is
 
 always : (setup : Setup) (history : List Entry) (reg : Reg) → is_same reg smram ≡ false → IsFixed setup reg →
     byte_of setup history reg ≡ reset_byte setup reg
 unfolding byte_of
 always setup [] reg plain fixed = refl
 always setup (entry ∷ before) reg plain fixed =
-    stays setup (register_change setup before entry.event) reg (byte_of setup before reg) plain fixed
-    (always setup before reg plain fixed)
+    stays _ (register_change setup before entry.event) _ _ plain fixed (always setup before reg plain fixed)
 
 pub has_fixed : (setup : Setup) (history : List Entry) → HasFixed setup (byte_of setup history)
 has_fixed setup history = record {
   bridge_bytes = λ off fixed.
-      always setup history (bridge off) (ne_eqb off 0x72 (omega arith)) (record {
+      always _ history _ (ne_eqb off 0x72 (omega arith)) (record {
         reset = refl;
-        read_only = writable_bits-fixed setup off fixed;
-        fits = reset_byte-small setup off fixed;
+        read_only = writable_bits-fixed setup _ fixed;
+        fits = reset_byte-small setup _ fixed;
       });
   isa_bytes = λ off fixed.
-      let it = fixed_at setup off fixed in
-      always setup history (isa off) refl
-      (record { reset = refl; read_only = it.read_only; fits = rw (← it.reset) it.fits });
+      let it = fixed_at setup _ fixed in
+      always _ history _ refl (record { reset = refl; read_only = it.read_only; fits = rw (← it.reset) it.fits });
 }
 
 other_offset : (off at : ℕ) → Differs (bridge off) (bridge at) → off ≢ at

@@ -91,9 +91,7 @@ module _ (regs : MapBytes) (others : Bytes) (card : CardBytes) (fit : IsCard car
   rom_held : (rom : Option ℕ) → card.card.rom ≡ rom → card.rom < 2 ^ 32 →
       HoldsRom (overlaid regs others) card.card.dev card.rom rom
   rom_held None is below = tt
-  rom_held (Some bits) is below =
-      long_held (overlaid regs others) card.card.dev 0x30 card.rom below
-      (λ j few. stands (0x30 + j) ∙ rom_byte _ card bits j is few)
+  rom_held (Some bits) is below = long_held _ _ _ _ below (λ j few. stands (0x30 + j) ∙ rom_byte _ card _ j is few)
 
   pub decodes : (setup : Setup) → setup.cards ≡ cards_of regs.cards → HoldsDoublewords card →
       DecodesAs setup (overlaid regs others) card
@@ -102,9 +100,8 @@ module _ (regs : MapBytes) (others : Bytes) (card : CardBytes) (fit : IsCard car
     fitted = rw (same, ← find-cards regs.cards card.card.dev, there) refl;
     command = stands 0x04;
     bases = λ k few.
-        long_held (overlaid regs others) card.card.dev (0x10 + 4 * k) (slice_index card.bases k) (doublewords.bases k)
-        (λ j below. stands (0x10 + 4 * k + j) ∙ grind (arith, nat_tests));
-    rom = rom_held card.card.rom refl doublewords.rom;
+        long_held _ _ _ _ (doublewords.bases k) (λ j below. stands (0x10 + 4 * k + j) ∙ grind (arith, nat_tests));
+    rom = rom_held _ refl doublewords.rom;
   }
 
 -- ---- all of them

@@ -148,8 +148,7 @@ pub built_step : {regs : MapBytes} {ranges ranges' : List MapRange} {last last' 
     ContinuesAt ranges ranges' last last' next areas → IsBuilt regs ranges last addr → IsBuilt regs ranges' last' next
 built_step {regs} {next = next} areas above address same at_next on built =
     let joined : next ≡ next - 1 + 1 = omega arith in
-    built_range next areas joined (omega arith) address
-    (λ x low high. let here : x ≡ next = omega arith in rw here at_next) on
+    built_range _ _ joined (omega arith) address (λ x low high. let here : x ≡ next = omega arith in rw here at_next) on
     (built_over (omega arith) (rw joined at same) built)
 
 -- ---- the ranges built up to the last address

@@ -164,10 +164,9 @@ bridge_found setup setup' bytes bytes' reg value register cards bridge same name
     let change : MapChange = Store reg One value in
     let bridges : rest_on_registers (names_of setup'.cards change) ≡ false =
     rw same (subst (λ (names : List (Option MapRegister)). rest_on_registers names ≡ false) named (rw bridge refl)) in
-    let covered = covered_by_names setup' bytes' change reg One value cards (Some register ∷ []) refl same named in
-    (found_once setup' bytes' change
-    (bridge_windows setup setup' bytes bytes' register bridge ∙ sym (append-nil _) ∙ covered)
-    (fixed_same setup' (after setup' change bytes') bytes' change bridges)).sorted_same
+    let covered = covered_by_names setup' bytes' _ _ _ _ _ _ refl same named in
+    (found_once setup' _ change (bridge_windows setup setup' bytes bytes' _ bridge ∙ sym (append-nil _) ∙ covered)
+    (fixed_same setup' (after setup' change bytes') bytes' _ bridges)).sorted_same
 
 -- ---- the windows that are built anew
 

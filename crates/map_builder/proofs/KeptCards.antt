@@ -89,8 +89,7 @@ module _ (setup : Setup) (bytes new : Bytes) (addr : ℕ)
   windows_named : (registers : Bytes) (card : FittedCard) (off : ℕ) (register : CardRegister) → IsFitted setup card →
       in_card off card ≡ Some register →
       windows_of setup registers (card_register card.dev off) ≡ card_windows registers register card
-  windows_named registers card off register is name =
-      windows_at registers card off (Some register) is name ∙ rw is.at refl
+  windows_named registers card off register is name = windows_at registers _ _ _ is name ∙ rw is.at refl
 
   -- the four registers of the expansion ROM
   rom_governed : (registers : Bytes) (card : FittedCard) (off : ℕ) → IsFitted setup card → 0x30 ≤ off → off ≤ 0x33 →
@@ -115,8 +114,7 @@ module _ (setup : Setup) (bytes new : Bytes) (addr : ℕ)
       ((j : ℕ) → j < 4 → new (card_register dev (first + j)) ≡ bytes (card_register dev (first + j)))
       ⊎ OutsideBoth windows
   four_kept dev first windows above govern =
-      each_or (λ j. new (card_register dev (first + j)) ≡ bytes (card_register dev (first + j))) (OutsideBoth windows) 4
-      (λ j few.
+      each_or (λ j. new (card_register dev (first + j)) ≡ bytes (card_register dev (first + j))) _ 4 (λ j few.
       elim (kept dev (first + j) above) [
         | inl same ↦ inl same
         | inr out ↦ inr (rw (govern bytes j few) at out.0, rw (govern new j few) at out.1)

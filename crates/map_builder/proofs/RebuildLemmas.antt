@@ -78,10 +78,9 @@ module _ {regs : MapBytes} (after until : ℕ) (address : until < address_count)
       ContinuesAt ranges ranges' last last' lo (row_at old k) → IsBuilt regs ranges last addr →
       IsBuilt regs ranges' last' hi
   kept_on {k = k} {lo = lo} holds joined from order within high on built =
-      built_range lo (row_at old k) joined order (omega arith)
+      built_range lo _ joined order (omega arith)
       (λ x from_x to_x setup bytes stands.
-      sym ((right_at old agrees setup bytes k stands holds.within).at_each x (omega arith) (omega arith) (omega arith)))
-      on built
+      sym ((right_at _ agrees _ _ k stands holds.within).at_each x (omega arith) (omega arith) (omega arith))) on built
 
   -- the next range follows one that was built to its end
   next_kept : (k : ℕ) {hi : ℕ} {ranges : List MapRange} {last : MapRange} → Holds old (k + 1) hi → hi ≤ until →

@@ -143,8 +143,7 @@ covers_above addr window (other ∷ later) above covers = elim (cases_lt addr wi
 ]
 
 covers_sorted : (old : Changed) (windows : List Changed) → Covers old windows → Covers old (sorted windows)
-covers_sorted old windows covers each =
-    covers (parts_sorted (Misses old.lo old.hi) (λ other window. misses_both other window) windows each)
+covers_sorted old windows covers each = covers (parts_sorted _ (λ other window. misses_both other window) _ each)
 
 covers_one : (window : Changed) (windows : List Changed) → list_any (is_window window) windows ≡ true →
     Covers window windows
@@ -205,8 +204,7 @@ sorted_again (window ∷ later) windows ordered rise covered =
     (with_covered window (sorted windows) ordered.0 rise (covered window (λ each. grind (arith, each.0))))
 
 pub sorted_twice : (windows : List Changed) → Ordered windows → sorted (windows ++ windows) ≡ sorted windows
-sorted_twice windows ordered =
-    sorted_again windows windows ordered (rise_sorted windows ordered) (λ window. covers_sorted window windows)
+sorted_twice windows ordered = sorted_again _ _ ordered (rise_sorted _ ordered) (λ window. covers_sorted window windows)
 
 -- ---- how many rows are looked up in them
 
@@ -260,8 +258,7 @@ one_sorted window = refl
 -- each row of the table of the registers of one byte rises
 pub singles_sorted : (number : ℕ) → number < single_count → sorted (single_windows number) ≡ single_windows number
 unfolding sorted with_window
-singles_sorted number below =
-    each_below (λ k. sorted (single_windows k) ≡ single_windows k) single_count number (search rules) below
+singles_sorted number below = each_below (λ k. sorted (single_windows k) ≡ single_windows k) _ _ (search rules) below
 
 -- ---- the rows that some changes look up, as they compute
 

@@ -125,5 +125,4 @@ loads_map one fitted before after (Err bad) are took whole =
 pub one_map : OneFlatMap → (fitted : List FittedCard) → OneSpelling mapped_bytes (IsMapped fitted)
 one_map one fitted left right of_left of_right same =
     same_map one left right of_left.whole of_right.whole
-    (one_spelling (mapped_format fitted) (bare left) (bare right) (bare_of fitted left of_left)
-    (bare_of fitted right of_right) same)
+    (one_spelling (mapped_format fitted) (bare left) (bare right) (bare_of _ _ of_left) (bare_of _ _ of_right) same)

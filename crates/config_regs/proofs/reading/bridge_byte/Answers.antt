@@ -10,17 +10,15 @@ byte-requires-clause-number c = (is_name _ (bridge c.args.off) _ (sym c.in-Some.
 
 pub fixed_byte-requires : goal.fixed_byte-requires
 fixed_byte-requires c = record {
-  offset = fixed_beside c.args.off (omega arith)
-      (nameless_in_bridge _ (bridge c.args.off) refl refl (sym c.in-None.ensures.named));
+  offset = fixed_beside _ (omega arith) (nameless_in_bridge _ _ refl refl (sym c.in-None.ensures.named));
 }
 
 pub returns-in-Some : goal.returns-in-Some
 returns-in-Some c = record {
   byte = λ setup bytes stands has.
       let named = sym c.in-Some.ensures.named in
-      rw (← (is_name _ (bridge c.args.off) c.in-Some.register named).place)
-      (c.byte.ensures.byte setup bytes stands
-      (named_byte setup _ (bridge c.args.off) _ c.requires.cards stands.cards.0 named));
+      rw (← (is_name _ _ _ named).place)
+      (c.byte.ensures.byte setup bytes stands (named_byte setup _ _ _ c.requires.cards stands.cards.0 named));
 }
 
 pub returns-in-None : goal.returns-in-None

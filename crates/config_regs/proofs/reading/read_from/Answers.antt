@@ -1,5 +1,5 @@
-use Rattle.std.proofs.Common.{◌≡◌, ℕ, ◌+◌, ◌<◌, ◌∙◌, ap, slice_index, inl, inr, length-set, get_or-set_same}
-use Rattle.std.proofs.Common.{get_or-set_other, refl, arith}
+use Rattle.std.proofs.Common.{◌≡◌, ℕ, ◌+◌, ◌<◌, ◌∙◌, ap, inl, inr, length-set, get_or-set_same, get_or-set_other, refl}
+use Rattle.std.proofs.Common.{arith}
 use Rattle.board_prelude.proofs.Common.{cases_eq, bytes_few, Width, One, bytes_of, wide}
 use Rattle.board_base.specs.declared.access.Width.TheVariants.{Two, Four}
 use Rattle.config_regs.proofs.reading.read_from.Goals as goal
@@ -37,7 +37,6 @@ pub returns : goal.returns
 returns c = record {
   value = λ setup bytes is has.
       c.read_at.ensures.value
-      ∙ wide_shifted (slice_index c.loop-index.bytes) (λ off. bytes (record c.args.register.now.reg { off = off }))
-      c.args.register.now.reg.off c.args.width
+      ∙ wide_shifted _ (λ off. bytes (record c.args.register.now.reg { off = off })) _ _
       (λ k below. c.loop-index.invariant.read setup bytes is has k (omega arith));
 }

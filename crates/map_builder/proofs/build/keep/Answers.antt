@@ -19,9 +19,8 @@ range_at-last-requires-clause-room c =
 pub returns-then-until-here : goal.returns-then-until-here
 returns-then-until-here c = record {
   built = λ regs built agrees.
-      kept_first c.args.after c.args.until _ _ (omega arith) (omega (arith, c.requires.order)) agrees
-      c.index_from-index.ensures.holds c.range_at-last.ensures.goes_on built c.args.until
-      (omega (arith, c.requires.order)) (omega arith) (omega arith);
+      kept_first _ _ _ _ (omega arith) (omega (arith, c.requires.order)) agrees c.index_from-index.ensures.holds
+      c.range_at-last.ensures.goes_on built _ (omega (arith, c.requires.order)) (omega arith) (omega arith);
 }
 
 pub push-requires : goal.push-requires
@@ -47,8 +46,7 @@ extend-requires c =
 
 pub returns : goal.returns
 returns c = record {
-  built = λ regs first agrees. rw (c.extend.ensures.items, c.push.ensures.items)
-      (kept_later c.args.after c.args.until _ _ (omega arith) (omega (arith, c.requires.order)) agrees
-      c.index_from-index.ensures.holds c.range_at-last.ensures.goes_on first c.index_from-end.result (omega arith)
-      c.index_from-end.ensures.from c.index_from-end.ensures.holds);
+  built = λ regs first agrees. rw (c.extend.ensures.items, c.push.ensures.items) (kept_later _ _ _ _ (omega arith)
+      (omega (arith, c.requires.order)) agrees c.index_from-index.ensures.holds c.range_at-last.ensures.goes_on first _
+      (omega arith) c.index_from-end.ensures.from c.index_from-end.ensures.holds);
 }

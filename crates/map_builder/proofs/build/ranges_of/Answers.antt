@@ -11,6 +11,5 @@ push-requires g c =
 
 pub returns : goal.returns
 returns g c =
-    let is = is_whole c.requires.board c.rows_in-last.new.ranges.items c.rows_in-last.result
-    c.rows_in-last.ensures.built in
+    let is = is_whole c.requires.board _ _ c.rows_in-last.ensures.built in
     rw c.push.ensures.items (record { tiles = is.tiles; map = is.is_map; few = is.few })

@@ -1,4 +1,4 @@
-use Rattle.std.proofs.Common.{◌-◌, arith}
+use Rattle.std.proofs.Common.{arith}
 use Rattle.std.proofs.lemmas.List.{length-map}
 use Rattle.addr_decode.specs.MapRegs.{map_bytes}
 use Rattle.map_builder.specs.Map.{range_of}
@@ -14,8 +14,7 @@ range_at-requires-clause-above g c = omega (arith, c.requires.built.built.begun,
 
 pub returns : goal.returns
 returns g c = record {
-  built = built_step c.row.result.areas (omega (arith, c.requires.above)) (omega arith)
-      (one_address (map_bytes c.args.regs.now) (c.args.addr - 1) c.args.addr (omega (arith, c.requires.above)))
-      c.row.ensures.areas c.range_at.ensures.goes_on c.requires.built;
+  built = built_step _ (omega (arith, c.requires.above)) (omega arith) (one_address (map_bytes c.args.regs.now) _ _
+      (omega (arith, c.requires.above))) c.row.ensures.areas c.range_at.ensures.goes_on c.requires.built;
   step = c.row.ensures.step;
 }

@@ -11,8 +11,7 @@ pub cut_below-cut-requires-clause-holds : goal.cut_below-cut-requires-clause-hol
 cut_below-cut-requires-clause-holds g c = rw c.saturating_sub.ensures at c.index_of-from.ensures.holds
 
 pub cut_below-cut-requires-clause-below : goal.cut_below-cut-requires-clause-below
-cut_below-cut-requires-clause-below g c =
-    first_below c.args.windows.now c.requires.some c.requires.rise c.requires.beside
+cut_below-cut-requires-clause-below g c = first_below _ c.requires.some c.requires.rise c.requires.beside
 
 pub rows_in-last-requires-clause-order : goal.rows_in-last-requires-clause-order
 rows_in-last-requires-clause-order g c = order_at c.args.windows.now 0 c.requires.some c.requires.rise

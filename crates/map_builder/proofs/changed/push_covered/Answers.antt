@@ -1,5 +1,4 @@
 use Rattle.std.proofs.Common.{◌∙◌, ◌++◌, ap, List}
-use Rattle.pci_bars.specs.Cards.{cards_of}
 use Rattle.map_ranges.specs.declared.range.Changed.{Changed}
 use Rattle.map_builder.proofs.WindowLemmas.{covered_by_names}
 use Rattle.map_builder.proofs.changed.push_covered.Goals as goal
@@ -7,5 +6,4 @@ use Rattle.map_builder.proofs.changed.push_covered.Goals as goal
 pub returns-in-Store-clause-windows : goal.returns-in-Store-clause-windows
 returns-in-Store-clause-windows c = λ setup bytes stands. c.push_of_names.ensures.windows setup bytes stands
     ∙ ap (λ (more : List Changed). c.args.windows.now.items ++ more)
-    (covered_by_names setup bytes c.args.change.now _ _ _ (cards_of c.args.regs.now.cards.items) c.args.names.now
-    c.in-Store.is stands.cards.0 c.requires.names)
+    (covered_by_names setup bytes _ _ _ _ _ _ c.in-Store.is stands.cards.0 c.requires.names)

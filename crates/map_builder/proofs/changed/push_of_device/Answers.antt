@@ -5,5 +5,4 @@ use Rattle.map_builder.proofs.changed.push_of_device.Goals as goal
 
 pub push_of_card-requires-clause-card : goal.push_of_card-requires-clause-card
 push_of_card-requires-clause-card c =
-    (found (λ card. IsCard card.card) c.args.cards.now c.args.dev c.in-Some.card.now c.requires.cards
-    (sym c.in-Some.ensures.found)).0
+    (found (λ card. IsCard card.card) _ _ _ c.requires.cards (sym c.in-Some.ensures.found)).0

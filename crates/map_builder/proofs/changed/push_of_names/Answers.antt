@@ -1,7 +1,6 @@
 use Rattle.std.proofs.Common.{None, take_all, arith}
 use Rattle.std.proofs.lemmas.List.Elements.{All-from_recursion}
 use Rattle.addr_decode.specs.Common.{IsNumberedName}
-use Rattle.map_builder.specs.Changed.{name_windows}
 use Rattle.map_builder.proofs.WindowLemmas.{pushed_on}
 use Rattle.map_builder.proofs.changed.push_of_names.Goals as goal
 
@@ -14,9 +13,8 @@ pub loop-name-preserved : goal.loop-name-preserved
 loop-name-preserved c = record {
   few = omega (arith, c.loop-name.invariant.few, c.push_of_name.ensures.few);
   so_far = λ setup bytes stands.
-      pushed_on (name_windows setup bytes) c.args.names.now c.loop-name.name-index c.args.windows.now.items
-      c.loop-name.windows.items c.push_of_name.new.windows.items c.loop-name-test.true
-      (c.loop-name.invariant.so_far setup bytes stands) (c.push_of_name.ensures.windows setup bytes stands);
+      pushed_on _ _ _ _ _ _ c.loop-name-test.true (c.loop-name.invariant.so_far setup bytes stands)
+      (c.push_of_name.ensures.windows setup bytes stands);
 }
 
 pub returns-clause-windows : goal.returns-clause-windows

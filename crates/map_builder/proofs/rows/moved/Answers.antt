@@ -14,13 +14,11 @@ loop-row-preserved c = record {
             earlier
         | inr not ↦
             let is : row ≡ c.loop-row.row = omega arith in
-            subst (λ (it : ℕ). StaysOrHidden c.args.old.now c.args.new.now addr it) (sym is)
-            (stays_on c.args.old.now c.args.new.now addr c.loop-row.row c.min-first.result c.loop-row.hidden
-            c.max-end.result c.max-top.result
+            subst (λ (it : ℕ). StaysOrHidden c.args.old.now c.args.new.now addr it) (sym is) (stays_on _ _ _ _ _ _ _ _
             c.min-first.ensures c.max-end.ensures (omega (arith, c.max-top.ensures)) below
             (rw (c.max.ensures, c.min-in-loop-row.ensures) at (c.widened-moved-in-loop-row.ensures.between addr out))
             (c.loop-row.invariant.hidden addr))
       ];
-  hidden = λ addr low. hides_on c.args.old.now c.args.new.now addr c.loop-row.row c.min-first.result c.loop-row.hidden
+  hidden = λ addr low. hides_on _ _ _ _ _ _
       c.min-first.ensures (c.loop-row.invariant.hidden addr) (rw c.max-hidden.ensures at low);
 }

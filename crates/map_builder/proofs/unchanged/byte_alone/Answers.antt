@@ -1,4 +1,3 @@
-use Rattle.pci_bars.specs.Cards.{cards_of}
 use Rattle.std.proofs.Common.{None, arith}
 use Rattle.std.proofs.lemmas.List.Elements.{All-from_recursion}
 use Rattle.addr_decode.specs.Common.{IsNumberedName}
@@ -12,8 +11,7 @@ byte_of_name-requires-clause-number c =
 pub returns : goal.returns
 returns c = record {
   held = λ change named setup bytes stands.
-      held_alone bytes change (cards_of c.args.regs.now.cards.items) c.args.names.now c.byte_of_name.result
-      (omega arith) named
+      held_alone _ _ _ _ _ (omega arith) named
       (λ reg name. c.byte_of_name.ensures.held reg name setup bytes stands);
   compared = λ one. c.byte_of_name.ensures.compared;
 }

@@ -4,6 +4,5 @@ use Rattle.config_regs.proofs.south.South.load_state.Goals as goal
 
 pub returns : goal.returns
 returns c = record {
-  loaded = loads south_format c.args.fields.now _ c.read_state.result c.are_bytes.ensures.bytes
-      c.read_state.ensures.took;
+  loaded = loads south_format _ _ _ c.are_bytes.ensures.bytes c.read_state.ensures.took;
 }

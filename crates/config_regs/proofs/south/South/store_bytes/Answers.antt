@@ -27,6 +27,5 @@ loop-index-preserved c =
 pub returns : goal.returns
 returns c = record {
   stored = λ setup bytes is.
-      all_so_far setup bytes (piix_register c.args.fun c.args.off) c.args.width c.args.value c.loop-index.index _
-      (omega arith) (c.loop-index.invariant.stored setup bytes is);
+      all_so_far _ _ _ _ _ _ _ (omega arith) (c.loop-index.invariant.stored setup bytes is);
 }

@@ -20,9 +20,8 @@ module _ (g : Over) (c : After-choose_windows g) where
   keeps : c.is_same_byte-kept.result ≡ true →
       KeepsByte (map_bytes c.self.inside.regs) (map_bytes c.apply_named.new.self) c.args.change.now
   keeps kept =
-      keeps_byte _ _ c.args.change.now _ _ (c.is_same_byte-kept.ensures.same kept)
-      (c.byte_alone-before.ensures.held c.args.change.now named)
-      (c.byte_alone.ensures.held c.args.change.now (rw c.apply_named.ensures.same_cards named))
+      keeps_byte _ _ _ _ _ (c.is_same_byte-kept.ensures.same kept) (c.byte_alone-before.ensures.held c.args.change.now
+      named) (c.byte_alone.ensures.held c.args.change.now (rw c.apply_named.ensures.same_cards named))
 
   -- the windows that were pushed are those that change, of each board that has the registers
   found : (setup : Setup) (bytes : Bytes) → StandsFor setup bytes (map_bytes c.self.inside.regs) →
@@ -49,18 +48,16 @@ rebuild-requires g c =
     let is = choice g (goal.at.rebuild-requires g c).After-choose_windows in
     record {
       cards = c.apply_named.ensures.fitted;
-      board = board_after c.args.change.now c.apply_named.ensures.stands c.self.invariant.board;
+      board = board_after _ c.apply_named.ensures.stands c.self.invariant.board;
       rise = rw c.as_slice-2.ensures.items is.rise;
-      beside = rw c.as_slice-2.ensures.items
-          (where_kept c.args.change.now c.apply_named.ensures.stands c.self.invariant is.keeps);
+      beside = rw c.as_slice-2.ensures.items (where_kept _ c.apply_named.ensures.stands c.self.invariant is.keeps);
       few = omega (arith, c.self.invariant.few, length-map c.self.inside.ranges.items range_of);
     }
 
 pub invariant_of-self : goal.invariant_of-self
 invariant_of-self g c =
-    are_map_of c.rebuild.new.ranges.items c.apply_named.ensures.fitted
-    (board_after c.args.change.now c.apply_named.ensures.stands c.self.invariant.board) c.rebuild.ensures.tiles
-    c.rebuild.ensures.map c.rebuild.ensures.few
+    are_map_of _ c.apply_named.ensures.fitted (board_after _ c.apply_named.ensures.stands c.self.invariant.board)
+    c.rebuild.ensures.tiles c.rebuild.ensures.map c.rebuild.ensures.few
 
 pub returns-clause-applied : goal.returns-clause-applied
 returns-clause-applied g c =

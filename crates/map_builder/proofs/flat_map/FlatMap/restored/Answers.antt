@@ -4,8 +4,7 @@ use Rattle.map_builder.proofs.BuildLemmas.{are_map_of}
 use Rattle.map_builder.proofs.flat_map.FlatMap.restored.Goals as goal
 
 pub uncounted_ranges-ranges-requires-clause-board : goal.uncounted_ranges-ranges-requires-clause-board
-uncounted_ranges-ranges-requires-clause-board c =
-    has_board (map_bytes c.args.regs) c.requires.cards c.hold_widths.ensures.widths
+uncounted_ranges-ranges-requires-clause-board c = has_board _ c.requires.cards c.hold_widths.ensures.widths
 
 pub invariant_of-result : goal.invariant_of-result
 invariant_of-result c =

@@ -10,8 +10,7 @@ found : (c : After-touch_map) (setup : Setup) → setup.cards ≡ cards_of c.arg
     c.touch_map.result ≡ touches_map setup (Store c.args.reg c.args.width c.args.value)
 found c setup same =
     c.touch_map.ensures.touched
-    ∙ names_touched setup c.args.self.now.regs.cards c.args.reg c.args.width c.args.value c.args.names.now
-    c.requires.fitted same c.requires.names
+    ∙ names_touched setup _ _ _ c.args.value _ c.requires.fitted same c.requires.names
 
 pub set_beside-requires : goal.set_beside-requires
 set_beside-requires c = grind (arith, nat_tests, common_steps, found)
