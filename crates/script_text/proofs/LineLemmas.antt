@@ -62,8 +62,7 @@ pub uncut : (bytes : List ℕ) → false ≡ eqb (length bytes) 0 → IsFirstByt
 unfolding lines_of
 uncut [] some none = absurd cc
 uncut (x ∷ xs) some none =
-    alone x xs (λ k d lt. rw (get_or_default_zero (x ∷ xs) k d lt)
-    (not_so (is_feed (get_or (x ∷ xs) k 0)) (none k (omega arith) lt)))
+    alone x xs (λ k d lt. rw (get_or_default_zero (x ∷ xs) k d lt) (not_so _ (none k (omega arith) lt)))
 
 -- with a line feed at once the first line is empty
 pub begun_empty : (bytes : List ℕ) → false ≡ eqb (length bytes) 0 → get_or bytes 0 0 ≡ 10 →

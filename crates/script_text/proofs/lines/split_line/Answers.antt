@@ -5,12 +5,10 @@ use Rattle.script_text.proofs.LineLemmas.{is_feed, cut_at, uncut, none_left, beg
 use Rattle.script_text.proofs.lines.split_line.Goals as goal
 
 pub returns-then-bytes-eq-LINE_FEED-clause-cases : goal.returns-then-bytes-eq-LINE_FEED-clause-cases
-returns-then-bytes-eq-LINE_FEED-clause-cases c =
-    begun_empty c.args.bytes.now c.if-is_empty.ensures c.if-bytes-eq-LINE_FEED.true
+returns-then-bytes-eq-LINE_FEED-clause-cases c = begun_empty _ c.if-is_empty.ensures c.if-bytes-eq-LINE_FEED.true
 
 pub returns-in-Some-clause-cases : goal.returns-in-Some-clause-cases
-returns-in-Some-clause-cases c =
-    cut_at c.args.bytes.now c.in-Some.end (subst (IsFirstByte is_feed c.args.bytes.now) c.in-Some.is c.memchr.ensures)
+returns-in-Some-clause-cases c = cut_at _ _ (subst (IsFirstByte is_feed c.args.bytes.now) c.in-Some.is c.memchr.ensures)
 
 pub returns-in-None-clause-cases : goal.returns-in-None-clause-cases
 returns-in-None-clause-cases c = grind (arith, nat_tests, common_steps, uncut, is_feed)

@@ -9,8 +9,7 @@ returns-in_err-valid_base c = grind (arith, nat_tests, common_steps, base_refuse
 pub loop-field-preserved : goal.loop-field-preserved
 loop-field-preserved c = record {
   count = omega (arith, c.push.ensures.len, c.loop-field.invariant.count);
-  each = base_read c.args.fields.now c.loop-field.field-index _ c.loop-field-test.true c.in_ok-valid_base.field-0
-      c.in_ok-valid_base.ensures.base c.loop-field.invariant.each;
-  same = base_added c.args.fields.now c.loop-field.field-index _ c.loop-field-test.true c.in_ok-valid_base.field-0
-      c.in_ok-valid_base.ensures.base c.loop-field.bases.items _ c.push.ensures.items c.loop-field.invariant.same;
+  each = base_read _ _ _ c.loop-field-test.true _ c.in_ok-valid_base.ensures.base c.loop-field.invariant.each;
+  same = base_added _ _ _ c.loop-field-test.true _
+      c.in_ok-valid_base.ensures.base _ _ c.push.ensures.items c.loop-field.invariant.same;
 }

@@ -11,6 +11,5 @@ returns c =
     let read = c.deref.ensures.value in
     grind (arith, nat_tests, c.index_for_card-place.ensures.place, c.in_ok-insert.ensures.items) in
     record {
-      taken = card_taken c.args.self.now c.args.card c.insert.new.self c.memory_of_card.result place
-          c.memory_of_card.ensures.memory;
+      taken = card_taken c.args.self.now _ c.insert.new.self _ place c.memory_of_card.ensures.memory;
     }

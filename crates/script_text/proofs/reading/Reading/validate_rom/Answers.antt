@@ -5,8 +5,7 @@ use Rattle.script_text.proofs.reading.Reading.validate_rom.Goals as goal
 
 pub returns : goal.returns
 returns c = record {
-  judged = λ items name is. name_judged items c.args.self.now (SetRom name) c.validate_setup.result is refl refl refl
-      refl refl refl
-      (c.validate_setup.ensures.judged items (SetRom name) is refl (rom_kept items c.args.self.now is
+  judged = λ items name is. name_judged _ _ _ _ is refl refl refl refl refl refl
+      (c.validate_setup.ensures.judged items (SetRom name) is refl (rom_kept _ _ is
       ∙ sym c.is_some.ensures));
 }
