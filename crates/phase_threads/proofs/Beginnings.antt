@@ -5,7 +5,7 @@ use Rattle.board_spec.proofs.ReplayLaws.{legal_before}
 use Rattle.board_prelude.proofs.Common.{reverse-append, reverse-reverse, length-reverse, Entry, Setup, IsLegal}
 use Rattle.run_order.specs.declared.done.Done.{Done}
 use Rattle.run_order.specs.Common.{IsPlacedBelow, over, placed, Order}
-use Rattle.run_order.proofs.Over.{over_front}
+use Rattle.run_order.proofs.Histories.{over_front}
 use Rattle.phase_threads.specs.Placed.{entries_of}
 
 -- the bus's history, in two parts

@@ -6,7 +6,7 @@ use Rattle.std.proofs.lemmas.List.Sums.{length-filter, count_by-le-length}
 use Rattle.std.proofs.lemmas.List.FromFn.{map-range_with_len_more}
 use Rattle.board_prelude.proofs.Common.{nat_tests, get_or-map, get_or-set_at, get_or-set_other, length-append}
 use Rattle.board_prelude.proofs.Common.{length-map, map-append, range_with_len, Event, Statement, events_by}
-use Rattle.run_order.proofs.Common.{all_turned}
+use Rattle.run_order.proofs.Histories.{all_turned}
 use Rattle.phase_work.specs.declared.worker.Work.{Work}
 use Rattle.phase_threads.specs.declared.jobs.Job.{Job}
 use Rattle.phase_threads.specs.Jobs.{AreDue}

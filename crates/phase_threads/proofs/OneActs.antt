@@ -11,7 +11,7 @@ use Rattle.board_core.specs.Kept.{Standing}
 use Rattle.shared_board.proofs.Histories.{writes_extend}
 use Rattle.shared_board.proofs.Limits.{few_entries}
 use Rattle.run_order.specs.declared.done.Done.{Done}
-use Rattle.run_order.proofs.Steps.{from_first}
+use Rattle.run_order.proofs.Counts.{from_first}
 use Rattle.run_order.specs.Common.{placed, IsGone}
 use Rattle.phase_work.specs.declared.worker.Work.{Work}
 use Rattle.phase_work.specs.Works.{HasDone}

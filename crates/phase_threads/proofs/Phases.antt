@@ -11,7 +11,7 @@ use Rattle.run_order.specs.Common.{placed, Order, bare, IsPhaseRun, PhaseRuns, A
 use Rattle.phase_work.specs.declared.worker.Work.{Work}
 use Rattle.phase_threads.specs.Common.{IsStatement, TakesIn, entries_of}
 use Rattle.phase_threads.specs.Unseen.{HasRunSo}
-use Rattle.run_order.proofs.Over.{all_reverse}
+use Rattle.run_order.proofs.Histories.{all_reverse}
 
 -- what a history gained, the oldest first
 abbrev pub gained : (opened entries : List Entry) → List Entry

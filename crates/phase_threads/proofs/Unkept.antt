@@ -11,7 +11,7 @@ use Rattle.run_order.specs.declared.done.Done.{Done}
 use Rattle.run_order.specs.declared.done.Done.TheVariants.{Went}
 use Rattle.run_order.specs.Common.{event_of, is_look, looks_in, all_looks_in, IsDone}
 use Rattle.run_order.proofs.Counts.{looks_append, count_set, nobody_looked}
-use Rattle.run_order.proofs.Unlooked.{placed_alone}
+use Rattle.run_order.proofs.Settled.{placed_alone}
 use Rattle.phase_work.specs.declared.worker.Work.{Work}
 use Rattle.phase_work.specs.Works.{HasDone}
 use Rattle.phase_threads.specs.Others.{others}

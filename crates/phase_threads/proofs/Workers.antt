@@ -14,7 +14,7 @@ use Rattle.board_live.specs.Callers.{IsCallerOf, IsNew, AreAllOf, AreOpened, Clo
 use Rattle.run_order.specs.declared.done.Done.{Done}
 use Rattle.run_order.specs.declared.done.Done.TheVariants.{Went, Looked}
 use Rattle.run_order.specs.Common.{done_by, IsWork, Begins, IsDone}
-use Rattle.run_order.proofs.Common.{begins_trans, all_reverse, all_turned}
+use Rattle.run_order.proofs.Histories.{begins_trans, all_reverse, all_turned}
 use Rattle.phase_work.specs.declared.worker.Work.{Work}
 use Rattle.phase_threads.specs.declared.jobs.Job.{Job}
 use Rattle.phase_threads.specs.Jobs.{IsReadyToWork, IsRun, AreAsked, AreDue, HasRun, done_in}

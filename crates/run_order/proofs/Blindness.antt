@@ -1,25 +1,23 @@
 -- No answer depends on the looks and the numbers before it: each definition over histories gives the same without them.
 use Rattle.std.proofs.Common.{◌≡◌, ℕ, zero, suc, ◌==◌, nat_lt, Bool, true, false, List, [], ◌∷◌, length, refl, sym, ◌∙◌}
-use Rattle.std.proofs.Common.{ap, inl, inr, Option, Some, None, unwrap_or, if◌then◌else◌}
+use Rattle.std.proofs.Common.{ap, inl, inr, Option, Some, None, if◌then◌else◌}
 use Rattle.board_prelude.proofs.Common.{option_map_or, cases_Bool, Pic0, Pic1, Pit, Elcr, Ata, trigger_byte, read_value}
 use Rattle.board_prelude.proofs.Common.{read_of, port_byte, Event, Memory, Wide, Port, Ack, Pulses, Reply, Bus, Saw}
 use Rattle.board_prelude.proofs.Common.{Entry, plain_value, map-same, levels-same, disk_of-same, elcr-same}
 use Rattle.board_spec.specs.Common.{Kind, Width, Reg, Target, Rom, Card, Device, Config, Abort, Dev, largest_of}
-use Rattle.board_spec.specs.Common.{Triggers, PitState, out_of, pulses, port_read, Clock, Disk, Pair, pair_after_lines}
-use Rattle.board_spec.specs.Common.{answer_of, Setup, installed, version_of, wide, pirq, control_written, control_after}
-use Rattle.board_spec.specs.Common.{reset_control, address_written, config_address, config_store, register_change}
-use Rattle.board_spec.specs.Common.{byte_of, map_change_of, map_writes_of, Cell, DramCell, CardCell, entry_put}
-use Rattle.board_spec.specs.Common.{stored_of, dram_byte, expansion_byte, parts_of, wire_set, wire_of, line_set, irq_of}
-use Rattle.board_spec.specs.Common.{triggers_of, PlainPorts, plain_of, timer_of, clock_of, disk_with, pirqs}
-use Rattle.board_spec.specs.Common.{levels_with, levels_of, elcr_of, pair_pulsed, pair_reset_or_after, pair_stepped}
-use Rattle.board_spec.specs.Common.{pair_of, device_value, who_answered, IsOfMemory, SameDevices, MemoryLeavesDevices}
-use Rattle.board_spec.specs.Common.{IsAnswer, memory_answer, part_answer, wide_value, port_answer, port_value, value_at}
-use Rattle.board_spec.specs.Common.{card_at, card_byte, kept_size}
-use Rattle.board_base.specs.declared.access.Access.{Access}
+use Rattle.board_spec.specs.Common.{Triggers, PitState, out_of, pulses, port_read, Clock, Disk, Pair, answer_of, Setup}
+use Rattle.board_spec.specs.Common.{installed, version_of, wide, pirq, control_written, control_after, reset_control}
+use Rattle.board_spec.specs.Common.{address_written, config_address, config_store, register_change, byte_of}
+use Rattle.board_spec.specs.Common.{map_change_of, map_writes_of, Cell, DramCell, CardCell, entry_put, stored_of}
+use Rattle.board_spec.specs.Common.{dram_byte, expansion_byte, parts_of, wire_of, irq_of, triggers_of, PlainPorts}
+use Rattle.board_spec.specs.Common.{plain_of, timer_of, clock_of, disk_with, pirqs, levels_with, levels_of, elcr_of}
+use Rattle.board_spec.specs.Common.{pair_pulsed, pair_stepped, pair_of, device_value, who_answered, IsOfMemory}
+use Rattle.board_spec.specs.Common.{SameDevices, MemoryLeavesDevices, IsAnswer, memory_answer, part_answer, wide_value}
+use Rattle.board_spec.specs.Common.{port_answer, port_value, value_at, card_at, card_byte, kept_size}
 use Rattle.board_base.specs.declared.target.Dev.TheVariants.{Confadd, Reset, Clock as ClockChip}
 use Rattle.board_spec.specs.declared.event.Event.TheVariants.{Look as LookAt}
 use Rattle.board_spec.specs.declared.event.Reply.TheVariants.{Parts}
-use Rattle.run_order.specs.Common.{is_look, bare, AnswersAreBlind}
+use Rattle.run_order.specs.Common.{is_look, bare}
 
 -- ---- an event that is a look
 
@@ -37,10 +35,10 @@ look_put kind addr smm (Bus value target denial) cell = refl
 look_put kind addr smm (Parts parts value) cell = refl
 look_put kind addr smm (Saw look) cell = refl
 
-looks_are_silent : (event : Event) → is_look event ≡ true → Silent event
-looks_are_silent (LookAt kind addr smm) is =
+silent : (event : Event) → is_look event ≡ true → Silent event
+silent (LookAt kind addr smm) is =
     record { control = refl; address = refl; store = λ setup address. refl; put = look_put kind addr smm; memory = tt }
-looks_are_silent _ is = absurd (cc is)
+silent _ is = absurd (cc is)
 
 -- ---- one definition after another
 
@@ -68,17 +66,13 @@ along f looks steps (entry ∷ before) =
 
 control_bare : (h : List Entry) → reset_control h ≡ reset_control (bare h)
 unfolding reset_control
-control_bare =
-    along reset_control
-    (λ entry before is. ap (control_after (reset_control before)) (looks_are_silent entry.event is).control)
-    (λ entry before _ same. cc)
+control_bare = along reset_control (λ e h is. ap (control_after (reset_control h)) (silent e.event is).control)
+    (λ e h _ same. cc)
 
 address_bare : (h : List Entry) → config_address h ≡ config_address (bare h)
 unfolding config_address
-address_bare =
-    along config_address
-    (λ entry before is. rw ((looks_are_silent entry.event is).control, (looks_are_silent entry.event is).address) refl)
-    (λ entry before _ same. cc (control_bare before))
+address_bare = along config_address (λ e h is. let s = silent e.event is in rw (s.control, s.address) refl)
+    (λ e h _ same. cc (control_bare h))
 
 register_change_bare : (setup : Setup) (h : List Entry) (event : Event)
     → register_change setup h event ≡ register_change setup (bare h) event
@@ -86,72 +80,57 @@ register_change_bare setup h event = cc (control_bare h, address_bare h)
 
 look_changes_nothing : (setup : Setup) (h : List Entry) (event : Event) → is_look event ≡ true
     → register_change setup h event ≡ None
-look_changes_nothing setup h event is = let s = looks_are_silent event is in
+look_changes_nothing setup h event is = let s = silent event is in
     rw (s.control) (s.store setup (config_address h))
 
 byte_bare : (setup : Setup) (reg : Reg) (h : List Entry) → byte_of setup h reg ≡ byte_of setup (bare h) reg
 unfolding byte_of
-byte_bare setup reg =
-    along (λ h. byte_of setup h reg) (λ entry before is. rw (look_changes_nothing setup before entry.event is) refl)
-    (λ entry before _ same. cc (register_change_bare setup before entry.event))
+byte_bare setup reg = along (λ h. byte_of setup h reg) (λ e h is. rw (look_changes_nothing setup h e.event is) refl)
+    (λ e h _ same. cc (register_change_bare setup h e.event))
 
 writes_bare : (setup : Setup) (h : List Entry) → map_writes_of setup h ≡ map_writes_of setup (bare h)
 unfolding map_writes_of map_change_of
-writes_bare setup =
-    along (map_writes_of setup) (λ entry before is. rw (look_changes_nothing setup before entry.event is) refl)
-    (λ entry before _ same. cc (register_change_bare setup before entry.event))
+writes_bare setup = along (map_writes_of setup) (λ e h is. rw (look_changes_nothing setup h e.event is) refl)
+    (λ e h _ same. cc (register_change_bare setup h e.event))
 
 pub version_same : (setup : Setup) (final before : List Entry) → bare final ≡ bare before
     → version_of setup final ≡ version_of setup before
 version_same setup final before same =
     ap length (writes_bare setup final ∙ (ap (map_writes_of setup) same ∙ sym (writes_bare setup before)))
 
-stored_bare : (cell : Cell) (h : List Entry) → stored_of h cell ≡ stored_of (bare h) cell
-unfolding stored_of
-stored_bare cell =
-    along (λ h. stored_of h cell) (λ entry before is. rw ((looks_are_silent entry.event is).put entry.reply cell) refl)
-    (λ entry before _ same. cc)
-
 -- ---- the devices
 
 module _ (leaves : MemoryLeavesDevices) (setup : Setup) where
   left : (entry : Entry) (before : List Entry) → is_look entry.event ≡ true → SameDevices setup before (entry ∷ before)
-  left entry before is = leaves setup before entry (looks_are_silent entry.event is).memory
+  left entry before is = leaves setup before entry (silent entry.event is).memory
 
   timer_bare : (h : List Entry) → timer_of h ≡ timer_of (bare h)
   unfolding timer_of
-  timer_bare = along timer_of (λ entry before is. (left entry before is).timer)
-      (λ entry before _ same. cc (control_bare before))
+  timer_bare = along timer_of (λ e h is. (left e h is).timer) (λ e h _ same. cc (control_bare h))
 
   plain_bare : (h : List Entry) → plain_of h ≡ plain_of (bare h)
   unfolding plain_of
-  plain_bare = along plain_of (λ entry before is. (left entry before is).plain)
-      (λ entry before _ same. cc (control_bare before))
+  plain_bare = along plain_of (λ e h is. (left e h is).plain) (λ e h _ same. cc (control_bare h))
 
   triggers_bare : (h : List Entry) → triggers_of h ≡ triggers_of (bare h)
   unfolding triggers_of
-  triggers_bare = along triggers_of (λ entry before is. (left entry before is).triggers)
-      (λ entry before _ same. cc (control_bare before))
+  triggers_bare = along triggers_of (λ e h is. (left e h is).triggers) (λ e h _ same. cc (control_bare h))
 
   clock_bare : (h : List Entry) → clock_of h ≡ clock_of (bare h)
   unfolding clock_of
-  clock_bare = along clock_of (λ entry before is. (left entry before is).clock)
-      (λ entry before _ same. cc (control_bare before))
+  clock_bare = along clock_of (λ e h is. (left e h is).clock) (λ e h _ same. cc (control_bare h))
 
   disk_bare : (bytes : List ℕ) (h : List Entry) → disk_with bytes h ≡ disk_with bytes (bare h)
   unfolding disk_with
-  disk_bare bytes = along (disk_with bytes) (λ entry before is. (left entry before is).disk bytes)
-      (λ entry before _ same. cc (control_bare before))
+  disk_bare bytes = along (disk_with bytes) (λ e h is. (left e h is).disk bytes) (λ e h _ same. cc (control_bare h))
 
   wire_bare : (dev : ℕ) (h : List Entry) → wire_of h dev ≡ wire_of (bare h) dev
   unfolding wire_of
-  wire_bare dev = along (λ h. wire_of h dev) (λ entry before is. (left entry before is).wires dev)
-      (λ entry before _ same. ap (unwrap_or (wire_set dev entry.event)) same)
+  wire_bare dev = along (λ h. wire_of h dev) (λ e h is. (left e h is).wires dev) (λ e h _ same. cc)
 
   line_bare : (line : ℕ) (h : List Entry) → irq_of h line ≡ irq_of (bare h) line
   unfolding irq_of
-  line_bare line = along (λ h. irq_of h line) (λ entry before is. (left entry before is).lines line)
-      (λ entry before _ same. ap (unwrap_or (line_set line entry.event)) same)
+  line_bare line = along (λ h. irq_of h line) (λ e h is. (left e h is).lines line) (λ e h _ same. cc)
 
   levels_bare : (h : List Entry) (timer other : PitState) → timer ≡ other
       → levels_with setup h timer ≡ levels_with setup (bare h) other
@@ -170,38 +149,24 @@ module _ (leaves : MemoryLeavesDevices) (setup : Setup) where
   pulsed_bare : (before : List Entry) (count : ℕ) (pair : Pair)
       → pair_pulsed setup before count pair ≡ pair_pulsed setup (bare before) count pair
   unfolding pair_pulsed
-  pulsed_bare before zero pair = refl
-  pulsed_bare before (suc k) pair =
-      let timer : pulses (suc k) (timer_of before) ≡ pulses (suc k) (timer_of (bare before)) =
-      ap (pulses (suc k)) (timer_bare before) in
-      let levels = levels_bare before (pulses (suc k) (timer_of before)) (pulses (suc k) (timer_of (bare before))) timer
-      in
-      cc (pulsed_bare before k pair, levels, edges_bare before)
+  pulsed_bare h zero pair = refl
+  pulsed_bare h (suc k) pair =
+      cc (pulsed_bare h k pair, levels_bare h _ _ (ap (pulses (suc k)) (timer_bare h)), edges_bare h)
 
   -- an entry that is no look, after a history and after that history without its looks
-  reached_next : (entry : Entry) (before : List Entry) (pair : Pair) → is_look entry.event ≡ false →
-      pair_after_lines (pair_reset_or_after setup entry before pair) (levels_of setup (entry ∷ before))
-      (elcr_of (entry ∷ before)) ≡ pair_after_lines (pair_reset_or_after setup (plain entry) (bare before) pair)
-      (levels_of setup (plain entry ∷ bare before)) (elcr_of (plain entry ∷ bare before))
-  reached_next entry before pair not =
-      let is = bare_entry entry before not in
-      let levels : levels_of setup (entry ∷ before) ≡ levels_of setup (plain entry ∷ bare before) =
-      levels_bare (entry ∷ before) (timer_of (entry ∷ before)) (timer_of (bare (entry ∷ before)))
-      (timer_bare (entry ∷ before)) ∙ ap (levels_of setup) is in
-      let edges : elcr_of (entry ∷ before) ≡ elcr_of (plain entry ∷ bare before) =
-      edges_bare (entry ∷ before) ∙ ap elcr_of is in
-      cc (control_bare before)
-
   stepped_next : (entry : Entry) (before : List Entry) (event : Event) (pair : Pair) → is_look entry.event ≡ false
       → pair_stepped setup entry before event pair ≡ pair_stepped setup (plain entry) (bare before) event pair
   stepped_next entry before (Pulses count) pair not = pulsed_bare before count pair
-  stepped_next entry before _ pair not = reached_next entry before pair not
+  stepped_next entry before _ pair not =
+      let is = bare_entry entry before not in
+      let levels : levels_of setup (entry ∷ before) ≡ levels_of setup (plain entry ∷ bare before) =
+      levels_bare (entry ∷ before) _ _ (timer_bare (entry ∷ before)) ∙ ap (levels_of setup) is in
+      cc (control_bare before, edges_bare (entry ∷ before) ∙ ap elcr_of is)
 
   pair_bare : (h : List Entry) → pair_of setup h ≡ pair_of setup (bare h)
   unfolding pair_of
-  pair_bare = along (pair_of setup) (λ entry before is. (left entry before is).pair)
-      (λ entry before not same. ap (pair_stepped setup entry before entry.event) same
-      ∙ stepped_next entry before entry.event (pair_of setup (bare before)) not)
+  pair_bare = along (pair_of setup) (λ e h is. (left e h is).pair)
+      (λ e h not same. ap (pair_stepped setup e h e.event) same ∙ stepped_next e h e.event (pair_of setup (bare h)) not)
 
 -- ---- two histories with the same entries but for looks and numbers
 
@@ -215,10 +180,9 @@ module _ (leaves : MemoryLeavesDevices) (setup : Setup) (final before : List Ent
     bytes_same = λ i reg. both (λ h. byte_of setup h reg) (byte_bare setup reg) i
 
     cells_same : stored_of final ≡ stored_of before
-    cells_same = λ i cell. both (λ h. stored_of h cell) (stored_bare cell) i
-
-    timer_same : timer_of final ≡ timer_of before
-    timer_same = both timer_of (timer_bare leaves setup)
+    unfolding stored_of
+    cells_same = λ i cell. both (λ h. stored_of h cell)
+        (along (λ h. stored_of h cell) (λ e h is. rw ((silent e.event is).put e.reply cell) refl) (λ e h _ same. cc)) i
 
     pair_same : pair_of setup final ≡ pair_of setup before
     pair_same = both (pair_of setup) (pair_bare leaves setup)
@@ -230,7 +194,7 @@ module _ (leaves : MemoryLeavesDevices) (setup : Setup) (final before : List Ent
     port_same Reset port width = both reset_control control_bare
     port_same Pic0 port width = ap (λ (p : Pair). port_byte p port) pair_same
     port_same Pic1 port width = ap (λ (p : Pair). port_byte p port) pair_same
-    port_same Pit port width = ap (λ (t : PitState). (port_read port t).0) timer_same
+    port_same Pit port width = ap (λ (t : PitState). (port_read port t).0) (both timer_of (timer_bare leaves setup))
     port_same ClockChip port width = ap (λ (c : Clock). read_value c port) (both clock_of (clock_bare leaves setup))
     port_same Elcr port width = ap (λ (t : Triggers). trigger_byte t (port == 0x4D1))
         (both triggers_of (triggers_bare leaves setup))
@@ -241,7 +205,8 @@ module _ (leaves : MemoryLeavesDevices) (setup : Setup) (final before : List Ent
     port_same dev port width =
         ap (λ (p : PlainPorts). plain_value dev p (out_of 2 (timer_of final)) width)
         (both plain_of (plain_bare leaves setup))
-        ∙ ap (λ (t : PitState). plain_value dev (plain_of before) (out_of 2 t) width) timer_same
+        ∙ ap (λ (t : PitState). plain_value dev (plain_of before) (out_of 2 t) width)
+        (both timer_of (timer_bare leaves setup))
 
     dram_same : dram_byte setup final ≡ dram_byte setup before
     dram_same = λ i addr. if nat_lt addr (installed setup) then cells_same i (DramCell addr) else 0xFF
@@ -264,16 +229,13 @@ module _ (leaves : MemoryLeavesDevices) (setup : Setup) (final before : List Ent
     values_same : value_at setup final ≡ value_at setup before
     values_same = λ i target addr width. value_same target addr width i
 
-    part_same : (part : Access) → part_answer setup final part ≡ part_answer setup before part
-    unfolding part_answer
-    part_same part = rw bytes_same refl
-
-    blind_at : (event : Event) (reply : Reply) → IsAnswer setup before event reply → IsAnswer setup final event reply
-    unfolding memory_answer wide_value port_answer
+    pub blind_at : (event : Event) (reply : Reply) → IsAnswer setup before event reply
+        → IsAnswer setup final event reply
+    unfolding memory_answer wide_value port_answer part_answer
     blind_at (Memory access) reply answer = rw (bytes_same, values_same) answer
     blind_at (Wide access) (Parts parts value) answer = record {
       value_is = rw (bytes_same, values_same) answer.value_is;
-      each = answer.each ∙ sym (map-same _ _ (parts_of access) part_same);
+      each = answer.each ∙ sym (map-same _ _ (parts_of access) (λ part. rw bytes_same refl));
     }
     blind_at (Wide access) _ answer = absurd answer
     blind_at (Port access) reply answer = rw (bytes_same, both config_address address_bare, values_same) answer
@@ -286,6 +248,3 @@ module _ (leaves : MemoryLeavesDevices) (setup : Setup) (final before : List Ent
         ∙ sym (ap (λ (p : Pair). Bus (Some ((answer_of p).vector)) (Device (who_answered (answer_of p))) None)
         pair_same)
     blind_at _ reply answer = answer
-
-pub answers_are_blind : MemoryLeavesDevices → AnswersAreBlind
-answers_are_blind leaves = blind_at leaves

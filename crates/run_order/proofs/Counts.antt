@@ -1,14 +1,40 @@
 -- How many looks there are, and how many entries each has.
-use Rattle.std.proofs.Common.{◌≡◌, ℕ, zero, suc, ◌+◌, ◌-◌, ◌^◌, ◌<◌, ◌≤◌, ◌==◌, Bool, List, [], ◌∷◌, ◌++◌, length, map}
-use Rattle.std.proofs.Common.{take, get_or, set, All, ◌≢◌, refl, sym, ◌∙◌, ap, arith, slice_index, reverse}
+use Rattle.std.proofs.Common.{◌≡◌, ℕ, zero, suc, ◌+◌, ◌≤◌, ◌==◌, true, List, [], ◌∷◌, map, get_or, set, refl, ap, arith}
+use Rattle.std.proofs.Common.{◌-◌, ◌^◌, ◌<◌, Bool, ◌++◌, length, take, All, ◌≢◌, sym, ◌∙◌, slice_index, reverse}
 use Rattle.board_prelude.proofs.Common.{nat_tests, take_more, map-append, length-map, get_or-set_other, reverse-append}
 use Rattle.board_prelude.proofs.Common.{length-reverse, get_or-set_at, All-cons, All-head, All-tail, Entry, entries_by}
-use Rattle.std.proofs.lemmas.List.Sums.{length-filter, count_by-le-length}
 use Rattle.run_order.specs.declared.done.Done.{Done}
+use Rattle.run_order.specs.Common.{done_by, without_first, passed, looks_in, all_looks_in, IsPlacedBelow, entry_of}
+use Rattle.run_order.specs.Common.{over, Order, IsOrder}
+use Rattle.std.proofs.lemmas.List.Sums.{length-filter, count_by-le-length}
 use Rattle.run_order.specs.declared.done.Done.TheVariants.{Went, Looked}
 use Rattle.run_order.specs.declared.entry.RunEntry.{RunEntry}
-use Rattle.run_order.specs.Common.{IsPlacedBelow, entry_of, over, Order, IsOrder, looks_in, all_looks_in}
-use Rattle.run_order.proofs.Over.{within_more}
+use Rattle.run_order.proofs.Histories.{within_more}
+
+at_place : (rests : List (List Done)) (first k : ℕ) → (done_by first (first + k) rests ≡ get_or rests k [])
+    × (passed first (first + k) rests ≡ set rests k (without_first (get_or rests k [])))
+unfolding done_by passed
+at_place [] first k = (refl, refl)
+at_place (done ∷ rests) first zero =
+    let is : (first + 0 == first) ≡ true = grind (arith, nat_tests) in rw is (refl, refl)
+at_place (done ∷ rests) first (suc k) = grind (arith, nat_tests, at_place rests (first + 1) k)
+
+-- the same, counted from the first processor
+pub from_first : (rests : List (List Done)) (k : ℕ) → (done_by 0 k rests ≡ get_or rests k [])
+    × (passed 0 k rests ≡ set rests k (without_first (get_or rests k [])))
+from_first rests k = let plus : 0 + k ≡ k = omega arith in rw plus at (at_place rests 0 k)
+
+pub first_is_one : (done : List Done) → looks_in (without_first done) ≤ looks_in done
+first_is_one done = grind arith
+
+-- without what one did first, there are no more looks
+pub no_more_looks : {X : Type 0} (f : X → List Done) (xs : List X) (k : ℕ) (x none : X)
+    → f x ≡ without_first (f (get_or xs k none)) → all_looks_in (map f (set xs k x)) ≤ all_looks_in (map f xs)
+no_more_looks f [] k x none is = omega arith
+no_more_looks f (y ∷ ys) zero x none is = omega (arith, ap looks_in is, first_is_one (f y))
+no_more_looks f (y ∷ ys) (suc k) x none is = omega (arith, no_more_looks f ys k x none is)
+
+-- ---- how many looks there are, and how many entries each has
 
 pub looks_append : (xs ys : List Done) → looks_in (xs ++ ys) ≡ looks_in xs + looks_in ys
 looks_append [] ys = omega arith

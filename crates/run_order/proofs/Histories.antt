@@ -1,9 +1,13 @@
 -- Beginnings of a history, and a processor's entries in it.
 use Rattle.std.proofs.Common.{◌≡◌, ℕ, ◌+◌, ◌<◌, ◌≤◌, List, [], ◌∷◌, ◌++◌, length, refl, sym, ◌∙◌, ap, arith}
-use Rattle.std.proofs.Common.{append_assoc, Option, reverse}
-use Rattle.board_prelude.proofs.Common.{option_to_list, reverse-append, nat_tests, Entry, MapChange, Setup, version_of}
-use Rattle.board_prelude.proofs.Common.{IsLegal, map_change_of, map_writes_of, entries_by}
+use Rattle.std.proofs.Common.{append_assoc, reverse, take, All, subst, get_or-take}
+use Rattle.board_prelude.proofs.Common.{reverse-append, nat_tests, Entry, Setup, version_of, IsLegal, map_writes_of}
+use Rattle.board_prelude.proofs.Common.{entries_by, reverse-reverse, All-permutation, All-head, All-tail}
+use Rattle.std.proofs.lemmas.List.Sorted.{IsPermutation-reverse}
 use Rattle.run_order.specs.Trace.{Begins}
+use Rattle.run_order.specs.declared.entry.RunEntry.{RunEntry}
+use Rattle.run_order.specs.declared.entry.RunEntry.TheVariants.{Bus, Look}
+use Rattle.run_order.specs.Over.{IsPlacedBelow, entry_of, nowhere, over}
 
 -- what comes later, the oldest first, put before a list with the newest first
 abbrev pub onto : {X : Type 0} → List X → List X → List X
@@ -21,12 +25,9 @@ legal_front setup [] before legal = legal
 legal_front setup (entry ∷ later) before legal = (legal_front setup later (entry ∷ before) legal).1
 
 -- what begins with a list that begins with another
-pub longer_trans : {X : Type 0} (first middle last : List X) → (more : List X) × (middle ≡ more ++ first)
+pub begins_trans : {X : Type 0} (first middle last : List X) → (more : List X) × (middle ≡ more ++ first)
     → (more : List X) × (last ≡ more ++ middle) → (more : List X) × (last ≡ more ++ first)
-longer_trans first middle last a b = (b.0 ++ a.0, rw (b.1, a.1) (sym (append_assoc b.0 a.0 first)))
-
-pub begins_trans : (first middle last : List Entry) → Begins first middle → Begins middle last → Begins first last
-begins_trans = longer_trans
+begins_trans first middle last a b = (b.0 ++ a.0, rw (b.1, a.1) (sym (append_assoc b.0 a.0 first)))
 
 pub begins_before : (entry : Entry) (before whole : List Entry) → Begins (entry ∷ before) whole → Begins before whole
 begins_before entry before whole = begins_trans before (entry ∷ before) whole (entry ∷ [], refl)
@@ -68,14 +69,35 @@ pub same_place : (actor : ℕ) (whole : List Entry) (left right : Entry) (before
 same_place actor whole left right before other a b l r n = same actor a.0 b.0 left right before other (sym a.1 ∙ b.1) l
     r (ap length n)
 
-one_write : (change : Option MapChange) (writes : List MapChange)
-    → (length writes ≤ length (option_to_list change ++ writes))
-    × (length (option_to_list change ++ writes) ≤ length writes + 1)
-one_write change writes = grind arith
-
 -- an entry is at most one map write
 pub version_step : (setup : Setup) (entry : Entry) (before : List Entry)
     → (version_of setup before ≤ version_of setup (entry ∷ before))
     × (version_of setup (entry ∷ before) ≤ version_of setup before + 1)
 unfolding map_writes_of
-version_step setup entry before = one_write (map_change_of setup before entry.event) (map_writes_of setup before)
+version_step setup entry before = grind arith
+
+-- ---- entries over the bus's history
+
+pub within_more : (n m : ℕ) → n ≤ m → (entry : RunEntry) → IsPlacedBelow n entry → IsPlacedBelow m entry
+within_more n m more (Bus actor seq place) less = omega (arith, more, less)
+within_more n m more (Look actor seq kind smm addr look) less = tt
+
+pub all_reverse : {X : Type 0} (P : X → Type 0) (xs : List X) → All P xs → All P (reverse xs)
+all_reverse P xs = All-permutation P xs (reverse xs) (IsPermutation-reverse xs)
+
+pub all_turned : {X : Type 0} (P : X → Type 0) (xs : List X) → All P (reverse xs) → All P xs
+all_turned P xs all = subst (All P) (reverse-reverse xs) (all_reverse P (reverse xs) all)
+
+of_front : (n : ℕ) (bus : List Entry) (entry : RunEntry) → IsPlacedBelow n entry
+    → entry_of (take n bus) entry ≡ entry_of bus entry
+of_front n bus (Bus actor seq place) less = ap (λ (e : Entry). record e { actor = actor; seq = seq })
+    (get_or-take n bus place nowhere less)
+of_front n bus (Look actor seq kind smm addr look) less = refl
+
+-- entries within the front of the bus's history are the same over it
+pub over_front : (n : ℕ) (bus : List Entry) (entries : List RunEntry) → All (IsPlacedBelow n) entries
+    → over (take n bus) entries ≡ over bus entries
+over_front n bus [] within = refl
+over_front n bus (entry ∷ entries) within =
+    λ t. of_front n bus entry (All-head (IsPlacedBelow n) entry entries within) t ∷ over_front n bus entries
+    (All-tail (IsPlacedBelow n) entry entries within) t

@@ -1,17 +1,9 @@
 pub mod Blindness
 pub mod Counts
-pub mod Directness
 pub mod Each
 pub mod Fitting
 pub mod Following
 pub mod Histories
-pub mod Looked
-pub mod Over
 pub mod Phases
 pub mod Placement
 pub mod Settled
-pub mod Steps
-pub mod Traces
-pub mod Unlooked
-pub mod Wholes
-pub mod Common

@@ -1,14 +1,16 @@
 -- Lists in which no look is due.
 use Rattle.std.proofs.Common.{◌≡◌, ℕ, zero, suc, ◌+◌, ◌-◌, ◌<◌, ◌≤◌, nat_le, false, List, [], ◌∷◌, length, All, drop}
-use Rattle.std.proofs.Common.{get_or, map, set, refl, sym, ◌∙◌, ap, arith, inl, inr}
+use Rattle.std.proofs.Common.{get_or, map, set, refl, sym, ◌∙◌, ap, arith, inl, inr, take, drop-set-lt, ◌++◌, reverse}
 use Rattle.board_prelude.proofs.Common.{cases_Bool, nat_tests, length-map, get_or-map, map-set, get_or-set_other}
-use Rattle.board_prelude.proofs.Common.{drop_more, drop_all, All-get_or, Entry, next_entry}
+use Rattle.board_prelude.proofs.Common.{drop_more, drop_all, All-get_or, Entry, next_entry, take_more, map-append}
+use Rattle.board_prelude.proofs.Common.{length-set, take_all, reverse-append, take-append-drop, Setup, IsLegal}
 use Rattle.run_order.specs.declared.done.Done.{Done}
 use Rattle.run_order.specs.declared.done.Done.TheVariants.{Looked}
 use Rattle.run_order.specs.Common.{with_looks, left_after, with_all_looks, all_left, without_first, noted, placed}
 use Rattle.run_order.specs.Common.{done_by, passed, looks_in, all_looks_in, IsNotDue, IsSettled, IsSettledBut}
-use Rattle.run_order.proofs.Counts.{count_set}
-use Rattle.run_order.proofs.Steps.{from_first, no_more_looks}
+use Rattle.run_order.proofs.Counts.{count_set, from_first, no_more_looks, one_of, first_is_one}
+use Rattle.std.proofs.Math.Seq.{take-suc-set}
+use Rattle.run_order.proofs.Histories.{onto, onto_is, legal_front}
 
 -- ---- what one processor did
 
@@ -176,3 +178,135 @@ pub but_one : {X : Type 0} (f : X → List Done) (xs : List X) (x : X) (version 
 but_one f xs x version version' place actor so place_is version_is k other =
     let same = get_or-set_other (map f xs) place k (f x) [] (λ e. other (e ∙ place_is)) in
     rw (version_is, map-set f xs place x, same) (so k)
+
+-- ---- the looks of one processor after another
+
+-- the looks of the first `k` processors have entered: `old` and `before` were there first, and `rests` and `now` are
+-- there now
+pub record AreLooked (version k : ℕ) (old rests : List (List Done)) (before now : List Entry) (room spare : ℕ) : Type 0
+  where
+    pub placed : with_all_looks version k (drop k rests) now ≡ with_all_looks version 0 old before
+    pub left : take k rests ≡ all_left version (take k old)
+    pub ahead : drop k rests ≡ drop k old
+    pub same : length rests ≡ length old
+    pub fits : spare + all_looks_in old ≡ room + all_looks_in rests
+
+-- the heads of what is ahead
+head_same : (k : ℕ) (xs ys : List (List Done)) → k < length xs → length xs ≡ length ys → drop k xs ≡ drop k ys →
+    (get_or xs k [] ≡ get_or ys k []) × (drop (k + 1) xs ≡ drop (k + 1) ys)
+head_same k xs ys less same ahead =
+    let e : get_or xs k [] ∷ drop (k + 1) xs ≡ get_or ys k [] ∷ drop (k + 1) ys = sym (drop_more xs k [] less)
+    ∙ (ahead ∙ drop_more ys k [] (omega (arith, less, same))) in
+    (cc (e), cc (e))
+
+module _ {X : Type 0} {version k : ℕ} {old : List (List Done)} {before now : List Entry} {room spare : ℕ}
+    (f : X → List Done) (xs : List X) (so : AreLooked version k old (map f xs) before now room spare) where
+  pub looked_next : (x none : X) (now' : List Entry) (spare' : ℕ) → k < length xs
+      → f x ≡ left_after version (f (get_or xs k none)) → now' ≡ with_looks version k (f (get_or xs k none)) now
+      → spare' + looks_in (f (get_or xs k none)) ≡ spare + looks_in (f x)
+      → AreLooked version (k + 1) old (map f (set xs k x)) before now' room spare'
+  unfolding with_all_looks
+  looked_next x none now' spare' less left_is now_is spare_is =
+      let rests : List (List Done) = map f xs in
+      let few : k < length rests = omega (arith, less, length-map xs f) in
+      let head = head_same k rests old few so.same so.ahead in
+      let one : get_or rests k [] ≡ f (get_or xs k none) = get_or-map f xs k none [] less in
+      let past : drop (k + 1) (set rests k (f x)) ≡ drop (k + 1) rests =
+      drop-set-lt (k + 1) rests k (f x) (omega arith) in
+      let count = count_set rests k (f x) few in let next : k + 1 ≡ suc k = omega arith in
+      let more = take_more old k [] (omega (arith, few, so.same)) in
+      let joined = map-append (left_after version) (take k old) (get_or old k [] ∷ []) in
+      rw (map-set f xs k x) (record {
+        placed = rw (past, now_is) (rw (drop_more rests k [] few, one) at so.placed);
+        left = rw (more, next, take-suc-set rests k (f x) few, so.left, left_is, ← one, head.0) (sym joined);
+        ahead = past ∙ head.1;
+        same = length-set rests k (f x) ∙ so.same;
+        fits = omega (arith, count, ap looks_in one, spare_is, so.fits);
+      })
+
+  -- there is room for the next
+  pub looked_fits : (none : X) → k < length xs → all_looks_in old ≤ room → looks_in (f (get_or xs k none)) ≤ spare
+  looked_fits none less fits = omega (arith, one_of f xs k none less, so.fits, fits)
+
+  -- all of them
+  pub looked_last : length xs ≤ k → AreAll version old (map f xs) before now room spare
+  unfolding with_all_looks
+  looked_last past =
+      let rests : List (List Done) = map f xs in
+      let all : length rests ≤ k = omega (arith, past, length-map xs f) in
+      record {
+        placed = rw (drop_all k rests all) at so.placed;
+        left_is = rw (take_all k rests all, take_all k old (omega (arith, all, so.same))) at so.left;
+        room = so.fits;
+      }
+
+-- ---- where nobody looked, the placed history is that of the bus
+
+next_onto : (setup : Setup) (later before : List Entry) (entry : Entry) → IsLegal setup (onto (entry ∷ later) before)
+    → next_entry before entry.actor entry.event entry.reply ≡ entry
+next_onto setup later before entry legal =
+    ap (λ (n : ℕ). record { actor = entry.actor; seq = n; event = entry.event; reply = entry.reply })
+    (sym (legal_front setup later (entry ∷ before) legal).0.number)
+
+-- ---- without looks
+
+none_due : (version : ℕ) (done : List Done) → looks_in done ≡ 0 → IsNotDue version done
+none_due version (Looked kind addr smm look ∷ done) none = absurd (omega (arith, none))
+none_due version _ none = tt
+
+none_settled : (version : ℕ) (rests : List (List Done)) → all_looks_in rests ≡ 0 → IsSettled version rests
+none_settled version [] none = λ k. tt
+none_settled version (done ∷ rests) none =
+    settled_more version done rests (none_due version done (omega (arith, none)))
+    (none_settled version rests (omega (arith, none)))
+
+passed_fewer : (first actor : ℕ) (rests : List (List Done)) → all_looks_in (passed first actor rests) ≤ all_looks_in
+    rests
+unfolding passed
+passed_fewer first actor [] = omega arith
+passed_fewer first actor (done ∷ rests) =
+    grind (arith, nat_tests, first_is_one done, passed_fewer (first + 1) actor rests)
+
+-- the entries of the bus alone enter the history, as where nobody did anything
+pub placed_alone : (version : ℕ) (later : List Entry) (rests : List (List Done)) (history : List Entry)
+    → all_looks_in rests ≡ 0 → placed version later rests history ≡ placed 0 later [] history
+unfolding placed with_all_looks done_by passed
+placed_alone version [] rests history none = settled_placed version 0 rests history (none_settled version rests none)
+placed_alone version (entry ∷ later) rests history none =
+    let so : IsSettled version rests = none_settled version rests none in
+    rw (settled_placed version 0 rests history so, settled_left version rests so)
+    (placed_alone (noted version (done_by 0 entry.actor rests)) later (passed 0 entry.actor rests)
+    (next_entry history entry.actor entry.event entry.reply ∷ history)
+    (omega (arith, passed_fewer 0 entry.actor rests, none)))
+
+alone : (setup : Setup) (later history : List Entry) → IsLegal setup (onto later history)
+    → placed 0 later [] history ≡ onto later history
+unfolding placed with_all_looks done_by passed
+alone setup [] history legal = refl
+alone setup (entry ∷ later) history legal =
+    rw (next_onto setup later history entry legal) (alone setup later (entry ∷ history) legal)
+
+pub unlooked : (setup : Setup) (version : ℕ) (later : List Entry) (rests : List (List Done)) (history : List Entry)
+    → all_looks_in rests ≡ 0
+    → IsLegal setup (reverse later ++ history) → placed version later rests history ≡ reverse later ++ history
+unlooked setup version later rests history none legal =
+    let is : onto later history ≡ reverse later ++ history = onto_is later history in
+    placed_alone version later rests history none ∙ (alone setup later history (rw is legal) ∙ is)
+
+-- ---- a history that begins as that of a bus
+
+-- the next entry of the bus's, after the first `i`
+pub begin_step : (setup : Setup) (entries : List Entry) (i : ℕ) (d : Entry) → IsLegal setup (reverse entries)
+    → i < length entries
+    → (history : List Entry) → history ≡ reverse (take i entries) → (next : List Entry)
+    → next ≡ next_entry history (get_or entries i d).actor (get_or entries i d).event (get_or entries i d).reply ∷
+    history
+    → next ≡ reverse (take (i + 1) entries)
+begin_step setup entries i d legal less history is next pushed =
+    let entry : Entry = get_or entries i d in let front : List Entry = reverse (take i entries) in
+    let cut : reverse entries ≡ onto (entry ∷ drop (i + 1) entries) front =
+    ap reverse (sym (take-append-drop i entries)) ∙ (reverse-append (take i entries) (drop i entries)
+    ∙ (sym (onto_is (drop i entries) front)
+    ∙ ap (λ (later : List Entry). onto later front) (drop_more entries i d less))) in
+    let next = next_onto setup (drop (i + 1) entries) front entry (rw cut at legal) in
+    rw (pushed, is, next, take_more entries i d less, reverse-append (take i entries) (entry ∷ [])) refl

@@ -2,7 +2,7 @@ use Rattle.std.proofs.Common.{rules, ◌≡◌, List, length, map, take, drop, r
 use Rattle.board_prelude.proofs.Common.{reverse-reverse, length-take-le, Entry, Setup}
 use Rattle.run_order.specs.declared.done.Done.{Done}
 use Rattle.run_order.specs.Common.{over, placed, Order, all_looks_in}
-use Rattle.run_order.proofs.Unlooked.{unlooked}
+use Rattle.run_order.proofs.Settled.{unlooked}
 use Rattle.phase_threads.specs.Placed.{entries_of}
 use Rattle.phase_threads.proofs.Beginnings.{cut_is, legal_front, front_length, taken_in, on_ok}
 use Rattle.phase_threads.proofs.placing.Placing.add.Goals as goal

@@ -1,7 +1,7 @@
 use Rattle.std.proofs.Common.{List, [], refl, ◌∙◌, arith}
 use Rattle.board_prelude.proofs.Common.{Entry}
 use Rattle.run_order.specs.Common.{over}
-use Rattle.run_order.proofs.Looked.{looked_next, looked_last, looked_fits}
+use Rattle.run_order.proofs.Settled.{looked_next, looked_last, looked_fits}
 use Rattle.run_order.proofs.order.RunOrder.all_looks.Goals as goal
 
 pub looks-requires-clause-room : goal.looks-requires-clause-room

@@ -1,7 +1,7 @@
 use Rattle.std.proofs.Common.{◌≡◌, List, map}
 use Rattle.board_spec.specs.declared.event.Entry.{Entry}
 use Rattle.run_order.specs.Common.{over, in_all}
-use Rattle.run_order.proofs.Looked.{AreLooked}
+use Rattle.run_order.proofs.Settled.{AreLooked}
 use Rattle.run_order.proofs.order.RunOrder.all_looks.Given as goal
 
 abbrev pub invariant-loop-actor : goal.invariant-loop-actor

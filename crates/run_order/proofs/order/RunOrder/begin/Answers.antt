@@ -1,6 +1,6 @@
 use Rattle.std.proofs.Common.{◌≡◌, ◌<◌, length, get_or, sym, arith}
 use Rattle.run_order.specs.Over.{nowhere, over}
-use Rattle.run_order.proofs.Unlooked.{begin_step}
+use Rattle.run_order.proofs.Settled.{begin_step}
 use Rattle.run_order.proofs.order.RunOrder.begin.Goals as goal
 
 pub loop-i-preserved : goal.loop-i-preserved

@@ -2,7 +2,7 @@ use Rattle.std.proofs.Common.{◌≡◌, ◌<◌, List, [], length, get_or, map,
 use Rattle.board_prelude.proofs.Common.{get_or-drop, Entry}
 use Rattle.run_order.specs.declared.done.Done.{Done}
 use Rattle.run_order.specs.Common.{nowhere, over, placed, Order}
-use Rattle.run_order.proofs.Steps.{no_more_looks}
+use Rattle.run_order.proofs.Counts.{no_more_looks}
 use Rattle.run_order.proofs.Settled.{left_is_settled, looked_again, next_placed, placed_last, but_one}
 use Rattle.run_order.proofs.order.RunOrder.place_all.Goals as goal
 
@@ -11,18 +11,14 @@ loop-i-init c =
     let bus : List Entry = c.args.bus.now in let later : List Entry = c.from-later.result in
     let later_is : later ≡ drop c.args.self.now.bus bus = c.from-later.ensures.entries
     ∙ ap (λ (o : Order). drop o.bus bus) c.self.view_is in
-    let old : List (List Done) = map (λ done. done.now) c.args.rests.now in
+    let old : List (List Done) = map (λ done. done.now) c.args.rests.now in let looked = c.all_looks.ensures in
     record {
       placed = looked_again old (over bus c.args.self.now.entries) c.args.self.now.spare
           (record { placed_on = refl; fits = omega (arith, ap length later_is, c.requires.room) })
-          (record {
-            placed = c.all_looks.ensures.placed bus;
-            left_is = c.all_looks.ensures.left;
-            room = c.all_looks.ensures.room;
-          });
-      settled = rw c.all_looks.ensures.left (left_is_settled c.args.version old);
-      bus = omega (arith, c.all_looks.ensures.bus);
-      keeps = c.all_looks.ensures.keeps;
+          (record { placed = looked.placed bus; left_is = looked.left; room = looked.room });
+      settled = rw looked.left (left_is_settled c.args.version old);
+      bus = omega (arith, looked.bus);
+      keeps = looked.keeps;
     }
 
 pub next_looks-requires-clause-room : goal.next_looks-requires-clause-room
@@ -43,7 +39,6 @@ loop-i-preserved c =
     let l = c.loop-i in let bus : List Entry = c.args.bus.now in let later : List Entry = c.from-later.result in
     let later_is : later ≡ drop c.args.self.now.bus bus = c.from-later.ensures.entries
     ∙ ap (λ (o : Order). drop o.bus bus) c.self.view_is in
-    let old : List (List Done) = map (λ done. done.now) c.args.rests.now in
     let less : l.i < length later = omega (arith, c.loop-i-test.true, c.len-i-end.ensures.length) in
     let size : length l.rests ≡ length c.args.rests.now = omega (arith, l.auto.rests) in
     let own : c.entry-entry.result ≡ get_or later l.i nowhere = sym (c.entry-entry.ensures.entry nowhere) in
@@ -54,17 +49,14 @@ loop-i-preserved c =
     l.invariant.settled less (rw (later_is, size) c.requires.callers)
     (c.from-actor.ensures ∙ ap (λ (e : Entry). e.actor) own) c.noted-version.ensures.noted
     c.without_first.ensures.rest (rw (own, at) at (c.push_bus.ensures.pushed bus)) in
+    let looked = c.next_looks.ensures in
     record {
       placed = looked_again _ (over bus c.push_bus.new.self.entries) c.push_bus.new.self.spare
           (rw c.push_bus.ensures.spare stepped)
-          (record {
-            placed = c.next_looks.ensures.placed bus;
-            left_is = c.next_looks.ensures.left;
-            room = c.next_looks.ensures.room;
-          });
-      settled = rw c.next_looks.ensures.left (left_is_settled c.noted-version.result _);
-      bus = omega (arith, c.next_looks.ensures.bus, c.push_bus.ensures.bus, l.invariant.bus);
-      keeps = c.next_looks.ensures.keeps ∙ (c.push_bus.ensures.keeps ∙ l.invariant.keeps);
+          (record { placed = looked.placed bus; left_is = looked.left; room = looked.room });
+      settled = rw looked.left (left_is_settled c.noted-version.result _);
+      bus = omega (arith, looked.bus, c.push_bus.ensures.bus, l.invariant.bus);
+      keeps = looked.keeps ∙ (c.push_bus.ensures.keeps ∙ l.invariant.keeps);
     }
 
 pub returns-clause-placed : goal.returns-clause-placed
