@@ -1,14 +1,16 @@
 -- Histories that go on, and their map writes.
-use Rattle.std.proofs.Common.{◌≡◌, ℕ, suc, ◌+◌, ◌-◌, ◌≤◌, ◌==◌, Bool, cond, List, [], ◌∷◌, ◌++◌, length, drop, filter}
-use Rattle.std.proofs.Common.{inl, inr, refl, sym, ap, ◌∙◌, subst, append_assoc, append-nil, arith, reverse}
-use Rattle.board_prelude.proofs.Common.{option_to_list, cases_Bool, reverse-append, filter-append, Entry, MapChange}
-use Rattle.board_prelude.proofs.Common.{Setup, entries_by, map_change_of, map_writes_of, nat_tests}
+use Rattle.std.proofs.Common.{◌≡◌, ℕ, suc, ◌+◌, ◌-◌, ◌≤◌, ◌==◌, Bool, List, [], ◌∷◌, ◌++◌, length, drop, filter, refl}
+use Rattle.std.proofs.Common.{sym, ap, ◌∙◌, subst, append_assoc, append-nil, arith, reverse, length-append}
+use Rattle.board_prelude.proofs.Common.{option_to_list, reverse-append, filter-append, Entry, MapChange, Setup}
+use Rattle.board_prelude.proofs.Common.{entries_by, map_change_of, map_writes_of, nat_tests, Event, Reply, next_entry}
+use Rattle.board_prelude.proofs.Common.{version_of}
 use mathlib.Core.List.{IsPrefix}
 use Rattle.map_publish.specs.declared.mark.Mark.{Mark}
-use Rattle.map_publish.specs.Lists.{changes_of}
+use Rattle.map_publish.specs.Lists.{changes_of, opened_of, version_after}
 use Rattle.map_publish.proofs.Changes.{changes_extend}
 use Rattle.bus_turn.specs.Views.{own_by}
-use Rattle.shared_board.specs.Known.{Extends, oldest, known_after}
+use Rattle.shared_board.specs.Known.{Extends, oldest, known_after, ArePublished}
+use Rattle.board_core.specs.Kept.{Standing}
 
 -- ---- lists that go on
 
@@ -25,17 +27,10 @@ pub entries_reversed : (actor : ℕ) (entries : List Entry) →
     entries_by actor (reverse entries) ≡ reverse (own_by (λ (e : Entry). e.actor) actor entries)
 entries_reversed actor [] = refl
 entries_reversed actor (entry ∷ later) =
-    let test : Entry → Bool = λ e. e.actor == actor in
-    let whole : reverse (entry ∷ later) ≡ reverse later ++ entry ∷ [] = reverse-append (entry ∷ []) later in
-    let here : (b : Bool) → reverse (filter test later) ++ cond b (entry ∷ []) []
-    ≡ reverse (cond b (entry ∷ filter test later) (filter test later)) =
-    λ b. elim (cases_Bool b) [
-      | inl yes' ↦ rw yes' (sym (reverse-append (entry ∷ []) (filter test later)))
-      | inr no' ↦ rw no' (append-nil (reverse (filter test later)))
-    ] in
-    ap (entries_by actor) whole
-    ∙ (filter-append test (reverse later) (entry ∷ [])
-    ∙ (ap (λ (w : List Entry). w ++ filter test (entry ∷ [])) (entries_reversed actor later) ∙ here (test entry)))
+    let test : Entry → Bool = λ e. e.actor == actor in let own : List Entry = filter test later in
+    let whole = reverse-append (entry ∷ []) later in let split = filter-append test (reverse later) (entry ∷ []) in
+    let turned = reverse-append (entry ∷ []) own in let none = append-nil (reverse own) in
+    grind (arith, nat_tests, whole, split, turned, none, entries_reversed actor later)
 
 -- ---- what was opened
 
@@ -84,3 +79,38 @@ known_extend setup opened log later prefix =
       ap (λ (w : List MapChange). w ++ map_writes_of setup opened) more.1
           ∙ append_assoc more.0 (changes_of log) (map_writes_of setup opened),
     )
+
+-- ---- what is published, when an entry is added
+
+pub published_added : (setup : Setup) (opened : ℕ) (history : List Entry) (entry : Entry) (log later : List Mark) →
+    opened ≤ length history → ArePublished setup opened history log →
+    changes_of later ≡ option_to_list (map_change_of setup history entry.event) ++ changes_of log →
+    ArePublished setup opened (entry ∷ history) later
+unfolding map_writes_of
+published_added setup opened history entry log later within before changes =
+    rw (changes, oldest_added opened entry history within, before)
+    (sym (append_assoc (option_to_list (map_change_of setup history entry.event)) (changes_of log)
+    (map_writes_of setup (oldest opened history))))
+
+-- the version that is published is that of the history
+pub published_version :
+    (setup : Setup) (opened : ℕ) (history : List Entry) (log : List Mark) → ArePublished setup opened history log →
+    (opened_of log).version ≡ version_of setup (oldest opened history) → version_after log ≡ version_of setup history
+published_version setup opened history log published version =
+    omega (arith, simp length-append at (ap length published), version)
+
+-- ---- the board that is stepped
+
+-- a board after room was made, and then after an event that added an entry
+pub record IsStepped (board reserved now : Standing) (entry : Entry) : Type 0 where
+  pub reserved_setup : reserved.setup ≡ board.setup
+  pub reserved_entries : reserved.entries ≡ board.entries
+  pub setup : now.setup ≡ board.setup
+  pub entries : now.entries ≡ entry ∷ board.entries
+
+pub is_stepped :
+    {board lent reserved again now : Standing} (room : ℕ) {spare number : ℕ} {event : Event} {reply : Reply} →
+    lent ≡ board → reserved ≡ record lent { spare = room } → again ≡ reserved →
+    now ≡ record again { entries = next_entry again.entries number event reply ∷ again.entries; spare = spare } →
+    IsStepped board reserved now (next_entry board.entries number event reply)
+is_stepped room is made same done = grind (arith, nat_tests)

@@ -7,8 +7,7 @@ use Rattle.shared_board.proofs.sharing.shared.Goals as goal
 
 pub invariant_of-result : goal.invariant_of-result
 invariant_of-result c =
-    let board = c.args.board.value in
-    let log = c.args.publisher.value.front.seen.log in
+    let board = c.args.board.value in let log = c.args.publisher.value.front.seen.log in
     let count : c.len-opened.result ≡ length board.entries = search rules in
     let whole : oldest c.len-opened.result board.entries ≡ board.entries =
     ap (λ (n : ℕ). oldest n board.entries) count ∙ oldest_whole board.entries in

@@ -5,9 +5,8 @@ use Rattle.map_publish.specs.declared.publisher.Publisher.{Publisher}
 use Rattle.map_publish.specs.Lists.{opened_of, changes_of, version_after}
 use Rattle.map_publish.proofs.Changes.{opened_same}
 use Rattle.shared_board.specs.Known.{oldest}
-use Rattle.shared_board.proofs.Histories.{oldest_added, writes_few}
+use Rattle.shared_board.proofs.Histories.{oldest_added, writes_few, published_added, published_version, is_stepped}
 use Rattle.shared_board.proofs.Limits.{few_entries, few_added}
-use Rattle.shared_board.proofs.Shares.{published_added, published_version, is_stepped}
 use Rattle.shared_board.proofs.shared.Shared.step.Goals as goal
 
 pub reserve-requires : goal.reserve-requires
