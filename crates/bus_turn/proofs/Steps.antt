@@ -21,9 +21,9 @@ use Rattle.bus_turn.specs.Common.{own_by, spent, staged, sees, commits, starting
 use Rattle.bus_turn.specs.Common.{Fits, Closes, drew, called, counted, gave, looked, ticket_of, Place, home, away}
 use Rattle.bus_turn.specs.Common.{slot_of, Book, gone, waiting, waits, is_gone, joins, total, IsSpent, AreJoined}
 use Rattle.bus_turn.specs.Common.{log_of, words_of, AtStage, Knows, Lies, Ordered, Ruled}
-use Rattle.bus_turn.proofs.Sums.{total_set, total_at, total_snoc, total_below, total_under, total_both}
-use Rattle.bus_turn.proofs.Rows.{put, put_here, put_else, at_lt, at_end, set_apart, prefix_refl, prefix_same}
-use Rattle.bus_turn.proofs.Rows.{prefix_trans, drop_front, own_more, own_else, own_none, All-more}
+use Rattle.bus_turn.proofs.Rows.{total_set, total_at, total_snoc, total_below, total_under, total_both, put, put_here}
+use Rattle.bus_turn.proofs.Rows.{put_else, at_lt, at_end, set_apart, prefix_refl, prefix_trans, drop_front, own_more}
+use Rattle.bus_turn.proofs.Rows.{own_else, own_none, All-more}
 
 stage_small : (st : Stage) → waiting st + gone st ≤ 1
 stage_small st = grind arith
@@ -176,24 +176,19 @@ module _ {T E F : Type 0} (entries : T → List E) (actor : E → ℕ) (fixed : 
   -- ---- the steps
 
   -- a ticket is drawn
-  drawn_by : B → ℕ → B
-  drawn_by b id = record b { ticket = b.ticket + 1; owner = put b.owner b.ticket id }
-
   after_draw : (b : B) (id j : ℕ) (seen : List E) (st : Stage) → AtStage first b j seen st
-      → AtStage first (drawn_by b id) j seen st
-  unfolding drawn_by
-  after_draw b id j seen (Waits t) h = let a = h.0 in let c = h.1 in
-      (a, omega arith, put_else b.owner b.ticket id t (λ e. omega arith) ∙ h.2)
-  after_draw b id j seen Holds h = let a = h.0 in
+      → AtStage first (record b { ticket = b.ticket + 1; owner = put b.owner b.ticket id }) j seen st
+  after_draw b id j seen (Waits t) h = (h.0, omega arith, put_else b.owner b.ticket id t (λ e. omega arith) ∙ h.2)
+  after_draw b id j seen Holds h =
       (omega arith, put_else b.owner b.ticket id b.serving (λ e. omega arith) ∙ h.1, h.2, h.3)
   after_draw b id j seen _ h = tt
 
   pub draws : (slots id : ℕ) (me : M) → me.0.stage ≡ Idle
       → Allows R slots id me 0 (λ n. (n + 1) % 2 ^ 64) (drew (step slots 0 1 0 none) me)
-  unfolding drawn_by
   draws slots id me idle s r deep at _ =
       let o = r.0 in let b = o.book in let v : V = me.0 in let w : V = staged v (Waits b.ticket) in
-      let b' : B = drawn_by b id in let lives = alive v.stage Idle idle refl in
+      let b' : B = record b { ticket = b.ticket + 1; owner = put b.owner b.ticket id } in
+      let lives = alive v.stage Idle idle refl in
       let k : K b s.views id v = o.each_seat id v at lives in let none_out : waits v ≡ 0 = ap waiting idle in
       let low : b.serving ≤ b.ticket = (let out = o.out in omega arith) in (
         w,
@@ -219,26 +214,21 @@ module _ {T E F : Type 0} (entries : T → List E) (actor : E → ℕ) (fixed : 
   }
 
   -- the turn is taken
-  taken_by : B → B
-  taken_by b = record b { place = away }
-
   after_call : (b : B) (j : ℕ) (seen : List E) (st : Stage) → AtStage first b j seen st
-      → AtStage first (taken_by b) j seen st
-  unfolding taken_by
+      → AtStage first (record b { place = away }) j seen st
   after_call b j seen Holds h = (h.0, h.1, refl, h.3)
   after_call b j seen _ h = h
 
-  Called : ℕ → ℕ → M → S → Type 0
+  abbrev Called : ℕ → ℕ → M → S → Type 0
   Called slots id me s = (w : V) × (a : Act (Option T)) × Valid s.homes me.1 a
       × R (stepped s 1 (get_or s.words 1 0) id me.1 w a)
       × called entries actor fixed (step slots 1 0 0 none) me (get_or s.words 1 0) (w, carried_after me.1 a)
 
   hits : (slots id : ℕ) (me : M) (t : ℕ) → me.0.stage ≡ Waits t → (s : S) (r : R s) → get_elem? s.views id ≡ some me.0
       → t ≡ r.0.book.serving → (p : Place T) → r.0.book.place ≡ p → L r.0.book s.views p → Called slots id me s
-  unfolding taken_by Called
   hits slots id me t is s r at same (home x) place lies =
       let o = r.0 in let b = o.book in let v : V = me.0 in let w : V = sees v Holds (entries x) in
-      let b' : B = taken_by b in let lives = alive v.stage (Waits t) is refl in
+      let b' : B = record b { place = away } in let lives = alive v.stage (Waits t) is refl in
       let k : K b s.views id v = o.each_seat id v at lives in
       let st : AtStage first b id v.seen (Waits t) = rw is at k.stage in
       let one_out : waits v ≡ 1 = ap waiting is in let own : b.owner b.serving ≡ id = ap b.owner (sym same) ∙ st.2 in
@@ -253,7 +243,7 @@ module _ {T E F : Type 0} (entries : T → List E) (actor : E → ℕ) (fixed : 
             (omega arith)
             (w, ap (get_elem? (set s.views id w)) own ∙ set_here s.views id w (at_lt s.views id v at), refl)
             (prefix_refl (log_of first b)) (λ n _. refl) o.numbered (λ j u _ h. after_call b j u.seen u.stage h)
-            (prefix_same (entries x) (log_of first b) lies.0) (log_of first b, refl) k.mine (low, own, refl, lies.0),
+            ([], append-nil (entries x) ∙ lies.0) (log_of first b, refl) k.mine (low, own, refl, lies.0),
         ((λ _. (x, refl, fits b s.views id v x k lies.0 lies.1)), λ missed. absurd (missed found)),
       )
   hits slots id me t is s r at same away place lies =
@@ -263,20 +253,8 @@ module _ {T E F : Type 0} (entries : T → List E) (actor : E → ℕ) (fixed : 
       let one : v ≡ lies.0 = some-injective v lies.0 (sym at ∙ (ap (get_elem? s.views) (sym own) ∙ lies.1)) in
       absurd (cc (is, lies.2, ap (λ (z : V). z.stage) one))
 
-  misses : (slots id : ℕ) (me : M) (s : S) → R s → get_elem? s.views id ≡ some me.0
-      → ticket_of me.0.stage % 2 ^ 64 ≢ get_or s.words 1 0 → Called slots id me s
-  unfolding Called
-  misses slots id me s r at missed = (
-    me.0,
-    keeps,
-    tt,
-    rw (set-get_or s.words 1 0, set_again s.views id me.0 at) r,
-    ((λ hit. absurd (missed hit)), λ _. refl),
-  )
-
   pub calls : (slots id : ℕ) (me : M) (t : ℕ) → me.0.stage ≡ Waits t
       → Allows R slots id me 1 (λ n. n) (called entries actor fixed (step slots 1 0 0 none) me)
-  unfolding Called
   calls slots id me t is s r deep at _ =
       let o = r.0 in let b = o.book in let v : V = me.0 in
       let k : K b s.views id v = o.each_seat id v at (alive v.stage (Waits t) is refl) in
@@ -289,7 +267,13 @@ module _ {T E F : Type 0} (entries : T → List E) (actor : E → ℕ) (fixed : 
       (λ hit. hits slots id me t is s r
       at (sym (one_turn b.serving t (2 ^ 64) low (omega arith)
       (sym shown ∙ (sym hit ∙ ap (λ (z : Stage). ticket_of z % 2 ^ 64) is)))) b.place refl o.lies)
-      (λ missed. misses slots id me s r at missed)
+      (λ missed. (
+        v,
+        keeps,
+        tt,
+        rw (set-get_or s.words 1 0, set_again s.views id v at) r,
+        ((λ hit. absurd (missed hit)), λ _. refl),
+      ))
 
   pub looks : (slots id : ℕ) (me : M) → me.0.stage ≡ Idle
       → Allows R slots id me 1 (λ n. n) (looked (step slots 1 0 0 none) me)
@@ -309,21 +293,16 @@ module _ {T E F : Type 0} (entries : T → List E) (actor : E → ℕ) (fixed : 
       )
 
   -- an entry is committed
-  with_entry : B → E → B
-  with_entry b e = record b { since = b.since ++ e ∷ [] }
-
   after_commit : (b : B) (e : E) (id j : ℕ) (seen : List E) (st : Stage) → b.owner b.serving ≡ id → j ≢ id
-      → AtStage first b j seen st → AtStage first (with_entry b e) j seen st
-  unfolding with_entry
+      → AtStage first b j seen st → AtStage first (record b { since = b.since ++ e ∷ [] }) j seen st
   after_commit b e id j seen Holds own other h = absurd (other (sym h.1 ∙ own))
   after_commit b e id j seen _ own other h = h
 
   enters : (slots id : ℕ) (me : M) (e : E) → me.0.stage ≡ Holds → actor e ≡ me.0.number
       → Allows R slots id me 2 (λ n. (n + 1) % 2 ^ 64) (counted (e ∷ []) (step slots 2 1 0 none) me)
-  unfolding with_entry
   enters slots id me e is by s r deep at _ =
       let o = r.0 in let b = o.book in let v : V = me.0 in let w : V = commits v (e ∷ []) in
-      let b' : B = with_entry b e in let lives = alive v.stage Holds is refl in
+      let b' : B = record b { since = b.since ++ e ∷ [] } in let lives = alive v.stage Holds is refl in
       let k : K b s.views id v = o.each_seat id v at lives in
       let st : AtStage first b id v.seen Holds = rw is at k.stage in let one_out : waits v ≡ 1 = ap waiting is in
       let mine : actor e ≡ id = by ∙ k.number in let inside = at_lt s.views id v at in
@@ -343,7 +322,7 @@ module _ {T E F : Type 0} (entries : T → List E) (actor : E → ℕ) (fixed : 
             (All-cons (λ (x : E). actor x < length s.views) e [] (rw mine inside)
             (All-nil (λ (x : E). actor x < length s.views))))
             (λ j u other h. after_commit b e id j u.seen u.stage st.1 other h)
-            (prefix_same (v.seen ++ e ∷ []) (log_of first b') all)
+            ([], append-nil (v.seen ++ e ∷ []) ∙ all)
             (prefix_trans v.told (log_of first b) (log_of first b') k.told logs)
             (own_more actor id b.since e mine ∙ ap (λ (xs : List E). xs ++ e ∷ []) k.mine)
             (subst (AtStage first b' id w.seen) (sym is) (st.0, st.1, st.2, all)),
@@ -352,17 +331,11 @@ module _ {T E F : Type 0} (entries : T → List E) (actor : E → ℕ) (fixed : 
 
   pub counts : (slots id : ℕ) (me : M) (added : List E) (e : E) → added ≡ e ∷ [] → me.0.stage ≡ Holds →
       actor e ≡ me.0.number → Allows R slots id me 2 (λ n. (n + 1) % 2 ^ 64) (counted added (step slots 2 1 0 none) me)
-  counts slots id me added e same is by =
-      subst (λ (xs : List E). Allows R slots id me 2 (λ n. (n + 1) % 2 ^ 64) (counted xs (step slots 2 1 0 none) me))
-      (sym same) (enters slots id me e is by)
+  counts slots id me added e same is by = rw same (enters slots id me e is by)
 
   -- the turn is given back
-  given_by : B → T → B
-  given_by b x = record b { serving = b.serving + 1; place = home x }
-
   after_give : (b : B) (x : T) (id j : ℕ) (seen : List E) (st : Stage) → b.owner b.serving ≡ id → j ≢ id
-      → AtStage first b j seen st → AtStage first (given_by b x) j seen st
-  unfolding given_by
+      → AtStage first b j seen st → AtStage first (record b { serving = b.serving + 1; place = home x }) j seen st
   after_give b x id j seen (Waits t) own other h =
       let apart : b.serving ≢ t = λ e. other (cc (h.2, own)) in (omega (arith, h.0, apart), h.1, h.2)
   after_give b x id j seen Holds own other h = absurd (other (sym h.1 ∙ own))
@@ -371,9 +344,9 @@ module _ {T E F : Type 0} (entries : T → List E) (actor : E → ℕ) (fixed : 
   pub gives_back : (slots id : ℕ) (me : M) (x : T) → me.0.stage ≡ Holds → me.1 ≡ (0, Some x) ∷ []
       → entries x ≡ me.0.seen → me.0.fixed ≡ Some (fixed x)
       → Allows R slots id me 1 (λ n. (n + 1) % 2 ^ 64) (gave (step slots 1 1 0 none) me)
-  unfolding given_by
   gives_back slots id me x is carried list fixed_is s r deep at _ =
-      let o = r.0 in let b = o.book in let v : V = me.0 in let w : V = staged v Idle in let b' : B = given_by b x in
+      let o = r.0 in let b = o.book in let v : V = me.0 in let w : V = staged v Idle in
+      let b' : B = record b { serving = b.serving + 1; place = home x } in
       let lives = alive v.stage Holds is refl in
       let k : K b s.views id v = o.each_seat id v at lives in
       let st : AtStage first b id v.seen Holds = rw is at k.stage in let one_out : waits v ≡ 1 = ap waiting is in (
@@ -501,10 +474,8 @@ module _ {T E F : Type 0} (entries : T → List E) (actor : E → ℕ) (fixed : 
   begins x y count words slots same is small words_are slots_are =
       let first : List E = entries x in let part : F = fixed x in let v : View E F = starting first part in
       let b : Book T E = record { since = []; ticket = 0; serving = 0; owner = λ _. 0; place = home y } in
-      let long : count ≡ length (log_of first b) % 2 ^ 64 = sym (mod-eq_of_lt small)
-      ∙ ap (λ (n : ℕ). n % 2 ^ 64)
-      (is ∙ (ap (λ (z : T). length (entries z)) (sym same)
-      ∙ ap (λ (xs : List E). length xs) (sym (append-nil first)))) in (
+      let long : count ≡ length (log_of first b) % 2 ^ 64 =
+      rw (append-nil first, same, ← is) (sym (mod-eq_of_lt small)) in (
         record {
           book = b;
           words_are = words_are ∙ ap (λ (n : ℕ). 0 ∷ 0 ∷ n ∷ []) long;
@@ -530,11 +501,12 @@ module _ {T E F : Type 0} (entries : T → List E) (actor : E → ℕ) (fixed : 
         refl,
       )
 
+  -- the slot that was found has the value
   pub ends : (first : List E) (part : F) (id : ℕ) (v : View E F) (words : List ℕ) (slots : List (Option T))
-      → v.stage ≡ Idle → v.number ≡ 0 → length v.joined ≡ v.splits
-      → Final (Seen (Ruled entries actor fixed first part) id v) words slots
-      → (x : T) × (get_elem? slots 0 ≡ some (Some x)) × Closes entries actor fixed v x
-  ends first part id v words slots idle opener all final = found o.book.place refl o.lies
+      (got : Option T) → v.stage ≡ Idle → v.number ≡ 0 → length v.joined ≡ v.splits
+      → Final (Seen (Ruled entries actor fixed first part) id v) words slots → get_elem? slots 0 ≡ some got
+      → (x : T) × (got ≡ Some x) × Closes entries actor fixed v x
+  ends first part id v words slots got idle opener all final got_is = found o.book.place refl o.lies
     where
       s : State (Option T) (View E F)
       s = final.0
@@ -561,12 +533,13 @@ module _ {T E F : Type 0} (entries : T → List E) (actor : E → ℕ) (fixed : 
           let both = total_both waits is_gone s.views in let out = o.out in let n = split in omega arith
 
       found : (p : Place T) → o.book.place ≡ p → Lies entries fixed first part o.book s.views p
-          → (x : T) × (get_elem? slots 0 ≡ some (Some x)) × Closes entries actor fixed v x
+          → (x : T) × (got ≡ Some x) × Closes entries actor fixed v x
       found (home x) is lies = let since : drop (length v.opened) (entries x) ≡ o.book.since =
           (λ c. drop (length (k.opened c)) (lies.0 c)) ∙ drop_front first o.book.since in (
             x,
-            final.4 0 (Some x) (ap (λ (hs : List (maybe.Option (Option T))). get_elem? hs 0)
-                (o.home_is ∙ ap (λ (q : Place T). slot_of q ∷ []) is)),
+            some-injective got (Some x) (sym got_is ∙ final.4 0 (Some x)
+                (ap (λ (hs : List (maybe.Option (Option T))). get_elem? hs 0)
+                (o.home_is ∙ ap (λ (q : Place T). slot_of q ∷ []) is))),
             record {
               fits = fits entries actor fixed first part o.book s.views id v x k lies.0 lies.1;
               joined = All-more (λ (p : ℕ × List E). (own_by actor p.0 o.book.since ≡ p.1) × IsSpent s.views p.0)
@@ -579,14 +552,6 @@ module _ {T E F : Type 0} (entries : T → List E) (actor : E → ℕ) (fixed : 
           )
       found away is lies =
           let low = is_held entries actor fixed first part s o lies in let none = none_waits in absurd (omega arith)
-
-  -- the slot that was found has the value
-  pub found_some : (first : List E) (part : F) (id : ℕ) (v : View E F) (words : List ℕ) (slots : List (Option T))
-      (o : Option T) → v.stage ≡ Idle → v.number ≡ 0 → length v.joined ≡ v.splits
-      → Final (Seen (Ruled entries actor fixed first part) id v) words slots → get_elem? slots 0 ≡ some o
-      → (x : T) × (o ≡ Some x) × Closes entries actor fixed v x
-  found_some first part id v words slots o idle opener all final at = let e =
-      ends first part id v words slots idle opener all final in (e.0, some-injective o (Some e.0) (sym at ∙ e.1), e.2)
 
   pub closes : (v : View E F) (o : Option T) (y : T) → (x : T) × (o ≡ Some x) × Closes entries actor fixed v x
       → o ≡ Some y → Closes entries actor fixed v y

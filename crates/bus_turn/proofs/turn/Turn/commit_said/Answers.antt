@@ -3,9 +3,5 @@ use Rattle.bus_turn.proofs.Steps.{counts}
 use Rattle.bus_turn.proofs.turn.Turn.commit_said.Goals as goal
 
 pub fetch_add-requires : goal.fetch_add-requires
-fetch_add-requires g c = let adds = c.requires.adds in (
-  search rules,
-  search rules,
-  counts g.T.Kept.entries g.T.Kept.actor g.T.Kept.fixed _ _ _ _ _ _ adds.0 adds.1
-      c.requires.holds.0 adds.3,
-)
+fetch_add-requires g c = let adds = c.requires.adds in
+    (search rules, search rules, counts _ _ _ _ _ _ _ _ _ adds.0 adds.1 c.requires.holds.0 adds.3)

@@ -6,6 +6,5 @@ pub fetch_add-requires : goal.fetch_add-requires
 fetch_add-requires g c = (
   search rules,
   search rules,
-  gives_back g.T.Kept.entries g.T.Kept.actor g.T.Kept.fixed _ _ _ _ _ c.args.held.value
-      (search rules) (search rules) (search rules) (search rules),
+  gives_back _ _ _ _ _ _ _ _ c.args.held.value (search rules) (search rules) (search rules) (search rules),
 )

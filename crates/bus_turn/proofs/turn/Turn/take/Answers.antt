@@ -7,12 +7,12 @@ use Rattle.bus_turn.proofs.turn.Turn.take.Goals as goal
 
 pub fetch_add-ticket-requires : goal.fetch_add-ticket-requires
 fetch_add-ticket-requires g c =
-    (search rules, search rules, draws g.T.Kept.entries g.T.Kept.actor g.T.Kept.fixed _ _ _ _ _ (search rules))
+    (search rules, search rules, draws _ _ _ _ _ _ _ _ (search rules))
 
 pub load-serving-requires : goal.load-serving-requires
 load-serving-requires g c = let drew = c.fetch_add-ticket.ensures.2 in
     let is : c.loop.pass.me.0.stage ≡ Waits drew.0 = search rules in
-    (search rules, search rules, calls g.T.Kept.entries g.T.Kept.actor g.T.Kept.fixed _ _ _ _ _ drew.0 is)
+    (search rules, search rules, calls _ _ _ _ _ _ _ _ drew.0 is)
 
 pub exchange-requires : goal.exchange-requires
 exchange-requires g c = let drew = c.fetch_add-ticket.ensures.2 in
