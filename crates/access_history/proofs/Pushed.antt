@@ -1,39 +1,24 @@
 -- A history that got an entry.
-use Rattle.std.proofs.Common.{◌≡◌, ℕ, ◌+◌, ◌-◌, ◌<◌, ◌≤◌, List, [], ◌∷◌, ◌++◌, length, reverse, slice_index_or, refl}
-use Rattle.std.proofs.Common.{◌∙◌, ap, arith}
+use Rattle.std.proofs.Common.{◌≡◌, ℕ, ◌+◌, ◌-◌, ◌≤◌, List, [], ◌∷◌, ◌++◌, length, reverse, refl, ap, arith}
 use Rattle.bus_turn.proofs.Rows.{All-more}
 use Rattle.board_prelude.proofs.Common.{reverse-append, length-append, map-append, get_or_append_left, All-push}
 use Rattle.board_prelude.proofs.Common.{All-head, All-tail, Entry, Part}
 use Rattle.access_history.specs.declared.packed.Count.{Count}
-use Rattle.access_history.specs.declared.packed.Count.TheVariants.{Two, Three, Four}
 use Rattle.access_history.specs.declared.packed.PackedReply.{PackedReply}
-use Rattle.access_history.specs.declared.packed.PackedReply.TheVariants.{ReadParts, WroteParts}
 use Rattle.access_history.specs.declared.packed.PackedEntry.{PackedEntry}
-use Rattle.access_history.specs.Packed.{IsHistory, IsWithin, AreWithin, KeepsParts, entry_in, entries_in, nothing}
-use Rattle.access_history.specs.Packed.{number_in, parts_at, reply_in}
+use Rattle.access_history.specs.Packed.{IsHistory, IsWithin, AreWithin, KeepsParts, entry_in, entries_in, number_in}
+use Rattle.access_history.specs.Packed.{parts_at, reply_in}
 
 within_more : (n m : ℕ) → n ≤ m → (reply : PackedReply) → IsWithin n reply → IsWithin m reply
-within_more n m more (ReadParts count first value) within = omega (arith, more, within)
-within_more n m more (WroteParts count first) within = omega (arith, more, within)
-within_more n m more _ within = tt
+within_more n m more reply within = grind arith
 
 parts_front : (list more : List Part) (count : Count) (first : ℕ) → first + number_in count ≤ length list
     → parts_at (list ++ more) count first ≡ parts_at list count first
-parts_front list more Two first less =
-    let same = get_or_append_left list more nothing in
-    rw (same first (omega arith), same (first + 1) (omega arith)) refl
-parts_front list more Three first less =
-    let same = get_or_append_left list more nothing in
-    rw (same first (omega arith), same (first + 1) (omega arith), same (first + 2) (omega arith)) refl
-parts_front list more Four first less =
-    let same = get_or_append_left list more nothing in let last = same (first + 3) (omega arith) in
-    rw (same first (omega arith), same (first + 1) (omega arith), same (first + 2) (omega arith), last) refl
+parts_front list more count first less = grind (arith, get_or_append_left)
 
 reply_front : (list more : List Part) (reply : PackedReply) → IsWithin (length list) reply
     → reply_in (list ++ more) reply ≡ reply_in list reply
-reply_front list more (ReadParts count first value) within = rw (parts_front list more count first within) refl
-reply_front list more (WroteParts count first) within = rw (parts_front list more count first within) refl
-reply_front list more _ within = refl
+reply_front list more reply within = grind (arith, parts_front)
 
 -- entries are the same over a list that got more parts
 entries_front : (list more : List Part) (entries : List PackedEntry) → AreWithin (length list) entries

@@ -5,8 +5,7 @@ use Rattle.access_history.proofs.entries.Entries.from.Goals as goal
 
 pub returns : goal.returns
 returns c =
-    let entries = c.self.inside.entries.now in
-    let parts = c.self.inside.parts.now in
+    let entries = c.self.inside.entries.now in let parts = c.self.inside.parts.now in
     let rest = take_all (length entries - c.args.start) (drop c.args.start entries)
     (omega (arith, length-drop c.args.start entries)) in
     record {

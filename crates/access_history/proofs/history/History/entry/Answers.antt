@@ -7,8 +7,7 @@ use Rattle.access_history.proofs.history.History.entry.Goals as goal
 
 pub returns : goal.returns
 returns c =
-    let list = c.self.inside.parts.items in
-    let entries = c.self.inside.entries.items in
+    let list = c.self.inside.parts.items in let entries = c.self.inside.entries.items in
     let seen = sym (reverse-reverse (entries_in list entries))
     ∙ ap (λ (past : Past). reverse past.entries) c.self.view_is in
     let within : c.args.i < length entries =
