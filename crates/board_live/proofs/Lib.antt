@@ -1,4 +1,3 @@
 pub mod Standing
 pub mod Turns
-pub mod Joining
 pub mod Opening

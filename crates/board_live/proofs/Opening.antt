@@ -75,9 +75,7 @@ any_numbered a (cpu ∷ later) is (suc number) below =
 -- ---- callers on threads of their own
 
 -- all callers, after each has gone on
-pub all_again :
-    (live : Live) (old new : List Cpu) → length new ≡ length old →
-    ((i : ℕ) (d : Cpu) → i < length old →
+pub all_again : (live : Live) (old new : List Cpu) → length new ≡ length old → ((i : ℕ) (d : Cpu) → i < length old →
     IsCallerOf live (get_or new i d) × IsSameCaller (get_or old i d) (get_or new i d)) →
     AreAllOf live old → AreAllOf live new
 all_again live old new size went all = record {

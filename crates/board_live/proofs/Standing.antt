@@ -1,5 +1,5 @@
 -- The opened map stands for the registers after the map writes of the history.
-use Rattle.std.proofs.Common.{◌≡◌, ℕ, ◌+◌, ◌≤◌, true, ◌||◌, List, Option, Some, None, refl, sym, ap, ◌∙◌, arith, ◌==◌}
+use Rattle.std.proofs.Common.{◌≡◌, ℕ, ◌+◌, true, ◌||◌, List, Option, Some, None, refl, sym, ap, ◌∙◌, arith, ◌==◌}
 use Rattle.std.proofs.Common.{is_some}
 use Rattle.board_prelude.proofs.Common.{nat_tests, Entry, is_within, Setup, card_at, Bytes, SameMapBytes, has_rom}
 use Rattle.board_prelude.proofs.Common.{map_writes_of, registers_after, bridge, card_register, base_register}
@@ -11,23 +11,17 @@ use Rattle.addr_decode.specs.Singles.{single}
 use Rattle.addr_decode.proofs.NameLemmas.{block_is_byte, single_is_byte, card_is_byte, rom_is_byte}
 
 module _ (setup : Setup) (bytes other : Bytes) (same : SameMapBytes setup bytes other) where
-  block_same : (off : ℕ) → 0x59 ≤ off → off ≤ 0x67 → bytes (bridge off) ≡ other (bridge off)
-  block_same off from to = same (bridge off) (block_is_byte setup off from to)
-
   card_same : (dev off : ℕ) → is_some (card_at setup dev) ≡ true → (off == 0x04 || is_within 0x10 0x27 off) ≡ true →
       bytes (card_register dev off) ≡ other (card_register dev off)
   card_same dev off fitted is = same (card_register dev off) (card_is_byte setup dev off fitted is)
-
-  rom_same : (dev off : ℕ) → has_rom (card_at setup dev) ≡ true → is_within 0x30 0x33 off ≡ true →
-      bytes (card_register dev off) ≡ other (card_register dev off)
-  rom_same dev off fitted is = same (card_register dev off) (rom_is_byte setup dev off fitted is)
 
   rom_moves : (dev value : ℕ) (size : Option ℕ) → (is_some size ≡ true → has_rom (card_at setup dev) ≡ true) →
       HoldsRom bytes dev value size → HoldsRom other dev value size
   rom_moves dev value None has holds = tt
   rom_moves dev value (Some bits) has holds =
       holds-same bytes other (expansion_rom dev) value
-      (λ j below. sym (rom_same dev (0x30 + j) (has refl) (grind (arith, nat_tests)))) holds
+      (λ j below. sym (same (card_register dev (0x30 + j))
+      (rom_is_byte setup dev (0x30 + j) (has refl) (grind (arith, nat_tests))))) holds
 
   decodes_moves : (card : CardBytes) → DecodesAs setup bytes card → DecodesAs setup other card
   decodes_moves card is =
@@ -44,8 +38,10 @@ module _ (setup : Setup) (bytes other : Bytes) (same : SameMapBytes setup bytes 
 
   stands_moves : (regs : MapBytes) → StandsFor setup bytes regs → StandsFor setup other regs
   stands_moves regs stands = record {
-    rows = λ row below. stands.rows row below ∙ block_same (0x60 + row) (omega arith) (omega arith);
-    windows = λ off within. stands.windows off within ∙ block_same off within.0 (omega (arith, within.1));
+    rows = λ row below. stands.rows row below
+        ∙ same (bridge (0x60 + row)) (block_is_byte setup (0x60 + row) (omega arith) (omega arith));
+    windows = λ off within. stands.windows off within
+        ∙ same (bridge off) (block_is_byte setup off within.0 (omega (arith, within.1)));
     singles = λ k below. stands.singles k below ∙ same (single k) (single_is_byte setup k below);
     cards = (stands.cards.0, λ k d below. decodes_moves _ (stands.cards.1 k d below));
   }

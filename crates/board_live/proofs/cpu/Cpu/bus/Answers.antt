@@ -3,7 +3,6 @@ use Rattle.board_prelude.proofs.Common.{reverse-append, reverse-reverse, Entry, 
 use Rattle.bus_turn.specs.Common.{opened_of as opened_by, seen_of as seen_in, mine_of as mine_in}
 use Rattle.bus_turn.specs.Common.{IsSameCaller as IsSamePass}
 use Rattle.bus_turn.proofs.Rows.{prefix_trans}
-use Rattle.map_publish.specs.Lists.{opened_of}
 use Rattle.board_live.specs.Common.{IsSameBoard, setup_in}
 use Rattle.board_live.proofs.Turns.{Finds, finds, known_left, passed_again, opens_again, own_pushed, own_first}
 use Rattle.board_live.proofs.Turns.{passed_idly, has_learnt}
@@ -22,8 +21,7 @@ step-requires-clause-few g c = rw (found g (goal.at.step-requires-clause-few g c
 
 pub commit-requires-clause-adds : goal.commit-requires-clause-adds
 commit-requires-clause-adds g c =
-    let cpu = c.args.self.now in
-    let held = c.enter-held.result.value in
+    let cpu = c.args.self.now in let held = c.enter-held.result.value in
     let entry : Entry = next_entry held.board.value.entries cpu.number c.args.event.now c.in-Ok.answered.reply in
     let entries : c.step.new.self.board.value.entries ≡ entry ∷ held.board.value.entries = search rules in
     let list : seen_in c.enter-held.new.pass ≡ reverse held.board.value.entries = c.enter-held.ensures.list in
@@ -40,8 +38,7 @@ leave-requires-clause-begins g c =
 
 pub invariant_of-self : goal.invariant_of-self
 invariant_of-self g c =
-    let cpu = c.args.self.now in
-    let held = c.enter-held.result.value in
+    let cpu = c.args.self.now in let held = c.enter-held.result.value in
     let pass = cpu.pass in
     let now = c.leave.new.pass in
     let found = found g (goal.at.invariant_of-self g c).After-enter-held in
@@ -54,28 +51,24 @@ invariant_of-self g c =
     let seen : seen_in now ≡ list ++ entry ∷ [] = search (rules, whole) in
     let mine : mine_in now ≡ mine_in pass ++ drop (length list) (list ++ entry ∷ []) = search (rules, whole) in
     record {
-      passed = passed_again cpu c.leave.new.viewer.front.seen.book now same (search rules) (search rules)
+      passed = passed_again cpu same (search rules) (search rules)
           (rw (seen, mine) (own_pushed cpu.number (opened_by pass) list (mine_in pass) entry refl found.listed));
       idle = c.leave.ensures.idle;
-      opens = opens_again cpu now (opened_of c.leave.new.viewer.front.seen.log) same (search rules);
+      opens = opens_again cpu now same (search rules);
     }
 
 pub invariant_of-self-in-Err : goal.invariant_of-self-in-Err
 invariant_of-self-in-Err g c =
-    let cpu = c.args.self.now in
     let found = found g (goal.at.invariant_of-self-in-Err g c).After-enter-held in
     record {
-      passed = passed_idly cpu c.enter-held.result.value c.leave-in-Err.new.viewer.front.seen.book
-          c.leave-in-Err.new.pass found (search rules) (search rules) (search rules) (search rules) (search rules);
+      passed = passed_idly found (search rules) (search rules) (search rules) (search rules) (search rules);
       idle = c.leave-in-Err.ensures.idle;
-      opens = opens_again cpu c.leave-in-Err.new.pass (opened_of c.leave-in-Err.new.viewer.front.seen.log)
-          (search rules) (search rules);
+      opens = opens_again c.args.self.now c.leave-in-Err.new.pass (search rules) (search rules);
     }
 
 pub returns-in-Ok-clause-added : goal.returns-in-Ok-clause-added
 returns-in-Ok-clause-added g c =
-    let cpu = c.args.self.now in
-    let held = c.enter-held.result.value in
+    let cpu = c.args.self.now in let held = c.enter-held.result.value in
     let pass = cpu.pass in
     let now = c.leave.new.pass in
     let found = found g (goal.at.returns-in-Ok-clause-added g c).After-enter-held in
@@ -102,6 +95,5 @@ returns-in-Ok-clause-added g c =
 
 pub returns-in-Err-clause-refused : goal.returns-in-Err-clause-refused
 returns-in-Err-clause-refused g c =
-    has_learnt c.args.self.now c.enter-held.result.value _
-    (found g (goal.at.returns-in-Err-clause-refused g c).After-enter-held) refl (search rules) (search rules)
-    (search rules)
+    has_learnt (found g (goal.at.returns-in-Err-clause-refused g c).After-enter-held) refl (search rules)
+    (search rules) (search rules)

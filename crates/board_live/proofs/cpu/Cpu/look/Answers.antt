@@ -13,8 +13,7 @@ returns-clause-later c =
 
 pub returns-clause-look : goal.returns-clause-look
 returns-clause-look c =
-    let pass = c.args.self.now.pass in
-    let log = c.look.new.self.front.seen.log in
+    let pass = c.args.self.now.pass in let log = c.look.new.self.front.seen.log in
     let opens : IsMapOpened (setup_in pass) (opened_in pass) (opened_of log) =
     rw c.look.ensures.opened c.args.self.now.opens in
     looks_go_on (setup_in pass) (map_writes_of (setup_in pass) (opened_in pass)) log c.args.addr c.args.kind c.args.smm

@@ -13,8 +13,7 @@ loop-viewer-init c =
     (Some c.unwrap-first.result) is c.requires.viewers in
     let none = c.requires.room.0 in
     let no_cpus : length c.args.cpus.items ≡ 0 = ap length none in
-    let long : length c.args.viewers.items ≡ length c.pop.new.self.items + 1 =
-    ap length is ∙ length-append c.pop.new.self.items (c.unwrap-first.result ∷ []) in
+    let long = simp length-append at (ap length is) in
     record {
       own = c.requires.own;
       idle = c.requires.idle;
@@ -34,27 +33,22 @@ new-requires-clause-viewer c =
     let i = c.loop-viewer.invariant in
     let viewers = All-pop (IsViewerFor c.args.pass) c.loop-viewer.viewers.items c.pop-in-loop-viewer.new.self.items
     (Some c.in-Some.viewer) (search rules) i.viewers in
-    let further = c.split-further.ensures.further in
-    let same = c.split-further.ensures.same in
+    let further = c.split-further.ensures.further in let same = c.split-further.ensures.same in
     viewer_for c.args.pass c.split-further.result c.in-Some.viewer (further.opened ∙ (same.1 ∙ i.same.1))
     (further.part ∙ (same.2 ∙ i.same.2)) viewers.1
 
 pub loop-viewer-preserved : goal.loop-viewer-preserved
 loop-viewer-preserved c =
-    let i = c.loop-viewer.invariant in
-    let cpus = c.loop-viewer.cpus.items in
-    let all = c.push.new.self.items in
-    let cpu = c.new.result in
+    let i = c.loop-viewer.invariant in let cpus = c.loop-viewer.cpus.items in
+    let all = c.push.new.self.items in let cpu = c.new.result in
     let is : c.loop-viewer.viewers.items ≡ c.pop-in-loop-viewer.new.self.items ++ c.in-Some.viewer ∷ [] =
     search rules in
     let viewers = All-pop (IsViewerFor c.args.pass) c.loop-viewer.viewers.items c.pop-in-loop-viewer.new.self.items
     (Some c.in-Some.viewer) is i.viewers in
     let added : all ≡ cpus ++ cpu ∷ [] = search rules in
     let long : length all ≡ length cpus + 1 = ap length added ∙ length-append cpus (cpu ∷ []) in
-    let fewer : length c.loop-viewer.viewers.items ≡ length c.pop-in-loop-viewer.new.self.items + 1 =
-    ap length is ∙ length-append c.pop-in-loop-viewer.new.self.items (c.in-Some.viewer ∷ []) in
-    let further = c.split-further.ensures.further in
-    let same = c.split-further.ensures.same in
+    let fewer = simp length-append at (ap length is) in
+    let further = c.split-further.ensures.further in let same = c.split-further.ensures.same in
     let new = new_of c.args.pass c.split-further.result cpu (further.opened ∙ (same.1 ∙ i.same.1))
     (further.part ∙ (same.2 ∙ i.same.2)) c.new.ensures.new in
     record {

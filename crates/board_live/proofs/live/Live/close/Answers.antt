@@ -5,7 +5,7 @@ use Rattle.bus_turn.specs.Common.{IsSameCaller as IsSamePass, number_of, opened_
 use Rattle.bus_turn.specs.Common.{mine_of as mine_in, own_by}
 use Rattle.board_live.specs.declared.cpu.Cpu.{Cpu}
 use Rattle.board_live.specs.Common.{opened_with, ClosesBoard}
-use Rattle.board_live.proofs.Joining.{caught_up, closes, closes_joined, opened_same}
+use Rattle.board_live.proofs.Turns.{caught_up, closes, closes_joined, opened_same}
 use Rattle.board_live.proofs.live.Live.close.Goals as goal
 
 pub place_of_first-place-requires : goal.place_of_first-place-requires
@@ -15,13 +15,9 @@ place_of_first-place-requires g c =
 
 pub returns-clause-cpus : goal.returns-clause-cpus
 returns-clause-cpus g c =
-    let items = c.args.cpus.items in
-    let place = c.place_of_first-place.result in
-    let first = c.remove-first.result in
-    let rest = c.remove-first.new.self.items in
-    let now = c.catch_up.new.self in
-    let pass = c.join.new.pass in
-    let done = c.close.result in
+    let items = c.args.cpus.items in let place = c.place_of_first-place.result in
+    let first = c.remove-first.result in let rest = c.remove-first.new.self.items in
+    let now = c.catch_up.new.self in let pass = c.join.new.pass in let done = c.close.result in
     let opened = c.requires.cpus.opened in
     let below : place < length items = search rules in
     let is : first ≡ get_or items place first = search rules in

@@ -3,17 +3,13 @@ use Rattle.std.proofs.lemmas.List.Elements.{All-cons, All-weaker}
 use Rattle.bus_turn.specs.Passes.{number_of, mine_of as mine_in, joined_of}
 use Rattle.bus_turn.proofs.Rows.{prefix_trans}
 use Rattle.board_live.specs.Joins.{IsJoined}
-use Rattle.board_live.proofs.Joining.{popped, joined_more, joined_new}
+use Rattle.board_live.proofs.Turns.{popped, joined_more, joined_new}
 use Rattle.board_live.proofs.live.Live.join.Goals as goal
 
 pub loop-cpu-preserved : goal.loop-cpu-preserved
 loop-cpu-preserved g c =
-    let i = c.loop-cpu.invariant in
-    let whole = c.args.cpus.items in
-    let items = c.loop-cpu.cpus.items in
-    let rest = c.pop.new.self.items in
-    let cpu = c.in-Some.cpu in
-    let now = c.catch_up.new.self in
+    let i = c.loop-cpu.invariant in let whole = c.args.cpus.items in let items = c.loop-cpu.cpus.items in
+    let rest = c.pop.new.self.items in let cpu = c.in-Some.cpu in let now = c.catch_up.new.self in
     let pass = c.join.new.pass in
     let is : items ≡ rest ++ cpu ∷ [] = search rules in
     let both = popped whole items rest cpu i.left is in

@@ -26,8 +26,7 @@ shared-requires-clause-opens g c =
 
 pub callers-cpus-requires-clause-viewers : goal.callers-cpus-requires-clause-viewers
 callers-cpus-requires-clause-viewers g c =
-    let pass = c.in-Ok-open-2.pass in
-    let shared = c.shared.result in
+    let pass = c.in-Ok-open-2.pass in let shared = c.shared.result in
     let viewer_of = λ (viewer : Viewer).
     opened_viewer pass shared viewer (search rules) (search rules) (search rules) in
     All-weaker (λ (viewer : Viewer). viewer.front ≡ shared.publisher.value.front) (IsViewerFor pass)
@@ -35,9 +34,7 @@ callers-cpus-requires-clause-viewers g c =
 
 pub returns-in-Ok-open-2-clause-opened : goal.returns-in-Ok-open-2-clause-opened
 returns-in-Ok-open-2-clause-opened g c =
-    let board = c.args.board in
-    let pass = c.in-Ok-open-2.pass in
-    let shared = c.shared.result in
+    let board = c.args.board in let pass = c.in-Ok-open-2.pass in let shared = c.shared.result in
     let cpus = c.callers-cpus.result.items in
     let part : part_of pass ≡ Some (opened_with shared) = search rules in
     let opened : opened_by pass ≡ reverse board.entries = search rules in
