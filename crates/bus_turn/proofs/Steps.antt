@@ -146,16 +146,14 @@ module _ {T E F : Type 0} (entries : T → List E) (actor : E → ℕ) (fixed : 
   -- the same where the pass goes on to another stage, and has seen, is told or has added more
   steps_on : (s : S) (r : R s) (id : ℕ) (v : V) (st : Stage) (seen told mine : List E) (words : List ℕ) (homes : Homes)
       (b : B) → get_elem? s.views id ≡ some v → v.stage ≢ Spent → gone st ≡ gone v.stage → words ≡ words_of first b
-      → homes ≡ slot_of b.place ∷ []
-      → b.ticket + waits v + r.0.book.serving ≡ r.0.book.ticket + waiting st + b.serving
+      → homes ≡ slot_of b.place ∷ [] → b.ticket + waits v + r.0.book.serving ≡ r.0.book.ticket + waiting st + b.serving
       → L b (set s.views id (record v { stage = st; seen = seen; told = told; mine = mine })) b.place
       → IsPrefix (log_of first r.0.book) (log_of first b)
       → ((n : ℕ) → n ≢ id → own_by actor n b.since ≡ own_by actor n r.0.book.since)
       → All (λ e. actor e < length s.views) b.since
       → ((j : ℕ) (u : V) → j ≢ id → AtStage first r.0.book j u.seen u.stage → AtStage first b j u.seen u.stage)
       → IsPrefix seen (log_of first b) → IsPrefix told (log_of first b) → own_by actor id b.since ≡ mine
-      → AtStage first b id seen st
-      → R record {
+      → AtStage first b id seen st → R record {
         words = words;
         homes = homes;
         views = set s.views id (record v { stage = st; seen = seen; told = told; mine = mine });
@@ -178,10 +176,7 @@ module _ {T E F : Type 0} (entries : T → List E) (actor : E → ℕ) (fixed : 
   -- a ticket is drawn
   after_draw : (b : B) (id j : ℕ) (seen : List E) (st : Stage) → AtStage first b j seen st
       → AtStage first (record b { ticket = b.ticket + 1; owner = put b.owner b.ticket id }) j seen st
-  after_draw b id j seen (Waits t) h = (h.0, omega arith, put_else b.owner b.ticket id t (λ e. omega arith) ∙ h.2)
-  after_draw b id j seen Holds h =
-      (omega arith, put_else b.owner b.ticket id b.serving (λ e. omega arith) ∙ h.1, h.2, h.3)
-  after_draw b id j seen _ h = tt
+  after_draw b id j seen st h = grind (arith, put_else)
 
   pub draws : (slots id : ℕ) (me : M) → me.0.stage ≡ Idle
       → Allows R slots id me 0 (λ n. (n + 1) % 2 ^ 64) (drew (step slots 0 1 0 none) me)
@@ -216,8 +211,7 @@ module _ {T E F : Type 0} (entries : T → List E) (actor : E → ℕ) (fixed : 
   -- the turn is taken
   after_call : (b : B) (j : ℕ) (seen : List E) (st : Stage) → AtStage first b j seen st
       → AtStage first (record b { place = away }) j seen st
-  after_call b j seen Holds h = (h.0, h.1, refl, h.3)
-  after_call b j seen _ h = h
+  after_call b j seen st h = grind arith
 
   abbrev Called : ℕ → ℕ → M → S → Type 0
   Called slots id me s = (w : V) × (a : Act (Option T)) × Valid s.homes me.1 a
@@ -295,8 +289,7 @@ module _ {T E F : Type 0} (entries : T → List E) (actor : E → ℕ) (fixed : 
   -- an entry is committed
   after_commit : (b : B) (e : E) (id j : ℕ) (seen : List E) (st : Stage) → b.owner b.serving ≡ id → j ≢ id
       → AtStage first b j seen st → AtStage first (record b { since = b.since ++ e ∷ [] }) j seen st
-  after_commit b e id j seen Holds own other h = absurd (other (sym h.1 ∙ own))
-  after_commit b e id j seen _ own other h = h
+  after_commit b e id j seen st own other h = grind arith
 
   enters : (slots id : ℕ) (me : M) (e : E) → me.0.stage ≡ Holds → actor e ≡ me.0.number
       → Allows R slots id me 2 (λ n. (n + 1) % 2 ^ 64) (counted (e ∷ []) (step slots 2 1 0 none) me)
@@ -336,10 +329,7 @@ module _ {T E F : Type 0} (entries : T → List E) (actor : E → ℕ) (fixed : 
   -- the turn is given back
   after_give : (b : B) (x : T) (id j : ℕ) (seen : List E) (st : Stage) → b.owner b.serving ≡ id → j ≢ id
       → AtStage first b j seen st → AtStage first (record b { serving = b.serving + 1; place = home x }) j seen st
-  after_give b x id j seen (Waits t) own other h =
-      let apart : b.serving ≢ t = λ e. other (cc (h.2, own)) in (omega (arith, h.0, apart), h.1, h.2)
-  after_give b x id j seen Holds own other h = absurd (other (sym h.1 ∙ own))
-  after_give b x id j seen _ own other h = tt
+  after_give b x id j seen st own other h = grind arith
 
   pub gives_back : (slots id : ℕ) (me : M) (x : T) → me.0.stage ≡ Holds → me.1 ≡ (0, Some x) ∷ []
       → entries x ≡ me.0.seen → me.0.fixed ≡ Some (fixed x)
