@@ -54,8 +54,7 @@ bare_entry entry before not = rw not refl
 along : {X : Type 0} (f : List Entry → X) →
     ((entry : Entry) (before : List Entry) → is_look entry.event ≡ true → f (entry ∷ before) ≡ f before) →
     ((entry : Entry) (before : List Entry) → is_look entry.event ≡ false → f before ≡ f (bare before)
-    → f (entry ∷ before) ≡ f (plain entry ∷ bare before)) →
-    (h : List Entry) → f h ≡ f (bare h)
+    → f (entry ∷ before) ≡ f (plain entry ∷ bare before)) → (h : List Entry) → f h ≡ f (bare h)
 unfolding bare
 along f looks steps [] = refl
 along f looks steps (entry ∷ before) =

@@ -77,30 +77,16 @@ pub number_fits : {order : Order} {capacity : ℕ} {counts : List ℕ} (actor pl
     → IsOrder order capacity counts → slice_index counts place + order.spare < 2 ^ 32
 number_fits {order} actor place same below kept =
     let all : List Entry = over [] order.entries in let own : Entry → Bool = λ entry. entry.actor == actor in
-    rw same (omega (
-      arith,
-      kept.counted [] actor below,
-      length-filter own all,
-      count_by-le-length own all,
-      length-map order.entries (entry_of []),
-      kept.few,
-    ))
+    let size = length-map order.entries (entry_of []) in let counted = kept.counted [] actor below in
+    rw same (omega (arith, counted, length-filter own all, count_by-le-length own all, size))
 
 counts_more : (counts : List ℕ) (actor other : ℕ) (entry : Entry) (before : List Entry) → length counts ≡ 8 →
     other < 8 → entry.actor ≡ actor → slice_index counts other ≡ length (entries_by other before) →
     slice_index (set counts actor (slice_index counts actor + 1)) other ≡ length (entries_by other (entry ∷ before))
 counts_more counts actor other entry before eight small own was =
     let next : ℕ = get_or counts actor 0 + 1 in
-    grind (
-      arith,
-      nat_tests,
-      eight,
-      small,
-      own,
-      was,
-      get_or-set_at counts actor other next 0,
-      get_or-set_other counts actor other next 0,
-    )
+    let place = get_or-set_at counts actor other next 0 in
+    grind (arith, nat_tests, eight, small, own, was, place, get_or-set_other counts actor other next 0)
 
 -- an entry more
 pub order_more : {spare bus capacity : ℕ} {counts : List ℕ} (items items' : List RunEntry) (capacity' actor place : ℕ)
@@ -154,6 +140,5 @@ pub nobody_looked : {X : Type 0} (f : X → List Done) (works : List X) → All 
     → all_looks_in (map f works) ≡ 0
 nobody_looked f [] none = refl
 nobody_looked f (work ∷ works) none =
-    let own = All-head (λ work. looks_in (f work) ≡ 0) work works none in
     let rest = nobody_looked f works (All-tail (λ work. looks_in (f work) ≡ 0) work works none) in
-    omega (arith, own, rest)
+    omega (arith, All-head (λ work. looks_in (f work) ≡ 0) work works none, rest)

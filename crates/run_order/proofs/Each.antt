@@ -37,12 +37,8 @@ with_all_other : (v : ℕ) (rests : List (List Done)) (first c : ℕ) (final : L
 unfolding with_all_looks
 with_all_other v [] first c final less = refl
 with_all_other v (items ∷ rests) first c final less =
-    grind (
-      arith,
-      nat_tests,
-      with_all_other v rests (first + 1) c (with_looks v first items final),
-      with_looks_other v first c items final,
-    )
+    let rest = with_all_other v rests (first + 1) c (with_looks v first items final) in
+    grind (arith, nat_tests, rest, with_looks_other v first c items final)
 
 pub all_own : (v : ℕ) (rests : List (List Done)) (first c : ℕ) (final : List Entry)
     → onto (map event_of (done_by first c (all_left v rests))) (own c (with_all_looks v first rests final)) ≡ onto
@@ -51,14 +47,9 @@ unfolding with_all_looks done_by
 all_own v [] first c final = refl
 all_own v (items ∷ rests) first c final =
     let looked : List Entry = with_looks v first items final in
-    grind (
-      arith,
-      nat_tests,
-      with_all_other v rests (first + 1) c looked,
-      with_looks_own v first items final,
-      with_looks_other v first c items final,
-      all_own v rests (first + 1) c looked,
-    )
+    let rest = with_all_other v rests (first + 1) c looked in let here = with_looks_own v first items final in
+    let other = with_looks_other v first c items final in
+    grind (arith, nat_tests, rest, here, other, all_own v rests (first + 1) c looked)
 
 passed_own : (actor : ℕ) (rests : List (List Done)) → actor < length rests
     → done_by 0 actor (passed 0 actor rests) ≡ without_first (done_by 0 actor rests)

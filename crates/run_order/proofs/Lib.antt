@@ -2,7 +2,6 @@ pub mod Blindness
 pub mod Counts
 pub mod Each
 pub mod Fitting
-pub mod Following
 pub mod Histories
 pub mod Phases
 pub mod Placement

@@ -11,8 +11,7 @@ use Rattle.board_prelude.proofs.Common.{IsWholePhase, HasPhases}
 use Rattle.run_order.specs.declared.done.Done.{Done}
 use Rattle.run_order.specs.Common.{event_of, placed, done_by, bare, AnswersAreBlind, PhaseRuns}
 use Rattle.run_order.proofs.Histories.{onto, onto_is}
-use Rattle.run_order.proofs.Fitting.{Fits, late_by, fits}
-use Rattle.run_order.proofs.Following.{follows}
+use Rattle.run_order.proofs.Fitting.{Fits, late_by, fits, follows}
 use Rattle.run_order.proofs.Each.{Each, own}
 use Rattle.run_order.proofs.Counts.{from_first}
 use Rattle.run_order.proofs.Placement.{has_placed}
@@ -27,15 +26,9 @@ own_append c xs ys =
 events_own : (c : ℕ) (h : List Entry) → events_by c (statements_of h) ≡ reverse (own c h)
 events_own c [] = refl
 events_own c (entry ∷ before) =
-    grind (
-      arith,
-      nat_tests,
-      statements-newest entry before,
-      events_own c before,
-      append-nil (reverse (own c before)),
-      events-append c (statements_of before) (statement_of entry ∷ []),
-      reverse-append (entry.event ∷ []) (own c before),
-    )
+    let split = events-append c (statements_of before) (statement_of entry ∷ []) in
+    let turned = reverse-append (entry.event ∷ []) (own c before) in let none = append-nil (reverse (own c before)) in
+    grind (arith, nat_tests, statements-newest entry before, events_own c before, none, split, turned)
 
 back_again : (items : List Done) → onto (reverse items) [] ≡ items
 back_again items = onto_is (reverse items) [] ∙ (append-nil (reverse (reverse items)) ∙ reverse-reverse items)

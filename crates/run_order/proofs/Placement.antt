@@ -8,9 +8,10 @@ use Rattle.run_order.specs.declared.done.Done.{Done}
 use Rattle.run_order.specs.declared.done.Done.TheVariants.{Looked}
 use Rattle.run_order.specs.Common.{is_look, left_after, without_lower, IsPlaceOf, IsInPlace, event_of, with_looks}
 use Rattle.run_order.specs.Common.{with_all_looks, all_left, done_by, passed, without_first, placed, AreInPlace, bare}
-use Rattle.run_order.specs.Common.{AnswersAreBlind}
+use Rattle.run_order.specs.Common.{AnswersAreBlind, IsNotDue}
 use Rattle.run_order.proofs.Histories.{version_step, onto, legal_front}
-use Rattle.run_order.proofs.Fitting.{Late, Due, Fits, FirstLook, first_goes, first_all}
+use Rattle.run_order.proofs.Settled.{not_due_left}
+use Rattle.run_order.proofs.Fitting.{Due, Fits, FirstLook, first_goes, first_all}
 use Rattle.run_order.proofs.Blindness.{version_same}
 use Rattle.run_order.proofs.Each.{Each, each_cons, passed_each, none_at, Beside, pass, own_head, count_passed, own}
 use Rattle.run_order.proofs.Each.{all_own, call_own}
@@ -52,14 +53,10 @@ call_in_place setup history before actor _ reply not = tt
 abbrev pub Direct : Setup → List Entry → (v actor : ℕ) → List Entry → ℕ → Type 0
 Direct setup history v actor added n = n ≤ v → IsPlaceOf setup history actor n (without_lower actor added)
 
-pub left_late : (v : ℕ) (items : List Done) → Late (v + 1) (left_after v items)
-unfolding left_after
-left_late v (Looked kind addr smm look ∷ items) =
-    elim (cases_Bool (nat_le look.version v)) [
-      | inl is ↦ rw is (left_late v items)
-      | inr not ↦ let more : v + 1 ≤ look.version = grind (arith, nat_tests) in rw not more
-    ]
-left_late v _ = tt
+not_due_goes : (v : ℕ) (P : ℕ → Type 0) → ((n : ℕ) → v < n → P n) → (items : List Done) → IsNotDue v items
+    → FirstLook P items
+not_due_goes v P goes (Looked kind addr smm look ∷ items) late = goes look.version late
+not_due_goes v P goes _ late = tt
 
 module _ (setup : Setup) (history : List Entry) where
   pub own_direct : (v n : ℕ) (entry : Entry) (before : List Entry)
@@ -118,18 +115,13 @@ module _ (blind : AnswersAreBlind) (setup : Setup) (history : List Entry) where
         elim (cases_Bool (nat_le look.version (version_of setup before))) [
           | inl is ↦
               let low : look.version ≤ version_of setup before = grind (arith, nat_tests) in
-              let now = rw is at due in
+              let now = rw is at due in let next : IsNext setup final entry =
+              record { number = refl; answer = blind setup final before h.bare entry.event entry.reply now.0 } in
               rw is (with_looks_hold actor K items (entry ∷ final) (record {
                 looks = entry ∷ have.looks;
                 holds = record {
                   is = ap (λ (l : List Entry). entry ∷ l) h.is;
-                  legal = (
-                    record {
-                      number = refl;
-                      answer = blind setup final before h.bare (LookAt kind addr smm) (Saw look) now.0;
-                    },
-                    h.legal,
-                  );
+                  legal = (next, h.legal);
                   bare = h.bare;
                   places = (first low, h.places);
                 };
@@ -189,8 +181,9 @@ module _ (blind : AnswersAreBlind) (setup : Setup) (history : List Entry) where
       let within : entry.actor < length left =
       rw (length-map rests (left_after v)) (All-head (λ (e : Entry). e.actor < length rests) entry later few) in
       let head = own_head setup entry before later left within here.1 in
-      let next : IsNext setup before entry = (legal_front setup later (entry ∷ before) legal).0 in
-      let same = bare_bus entry before looked have.holds.bare in
+      let was : IsNext setup before entry = (legal_front setup later (entry ∷ before) legal).0 in
+      let same = bare_bus entry before looked have.holds.bare in let entered : IsNext setup looked new =
+      record { number = refl; answer = blind setup looked before have.holds.bare entry.event entry.reply was.answer } in
       let old_version : version_of setup (then ++ history) ≡ v =
       ap (version_of setup) (sym have.holds.is) ∙ version_same setup looked before have.holds.bare in
       let new_version : version_of setup (new ∷ then ++ history) ≡ v' =
@@ -198,21 +191,15 @@ module _ (blind : AnswersAreBlind) (setup : Setup) (history : List Entry) where
       ∙ version_same setup (new ∷ looked) (entry ∷ before) same in
       let IsDirect : ℕ → List Done → Type 0 = λ a. FirstLook (Direct setup history v' a (new ∷ then)) in
       let after : Each IsDirect 0 left = λ k a is less.
-      first_goes (λ n. v + 1 ≤ n) (Direct setup history v' a (new ∷ then)) (λ n late.
+      not_due_goes v (Direct setup history v' a (new ∷ then)) (λ n late.
       subst (λ (k : ℕ). Direct setup history k a (new ∷ then) n) new_version
       (write_direct setup history a n new then head.call (omega (arith, old_version, late)))) (get_or left k [])
       (rw (get_or-map (left_after v) rests k [] [] (omega (arith, less, length-map rests (left_after v))))
-      (left_late v (get_or rests k []))) in
+      (not_due_left v (get_or rests k []))) in
       let rest = placed_holds later (entry ∷ before) (passed 0 entry.actor left) (new ∷ looked) (new ∷ then) head.call
       (record {
         is = ap (λ (h : List Entry). new ∷ h) have.holds.is;
-        legal = (
-          record {
-            number = refl;
-            answer = blind setup looked before have.holds.bare entry.event entry.reply next.answer;
-          },
-          have.holds.legal,
-        );
+        legal = (entered, have.holds.legal);
         bare = same;
         places = (call_in_place setup history then entry.actor entry.event entry.reply head.call, have.holds.places);
       }) legal

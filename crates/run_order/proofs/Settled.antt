@@ -14,7 +14,7 @@ use Rattle.run_order.proofs.Histories.{onto, onto_is, legal_front}
 
 -- ---- what one processor did
 
-not_due_left : (version : ℕ) (done : List Done) → IsNotDue version (left_after version done)
+pub not_due_left : (version : ℕ) (done : List Done) → IsNotDue version (left_after version done)
 unfolding left_after
 not_due_left version (Looked kind addr smm look ∷ done) =
     elim (cases_Bool (nat_le look.version version)) [
@@ -99,11 +99,10 @@ one_is_all f xs x none version k actor before now spare spare' is so' less left_
     let few : k < length rests = omega (arith, less, length-map xs f) in
     let one : get_or rests k [] ≡ f (get_or xs k none) = get_or-map f xs k none [] less in
     let looks = rw (at, one) at (one_looks version 0 k rests before so few) in
-    let count = count_set rests k (f x) few in
     rw (map-set f xs k x) (record {
       placed = now_is ∙ (ap (λ (n : ℕ). with_looks version n (f (get_or xs k none)) before) (sym is) ∙ sym looks.0);
       left_is = ap (set rests k) left_is ∙ sym looks.1;
-      room = omega (arith, count, ap looks_in one, room_is);
+      room = omega (arith, count_set rests k (f x) few, ap looks_in one, room_is);
     })
 
 -- ---- one entry of the bus after another
@@ -151,7 +150,6 @@ next_placed {later = later} {i} {start} {version} {spare} {old} {before} {now} f
     let few : a < length xs = All-get_or (λ (e : Entry). e.actor < length xs) later i d less callers in
     let first = from_first rests a in
     let one : get_or rests a [] ≡ f (get_or xs a none) = get_or-map f xs a none [] few in
-    let fewer = no_more_looks f xs place x none rest_is in
     let step : placed (noted version (done_by 0 a (all_left version rests))) (drop (i + 1) later)
     (passed 0 a (all_left version rests)) (next_entry (with_all_looks version 0 rests now) a (get_or later i d).event
     (get_or later i d).reply ∷ with_all_looks version 0 rests now) ≡ placed start later old before =
@@ -160,7 +158,7 @@ next_placed {later = later} {i} {start} {version} {spare} {old} {before} {now} f
       placed_on = rw (next_is, version_is, map-set f xs place x, rest_is, place_is)
           (rw (settled_left version rests settled, settled_placed version 0 rests now settled, first.0, first.1, one)
           at step);
-      fits = omega (arith, fewer, so.fits, less);
+      fits = omega (arith, no_more_looks f xs place x none rest_is, so.fits, less);
     }
 
 pub placed_last : {later : List Entry} {i start version : ℕ} {old rests : List (List Done)} {before now : List Entry}
@@ -191,14 +189,6 @@ pub record AreLooked (version k : ℕ) (old rests : List (List Done)) (before no
     pub same : length rests ≡ length old
     pub fits : spare + all_looks_in old ≡ room + all_looks_in rests
 
--- the heads of what is ahead
-head_same : (k : ℕ) (xs ys : List (List Done)) → k < length xs → length xs ≡ length ys → drop k xs ≡ drop k ys →
-    (get_or xs k [] ≡ get_or ys k []) × (drop (k + 1) xs ≡ drop (k + 1) ys)
-head_same k xs ys less same ahead =
-    let e : get_or xs k [] ∷ drop (k + 1) xs ≡ get_or ys k [] ∷ drop (k + 1) ys = sym (drop_more xs k [] less)
-    ∙ (ahead ∙ drop_more ys k [] (omega (arith, less, same))) in
-    (cc (e), cc (e))
-
 module _ {X : Type 0} {version k : ℕ} {old : List (List Done)} {before now : List Entry} {room spare : ℕ}
     (f : X → List Done) (xs : List X) (so : AreLooked version k old (map f xs) before now room spare) where
   pub looked_next : (x none : X) (now' : List Entry) (spare' : ℕ) → k < length xs
@@ -209,7 +199,9 @@ module _ {X : Type 0} {version k : ℕ} {old : List (List Done)} {before now : L
   looked_next x none now' spare' less left_is now_is spare_is =
       let rests : List (List Done) = map f xs in
       let few : k < length rests = omega (arith, less, length-map xs f) in
-      let head = head_same k rests old few so.same so.ahead in
+      let ahead : get_or rests k [] ∷ drop (k + 1) rests ≡ get_or old k [] ∷ drop (k + 1) old =
+      sym (drop_more rests k [] few) ∙ (so.ahead ∙ drop_more old k [] (omega (arith, few, so.same))) in
+      let head : get_or rests k [] ≡ get_or old k [] = cc (ahead) in
       let one : get_or rests k [] ≡ f (get_or xs k none) = get_or-map f xs k none [] less in
       let past : drop (k + 1) (set rests k (f x)) ≡ drop (k + 1) rests =
       drop-set-lt (k + 1) rests k (f x) (omega arith) in
@@ -218,8 +210,8 @@ module _ {X : Type 0} {version k : ℕ} {old : List (List Done)} {before now : L
       let joined = map-append (left_after version) (take k old) (get_or old k [] ∷ []) in
       rw (map-set f xs k x) (record {
         placed = rw (past, now_is) (rw (drop_more rests k [] few, one) at so.placed);
-        left = rw (more, next, take-suc-set rests k (f x) few, so.left, left_is, ← one, head.0) (sym joined);
-        ahead = past ∙ head.1;
+        left = rw (more, next, take-suc-set rests k (f x) few, so.left, left_is, ← one, head) (sym joined);
+        ahead = past ∙ cc (ahead);
         same = length-set rests k (f x) ∙ so.same;
         fits = omega (arith, count, ap looks_in one, spare_is, so.fits);
       })
@@ -297,11 +289,9 @@ unlooked setup version later rests history none legal =
 
 -- the next entry of the bus's, after the first `i`
 pub begin_step : (setup : Setup) (entries : List Entry) (i : ℕ) (d : Entry) → IsLegal setup (reverse entries)
-    → i < length entries
-    → (history : List Entry) → history ≡ reverse (take i entries) → (next : List Entry)
+    → i < length entries → (history : List Entry) → history ≡ reverse (take i entries) → (next : List Entry)
     → next ≡ next_entry history (get_or entries i d).actor (get_or entries i d).event (get_or entries i d).reply ∷
-    history
-    → next ≡ reverse (take (i + 1) entries)
+    history → next ≡ reverse (take (i + 1) entries)
 begin_step setup entries i d legal less history is next pushed =
     let entry : Entry = get_or entries i d in let front : List Entry = reverse (take i entries) in
     let cut : reverse entries ≡ onto (entry ∷ drop (i + 1) entries) front =

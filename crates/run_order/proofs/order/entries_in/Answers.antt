@@ -9,8 +9,7 @@ pub loop-done-preserved : goal.loop-done-preserved
 loop-done-preserved c =
     let next = count_next (λ done. done.now) c.deref-done-items.result.now c.loop-done.done-index
     (record { ref_ptr = (0, 0); now = [] }) c.loop-done-test.true in
-    let sum = c.saturating_add-count.ensures in
-    let one = c.looks_in.ensures.count in
+    let sum = c.saturating_add-count.ensures in let one = c.looks_in.ensures.count in
     record {
       count = λ few. let inv = c.loop-done.invariant.count (omega (arith, sum, few)) in
           omega (arith, next, one, sum, inv, few);

@@ -4,5 +4,4 @@ use Rattle.run_order.proofs.order.RunOrder.push_bus.Goals as goal
 
 pub returns-clause-pushed : goal.returns-clause-pushed
 returns-clause-pushed c = λ bus.
-    let place = ap (λ (o : Order). o.bus) c.self.view_is in
-    rw (c.push.ensures.pushed, c.next_number-seq.ensures.number bus, place)
+    rw (c.push.ensures.pushed, c.next_number-seq.ensures.number bus, ap (λ (o : Order). o.bus) c.self.view_is)

@@ -4,6 +4,5 @@ use Rattle.run_order.proofs.order.RunOrder.reserve.Goals as goal
 
 pub invariant_of-self-then-n-self : goal.invariant_of-self-then-n-self
 invariant_of-self-then-n-self c =
-    let old = c.self.inside in
-    order_reserved old.entries.items c.reserve.new.self.items (vec_capacity c.reserve.new.self) c.args.n
+    order_reserved c.self.inside.entries.items c.reserve.new.self.items (vec_capacity c.reserve.new.self) c.args.n
     c.self.invariant c.reserve.ensures.items (search rules) (search rules)
