@@ -174,10 +174,6 @@ module _ {T E F : Type 0} (entries : T → List E) (actor : E → ℕ) (fixed : 
   -- ---- the steps
 
   -- a ticket is drawn
-  after_draw : (b : B) (id j : ℕ) (seen : List E) (st : Stage) → AtStage first b j seen st
-      → AtStage first (record b { ticket = b.ticket + 1; owner = put b.owner b.ticket id }) j seen st
-  after_draw b id j seen st h = grind (arith, put_else)
-
   pub draws : (slots id : ℕ) (me : M) → me.0.stage ≡ Idle
       → Allows R slots id me 0 (λ n. (n + 1) % 2 ^ 64) (drew (step slots 0 1 0 none) me)
   draws slots id me idle s r deep at _ =
@@ -193,7 +189,7 @@ module _ {T E F : Type 0} (entries : T → List E) (actor : E → ℕ) (fixed : 
             (rw (o.words_are, mod-add-mod b.ticket (2 ^ 64) 1) refl) o.home_is (omega arith)
             (lies_on s o b' id v w at (λ e. cc) refl
             (λ held. put_else b.owner b.ticket id b.serving (λ e. omega arith)) b.place o.lies)
-            (prefix_refl (log_of first b)) (λ n _. refl) o.numbered (λ j u _ h. after_draw b id j u.seen u.stage h)
+            (prefix_refl (log_of first b)) (λ n _. refl) o.numbered (λ j u _ h. grind (arith, put_else))
             k.begins k.told k.mine (low, omega arith, put_here b.owner b.ticket id),
         (b.ticket, sym (ap (λ (ws : List ℕ). get_or ws 0 0) o.words_are), refl),
       )
@@ -209,10 +205,6 @@ module _ {T E F : Type 0} (entries : T → List E) (actor : E → ℕ) (fixed : 
   }
 
   -- the turn is taken
-  after_call : (b : B) (j : ℕ) (seen : List E) (st : Stage) → AtStage first b j seen st
-      → AtStage first (record b { place = away }) j seen st
-  after_call b j seen st h = grind arith
-
   abbrev Called : ℕ → ℕ → M → S → Type 0
   Called slots id me s = (w : V) × (a : Act (Option T)) × Valid s.homes me.1 a
       × R (stepped s 1 (get_or s.words 1 0) id me.1 w a)
@@ -236,7 +228,7 @@ module _ {T E F : Type 0} (entries : T → List E) (actor : E → ℕ) (fixed : 
             (ap (λ (ws : List ℕ). set ws 1 (get_or ws 1 0)) o.words_are) (ap (λ (hs : Homes). set hs 0 none) o.home_is)
             (omega arith)
             (w, ap (get_elem? (set s.views id w)) own ∙ set_here s.views id w (at_lt s.views id v at), refl)
-            (prefix_refl (log_of first b)) (λ n _. refl) o.numbered (λ j u _ h. after_call b j u.seen u.stage h)
+            (prefix_refl (log_of first b)) (λ n _. refl) o.numbered (λ j u _ h. grind arith)
             ([], append-nil (entries x) ∙ lies.0) (log_of first b, refl) k.mine (low, own, refl, lies.0),
         ((λ _. (x, refl, fits b s.views id v x k lies.0 lies.1)), λ missed. absurd (missed found)),
       )
@@ -287,10 +279,6 @@ module _ {T E F : Type 0} (entries : T → List E) (actor : E → ℕ) (fixed : 
       )
 
   -- an entry is committed
-  after_commit : (b : B) (e : E) (id j : ℕ) (seen : List E) (st : Stage) → b.owner b.serving ≡ id → j ≢ id
-      → AtStage first b j seen st → AtStage first (record b { since = b.since ++ e ∷ [] }) j seen st
-  after_commit b e id j seen st own other h = grind arith
-
   enters : (slots id : ℕ) (me : M) (e : E) → me.0.stage ≡ Holds → actor e ≡ me.0.number
       → Allows R slots id me 2 (λ n. (n + 1) % 2 ^ 64) (counted (e ∷ []) (step slots 2 1 0 none) me)
   enters slots id me e is by s r deep at _ =
@@ -314,7 +302,7 @@ module _ {T E F : Type 0} (entries : T → List E) (actor : E → ℕ) (fixed : 
             (All-append (λ (x : E). actor x < length s.views) b.since (e ∷ []) o.numbered
             (All-cons (λ (x : E). actor x < length s.views) e [] (rw mine inside)
             (All-nil (λ (x : E). actor x < length s.views))))
-            (λ j u other h. after_commit b e id j u.seen u.stage st.1 other h)
+            (λ j u other h. grind (arith, st.1))
             ([], append-nil (v.seen ++ e ∷ []) ∙ all)
             (prefix_trans v.told (log_of first b) (log_of first b') k.told logs)
             (own_more actor id b.since e mine ∙ ap (λ (xs : List E). xs ++ e ∷ []) k.mine)
@@ -327,10 +315,6 @@ module _ {T E F : Type 0} (entries : T → List E) (actor : E → ℕ) (fixed : 
   counts slots id me added e same is by = rw same (enters slots id me e is by)
 
   -- the turn is given back
-  after_give : (b : B) (x : T) (id j : ℕ) (seen : List E) (st : Stage) → b.owner b.serving ≡ id → j ≢ id
-      → AtStage first b j seen st → AtStage first (record b { serving = b.serving + 1; place = home x }) j seen st
-  after_give b x id j seen st own other h = grind arith
-
   pub gives_back : (slots id : ℕ) (me : M) (x : T) → me.0.stage ≡ Holds → me.1 ≡ (0, Some x) ∷ []
       → entries x ≡ me.0.seen → me.0.fixed ≡ Some (fixed x)
       → Allows R slots id me 1 (λ n. (n + 1) % 2 ^ 64) (gave (step slots 1 1 0 none) me)
@@ -347,7 +331,7 @@ module _ {T E F : Type 0} (entries : T → List E) (actor : E → ℕ) (fixed : 
             (rw (o.words_are, mod-add-mod b.serving (2 ^ 64) 1) refl)
             (ap (put_back s.homes) carried ∙ ap (λ (hs : Homes). set hs 0 (some (Some x))) o.home_is) (omega arith)
             (list ∙ st.3, ap (part_or part) (sym fixed_is ∙ k.part_is)) (prefix_refl (log_of first b)) (λ n _. refl)
-            o.numbered (λ j u other h. after_give b x id j u.seen u.stage st.1 other h) k.begins k.told k.mine tt,
+            o.numbered (λ j u other h. grind (arith, st.1)) k.begins k.told k.mine tt,
         ap (λ (cs : List (ℕ × Option T)). (w, cs)) (ap rest carried),
       )
 
@@ -374,17 +358,11 @@ module _ {T E F : Type 0} (entries : T → List E) (actor : E → ℕ) (fixed : 
       let old : (j : ℕ) (u : V) (m : ℕ) → (j ≡ 0 → m + 1 ≡ length views) → K b s.views j u
       → K b views j (record u { splits = m }) = λ j u m split k.
       knows_on b b s.views views j u u.stage m u.seen u.told u.mine stay k split k.begins k.told k.mine k.stage in
-      let new : K b views n right = record {
-        opened = k.opened;
-        part_is = k.part_is;
-        begins = k.begins;
-        told = (log_of first b, refl);
-        number = all;
-        splits = λ z. absurd (omega arith);
-        mine = own_none actor n b.since o.numbered;
-        joined = All-nil (λ (p : ℕ × List E). (own_by actor p.0 b.since ≡ p.1) × IsSpent views p.0);
-        stage = tt;
-      } in (
+      let told : IsPrefix right.told (log_of first b) = (log_of first b, refl) in
+      let splits : n ≡ 0 → right.splits + 1 ≡ length views = λ z. absurd (omega arith) in
+      let mine = own_none actor n b.since o.numbered in
+      let none = All-nil (λ (p : ℕ × List E). (own_by actor p.0 b.since ≡ p.1) × IsSpent views p.0) in
+      let new : K b views n right = assumption in (
         record {
           book = b;
           words_are = o.words_are;
@@ -465,7 +443,11 @@ module _ {T E F : Type 0} (entries : T → List E) (actor : E → ℕ) (fixed : 
       let first : List E = entries x in let part : F = fixed x in let v : View E F = starting first part in
       let b : Book T E = record { since = []; ticket = 0; serving = 0; owner = λ _. 0; place = home y } in
       let long : count ≡ length (log_of first b) % 2 ^ 64 =
-      rw (append-nil first, same, ← is) (sym (mod-eq_of_lt small)) in (
+      rw (append-nil first, same, ← is) (sym (mod-eq_of_lt small)) in
+      let seen : IsPrefix v.seen (log_of first b) = ([], refl) in
+      let told : IsPrefix v.told (log_of first b) = (log_of first b, refl) in
+      let none = All-nil (λ (p : ℕ × List E). (own_by actor p.0 [] ≡ p.1) × IsSpent (v ∷ []) p.0) in
+      let knows : Knows actor first part b (v ∷ []) 0 v = assumption in (
         record {
           book = b;
           words_are = words_are ∙ ap (λ (n : ℕ). 0 ∷ 0 ∷ n ∷ []) long;
@@ -475,17 +457,7 @@ module _ {T E F : Type 0} (entries : T → List E) (actor : E → ℕ) (fixed : 
           lies = (ap entries (sym same) ∙ sym (append-nil first), ap fixed (sym same));
           each_seat = λ i u e live. ⊎_elim (λ none. absurd (some-ne-none u (sym none)))
               (λ (t : (i ≡ 0) × (v ≡ u)). subst (λ (z : ℕ × View E F). Knows actor first part b (v ∷ []) z.0 z.1)
-              (λ j. (sym t.0 j, t.1 j)) (record {
-                opened = refl;
-                part_is = refl;
-                begins = ([], refl);
-                told = (log_of first b, refl);
-                number = refl;
-                splits = λ _. refl;
-                mine = refl;
-                joined = All-nil (λ (p : ℕ × List E). (own_by actor p.0 [] ≡ p.1) × IsSpent (v ∷ []) p.0);
-                stage = tt;
-              })) (at_end [] v u i e);
+              (λ j. (sym t.0 j, t.1 j)) knows) (at_end [] v u i e);
           numbered = All-nil (λ (e : E). actor e < 1);
         },
         refl,
