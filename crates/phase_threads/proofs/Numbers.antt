@@ -1,16 +1,22 @@
 -- Lists of jobs and of callers, by the numbers of their processors.
 use Rattle.std.proofs.Common.{◌≡◌, ℕ, ◌+◌, ◌<◌, ◌≤◌, ◌==◌, List, [], ◌∷◌, ◌++◌, map, length, take, drop, All, refl, sym}
-use Rattle.std.proofs.Common.{◌∙◌, ap, arith, inl, inr, reverse, slice_index_or, filter, Bool, true, false}
+use Rattle.std.proofs.Common.{◌∙◌, ap, arith, inl, inr, reverse, slice_index_or, filter, Bool, true, false, get_or, set}
+use Rattle.std.proofs.Common.{slice_index}
 use Rattle.board_prelude.proofs.Common.{Any, range_with_len, cases_Bool, nat_tests, get_or-map, get_or_default}
 use Rattle.board_prelude.proofs.Common.{reverse-append, append-nil, take_all, drop_all, map-append, length-map}
-use Rattle.board_prelude.proofs.Common.{length-reverse, All-head, All-tail}
-use Rattle.std.proofs.lemmas.List.FromFn.{get_or-range_with_len, length-range_with_len}
+use Rattle.board_prelude.proofs.Common.{All-head, All-tail, get_or-set_at, get_or-set_other, length-append, Event}
+use Rattle.board_prelude.proofs.Common.{Statement, events_by}
+use Rattle.std.proofs.lemmas.List.FromFn.{get_or-range_with_len, length-range_with_len, map-range_with_len_more}
 use Rattle.std.proofs.lemmas.List.Elements.{All-map}
 use Rattle.run_order.specs.declared.done.Done.{Done}
 use Rattle.run_order.specs.Placing.{done_by}
 use Rattle.phase_threads.specs.declared.jobs.Job.{Job}
 use Rattle.phase_work.specs.declared.worker.Work.{Work}
-use Rattle.phase_threads.specs.Jobs.{done_in}
+use Rattle.phase_threads.specs.Jobs.{done_in, AreDue}
+use Rattle.std.proofs.lemmas.List.Filters.{length-filter_more}
+use Rattle.std.proofs.lemmas.List.Sums.{length-filter, count_by-le-length}
+use Rattle.run_order.proofs.Histories.{all_turned}
+use Rattle.std.proofs.lemmas.Simd.{map-map}
 
 pub map_reverse : {X Y : Type 0} (f : X → Y) (xs : List X) → map f (reverse xs) ≡ reverse (map f xs)
 map_reverse f [] = refl
@@ -50,8 +56,7 @@ number_at f xs n e k d less =
 pub numbers_below : {X : Type 0} (f : X → ℕ) (xs : List X) (n a : ℕ) → map f xs ≡ range_with_len 0 n
     → Any (λ x. f x ≡ a) xs → a < n
 numbers_below f xs n a e any =
-    let at = number_at f xs n e any.0 any.1 any.2 in
-    let is : any.0 ≡ a = sym at ∙ (ap f any.3 ∙ any.4) in
+    let is : any.0 ≡ a = sym (number_at f xs n e any.0 any.1 any.2) ∙ (ap f any.3 ∙ any.4) in
     omega (arith, is, numbered_length f xs n e, any.2)
 
 pub same_numbers : {X : Type 0} (f : X → ℕ) (xs ys : List X) (a : ℕ) → map f ys ≡ map f xs → Any (λ x. f x ≡ a) xs
@@ -81,10 +86,6 @@ by_number W (job ∷ jobs) first all numbers actor low high =
           rw not (by_number W jobs (first + 1) (All-tail P job jobs all) others actor past (omega (arith, high)))
     ]
 
-pub jobs_count : {X : Type 0} (f : Job → X) (jobs : List Job) (xs : List X) → map f (reverse jobs) ≡ xs
-    → length jobs ≡ length xs
-jobs_count f jobs xs e = sym (length-reverse jobs) ∙ (sym (length-map (reverse jobs) f) ∙ ap length e)
-
 pub asked_again : (most : ℕ) (works next : List Work)
     → map (λ (work : Work). work.asked) next ≡ map (λ (work : Work). work.asked) works
     → All (λ work. work.asked ≤ most) works → All (λ work. work.asked ≤ most) next
@@ -105,3 +106,68 @@ pub counted : (works old now : List Work) (count len : ℕ)
 counted works old now count len asked is count_is len_is =
     let size = same_lengths (λ (work : Work). work.asked) (λ (work : Work). work.asked) works now asked in
     count_is ∙ (len_is ∙ (size ∙ ap length is))
+
+-- ---- how many statements each processor has in a phase
+
+abbrev event_in : Statement → Event
+event_in statement = statement.event
+
+abbrev is_by : ℕ → Statement → Bool
+is_by actor statement = statement.actor == actor
+
+abbrev due_in : Work → ℕ
+due_in work = work.due
+
+abbrev count_in : List Statement → ℕ → ℕ
+count_in phase actor = length (events_by actor phase)
+
+pub few_by : (actor : ℕ) (phase : List Statement) → length (events_by actor phase) ≤ length phase
+few_by actor phase =
+    let counted = length-map (filter (is_by actor) phase) event_in in
+    omega (arith, counted, length-filter (is_by actor) phase, count_by-le-length (is_by actor) phase)
+
+-- one statement more
+pub counts_more : (counts : List ℕ) (phase : List Statement) (i : ℕ) (d : Statement) (actor other : ℕ)
+    → length counts ≡ 256 → other < 256 → i < length phase
+    → actor ≡ (slice_index_or phase i d).actor → slice_index counts other ≡ length (events_by other (take i phase))
+    → slice_index (set counts actor (slice_index_or counts actor 0 + 1)) other ≡ length
+    (events_by other (take (i + 1) phase))
+counts_more counts phase i d actor other many small less own was =
+    let more = length-filter_more (is_by other) phase i d less in
+    let before = length-map (filter (is_by other) (take i phase)) event_in in
+    let after = length-map (filter (is_by other) (take (i + 1) phase)) event_in in
+    let next : ℕ = get_or counts actor 0 + 1 in
+    let place = get_or-set_other counts actor other next 0 in
+    grind (arith, nat_tests, more, before, after, many, small, own, was, get_or-set_at counts actor other next 0, place)
+
+-- one processor more
+pub due_more : (works : List Work) (work : Work) (phase : List Statement) (actor : ℕ) (next : List Work)
+    → next ≡ works ++ work ∷ [] → length works ≡ actor
+    → AreDue phase works → work.due ≡ length (events_by actor phase) → AreDue phase next
+due_more works work phase actor next more size was own =
+    let long : length next ≡ actor + 1 = omega (arith, ap length more ∙ length-append works (work ∷ []), size) in
+    let old : map due_in works ≡ map (count_in phase) (range_with_len 0 actor) = was
+    ∙ ap (λ (n : ℕ). map (count_in phase) (range_with_len 0 n)) size in
+    rw (long, more, map-append due_in works (work ∷ []), old, own)
+    (sym (map-range_with_len_more (count_in phase) 0 actor actor (omega arith)))
+
+same_each : {X : Type 0} (f g : X → ℕ) (xs : List X) → map f xs ≡ map g xs → All (λ x. f x ≡ g x) xs
+same_each f g xs e = λ k d less.
+    sym (get_or-map f xs k d 0 less) ∙ (ap (λ (ns : List ℕ). slice_index_or ns k 0) e ∙ get_or-map g xs k d 0 less)
+
+-- each job has the work of its own processor
+pub due_by_number : (jobs : List Job) (works : List Work) (phase : List Statement) (n : ℕ)
+    → map (λ (job : Job). job.work) (reverse jobs) ≡ works
+    → map (λ (job : Job). job.cpu.number) (reverse jobs) ≡ range_with_len 0 n → length works ≡ n → AreDue phase works
+    → All (λ job. job.work.due ≡ length (events_by job.cpu.number phase)) jobs
+due_by_number jobs works phase n are_works numbers size due =
+    let work : Job → Work = λ job. job.work in
+    let number : Job → ℕ = λ job. job.cpu.number in
+    let dues : map (λ (job : Job). job.work.due) (reverse jobs) ≡ map due_in works =
+    sym (map-map due_in work (reverse jobs)) ∙ ap (map due_in) are_works in
+    let counts : map (count_in phase) (range_with_len 0 n) ≡ map (λ (job : Job). count_in phase job.cpu.number)
+    (reverse jobs) =
+    ap (map (count_in phase)) (sym numbers) ∙ map-map (count_in phase) number (reverse jobs) in
+    all_turned (λ job. job.work.due ≡ length (events_by job.cpu.number phase)) jobs
+    (same_each (λ (job : Job). job.work.due) (λ (job : Job). count_in phase job.cpu.number) (reverse jobs)
+    (dues ∙ (due ∙ (ap (λ (m : ℕ). map (count_in phase) (range_with_len 0 m)) size ∙ counts))))

@@ -1,27 +1,33 @@
 -- A phase in which one processor acts.
 use Rattle.std.proofs.Common.{set, Result, Ok, Err, OnOk, ◌≡◌, ◌≢◌, ℕ, ◌+◌, ◌<◌, ◌≤◌, ◌==◌, not, List, [], ◌∷◌, length}
-use Rattle.std.proofs.Common.{All, get_or, slice_index_or, refl, sym, ◌∙◌, ap, arith, inl, inr, map}
-use Rattle.board_prelude.proofs.Common.{cases_Bool, cases_eq, nat_tests, length-map, get_or-map, All-head, All-tail}
-use Rattle.board_prelude.proofs.Common.{All-cons, Entry, Statement, MapChange, Setup, entries_by, events_by}
-use Rattle.board_prelude.proofs.Common.{map_writes_of, ne_eqb}
-use Rattle.std.proofs.lemmas.List.{length-set, get_or-set_same, get_or-set_other}
-use Rattle.std.proofs.lemmas.List.Elements.{All-filter}
+use Rattle.std.proofs.Common.{All, get_or, slice_index_or, refl, sym, ◌∙◌, ap, arith, inl, inr, map, zero, suc, false}
+use Rattle.std.proofs.Common.{◌++◌, take, reverse, length-append, Bool, filter, true}
+use Rattle.board_prelude.proofs.Common.{cases_eq, nat_tests, length-map, get_or-map, All-head, All-tail, All-cons}
+use Rattle.board_prelude.proofs.Common.{Entry, Statement, MapChange, Setup, entries_by, events_by, map_writes_of}
+use Rattle.board_prelude.proofs.Common.{ne_eqb, eq-eqb, get_or-set_at, get_or-set_other, length-reverse, length-set}
+use Rattle.board_prelude.proofs.Common.{map-append, reverse-append, reverse-reverse, take_more, Event}
+use Rattle.std.proofs.lemmas.List.{get_or-set_same}
+use Rattle.std.proofs.lemmas.List.Elements.{All-filter, All-map, All-append, All-weaker, filter-append, filter_passes}
+use Rattle.std.proofs.lemmas.List.Sorted.{IsPermutation-filter_both}
+use Rattle.board_prelude.proofs.Common.{All-permutation, IsPermutation-sym}
 use Rattle.std.proofs.lemmas.List.Filters.{length-filter_both}
 use Rattle.board_core.specs.Kept.{Standing}
 use Rattle.shared_board.proofs.Histories.{writes_extend}
 use Rattle.shared_board.proofs.Limits.{few_entries}
 use Rattle.run_order.specs.declared.done.Done.{Done}
-use Rattle.run_order.proofs.Counts.{from_first}
-use Rattle.run_order.specs.Common.{placed, IsGone}
+use Rattle.run_order.proofs.Counts.{from_first, looks_append, count_set, nobody_looked}
+use Rattle.run_order.specs.Common.{placed, IsGone, event_of, is_look, looks_in, all_looks_in, IsDone}
 use Rattle.phase_work.specs.declared.worker.Work.{Work}
 use Rattle.phase_work.specs.Works.{HasDone}
 use Rattle.phase_threads.specs.Others.{others}
 use Rattle.phase_threads.specs.Acts.{HasActed, HasGrown, CanAct}
 use Rattle.phase_threads.specs.declared.run.Run.{Run}
-use Rattle.phase_threads.specs.Jobs.{CanDoPhase, GrowsBy, done_in}
-use Rattle.phase_threads.specs.Unseen.{HasRunSo}
-use Rattle.phase_threads.proofs.Numbers.{filter_none, same_lengths, asked_again}
+use Rattle.phase_threads.specs.Jobs.{CanDoPhase, GrowsBy, done_in, HasRun}
+use Rattle.phase_threads.specs.Unseen.{HasRunSo, HasAdded, HasStepped}
+use Rattle.phase_threads.proofs.Numbers.{filter_none, same_lengths, asked_again, map_reverse, filter_all}
 use Rattle.phase_threads.proofs.Workers.{begins_opened}
+use Rattle.run_order.specs.declared.done.Done.TheVariants.{Went}
+use Rattle.run_order.proofs.Settled.{placed_alone}
 
 -- ---- entries
 
@@ -40,17 +46,13 @@ by_other number actor unlike (entry ∷ before) = grind (arith, nat_tests, unlik
 
 all_below : (number n : ℕ) → number < n → (entries : List Entry) → All (λ entry. entry.actor < n)
     (others number entries) → All (λ entry. entry.actor < n) entries
-all_below number n less [] all = all
-all_below number n less (entry ∷ before) all = elim (cases_Bool (entry.actor == number)) [
-  | inl own ↦
-      let its : entry.actor < n = grind (arith, nat_tests) in
-      All-cons (λ (e : Entry). e.actor < n) entry before its (all_below number n less before (rw own at all))
-  | inr other ↦
-      let all = rw other at all in
-      All-cons (λ (e : Entry). e.actor < n) entry before (All-head (λ (e : Entry). e.actor < n) entry (others number
-      before) all)
-      (all_below number n less before (All-tail (λ (e : Entry). e.actor < n) entry (others number before) all))
-]
+all_below number n less entries all =
+    let own : Entry → Bool = λ entry. entry.actor == number in let Below : Entry → Type 0 = λ entry. entry.actor < n in
+    let mine = All-weaker (λ entry. own entry ≡ true) Below (λ entry is. grind (arith, nat_tests, is))
+    (filter own entries) (filter_passes own entries) in
+    All-permutation Below (filter own entries ++ others number entries) entries
+    (IsPermutation-sym entries _ (IsPermutation-filter_both own (λ entry. not (own entry)) (λ entry. refl) entries))
+    (All-append Below (filter own entries) (others number entries) mine all)
 
 -- ---- statements
 
@@ -95,8 +97,7 @@ pub one_acted : (number : ℕ) (before now : Standing) (phase : List Statement) 
     → known ≡ map_writes_of before.setup now.entries → length lists ≡ length new → get_or lists number [] ≡ done
     → ((actor : ℕ) → actor ≢ number → actor < length lists → get_or lists actor [] ≡ [])
     → ((version : ℕ) (later history : List Entry)
-    → placed version later (done_in new) history ≡ placed version later lists history)
-    → HasRunSo before now phase new
+    → placed version later (done_in new) history ≡ placed version later lists history) → HasRunSo before now phase new
 one_acted number before now phase old new lists done known grown only has known_is count own none same =
     let begins = begins_opened before.setup number before.entries _ now.entries known has.trace in
     let at = λ (actor : ℕ). (from_first lists actor).0 in
@@ -128,11 +129,11 @@ one_acted number before now phase old new lists done known grown only has known_
       same = same;
     }
 
-pub alone_has_run : (number : ℕ) (before now : Standing) (phase : List Statement) (old new : List Work)
+pub alone_has_run : {number : ℕ} {before now : Standing} {phase : List Statement} {new : List Work} (old : List Work)
     → CanAct number before old phase → All (λ statement. statement.actor ≡ number) phase
     → HasActed number before now phase old new → HasRunSo before now phase new
-alone_has_run number before now phase [] new can only acted = absurd (omega (arith, can.within))
-alone_has_run number before now phase (d ∷ old) new can only acted =
+alone_has_run [] can only acted = absurd (omega (arith, can.within))
+alone_has_run {number} {before} {now} {phase} {new} (d ∷ old) can only acted =
     let did : Work → List Done = λ work. work.done.items in
     let count : length new ≡ length (d ∷ old) = acted.grown.count in
     let size = length-map new did in
@@ -144,15 +145,9 @@ alone_has_run number before now phase (d ∷ old) new can only acted =
     (λ version later history. refl)
 
 -- the works of a phase are those that the run had, and nothing of it is done
-module _ (number : ℕ) (run : Run) (phase : List Statement) (given old : List Work) (lent : given ≡ run.works.items)
+module _ {number : ℕ} {run : Run} {phase : List Statement} {given old : List Work} (lent : given ≡ run.works.items)
     (again : map (λ (work : Work). work.asked) old ≡ map (λ (work : Work). work.asked) given)
     (below : number < length run.works.items) where
-  counted_again : length old ≡ length run.works.items
-  counted_again = same_lengths (λ (w : Work). w.asked) (λ (w : Work). w.asked) old given again ∙ ap length lent
-
-  few_again : (most : ℕ) → All (λ work. work.asked ≤ most) run.works.items → All (λ work. work.asked ≤ most) old
-  few_again most = asked_again most run.works.items old (again ∙ ap (map (λ (w : Work). w.asked)) lent)
-
   pub can_act : CanDoPhase run phase → All (λ work. work.done.items ≡ []) old → CanAct number run.board old phase
   can_act can empty =
       let all : length run.board.entries ≤ 2_000_000 =
@@ -162,18 +157,22 @@ module _ (number : ℕ) (run : Run) (phase : List Statement) (given old : List W
         actors = can.asked.actors;
         each = λ actor. omega (arith, can.asked.mine actor, can.room);
       }) in
+      let count = same_lengths (λ (w : Work). w.asked) (λ (w : Work). w.asked) old given again ∙ ap length lent in
+      let few = asked_again can.most run.works.items old (again ∙ ap (map (λ (w : Work). w.asked)) lent)
+      can.asked.asked in
       record {
         in_range = λ k d less. (can.in_range k d less).event;
-        within = omega (arith, counted_again, below);
+        within = omega (arith, count, below);
         empty = empty;
         few = omega (arith, all, both number run.board.entries);
         room = omega (arith, can.asked.mine number, can.room);
-        asked = λ k d less. omega (arith, few_again can.most can.asked.asked k d less, can.room);
+        asked = λ k d less. omega (arith, few k d less, can.room);
       }
 
   pub grows : (now : Run) → HasGrown number run.board now.board phase old now.works.items → GrowsBy phase run now
   grows now grown =
-      let size : length run.works.items ≡ length now.works.items = omega (arith, counted_again, grown.count) in
+      let count = same_lengths (λ (w : Work). w.asked) (λ (w : Work). w.asked) old given again ∙ ap length lent in
+      let size : length run.works.items ≡ length now.works.items = omega (arith, count, grown.count) in
       let n : ℕ = length now.works.items in
       record {
         count = sym size;
@@ -188,13 +187,13 @@ module _ (number : ℕ) (run : Run) (phase : List Statement) (given old : List W
                 omega (arith, same, asked.mine actor)
           ];
           asked = λ k d less.
-              let few = few_again most asked.asked in
+              let few = asked_again most run.works.items old (again ∙ ap (map (λ (w : Work). w.asked)) lent)
+              asked.asked in
               elim (cases_eq k number) [
                 | inl is ↦ rw is (grown.asked most d few)
                 | inr other ↦
-                    let same = ap (λ (w : Work). w.asked) (grown.same k d other) in
                     let was : (slice_index_or old k d).asked ≤ most = few k d (omega (arith, less, grown.count)) in
-                    omega (arith, same, was)
+                    omega (arith, ap (λ (w : Work). w.asked) (grown.same k d other), was)
               ];
         };
       }
@@ -226,3 +225,160 @@ pub both_ok : {T E : Type 0} {P Q R : Type 0} (result : Result T E) → (P → Q
     → OnOk result R
 both_ok (Ok value) more one two = more one two
 both_ok (Err error) more one two = tt
+
+-- ---- a phase of which what was done is not kept, since none of it is a look
+
+-- ---- what was done, as the history tells it, the newest first
+
+abbrev dones : Setup → (opened more : List Entry) → List Done
+dones setup opened [] = []
+dones setup opened (entry ∷ before) =
+    Went (length (map_writes_of setup (entry ∷ (before ++ opened)))) entry.event ∷ dones setup opened before
+
+no_looks : (setup : Setup) (opened more : List Entry) → looks_in (reverse (dones setup opened more)) ≡ 0
+no_looks setup opened [] = refl
+no_looks setup opened (entry ∷ before) =
+    let one : List Done = Went (length (map_writes_of setup (entry ∷ (before ++ opened)))) entry.event ∷ [] in
+    let others : List Done = dones setup opened before in
+    let same : looks_in (reverse (one ++ others)) ≡ looks_in (reverse others ++ one) =
+    ap looks_in (reverse-append one others) in
+    omega (arith, same, looks_append (reverse others) one, no_looks setup opened before)
+
+dones_events : (setup : Setup) (opened more : List Entry)
+    → map event_of (dones setup opened more) ≡ map (λ (entry : Entry). entry.event) more
+dones_events setup opened [] = refl
+dones_events setup opened (entry ∷ before) = ap (λ (events : List Event). entry.event ∷ events) (dones_events setup
+    opened before)
+
+dones_trace : (setup : Setup) (number : ℕ) (opened more : List Entry) → All (λ entry. entry.actor ≡ number) more
+    → All (λ entry. is_look entry.event ≡ false) more
+    → IsDone setup number opened (dones setup opened more) (more ++ opened) (map_writes_of setup (more ++ opened))
+dones_trace setup number opened [] own plain = (refl, refl)
+dones_trace setup number opened (entry ∷ before) own plain = (
+  before ++ opened,
+  map_writes_of setup (before ++ opened),
+  gone_alone setup number entry (before ++ opened) (All-head (λ (e : Entry). e.actor ≡ number) entry before own),
+  refl,
+  All-head (λ (e : Entry). is_look e.event ≡ false) entry before plain,
+  dones_trace setup number opened before (All-tail (λ (e : Entry). e.actor ≡ number) entry before own)
+      (All-tail (λ (e : Entry). is_look e.event ≡ false) entry before plain),
+)
+
+-- ---- entries of one processor after a history
+
+others_more : (number : ℕ) (more opened : List Entry) → All (λ entry. entry.actor ≡ number) more
+    → others number (more ++ opened) ≡ others number opened
+others_more number more opened own =
+    filter-append (λ (e : Entry). not (e.actor == number)) more opened
+    ∙ ap (λ (h : List Entry). h ++ others number opened) (filter_none (λ (e : Entry). not (e.actor == number)) more
+    (λ k d less. rw (eq-eqb (get_or more k d).actor number (own k d less)) refl))
+
+own_more : (number : ℕ) (more opened : List Entry) → All (λ entry. entry.actor ≡ number) more
+    → length (entries_by number (more ++ opened)) ≡ length more + length (entries_by number opened)
+own_more number more opened own =
+    let its : Entry → Bool = λ entry. entry.actor == number in
+    let all = filter_all its more (λ k d less. eq-eqb (get_or more k d).actor number (own k d less)) in
+    rw (filter-append its more opened, all) (length-append more (entries_by number opened))
+
+added_count : (number : ℕ) (phase : List Statement) (before now : Standing) (a : HasAdded number phase before now)
+    → length a.more ≡ length phase
+added_count number phase before now a =
+    let turned = length-reverse (map (λ (entry : Entry). entry.event) a.more) in
+    let more = length-map a.more (λ (entry : Entry). entry.event) in
+    omega (arith, ap length a.said, turned, more, length-map phase (λ (statement : Statement). statement.event))
+
+-- ---- the phase
+
+-- what is kept is what was done
+pub so : (before now : Standing) (phase : List Statement) (works : List Work) → HasRun before now phase works
+    → HasRunSo before now phase works
+so before now phase works run = record {
+  setup = run.setup;
+  begins = run.begins;
+  lists = done_in works;
+  count = length-map works (λ (work : Work). work.done.items);
+  each = run.each;
+  same = λ version later history. refl;
+}
+
+has_done : (number : ℕ) (phase : List Statement) (before now : Standing) (a : HasAdded number phase before now)
+    → All (λ statement. statement.actor ≡ number) phase
+    → HasDone before.setup number before.entries phase (reverse (dones before.setup before.entries a.more))
+    now.entries (map_writes_of before.setup now.entries)
+has_done number phase before now a only =
+    let done : List Done = dones before.setup before.entries a.more in
+    record {
+      trace = rw (reverse-reverse done, a.grows)
+          (dones_trace before.setup number before.entries a.more a.own a.plain);
+      said = map_reverse event_of done ∙ (ap reverse (dones_events before.setup before.entries a.more)
+          ∙ (a.said ∙ sym (ap (map (λ (s : Statement). s.event)) (filter_all (λ (s : Statement). s.actor == number)
+          phase (λ k d less. eq-eqb (get_or phase k d).actor number (only k d less))))));
+    }
+
+pub plain_has_run : {number : ℕ} {before now : Standing} {phase : List Statement} {old new : List Work}
+    → CanAct number before old phase → All (λ statement. statement.actor ≡ number) phase
+    → HasStepped number before now phase old new → HasRunSo before now phase new
+plain_has_run {number} {before} {now} {phase} {old} {new} can only stepped =
+    let a = stepped.added in let did : Work → List Done = λ work. work.done.items in
+    let done : List Done = reverse (dones before.setup before.entries a.more) in
+    let size : length (done_in old) ≡ length old = length-map old did in
+    let within : number < length (done_in old) = omega (arith, size, can.within) in
+    let lists : List (List Done) = set (done_in old) number done in
+    let count : length lists ≡ length (done_in old) = length-set (done_in old) number done in
+    let none : all_looks_in (done_in old) ≡ 0 = nobody_looked did old (λ k d less. rw (can.empty k d less) refl) in
+    let plain : all_looks_in lists ≡ 0 =
+    omega (arith, count_set (done_in old) number done within, none, no_looks before.setup before.entries a.more) in
+    one_acted number before now phase old new lists done _ stepped.grown only
+    (has_done number phase before now a only) refl (omega (arith, count, size, stepped.grown.count))
+    (get_or-set_at (done_in old) number number done [] refl within)
+    (λ other unlike few. get_or-set_other (done_in old) number other done [] unlike
+    ∙ All-map (λ (items : List Done). items ≡ []) did old can.empty other [] (omega (arith, few, count)))
+    (λ version later history. rw stepped.kept (placed_alone version later (done_in old) history none
+    ∙ sym (placed_alone version later lists history plain)))
+
+-- ---- a step of the loop
+
+kept_in : (old : List Work) (number : ℕ) (was work : Work) → was ≡ slice_index_or old number was →
+    work.done.items ≡ was.done.items → done_in (set old number work) ≡ done_in old
+kept_in [] number was work is same = refl
+kept_in (one ∷ old) zero was work is same =
+    ap (λ (done : List Done). done ∷ done_in old) (same ∙ ap (λ (w : Work). w.done.items) is)
+kept_in (one ∷ old) (suc number) was work is same = rw (kept_in old number was work is same) refl
+
+pub has_stepped : (number : ℕ) (before now : Standing) (phase : List Statement) (old : List Work) (was work : Work)
+    → number < length old
+    → was ≡ slice_index_or old number was → HasAdded number phase before now → work.asked ≤ was.asked + length phase
+    → work.done.items ≡ was.done.items → HasStepped number before now phase old (set old number work)
+has_stepped number before now phase old was work within is a asked same =
+    let count = added_count number phase before now a in
+    let mine = ap (λ (h : List Entry). length (entries_by number h)) a.grows ∙ own_more number a.more before.entries
+    a.own in
+    record {
+      added = a;
+      grown =
+          has_grown number before now phase old was work within is a.setup
+          (ap (others number) a.grows ∙ others_more number a.more before.entries a.own) (omega (arith, mine, count))
+          asked;
+      kept = kept_in old number was work is same;
+    }
+
+-- one statement more
+pub added_more : (number : ℕ) (phase : List Statement) (i : ℕ) (d : Statement) (before board now : Standing)
+    (entry : Entry) → i < length phase → HasAdded number (take i phase) before board → now.setup ≡ board.setup →
+    now.entries ≡ entry ∷ board.entries → entry.actor ≡ number → entry.event ≡ (slice_index_or phase i d).event →
+    is_look (slice_index_or phase i d).event ≡ false → HasAdded number (take (i + 1) phase) before now
+added_more number phase i d before board now entry less a setup is own said none =
+    let event : Statement → Event = λ statement. statement.event in
+    let told : Entry → Event = λ entry. entry.event in
+    record {
+      setup = setup ∙ a.setup;
+      more = entry ∷ a.more;
+      grows = is ∙ ap (λ (h : List Entry). entry ∷ h) a.grows;
+      own = All-cons (λ (e : Entry). e.actor ≡ number) entry a.more own a.own;
+      plain = All-cons (λ (e : Entry). is_look e.event ≡ false) entry a.more (ap is_look said ∙ none) a.plain;
+      said =
+          reverse-append (entry.event ∷ []) (map told a.more)
+          ∙ ((λ t. a.said t ++ said t ∷ [])
+          ∙ (sym (map-append event (take i phase) (slice_index_or phase i d ∷ []))
+          ∙ ap (map event) (sym (take_more phase i d less))));
+    }

@@ -1,17 +1,19 @@
 -- A phase, as the history of the run takes it in.
 use Rattle.std.proofs.Common.{◌≡◌, ℕ, ◌+◌, ◌<◌, ◌≤◌, List, [], ◌∷◌, ◌++◌, map, length, take, drop, get_or, flat_map}
-use Rattle.std.proofs.Common.{All, Option, Vec, Global, sym, ◌∙◌, ap, arith, reverse}
+use Rattle.std.proofs.Common.{All, Option, Vec, Global, sym, ◌∙◌, ap, arith, reverse, Some, Result, Ok, Err, OnOk}
+use Rattle.std.proofs.Common.{take-append-drop}
 use Rattle.board_prelude.proofs.Common.{reverse-append, reverse-reverse, length-append, map-append, append-nil}
-use Rattle.board_prelude.proofs.Common.{take-append-drop, drop_more, flat_map-append, drop-append_seam}
-use Rattle.board_prelude.proofs.Common.{take-append_seam, All-drop, Entry, Statement, Setup, IsCardList, version_of}
-use Rattle.board_prelude.proofs.Common.{IsLegal}
+use Rattle.board_prelude.proofs.Common.{drop_more, flat_map-append, drop-append_seam, take-append_seam, All-drop, Entry}
+use Rattle.board_prelude.proofs.Common.{Statement, Setup, IsCardList, version_of, IsLegal}
 use Rattle.board_core.specs.Kept.{Standing}
 use Rattle.run_order.specs.declared.done.Done.{Done}
 use Rattle.run_order.specs.Common.{placed, Order, bare, IsPhaseRun, PhaseRuns, AreInPlace, AreAllInPlace, Begins}
+use Rattle.run_order.specs.Common.{IsPlacedBelow, over}
 use Rattle.phase_work.specs.declared.worker.Work.{Work}
 use Rattle.phase_threads.specs.Common.{IsStatement, TakesIn, entries_of}
 use Rattle.phase_threads.specs.Unseen.{HasRunSo}
-use Rattle.run_order.proofs.Histories.{all_reverse}
+use Rattle.run_order.proofs.Histories.{all_reverse, over_front}
+use Rattle.board_spec.proofs.ReplayLaws.{legal_before}
 
 -- what a history gained, the oldest first
 abbrev pub gained : (opened entries : List Entry) → List Entry
@@ -22,11 +24,6 @@ pub record Grew (before now opened entries : List Entry) : Type 0 where
   pub begins : Begins before now
   pub old : opened ≡ reverse before
   pub is : entries ≡ reverse now
-
-parts : (before more opened entries : List Entry) → opened ≡ reverse before → entries ≡ reverse before ++ reverse more
-    → (take (length opened) entries ≡ reverse before) × (drop (length opened) entries ≡ reverse more)
-parts before more opened entries old cut =
-    rw (cut, old) (take-append_seam (reverse before) (reverse more), drop-append_seam (reverse before) (reverse more))
 
 module _ {before now opened entries : List Entry} (grew : Grew before now opened entries) where
   cut : entries ≡ reverse before ++ reverse grew.begins.0
@@ -40,14 +37,14 @@ module _ {before now opened entries : List Entry} (grew : Grew before now opened
 
   pub whole_is : reverse (gained opened entries) ++ before ≡ now
   whole_is =
-      rw ((parts before grew.begins.0 opened entries grew.old cut).1, reverse-reverse grew.begins.0)
-      (sym grew.begins.1)
+      let back = drop-append_seam (reverse before) (reverse grew.begins.0) in
+      rw (grew.old, cut, back, reverse-reverse grew.begins.0) (sym grew.begins.1)
 
   pub gained_within : length opened ≤ length entries
   gained_within = rw (grew.old, cut) (omega (arith, length-append (reverse before) (reverse grew.begins.0)))
 
   front : take (length opened) entries ≡ reverse before
-  front = (parts before grew.begins.0 opened entries grew.old cut).0
+  front = rw (grew.old, cut) (take-append_seam (reverse before) (reverse grew.begins.0))
 
   pub front_is : reverse (take (length opened) entries) ≡ before
   front_is = ap reverse front ∙ reverse-reverse before
@@ -109,11 +106,6 @@ pub phases_more : (done : List Phase) (phase : Phase)
     → map in_phase (done ++ phase ∷ []) ≡ map in_phase done ++ phase.items ∷ []
 phases_more done phase = map-append in_phase done (phase ∷ [])
 
--- the last phase is the first of those that have the newest first
-pub newest_first : (done : List Phase) (phase : Phase)
-    → reverse (map in_phase (done ++ phase ∷ [])) ≡ phase.items ∷ reverse (map in_phase done)
-newest_first done phase = ap reverse (phases_more done phase) ∙ reverse-append (map in_phase done) (phase.items ∷ [])
-
 pub all_in_place : (setup : Setup) (phase : List Statement) (earlier : List (List Statement))
     (added history all : List Entry) → all ≡ added ++ history → length added ≡ length phase →
     AreInPlace setup history added → AreAllInPlace setup earlier history → AreAllInPlace setup (phase ∷ earlier) all
@@ -124,18 +116,11 @@ all_in_place setup phase earlier added history all is size places before =
 
 pub statements_more : (done : List Phase) (phase : Phase)
     → length (flat_map in_phase (done ++ phase ∷ [])) ≡ length (flat_map in_phase done) + length phase.items
-statements_more done phase =
-    ap length (flat_map-append in_phase done (phase ∷ []))
-    ∙ (length-append (flat_map in_phase done) (phase.items ++ [])
-    ∙ ap (λ (items : List Statement). length (flat_map in_phase done) + length items) (append-nil phase.items))
+statements_more done phase = simp (flat_map-append, length-append, append-nil)
 
 pub statements_within : (done : List Phase) (phase : Phase) (rest : List Phase)
     → length (flat_map in_phase done) + length phase.items ≤ length (flat_map in_phase (done ++ phase ∷ rest))
-statements_within done phase rest =
-    let whole = ap length (flat_map-append in_phase done (phase ∷ rest))
-    ∙ length-append (flat_map in_phase done) (phase.items ++ flat_map in_phase rest) in
-    let later = length-append phase.items (flat_map in_phase rest) in
-    omega (arith, whole, later)
+statements_within done phase rest = simp (flat_map-append, length-append) (omega arith)
 
 -- the statements of the phases before one, and its own
 pub few_so_far : (phases : List Phase) (i : ℕ) (phase : Phase) → i < length phases → phase ≡ get_or phases i phase
@@ -146,3 +131,27 @@ few_so_far phases i phase less is =
     ∙ sym (drop_more phases i phase less))
     ∙ take-append-drop i phases in
     rw cut at (statements_within (take i phases) phase (drop (i + 1) phases))
+
+-- ---- a phase that an order takes in, and an order that begins
+
+-- the bus's history, in two parts
+pub cut_is : (n : ℕ) (bus : List Entry) → reverse bus ≡ reverse (drop n bus) ++ reverse (take n bus)
+cut_is n bus = ap reverse (sym (take-append-drop n bus)) ∙ reverse-append (take n bus) (drop n bus)
+
+pub legal_front : (setup : Setup) (n : ℕ) (bus : List Entry) → IsLegal setup (reverse bus)
+    → IsLegal setup (reverse (take n bus))
+legal_front setup n bus legal = legal_before setup (reverse (drop n bus)) (reverse (take n bus))
+    (rw (cut_is n bus) at legal)
+
+-- what an order takes in over the whole of the bus's history, it takes in over what it was before
+pub taken_in : (bus : List Entry) (opened version : ℕ) (works : List (List Done)) (old new : Order) →
+    opened ≤ length bus → old.bus ≡ opened → All (IsPlacedBelow old.bus) old.entries →
+    over bus new.entries ≡ placed version (drop old.bus bus) works (over bus old.entries) → entries_of (Some new)
+    (reverse bus) ≡ placed version (drop opened bus) works (entries_of (Some old) (reverse (take opened bus)))
+taken_in bus opened version works old new fits size within is =
+    let front = over_front opened bus old.entries (rw size at within) in
+    rw (reverse-reverse bus, reverse-reverse (take opened bus), front) (rw size at is)
+
+pub on_ok : {T E : Type 0} {P Q : Type 0} (result : Result T E) → (P → Q) → OnOk result P → OnOk result Q
+on_ok (Ok value) more is = more is
+on_ok (Err error) more is = is

@@ -1,26 +1,88 @@
 -- What the workers of a phase leave, put together.
-use Rattle.std.proofs.Common.{◌≡◌, ℕ, ◌+◌, ◌<◌, ◌≤◌, ◌==◌, false, List, [], ◌∷◌, map, length, All, Option, Some, sym}
-use Rattle.std.proofs.Common.{◌∙◌, ap, arith, inl, inr, reverse, get_or}
-use Rattle.board_prelude.proofs.Common.{Any, range_with_len, cases_lt, ne_eqb, length-map, length-reverse, All-head}
-use Rattle.board_prelude.proofs.Common.{Entry, Statement, MapChange, Setup, IsInRange, entries_by, most_statements}
-use Rattle.std.proofs.lemmas.Simd.{map-map}
-use Rattle.std.proofs.lemmas.List.Elements.{All-map}
-use Rattle.bus_turn.specs.Passes.{part_of}
+use Rattle.std.proofs.Common.{◌≡◌, ℕ, ◌<◌, List, [], ◌∷◌, ◌++◌, length, map, All, Option, refl, sym, ◌∙◌, ap, arith}
+use Rattle.std.proofs.Common.{◌+◌, ◌≤◌, ◌==◌, false, Some, inl, inr, reverse, get_or}
+use Rattle.std.specs.List.{AllZip}
+use Rattle.std.proofs.lemmas.List.Elements.{AllZip-get_or, length_all_zip, All-map}
+use Rattle.board_prelude.proofs.Common.{All-head, All-tail, Entry, Event, Statement, entries_by, events_by, Any}
+use Rattle.board_prelude.proofs.Common.{range_with_len, cases_lt, ne_eqb, length-map, length-reverse, MapChange, Setup}
+use Rattle.board_prelude.proofs.Common.{IsInRange, most_statements}
 use Rattle.board_core.specs.Kept.{Standing}
-use Rattle.board_live.specs.declared.cpu.Cpu.{Cpu}
 use Rattle.board_live.specs.declared.live.Live.{Live}
 use Rattle.shared_board.specs.declared.shared.Origin.{Origin}
+use Rattle.phase_threads.specs.declared.jobs.Job.{Job}
+use Rattle.phase_threads.specs.Jobs.{IsReadyToWork, IsRun, Runs, AreAsked, AreDue, HasRun, done_in}
+use Rattle.std.proofs.lemmas.Simd.{map-map}
+use Rattle.bus_turn.specs.Passes.{part_of}
+use Rattle.board_live.specs.declared.cpu.Cpu.{Cpu}
 use Rattle.board_live.specs.Callers.{IsCallerOf, IsNew, AreAllOf, AreOpened, ClosesBoard, seen_of, known_of}
 use Rattle.run_order.specs.declared.done.Done.{Done}
 use Rattle.run_order.specs.declared.done.Done.TheVariants.{Went, Looked}
 use Rattle.run_order.specs.Common.{done_by, IsWork, Begins, IsDone}
 use Rattle.run_order.proofs.Histories.{begins_trans, all_reverse, all_turned}
 use Rattle.phase_work.specs.declared.worker.Work.{Work}
-use Rattle.phase_threads.specs.declared.jobs.Job.{Job}
-use Rattle.phase_threads.specs.Jobs.{IsReadyToWork, IsRun, AreAsked, AreDue, HasRun, done_in}
-use Rattle.phase_threads.proofs.Due.{due_by_number}
-use Rattle.phase_threads.proofs.Numbers.{filter_none, map_reverse, all_mapped, same_lengths, numbered_length}
-use Rattle.phase_threads.proofs.Numbers.{numbers_below, same_numbers, by_number}
+use Rattle.phase_threads.proofs.Numbers.{due_by_number, filter_none, map_reverse, all_mapped, same_lengths}
+use Rattle.phase_threads.proofs.Numbers.{numbered_length, numbers_below, same_numbers, by_number}
+
+zip_append : {X : Type 0} (R : X → X → Type 0) (xs ys us vs : List X) → AllZip R xs us → AllZip R ys vs
+    → AllZip R (xs ++ ys) (us ++ vs)
+zip_append R [] ys [] vs front back = back
+zip_append R [] ys (u ∷ us) vs front back = absurd front
+zip_append R (x ∷ xs) ys [] vs front back = absurd front
+zip_append R (x ∷ xs) ys (u ∷ us) vs front back = (front.0, zip_append R xs ys us vs front.1 back)
+
+-- both halves of a list
+pub zip_both : {X : Type 0} (R : X → X → Type 0) (xs ys us vs all : List X) → all ≡ xs ++ ys → AllZip R xs us
+    → AllZip R ys vs → AllZip R all (us ++ vs)
+zip_both R xs ys us vs all whole front back = rw whole (zip_append R xs ys us vs front back)
+
+no_events : (events : List Event) → length events ≡ 0 → events ≡ []
+no_events [] none = refl
+no_events (event ∷ events) none = absurd (omega (arith, none))
+
+-- a worker that has no statement ends as it began
+idle_runs : (live : Live) (phase : List Statement) (job : Job) → job.work.due ≡ 0 → Runs live phase job job
+idle_runs live phase job idle = record {
+  number = refl;
+  run = λ board part before ready.
+      let none : length (events_by job.cpu.number phase) ≡ 0 = sym ready.due ∙ idle in
+      let mine = ap (λ (seen : List Entry). length (entries_by job.cpu.number seen)) ready.new.seen in
+      record {
+        own = ready.own;
+        same = ready.same;
+        setup = ready.new.setup;
+        asked = omega (arith, ready.asked);
+        mine = λ fine. omega (arith, mine, ready.mine);
+        done = λ fine. rw ready.empty (record {
+          trace = (ready.new.seen, ready.new.known);
+          said = sym (no_events (events_by job.cpu.number phase) none);
+        });
+      };
+}
+
+pub all_idle : (live : Live) (phase : List Statement) (jobs : List Job) → All (λ job. job.work.due ≡ 0) jobs
+    → AllZip (Runs live phase) jobs jobs
+all_idle live phase [] idle = tt
+all_idle live phase (job ∷ jobs) idle =
+    let none : Job → Type 0 = λ job. job.work.due ≡ 0 in
+    (idle_runs live phase job (All-head none job jobs idle), all_idle live phase jobs (All-tail none job jobs idle))
+
+-- ---- what follows of it
+
+pub numbers_stay : (live : Live) (phase : List Statement) (jobs now : List Job) → AllZip (Runs live phase) jobs now
+    → map (λ (job : Job). job.cpu.number) now ≡ map (λ (job : Job). job.cpu.number) jobs
+numbers_stay live phase [] [] ran = refl
+numbers_stay live phase [] (last ∷ now) ran = absurd ran
+numbers_stay live phase (job ∷ jobs) [] ran = absurd ran
+numbers_stay live phase (job ∷ jobs) (last ∷ now) ran = rw (ran.0.number, numbers_stay live phase jobs now ran.1) refl
+
+pub all_run : (live : Live) (board : Standing) (part : Option Origin) (phase : List Statement) (before : ℕ)
+    (jobs now : List Job) → AllZip (Runs live phase) jobs now
+    → All (IsReadyToWork live board part phase before) jobs → All (IsRun live board part phase before) now
+all_run live board part phase before jobs now ran ready k d less =
+    let few : k < length jobs = omega (arith, less, length_all_zip (Runs live phase) jobs now ran) in
+    (AllZip-get_or (Runs live phase) jobs now k d d ran few).run board part before (ready k d few)
+
+-- ---- what the workers of a phase leave, put together
 
 abbrev pub cpu_in : Job → Cpu
 cpu_in job = job.cpu
@@ -46,15 +108,6 @@ job_numbers : (cpus1 : List Cpu) (jobs1 : List Job) (n : ℕ) → map cpu_in (re
     map number_by cpus1 ≡ range_with_len 0 n → map number_in (reverse jobs1) ≡ range_with_len 0 n
 job_numbers cpus1 jobs1 n are_cpus1 numbers = sym (map-map number_by cpu_in (reverse jobs1))
     ∙ (ap (map number_by) are_cpus1 ∙ numbers)
-
--- the numbers of the callers are those before
-numbers_again : (cpus cpus1 : List Cpu) (jobs jobs1 : List Job) → map cpu_in (reverse jobs) ≡ cpus
-    → map cpu_in (reverse jobs1) ≡ cpus1
-    → map number_in jobs1 ≡ map number_in jobs → map number_by cpus1 ≡ map number_by cpus
-numbers_again cpus cpus1 jobs jobs1 are_cpus are_cpus1 same =
-    ap (map number_by) (sym are_cpus1) ∙ (map-map number_by cpu_in (reverse jobs1) ∙ (map_reverse number_in jobs1
-    ∙ (ap reverse same ∙ (sym (map_reverse number_in jobs)
-    ∙ (sym (map-map number_by cpu_in (reverse jobs)) ∙ ap (map number_by) are_cpus)))))
 
 pub begins_opened : (setup : Setup) (actor : ℕ) (opened : List Entry) (done : List Done) (seen : List Entry)
     (known : List MapChange) → IsDone setup actor opened done seen known → Begins opened seen
@@ -93,15 +146,9 @@ whole_begins live board now part phase before (job ∷ jobs) some run closes fin
           (begins_opened _ _ _ _ _ _ trace) closed.begins,
     )
 
--- nobody else has entries
-none_by : (n actor : ℕ) (entries : List Entry) → n ≤ actor → All (λ entry. entry.actor < n) entries
-    → length (entries_by actor entries) ≡ 0
-none_by n actor entries past all = ap length (filter_none (λ (e : Entry). e.actor == actor) entries
-    (λ k d less. ne_eqb (get_or entries k d).actor actor (λ e. omega (arith, past, all k d less, e))))
-
 -- the jobs of the callers of a board that was just opened
-module _ (live : Live) (board : Standing) (n : ℕ) (cpus : List Cpu) (jobs : List Job) (phase : List Statement)
-    (before : ℕ) (o : AreOpened board n live cpus) (are_cpus : map cpu_in (reverse jobs) ≡ cpus) where
+module _ {live : Live} {board : Standing} {n : ℕ} {cpus : List Cpu} {phase : List Statement} {before : ℕ}
+    (jobs : List Job) (o : AreOpened board n live cpus) (are_cpus : map cpu_in (reverse jobs) ≡ cpus) where
   pub ready : (works : List Work) → map work_in (reverse jobs) ≡ works → All (λ work. work.done.items ≡ []) works
       → AreDue phase works → All (λ work. work.asked ≤ before) works
       → All (λ statement. IsInRange board.setup statement.event) phase
@@ -136,13 +183,13 @@ pub record HaveRun (live : Live) (board : Standing) (n : ℕ) (cpus cpus1 : List
 module _ {live : Live} {board : Standing} {n : ℕ} {cpus cpus1 : List Cpu} {phase : List Statement} {before : ℕ}
     {jobs1 : List Job} (h : HaveRun live board n cpus cpus1 phase before jobs1) where
   again : map number_by cpus1 ≡ map number_by cpus
-  again = numbers_again cpus cpus1 h.jobs jobs1 h.are_cpus h.are_cpus1 h.same
-
-  named_again : map number_in (reverse jobs1) ≡ range_with_len 0 n
-  named_again = job_numbers cpus1 jobs1 n h.are_cpus1 (again ∙ h.o.numbers)
+  again =
+      ap (map number_by) (sym h.are_cpus1) ∙ (map-map number_by cpu_in (reverse jobs1) ∙ (map_reverse number_in jobs1
+      ∙ (ap reverse h.same ∙ (sym (map_reverse number_in h.jobs)
+      ∙ (sym (map-map number_by cpu_in (reverse h.jobs)) ∙ ap (map number_by) h.are_cpus)))))
 
   size_again : length (reverse jobs1) ≡ n
-  size_again = numbered_length number_in (reverse jobs1) n named_again
+  size_again = numbered_length number_in (reverse jobs1) n (job_numbers cpus1 jobs1 n h.are_cpus1 (again ∙ h.o.numbers))
 
   pub all_again : AreAllOf live cpus1
   all_again =
@@ -166,7 +213,7 @@ module _ {live : Live} {board : Standing} {n : ℕ} {cpus cpus1 : List Cpu} {pha
         → (actor : ℕ) → actor < n → W actor (done_by 0 actor (done_in works1))
     by_processor W all actor less =
         let named : map number_in (reverse jobs1) ≡ range_with_len 0 (length (reverse jobs1)) =
-        rw size_again named_again in
+        rw size_again (job_numbers cpus1 jobs1 n h.are_cpus1 (again ∙ h.o.numbers)) in
         rw are_works1 at (by_number W (reverse jobs1) 0
         (all_reverse (λ job. W job.cpu.number job.work.done.items) jobs1 all) named actor (omega arith)
         (omega (arith, less, size_again)))
@@ -200,7 +247,10 @@ module _ {live : Live} {board : Standing} {n : ℕ} {cpus cpus1 : List Cpu} {pha
                 | inl few ↦ by_processor
                     (λ actor done. length (entries_by actor now.entries) ≤ before + length phase) (λ k d less.
                     rw (closed k d less).mine ((h.run k d less).mine (fine k d less))) actor few
-                | inr past ↦ omega (arith, none_by n actor now.entries (omega (arith, past)) actors)
+                | inr past ↦
+                    let none = filter_none (λ (e : Entry). e.actor == actor) now.entries (λ k d less.
+                    ne_eqb (get_or now.entries k d).actor actor (λ e. omega (arith, past, actors k d less, e))) in
+                    omega (arith, ap length none)
               ];
               asked = to_jobs work_in (λ work. work.asked ≤ before + length phase) jobs1 works1 are_works1
                   (λ k d less. (h.run k d less).asked);

@@ -5,18 +5,16 @@ use Rattle.phase_threads.proofs.alone.run_alone.Goals as goal
 pub do_all-requires : goal.do_all-requires
 do_all-requires g c = (
   search rules,
-  can_act c.args.actor c.args.run c.args.phase.now c.deref.result.now c.in_ok-works.works.items c.deref.ensures.value
-      c.in_ok-works.ensures.asked c.requires.below c.requires.can c.in_ok-works.ensures.empty,
+  can_act c.deref.ensures.value c.in_ok-works.ensures.asked c.requires.below c.requires.can
+      c.in_ok-works.ensures.empty,
 )
 
 pub returns-clause-goes_on : goal.returns-clause-goes_on
 returns-clause-goes_on g c =
-    grows c.args.actor c.args.run c.args.phase.now c.deref.result.now c.in_ok-works.works.items c.deref.ensures.value
-    c.in_ok-works.ensures.asked c.requires.below _ c.in_ok-do_all.ensures.acted.grown
+    grows c.deref.ensures.value c.in_ok-works.ensures.asked c.requires.below _ c.in_ok-do_all.ensures.acted.grown
 
 pub returns-clause-run : goal.returns-clause-run
 returns-clause-run g c =
-    let can = can_act c.args.actor c.args.run c.args.phase.now c.deref.result.now c.in_ok-works.works.items
-    c.deref.ensures.value c.in_ok-works.ensures.asked c.requires.below c.requires.can c.in_ok-works.ensures.empty in
-    alone_has_run c.args.actor c.args.run.board c.do_all.new.alone.board c.args.phase.now c.in_ok-works.works.items
-    c.do_all.new.works.items can c.requires.only c.in_ok-do_all.ensures.acted
+    let can = can_act c.deref.ensures.value c.in_ok-works.ensures.asked c.requires.below c.requires.can
+    c.in_ok-works.ensures.empty in
+    alone_has_run _ can c.requires.only c.in_ok-do_all.ensures.acted

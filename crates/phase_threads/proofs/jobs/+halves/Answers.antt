@@ -1,5 +1,5 @@
 use Rattle.phase_threads.specs.Jobs.{Runs}
-use Rattle.phase_threads.proofs.Halves.{zip_both, all_idle}
+use Rattle.phase_threads.proofs.Workers.{zip_both, all_idle}
 use Rattle.phase_threads.proofs.jobs.+halves.Goals as goal
 
 pub run_jobs-returns-then-are_idle : goal.run_jobs-returns-then-are_idle

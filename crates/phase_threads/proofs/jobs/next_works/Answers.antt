@@ -1,7 +1,7 @@
 use Rattle.std.proofs.Common.{rules, arith, slice_index_or}
 use Rattle.board_prelude.proofs.Common.{common_steps}
 use Rattle.phase_work.specs.declared.worker.Work.{Work}
-use Rattle.phase_threads.proofs.Due.{due_more}
+use Rattle.phase_threads.proofs.Numbers.{due_more}
 use Rattle.phase_threads.proofs.jobs.next_works.Goals as goal
 
 pub loop-actor-preserved : goal.loop-actor-preserved

@@ -1,6 +1,6 @@
 use Rattle.std.proofs.Common.{rules, take, arith}
 use Rattle.board_prelude.proofs.Common.{get_or-replicate, length-take-le}
-use Rattle.phase_threads.proofs.Due.{few_by, counts_more}
+use Rattle.phase_threads.proofs.Numbers.{few_by, counts_more}
 use Rattle.phase_threads.proofs.jobs.own_in.Goals as goal
 
 pub loop-statement-init : goal.loop-statement-init
@@ -10,9 +10,8 @@ pub overflow_add-counts : goal.overflow_add-counts
 overflow_add-counts c =
     let l = c.loop-statement in
     let few = few_by c.from.result (take l.statement-index c.args.phase.now) in
-    let count = l.invariant.own c.from.result (search rules) in
     let size = length-take-le l.statement-index c.args.phase.now l.auto.statement-index-end in
-    record { fits = omega (arith, few, count, size, c.loop-statement-test.true) }
+    record { fits = omega (arith, few, l.invariant.own c.from.result (search rules), size, c.loop-statement-test.true) }
 
 pub loop-statement-preserved : goal.loop-statement-preserved
 loop-statement-preserved c =

@@ -1,7 +1,6 @@
 use Rattle.std.proofs.Common.{rules, arith}
-use Rattle.phase_threads.proofs.Beginnings.{on_ok}
-use Rattle.phase_threads.proofs.OneActs.{both}
-use Rattle.phase_threads.proofs.Unkept.{has_stepped}
+use Rattle.phase_threads.proofs.Phases.{on_ok}
+use Rattle.phase_threads.proofs.OneActs.{both, has_stepped}
 use Rattle.phase_threads.proofs.plain.step_works.Goals as goal
 
 pub step_all-requires-clause-room : goal.step_all-requires-clause-room

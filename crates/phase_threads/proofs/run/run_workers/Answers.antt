@@ -1,14 +1,13 @@
 use Rattle.std.proofs.Common.{rules, ◌≡◌, ℕ, ◌+◌, ◌<◌, ◌≤◌, ◌++◌, List, All, length, map, take, drop, sym, ◌∙◌, ap}
 use Rattle.std.proofs.Common.{arith, false, Some, reverse}
-use Rattle.board_prelude.proofs.Common.{most_statements}
+use Rattle.board_prelude.proofs.Common.{most_statements, length-map, length-reverse}
 use Rattle.phase_work.specs.declared.worker.Work.{Work}
 use Rattle.phase_threads.specs.declared.jobs.Job.{Job}
 use Rattle.phase_threads.specs.Jobs.{IsReadyToWork, AreAsked}
-use Rattle.phase_threads.proofs.Numbers.{same_lengths, numbered_length, jobs_count, asked_again, lent_back, counted}
-use Rattle.phase_threads.proofs.Halves.{numbers_stay, all_run}
-use Rattle.phase_threads.proofs.Workers.{cpu_in, work_in, number_in, number_by, ready, HaveRun, all_again, listed}
-use Rattle.phase_threads.proofs.Workers.{has_run, are_asked}
-use Rattle.phase_threads.proofs.Unkept.{so}
+use Rattle.phase_threads.proofs.Numbers.{same_lengths, numbered_length, asked_again, lent_back, counted}
+use Rattle.phase_threads.proofs.Workers.{numbers_stay, all_run, cpu_in, work_in, number_in, number_by, ready, HaveRun}
+use Rattle.phase_threads.proofs.Workers.{all_again, listed, has_run, are_asked}
+use Rattle.phase_threads.proofs.OneActs.{so}
 use Rattle.phase_threads.proofs.run.run_workers.Given.{Over}
 use Rattle.phase_threads.proofs.run.run_workers.Goals.{After-len-2, After-begin, After-end}
 use Rattle.phase_threads.proofs.run.run_workers.Goals as goal
@@ -28,10 +27,9 @@ all_ready : (g : Over) (c : After-begin g) (most : ℕ) → AreAsked most c.args
 all_ready g c most asked room =
     let next = asked_again most c.args.run.works.items c.in_ok-works.works.items (c.in_ok-works.ensures.asked
     ∙ ap (map (λ (w : Work). w.asked)) c.deref.ensures.value) asked.asked in
-    ready c.in-Ok.live c.args.run.board c.len-2.result c.in-Ok.cpus.items c.begin.new.jobs.items c.args.phase.now most
-    c.in-Ok.ensures.opened c.begin.ensures.cpus c.in_ok-works.works.items c.begin.ensures.works
-    c.in_ok-works.ensures.empty c.in_ok-works.ensures.due next (λ k d less. (c.requires.can.in_range k d less).event)
-    asked.mine room
+    ready c.begin.new.jobs.items c.in-Ok.ensures.opened c.begin.ensures.cpus c.in_ok-works.works.items
+    c.begin.ensures.works c.in_ok-works.ensures.empty c.in_ok-works.ensures.due next
+    (λ k d less. (c.requires.can.in_range k d less).event) asked.mine room
 
 -- when they have run, they are as they were numbered, and their callers and works come back
 numbers : (g : Over) (c : After-end g) → map number_in c.run_jobs.new.jobs ≡ map number_in c.begin.new.jobs.items
@@ -75,13 +73,12 @@ pub open-requires : goal.open-requires
 open-requires g c =
     let count = many g (goal.at.open-requires g c).After-len-2 in
     let asked = c.requires.can.asked in
-    let room = c.requires.can.room in
     record {
       few = record {
         some = omega (arith, count, c.requires.can.some);
         most = omega (arith, count, c.requires.can.few);
         actors = rw count asked.actors;
-        each = λ actor. omega (arith, asked.mine actor, room);
+        each = λ actor. omega (arith, asked.mine actor, c.requires.can.room);
       };
     }
 
@@ -100,7 +97,8 @@ pub run_jobs-requires-clause-some : goal.run_jobs-requires-clause-some
 run_jobs-requires-clause-some g c κs within =
     let count = many g (goal.at.run_jobs-requires-clause-some g c).After-len-2 in
     let size = numbered_length number_by c.in-Ok.cpus.items c.len-2.result c.in-Ok.ensures.opened.numbers in
-    let jobs = jobs_count cpu_in c.begin.new.jobs.items c.in-Ok.cpus.items c.begin.ensures.cpus in
+    let jobs = sym (length-reverse c.begin.new.jobs.items)
+    ∙ (sym (length-map (reverse c.begin.new.jobs.items) cpu_in) ∙ ap length c.begin.ensures.cpus) in
     omega (arith, size, count, jobs, ap length c.deref_mut.ensures.value, c.requires.can.some)
 
 pub run_jobs-requires-clause-can : goal.run_jobs-requires-clause-can

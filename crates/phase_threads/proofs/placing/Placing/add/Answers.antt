@@ -1,10 +1,10 @@
 use Rattle.std.proofs.Common.{rules, ◌≡◌, List, length, map, take, drop, reverse, Option, None, Some, sym, ◌∙◌, ap}
-use Rattle.board_prelude.proofs.Common.{reverse-reverse, length-take-le, Entry, Setup}
+use Rattle.board_prelude.proofs.Common.{reverse-reverse, length-take-le, Entry, Setup, length-reverse}
 use Rattle.run_order.specs.declared.done.Done.{Done}
 use Rattle.run_order.specs.Common.{over, placed, Order, all_looks_in}
 use Rattle.run_order.proofs.Settled.{unlooked}
 use Rattle.phase_threads.specs.Placed.{entries_of}
-use Rattle.phase_threads.proofs.Beginnings.{cut_is, legal_front, front_length, taken_in, on_ok}
+use Rattle.phase_threads.proofs.Phases.{cut_is, legal_front, taken_in, on_ok}
 use Rattle.phase_threads.proofs.placing.Placing.add.Goals as goal
 
 pub returns-in-Some-clause-placed : goal.returns-in-Some-clause-placed
@@ -14,7 +14,8 @@ returns-in-Some-clause-placed c =
     let lists : List (List Done) = map (λ done. done.now) c.args.works.items in
     let some : c.args.self.now.order ≡ Some c.in-Some.order = search rules in
     let up_to : c.in-Some.order.bus ≡ length before = rw some at c.requires.up_to in
-    let size : c.in-Some.order.bus ≡ c.args.opened = up_to ∙ front_length bus c.args.opened c.requires.gained in
+    let size : c.in-Some.order.bus ≡ c.args.opened = up_to
+    ∙ (length-reverse (take c.args.opened bus) ∙ length-take-le c.args.opened bus c.requires.gained) in
     on_ok c.place.result (λ is. taken_in bus c.args.opened c.args.version lists c.in-Some.order c.place.new.self
     c.requires.gained size c.place.ensures.within is
     ∙ ap (λ (order : Option Order). placed c.args.version (drop c.args.opened bus) lists (entries_of order before))
