@@ -7,7 +7,7 @@ use mathlib.Core.List.{IsPrefix}
 use Rattle.logbook.specs.Pages.{Book}
 use Rattle.bus_turn.specs.Common.{IsSameCaller as IsSamePass, HasSameJoined, number_of, opened_of as opened_by, part_of}
 use Rattle.bus_turn.specs.Common.{seen_of as seen_in, mine_of as mine_in, own_by, joined_of}
-use Rattle.bus_turn.proofs.Rows.{drop_front, own_more}
+use Rattle.bus_turn.proofs.Rows.{drop_front}
 use Rattle.map_builder.specs.Map.{Mapped}
 use Rattle.map_publish.specs.declared.mark.Mark.{Mark}
 use Rattle.map_publish.specs.Lists.{opened_of}
@@ -30,13 +30,6 @@ pub own_in : (number : ℕ) (opened list mine : List Entry) → IsPrefix opened 
 own_in number opened list mine (rest, is) own =
     let later = rw (← is, drop_front opened rest) at own in
     rw (← is, filter-append (λ (e : Entry). e.actor == number) opened rest, later) refl
-
-pub own_pushed : (number : ℕ) (opened list mine : List Entry) (entry : Entry) → entry.actor ≡ number →
-    own_by by_actor number list ≡ own_by by_actor number opened ++ mine → own_by by_actor number (list ++ entry ∷ [])
-    ≡ own_by by_actor number opened ++ (mine ++ drop (length list) (list ++ entry ∷ []))
-own_pushed number opened list mine entry own before =
-    rw (own_more by_actor number list entry own, before, drop_front list (entry ∷ []))
-    (append_assoc (own_by by_actor number opened) mine (entry ∷ []))
 
 pub own_first : (number : ℕ) (entry : Entry) (history : List Entry) → entry.actor ≡ number →
     entries_by number (entry ∷ history) ≡ entry ∷ entries_by number history
@@ -207,10 +200,10 @@ caught_up pass cpu now same none later =
     )
 
 -- the caller whose pass was joined, after it knew all that was published
-pub joined_new : (before pass : SharedPass) (cpu now : Cpu) → IsSameCaller cpu now → AddsNone cpu now →
+pub joined_new : (before pass : SharedPass) {cpu now : Cpu} → IsSameCaller cpu now → AddsNone cpu now →
     IsPrefix (seen_in now.pass) (seen_in pass) →
     joined_of pass ≡ joined_of before ++ (number_of now.pass, mine_in now.pass) ∷ joined_of now.pass → IsJoined pass cpu
-joined_new before pass cpu now same none later joined =
+joined_new before pass {cpu} {now} same none later joined =
     let has = caught_up pass cpu now same none later in
     record {
       begins = has.0;

@@ -1,10 +1,10 @@
-use Rattle.std.proofs.Common.{rules, ◌≡◌, ◌∷◌, [], ◌++◌, drop, reverse, length, sym, ap, ◌∙◌, refl}
+use Rattle.std.proofs.Common.{append_assoc, rules, ◌≡◌, ◌∷◌, [], ◌++◌, drop, reverse, length, sym, ap, ◌∙◌, refl}
 use Rattle.board_prelude.proofs.Common.{reverse-append, reverse-reverse, Entry, next_entry, map_writes_of}
 use Rattle.bus_turn.specs.Common.{opened_of as opened_by, seen_of as seen_in, mine_of as mine_in}
-use Rattle.bus_turn.specs.Common.{IsSameCaller as IsSamePass}
-use Rattle.bus_turn.proofs.Rows.{prefix_trans}
+use Rattle.bus_turn.specs.Common.{IsSameCaller as IsSamePass, own_by}
+use Rattle.bus_turn.proofs.Rows.{prefix_trans, own_more, drop_front}
 use Rattle.board_live.specs.Common.{IsSameBoard, setup_in}
-use Rattle.board_live.proofs.Turns.{Finds, finds, known_left, passed_again, opens_again, own_pushed, own_first}
+use Rattle.board_live.proofs.Turns.{by_actor, Finds, finds, known_left, passed_again, opens_again, own_first}
 use Rattle.board_live.proofs.Turns.{passed_idly, has_learnt}
 use Rattle.board_live.proofs.cpu.Cpu.bus.Given.{Over}
 use Rattle.board_live.proofs.cpu.Cpu.bus.Goals.{After-enter-held}
@@ -52,7 +52,8 @@ invariant_of-self g c =
     let mine : mine_in now ≡ mine_in pass ++ drop (length list) (list ++ entry ∷ []) = search (rules, whole) in
     record {
       passed = passed_again cpu same (search rules) (search rules)
-          (rw (seen, mine) (own_pushed cpu.number (opened_by pass) list (mine_in pass) entry refl found.listed));
+          (rw (seen, mine, own_more by_actor cpu.number list entry refl, found.listed, drop_front list (entry ∷ []))
+          (append_assoc (own_by by_actor cpu.number (opened_by pass)) (mine_in pass) (entry ∷ [])));
       idle = c.leave.ensures.idle;
       opens = opens_again cpu now same (search rules);
     }

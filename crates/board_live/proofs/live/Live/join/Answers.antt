@@ -21,8 +21,8 @@ loop-cpu-preserved g c =
     All-weaker (IsJoined c.loop-cpu.pass) (IsJoined pass)
     (λ other. joined_more c.loop-cpu.pass pass more other c.join.ensures.seen.0 added)
     (drop (length items) whole) i.joined in
-    let this = joined_new c.loop-cpu.pass pass cpu now c.catch_up.ensures.same c.catch_up.ensures.seen
-    c.join.ensures.seen.1 added in
+    let this =
+    joined_new c.loop-cpu.pass pass c.catch_up.ensures.same c.catch_up.ensures.seen c.join.ensures.seen.1 added in
     record {
       own = c.join.ensures.own;
       idle = c.join.ensures.idle;
