@@ -1,6 +1,6 @@
 -- No answer depends on the looks and the numbers before it: each definition over histories gives the same without them.
 use Rattle.std.proofs.Common.{◌≡◌, ℕ, zero, suc, ◌==◌, nat_lt, Bool, true, false, List, [], ◌∷◌, length, refl, sym, ◌∙◌}
-use Rattle.std.proofs.Common.{ap, inl, inr, Option, Some, None, if◌then◌else◌}
+use Rattle.std.proofs.Common.{ap, arith, inl, inr, Option, Some, None, if◌then◌else◌}
 use Rattle.board_prelude.proofs.Common.{option_map_or, cases_Bool, Pic0, Pic1, Pit, Elcr, Ata, trigger_byte, read_value}
 use Rattle.board_prelude.proofs.Common.{read_of, port_byte, Event, Memory, Wide, Port, Ack, Pulses, Reply, Bus, Saw}
 use Rattle.board_prelude.proofs.Common.{Entry, plain_value, map-same, levels-same, disk_of-same, elcr-same}
@@ -31,9 +31,7 @@ record Silent (event : Event) : Type 0 where
 
 look_put : (kind : Kind) (addr : ℕ) (smm : Bool) (reply : Reply) (cell : Cell)
     → entry_put (LookAt kind addr smm) reply cell ≡ None
-look_put kind addr smm (Bus value target denial) cell = refl
-look_put kind addr smm (Parts parts value) cell = refl
-look_put kind addr smm (Saw look) cell = refl
+look_put kind addr smm reply cell = grind arith
 
 silent : (event : Event) → is_look event ≡ true → Silent event
 silent (LookAt kind addr smm) is =

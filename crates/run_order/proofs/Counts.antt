@@ -1,6 +1,6 @@
 -- How many looks there are, and how many entries each has.
-use Rattle.std.proofs.Common.{◌≡◌, ℕ, zero, suc, ◌+◌, ◌≤◌, ◌==◌, true, List, [], ◌∷◌, map, get_or, set, refl, ap, arith}
-use Rattle.std.proofs.Common.{◌-◌, ◌^◌, ◌<◌, Bool, ◌++◌, length, take, All, ◌≢◌, sym, ◌∙◌, slice_index, reverse}
+use Rattle.std.proofs.Common.{◌≡◌, ℕ, zero, suc, ◌+◌, ◌≤◌, ◌==◌, List, [], ◌∷◌, map, get_or, set, refl, ap, arith, ◌-◌}
+use Rattle.std.proofs.Common.{◌^◌, ◌<◌, Bool, ◌++◌, length, take, All, ◌≢◌, sym, ◌∙◌, slice_index, reverse}
 use Rattle.board_prelude.proofs.Common.{nat_tests, take_more, map-append, length-map, get_or-set_other, reverse-append}
 use Rattle.board_prelude.proofs.Common.{length-reverse, get_or-set_at, All-cons, All-head, All-tail, Entry, entries_by}
 use Rattle.run_order.specs.declared.done.Done.{Done}
@@ -15,8 +15,7 @@ at_place : (rests : List (List Done)) (first k : ℕ) → (done_by first (first 
     × (passed first (first + k) rests ≡ set rests k (without_first (get_or rests k [])))
 unfolding done_by passed
 at_place [] first k = (refl, refl)
-at_place (done ∷ rests) first zero =
-    let is : (first + 0 == first) ≡ true = grind (arith, nat_tests) in rw is (refl, refl)
+at_place (done ∷ rests) first zero = grind (arith, nat_tests)
 at_place (done ∷ rests) first (suc k) = grind (arith, nat_tests, at_place rests (first + 1) k)
 
 -- the same, counted from the first processor
@@ -38,8 +37,7 @@ no_more_looks f (y ∷ ys) (suc k) x none is = omega (arith, no_more_looks f ys 
 
 pub looks_append : (xs ys : List Done) → looks_in (xs ++ ys) ≡ looks_in xs + looks_in ys
 looks_append [] ys = omega arith
-looks_append (Went version event ∷ xs) ys = looks_append xs ys
-looks_append (Looked kind addr smm look ∷ xs) ys = let more = looks_append xs ys in omega (arith, more)
+looks_append (one ∷ xs) ys = grind (arith, looks_append xs ys)
 
 -- one more statement
 pub looks_next : (xs : List Done) (k : ℕ) (d : Done) (count one : ℕ) → k < length xs → count ≡ looks_in (take k xs) →
@@ -84,9 +82,7 @@ counts_more : (counts : List ℕ) (actor other : ℕ) (entry : Entry) (before : 
     other < 8 → entry.actor ≡ actor → slice_index counts other ≡ length (entries_by other before) →
     slice_index (set counts actor (slice_index counts actor + 1)) other ≡ length (entries_by other (entry ∷ before))
 counts_more counts actor other entry before eight small own was =
-    let next : ℕ = get_or counts actor 0 + 1 in
-    let place = get_or-set_at counts actor other next 0 in
-    grind (arith, nat_tests, eight, small, own, was, place, get_or-set_other counts actor other next 0)
+    grind (arith, nat_tests, get_or-set_at, get_or-set_other)
 
 -- an entry more
 pub order_more : {spare bus capacity : ℕ} {counts : List ℕ} (items items' : List RunEntry) (capacity' actor place : ℕ)
@@ -117,14 +113,10 @@ pub order_reserved : {spare bus capacity : ℕ} {counts : List ℕ} (items items
     → length items + n ≤ capacity' → length items + n < 2 ^ 32
     → IsOrder (record { entries = reverse items'; spare = n; bus = bus }) capacity' counts
 order_reserved items items' capacity' n kept same room few =
-    let size : length (reverse items) ≡ length items = length-reverse items in
-    rw same (record {
-      room = omega (arith, size, room);
-      few = omega (arith, size, few);
-      fewer = kept.fewer;
-      within = kept.within;
-      counted = kept.counted;
-    })
+    let size = length-reverse items in
+    let wide : length (reverse items) + n ≤ capacity' = omega (arith, size, room) in
+    let less : length (reverse items) + n < 2 ^ 32 = omega (arith, size, few) in
+    rw same assumption
 
 -- ---- where nobody looked
 

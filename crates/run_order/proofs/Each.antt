@@ -53,11 +53,7 @@ all_own v (items ∷ rests) first c final =
 
 passed_own : (actor : ℕ) (rests : List (List Done)) → actor < length rests
     → done_by 0 actor (passed 0 actor rests) ≡ without_first (done_by 0 actor rests)
-passed_own actor rests few =
-    let next : List Done = without_first (get_or rests actor []) in
-    let at = from_first rests actor in
-    let after = from_first (set rests actor next) actor in
-    rw (at.1, at.0, after.0) (get_or-set_at rests actor actor next [] refl few)
+passed_own actor rests few = grind (arith, from_first, get_or-set_at)
 
 passed_other : (actor c : ℕ) (rests : List (List Done)) → c ≢ actor
     → done_by 0 c (passed 0 actor rests) ≡ done_by 0 c rests

@@ -124,15 +124,10 @@ module _ (setup : Setup) (cards : IsCardList setup.cards) (whole : List Entry) (
       let was : List Entry = d.0 in let older : List MapChange = d.1 in let one = d.2 in
       let place : Begins (one.entry ∷ one.list) whole = rw one.now_is at b in
       let inside : Begins one.list whole = begins_before one.entry one.list whole place in
-      let call : IsCall setup whole actor was (length older) event version one.list one.entry = record {
-        own = one.own;
-        said = one.said;
-        no_look = d.4;
-        noted = d.3 ∙ ap length one.known_is ∙ ap (version_of setup) one.now_is;
-        next = one.mine;
-        known = extends_length older (map_writes_of setup one.list) one.meets;
-        place = place;
-      } in
+      let noted : version ≡ version_of setup (one.entry ∷ one.list) =
+      d.3 ∙ ap length one.known_is ∙ ap (version_of setup) one.now_is in
+      let known = extends_length older (map_writes_of setup one.list) one.meets in
+      let call : IsCall setup whole actor was (length older) event version one.list one.entry = assumption in
       let rest : Follows setup whole actor (one.entry ∷ one.list) (version_of setup (one.entry ∷ one.list)) items =
       rw (one.known_is, one.now_is) at f in
       follows_on before was older (Went version event ∷ items) d.5 (begins_trans was one.list whole one.begins inside)
@@ -179,12 +174,10 @@ FirstLook P (Looked kind addr smm look ∷ items) = P look.version
 
 pub first_goes : (P Q : ℕ → Type 0) → ((n : ℕ) → P n → Q n) → (items : List Done) → FirstLook P items
     → FirstLook Q items
-first_goes P Q goes (Looked kind addr smm look ∷ items) first = goes look.version first
-first_goes P Q goes _ first = tt
+first_goes P Q goes items first = grind (arith, goes)
 
 pub first_all : (P : ℕ → Type 0) → ((n : ℕ) → P n) → (items : List Done) → FirstLook P items
-first_all P all (Looked kind addr smm look ∷ items) = all look.version
-first_all P all _ = tt
+first_all P all items = grind (arith, all)
 
 -- a look that comes next has at least so many map writes
 abbrev pub Late : ℕ → List Done → Type 0
@@ -192,8 +185,7 @@ Late n items = FirstLook (λ k. n ≤ k) items
 
 pub late_by : (setup : Setup) (whole : List Entry) (actor : ℕ) (from : List Entry) (low n : ℕ) (items : List Done)
     → Follows setup whole actor from low items → n ≤ low → Late n items
-late_by setup whole actor from low n (Looked kind addr smm look ∷ items) f le = omega (arith, f.0, le)
-late_by setup whole actor from low n _ f le = tt
+late_by setup whole actor from low n items f le = grind arith
 
 module _ (setup : Setup) (whole : List Entry) (actor : ℕ) where
   -- what a processor knew is in the history before its next call

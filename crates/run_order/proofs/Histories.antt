@@ -6,8 +6,7 @@ use Rattle.board_prelude.proofs.Common.{entries_by, reverse-reverse, All-permuta
 use Rattle.std.proofs.lemmas.List.Sorted.{IsPermutation-reverse}
 use Rattle.run_order.specs.Trace.{Begins}
 use Rattle.run_order.specs.declared.entry.RunEntry.{RunEntry}
-use Rattle.run_order.specs.declared.entry.RunEntry.TheVariants.{Bus, Look}
-use Rattle.run_order.specs.Over.{IsPlacedBelow, entry_of, nowhere, over}
+use Rattle.run_order.specs.Over.{IsPlacedBelow, entry_of, over}
 
 -- what comes later, the oldest first, put before a list with the newest first
 abbrev pub onto : {X : Type 0} → List X → List X → List X
@@ -79,8 +78,7 @@ version_step setup entry before = grind arith
 -- ---- entries over the bus's history
 
 pub within_more : (n m : ℕ) → n ≤ m → (entry : RunEntry) → IsPlacedBelow n entry → IsPlacedBelow m entry
-within_more n m more (Bus actor seq place) less = omega (arith, more, less)
-within_more n m more (Look actor seq kind smm addr look) less = tt
+within_more n m more entry less = grind arith
 
 pub all_reverse : {X : Type 0} (P : X → Type 0) (xs : List X) → All P xs → All P (reverse xs)
 all_reverse P xs = All-permutation P xs (reverse xs) (IsPermutation-reverse xs)
@@ -90,9 +88,7 @@ all_turned P xs all = subst (All P) (reverse-reverse xs) (all_reverse P (reverse
 
 of_front : (n : ℕ) (bus : List Entry) (entry : RunEntry) → IsPlacedBelow n entry
     → entry_of (take n bus) entry ≡ entry_of bus entry
-of_front n bus (Bus actor seq place) less = ap (λ (e : Entry). record e { actor = actor; seq = seq })
-    (get_or-take n bus place nowhere less)
-of_front n bus (Look actor seq kind smm addr look) less = refl
+of_front n bus entry within = grind (arith, get_or-take)
 
 -- entries within the front of the bus's history are the same over it
 pub over_front : (n : ℕ) (bus : List Entry) (entries : List RunEntry) → All (IsPlacedBelow n) entries

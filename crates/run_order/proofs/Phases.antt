@@ -50,15 +50,11 @@ drop_one : ℕ → List Statement → List Statement
 drop_one a [] = []
 drop_one a (y ∷ ys) = if y.actor == a then ys else y ∷ drop_one a ys
 
-drop_size : (a : ℕ) (ys : List Statement) → 0 < count a ys → length ys ≡ length (drop_one a ys) + 1
+drop_counts : (a c : ℕ) (ys : List Statement) → 0 < count a ys
+    → (length ys ≡ length (drop_one a ys) + 1) × (count c ys ≡ count c (drop_one a ys) + cond (a == c) 1 0)
 unfolding drop_one
-drop_size a [] some = absurd (omega (arith, some))
-drop_size a (y ∷ ys) some = grind (arith, nat_tests, some, drop_size a ys)
-
-drop_count : (a c : ℕ) (ys : List Statement) → 0 < count a ys → count c ys ≡ count c (drop_one a ys) + cond (a == c) 1 0
-unfolding drop_one
-drop_count a c [] some = absurd (omega (arith, some))
-drop_count a c (y ∷ ys) some = grind (arith, nat_tests, some, drop_count a c ys)
+drop_counts a c [] some = grind arith
+drop_counts a c (y ∷ ys) some = grind (arith, nat_tests, some, drop_counts a c ys)
 
 -- two lists of statements with as many of each processor's are as long
 same_size : (xs ys : List Statement) → ((c : ℕ) → count c xs ≡ count c ys) → length xs ≡ length ys
@@ -68,8 +64,8 @@ same_size (x ∷ xs) ys same =
     let own = same x.actor in
     let some : 0 < count x.actor ys = grind (arith, nat_tests, own) in
     let rest = same_size xs (drop_one x.actor ys)
-    (λ c. let own = same c in grind (arith, nat_tests, own, drop_count x.actor c ys some)) in
-    omega (arith, rest, drop_size x.actor ys some)
+    (λ c. let own = same c in grind (arith, nat_tests, own, drop_counts x.actor c ys some)) in
+    omega (arith, rest, (drop_counts x.actor x.actor ys some).0)
 
 -- ---- phases
 

@@ -29,8 +29,7 @@ EndsBare [] = Unit {0}
 EndsBare (entry ∷ before) = is_look entry.event ≡ false
 
 pub ends_bare : (actor : ℕ) (since : List Entry) → EndsBare since → without_lower actor since ≡ since
-ends_bare actor [] ends = refl
-ends_bare actor (entry ∷ before) ends = rw ends refl
+ends_bare actor since ends = grind arith
 
 pub lower_out : (actor : ℕ) (looks since : List Entry) → AreLower actor looks → EndsBare since
     → without_lower actor (looks ++ since) ≡ since
@@ -44,8 +43,7 @@ lower_on first (entry ∷ looks) lower = (lower.0, omega (arith, lower.1), lower
 
 pub call_in_place : (setup : Setup) (history before : List Entry) (actor : ℕ) (event : Event) (reply : Reply)
     → is_look event ≡ false → IsInPlace setup history before actor event reply
-call_in_place setup history before actor (LookAt kind addr smm) reply not = absurd (cc not)
-call_in_place setup history before actor _ reply not = tt
+call_in_place setup history before actor event reply not = grind arith
 
 -- ---- a look that is due
 
@@ -55,24 +53,19 @@ Direct setup history v actor added n = n ≤ v → IsPlaceOf setup history actor
 
 not_due_goes : (v : ℕ) (P : ℕ → Type 0) → ((n : ℕ) → v < n → P n) → (items : List Done) → IsNotDue v items
     → FirstLook P items
-not_due_goes v P goes (Looked kind addr smm look ∷ items) late = goes look.version late
-not_due_goes v P goes _ late = tt
+not_due_goes v P goes items late = grind (arith, goes)
 
 module _ (setup : Setup) (history : List Entry) where
   pub own_direct : (v n : ℕ) (entry : Entry) (before : List Entry)
       → Direct setup history v entry.actor (entry ∷ before) n
-  own_direct v n entry before due =
-      let stays : without_lower entry.actor (entry ∷ before) ≡ entry ∷ before = grind (arith, nat_tests) in
-      subst (IsPlaceOf setup history entry.actor n) (sym stays) (inl refl)
+  own_direct v n entry before due = grind (arith, nat_tests)
 
   -- a look that was not due before a call is due after it where the call is the map write
   pub write_direct : (actor n : ℕ) (entry : Entry) (before : List Entry) → is_look entry.event ≡ false
       → version_of setup (before ++ history) + 1 ≤ n
       → Direct setup history (version_of setup (entry ∷ before ++ history)) actor (entry ∷ before) n
   write_direct actor n entry before call late due =
-      let step = version_step setup entry (before ++ history) in
-      subst (IsPlaceOf setup history actor n) (sym (ends_bare actor (entry ∷ before) call))
-      (inr (record { fewer = omega (arith, late); count_is = omega (arith, late, due, step.1) }))
+      grind (arith, nat_tests, version_step setup entry (before ++ history))
 
 -- ---- the placed history
 

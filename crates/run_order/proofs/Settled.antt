@@ -1,9 +1,9 @@
 -- Lists in which no look is due.
-use Rattle.std.proofs.Common.{◌≡◌, ℕ, zero, suc, ◌+◌, ◌-◌, ◌<◌, ◌≤◌, nat_le, false, List, [], ◌∷◌, length, All, drop}
-use Rattle.std.proofs.Common.{get_or, map, set, refl, sym, ◌∙◌, ap, arith, inl, inr, take, drop-set-lt, ◌++◌, reverse}
-use Rattle.board_prelude.proofs.Common.{cases_Bool, nat_tests, length-map, get_or-map, map-set, get_or-set_other}
-use Rattle.board_prelude.proofs.Common.{drop_more, drop_all, All-get_or, Entry, next_entry, take_more, map-append}
-use Rattle.board_prelude.proofs.Common.{length-set, take_all, reverse-append, take-append-drop, Setup, IsLegal}
+use Rattle.std.proofs.Common.{◌≡◌, ℕ, zero, suc, ◌+◌, ◌-◌, ◌<◌, ◌≤◌, List, [], ◌∷◌, length, All, drop, get_or, map, set}
+use Rattle.std.proofs.Common.{refl, sym, ◌∙◌, ap, arith, take, drop-set-lt, ◌++◌, reverse}
+use Rattle.board_prelude.proofs.Common.{nat_tests, length-map, get_or-map, map-set, get_or-set_other, drop_more}
+use Rattle.board_prelude.proofs.Common.{drop_all, All-get_or, Entry, next_entry, take_more, map-append, length-set}
+use Rattle.board_prelude.proofs.Common.{take_all, reverse-append, take-append-drop, Setup, IsLegal}
 use Rattle.run_order.specs.declared.done.Done.{Done}
 use Rattle.run_order.specs.declared.done.Done.TheVariants.{Looked}
 use Rattle.run_order.specs.Common.{with_looks, left_after, with_all_looks, all_left, without_first, noted, placed}
@@ -16,19 +16,13 @@ use Rattle.run_order.proofs.Histories.{onto, onto_is, legal_front}
 
 pub not_due_left : (version : ℕ) (done : List Done) → IsNotDue version (left_after version done)
 unfolding left_after
-not_due_left version (Looked kind addr smm look ∷ done) =
-    elim (cases_Bool (nat_le look.version version)) [
-      | inl is ↦ rw is (not_due_left version done)
-      | inr not ↦ rw not (let less : version < look.version = grind (arith, nat_tests) in less)
-    ]
+not_due_left version (Looked kind addr smm look ∷ done) = grind (arith, nat_tests, not_due_left version done)
 not_due_left version _ = tt
 
 not_due : (version actor : ℕ) (done : List Done) (history : List Entry) → IsNotDue version done
     → (with_looks version actor done history ≡ history) × (left_after version done ≡ done)
 unfolding with_looks left_after
-not_due version actor (Looked kind addr smm look ∷ done) history not =
-    let no : nat_le look.version version ≡ false = grind (arith, nat_tests) in rw no (refl, refl)
-not_due version actor _ history not = (refl, refl)
+not_due version actor done history not = grind (arith, nat_tests)
 
 -- ---- what all did
 
@@ -243,8 +237,7 @@ next_onto setup later before entry legal =
 -- ---- without looks
 
 none_due : (version : ℕ) (done : List Done) → looks_in done ≡ 0 → IsNotDue version done
-none_due version (Looked kind addr smm look ∷ done) none = absurd (omega (arith, none))
-none_due version _ none = tt
+none_due version done none = grind arith
 
 none_settled : (version : ℕ) (rests : List (List Done)) → all_looks_in rests ≡ 0 → IsSettled version rests
 none_settled version [] none = λ k. tt
