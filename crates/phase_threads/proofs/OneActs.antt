@@ -90,15 +90,15 @@ theirs number actor before now unlike same =
     by_other number actor unlike now ∙ (ap (entries_by actor) same ∙ sym (by_other number actor unlike before))
 
 -- what each processor did of a phase, where one acted and the others had nothing to do
-pub one_acted : (number : ℕ) (before now : Standing) (phase : List Statement) (old new : List Work)
-    (lists : List (List Done)) (done : List Done) (known : List MapChange) → HasGrown number before now phase old new
+pub one_acted : {number : ℕ} {before now : Standing} {phase : List Statement} {old new : List Work}
+    (lists : List (List Done)) {done : List Done} {known : List MapChange} → HasGrown number before now phase old new
     → All (λ statement. statement.actor ≡ number) phase
     → HasDone before.setup number before.entries phase done now.entries known
     → known ≡ map_writes_of before.setup now.entries → length lists ≡ length new → get_or lists number [] ≡ done
     → ((actor : ℕ) → actor ≢ number → actor < length lists → get_or lists actor [] ≡ [])
     → ((version : ℕ) (later history : List Entry)
     → placed version later (done_in new) history ≡ placed version later lists history) → HasRunSo before now phase new
-one_acted number before now phase old new lists done known grown only has known_is count own none same =
+one_acted {number} {before} {now} {phase} lists {known = known} grown only has known_is count own none same =
     let begins = begins_opened before.setup number before.entries _ now.entries known has.trace in
     let at = λ (actor : ℕ). (from_first lists actor).0 in
     record {
@@ -137,7 +137,7 @@ alone_has_run {number} {before} {now} {phase} {new} (d ∷ old) can only acted =
     let did : Work → List Done = λ work. work.done.items in
     let count : length new ≡ length (d ∷ old) = acted.grown.count in
     let size = length-map new did in
-    one_acted number before now phase (d ∷ old) new (done_in new) _ _ acted.grown only (acted.done d)
+    one_acted (done_in new) acted.grown only (acted.done d)
     (ap (λ (setup : Setup). map_writes_of setup now.entries) acted.grown.setup) size
     (get_or-map did new number d [] (omega (arith, can.within, count)))
     (λ actor unlike less. get_or-map did new actor d [] (omega (arith, less, size))
@@ -328,7 +328,7 @@ plain_has_run {number} {before} {now} {phase} {old} {new} can only stepped =
     let none : all_looks_in (done_in old) ≡ 0 = nobody_looked did old (λ k d less. rw (can.empty k d less) refl) in
     let plain : all_looks_in lists ≡ 0 =
     omega (arith, count_set (done_in old) number done within, none, no_looks before.setup before.entries a.more) in
-    one_acted number before now phase old new lists done _ stepped.grown only
+    one_acted lists stepped.grown only
     (has_done number phase before now a only) refl (omega (arith, count, size, stepped.grown.count))
     (get_or-set_at (done_in old) number number done [] refl within)
     (λ other unlike few. get_or-set_other (done_in old) number other done [] unlike
@@ -345,11 +345,11 @@ kept_in (one ∷ old) zero was work is same =
     ap (λ (done : List Done). done ∷ done_in old) (same ∙ ap (λ (w : Work). w.done.items) is)
 kept_in (one ∷ old) (suc number) was work is same = rw (kept_in old number was work is same) refl
 
-pub has_stepped : (number : ℕ) (before now : Standing) (phase : List Statement) (old : List Work) (was work : Work)
+pub has_stepped : {number : ℕ} {before now : Standing} {phase : List Statement} (old : List Work) (was work : Work)
     → number < length old
     → was ≡ slice_index_or old number was → HasAdded number phase before now → work.asked ≤ was.asked + length phase
     → work.done.items ≡ was.done.items → HasStepped number before now phase old (set old number work)
-has_stepped number before now phase old was work within is a asked same =
+has_stepped {number} {before} {now} {phase} old was work within is a asked same =
     let count = added_count number phase before now a in
     let mine = ap (λ (h : List Entry). length (entries_by number h)) a.grows ∙ own_more number a.more before.entries
     a.own in
@@ -363,11 +363,11 @@ has_stepped number before now phase old was work within is a asked same =
     }
 
 -- one statement more
-pub added_more : (number : ℕ) (phase : List Statement) (i : ℕ) (d : Statement) (before board now : Standing)
-    (entry : Entry) → i < length phase → HasAdded number (take i phase) before board → now.setup ≡ board.setup →
+pub added_more : {number : ℕ} {before board now : Standing} {entry : Entry} (phase : List Statement) (i : ℕ)
+    (d : Statement) → i < length phase → HasAdded number (take i phase) before board → now.setup ≡ board.setup →
     now.entries ≡ entry ∷ board.entries → entry.actor ≡ number → entry.event ≡ (slice_index_or phase i d).event →
     is_look (slice_index_or phase i d).event ≡ false → HasAdded number (take (i + 1) phase) before now
-added_more number phase i d before board now entry less a setup is own said none =
+added_more {number} {entry = entry} phase i d less a setup is own said none =
     let event : Statement → Event = λ statement. statement.event in
     let told : Entry → Event = λ entry. entry.event in
     record {

@@ -10,7 +10,7 @@ use Rattle.run_order.specs.declared.done.Done.{Done}
 use Rattle.run_order.specs.Common.{placed, Order, bare, IsPhaseRun, PhaseRuns, AreInPlace, AreAllInPlace, Begins}
 use Rattle.run_order.specs.Common.{IsPlacedBelow, over}
 use Rattle.phase_work.specs.declared.worker.Work.{Work}
-use Rattle.phase_threads.specs.Common.{IsStatement, TakesIn, entries_of}
+use Rattle.phase_threads.specs.Common.{IsStatement, TakesIn, entries_of, done_in}
 use Rattle.phase_threads.specs.Unseen.{HasRunSo}
 use Rattle.run_order.proofs.Histories.{all_reverse, over_front}
 use Rattle.board_spec.proofs.ReplayLaws.{legal_before}
@@ -55,35 +55,29 @@ module _ {before now opened entries : List Entry} (grew : Grew before now opened
       rw front (all_reverse (λ (entry : Entry). entry.actor < 8) before (λ k d less.
       let one = all k d less in omega (arith, one, few)))
 
-pub phase_is_run : (before now : Standing) (opened entries : List Entry) (phase : List Statement) (works : List Work) →
-    (run : HasRunSo before now phase works) → Grew before.entries now.entries opened entries →
-    IsCardList before.setup.cards → IsLegal now.setup now.entries →
-    All (λ entry. entry.actor < length works) now.entries → All (IsStatement before.setup (length works)) phase →
-    IsPhaseRun before.setup before.entries (gained opened entries) phase run.lists
-phase_is_run before now opened entries phase works run grew cards legal callers speakers = record {
-  cards = cards;
-  legal = rw (whole_is grew, ← run.setup) legal;
-  callers = rw run.count (gained_all grew (λ (entry : Entry). entry.actor < length works) callers);
-  speakers = rw run.count (λ k d less. (speakers k d less).actor);
-  each = λ actor less. rw (whole_is grew) (run.each actor (rw run.count at less));
-}
-
 -- ---- the history of the run
 
-pub takes_in : (before now : Standing) (opened entries : List Entry) (phase : List Statement) (lists : List (List Done))
-    (old new : Option Order) (version : ℕ)
-    → PhaseRuns → IsPhaseRun before.setup before.entries (gained opened entries) phase lists
-    → Grew before.entries now.entries opened entries → version ≡ version_of before.setup before.entries
-    → IsLegal before.setup (entries_of old before.entries) → bare (entries_of old before.entries) ≡ bare before.entries
-    → entries_of new (reverse entries)
-    ≡ placed version (gained opened entries) lists (entries_of old (reverse (take (length opened) entries)))
+pub takes_in : {before now : Standing} {opened entries : List Entry} {phase : List Statement} {works : List Work}
+    (old new : Option Order) (version : ℕ) → PhaseRuns → (run : HasRunSo before now phase works)
+    → Grew before.entries now.entries opened entries → IsCardList before.setup.cards → IsLegal now.setup now.entries
+    → All (λ entry. entry.actor < length works) now.entries → All (IsStatement before.setup (length works)) phase
+    → version ≡ version_of before.setup before.entries → IsLegal before.setup (entries_of old before.entries)
+    → bare (entries_of old before.entries) ≡ bare before.entries → entries_of new (reverse entries)
+    ≡ placed version (gained opened entries) (done_in works) (entries_of old (reverse (take (length opened) entries)))
     → TakesIn phase before now (entries_of old before.entries) (entries_of new now.entries)
-takes_in before now opened entries phase lists old new version law run grew version_is legal same placed_is =
-    let later : List Entry = gained opened entries in
-    let history : List Entry = entries_of old before.entries in
-    let all : entries_of new now.entries ≡ placed (version_of before.setup before.entries) later lists history =
-    rw (back_is grew, version_is, front_is grew) at placed_is in
-    let there = rw (← all) at (law before.setup before.entries later phase lists history run legal same) in
+takes_in {before} {now} {opened} {entries} {phase} {works} old new version law run grew cards legal callers speakers
+    version_is kept same placed_is =
+    let later : List Entry = gained opened entries in let history : List Entry = entries_of old before.entries in
+    let is_run : IsPhaseRun before.setup before.entries later phase run.lists = record {
+      cards = cards;
+      legal = rw (whole_is grew, ← run.setup) legal;
+      callers = rw run.count (gained_all grew (λ (entry : Entry). entry.actor < length works) callers);
+      speakers = rw run.count (λ k d less. (speakers k d less).actor);
+      each = λ actor less. rw (whole_is grew) (run.each actor (rw run.count at less));
+    } in
+    let all : entries_of new now.entries ≡ placed (version_of before.setup before.entries) later run.lists history =
+    rw (back_is grew, version_is, front_is grew) at (placed_is ∙ run.same version later _) in
+    let there = rw (← all) at (law before.setup before.entries later phase run.lists history is_run kept same) in
     record {
       legal = there.legal;
       same = there.bus ∙ ap bare (whole_is grew);

@@ -7,10 +7,9 @@ pub loop-statement-preserved : goal.loop-statement-preserved
 loop-statement-preserved g c =
     let l = c.loop-statement in let less = c.loop-statement-test.true in
     record {
-      added =
-          added_more c.args.number c.args.phase.now l.statement-index _ c.args.board.now l.board c.step.new.self _ less
-          l.invariant.added (ap (λ (b : Standing). b.setup) c.step.ensures.entry)
-          (ap (λ (b : Standing). b.entries) c.step.ensures.entry) refl refl (c.requires.plain l.statement-index _ less);
+      added = added_more c.args.phase.now l.statement-index _ less l.invariant.added
+          (ap (λ (b : Standing). b.setup) c.step.ensures.entry) (ap (λ (b : Standing). b.entries) c.step.ensures.entry)
+          refl refl (c.requires.plain l.statement-index _ less);
       room = omega (arith, l.invariant.room, ap (λ (b : Standing). b.spare) c.step.ensures.entry, less);
       asked = omega (arith, l.invariant.asked);
       done = l.invariant.done;

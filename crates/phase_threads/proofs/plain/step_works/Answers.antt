@@ -11,8 +11,6 @@ pub returns : goal.returns
 returns g c = record {
   stepped =
       rw c.from.ensures (on_ok c.step_all.result (λ added.
-      has_stepped c.args.number c.args.board.now c.step_all.new.board c.args.phase.now c.args.works.now.items
-      c.index_mut.result.now
-      c.step_all.new.work (search rules) (search rules) added c.step_all.ensures.asked c.step_all.ensures.done)
-      c.step_all.ensures.added);
+      has_stepped c.args.works.now.items c.index_mut.result.now c.step_all.new.work (search rules) (search rules) added
+      c.step_all.ensures.asked c.step_all.ensures.done) c.step_all.ensures.added);
 }

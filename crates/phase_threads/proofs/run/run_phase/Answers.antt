@@ -1,11 +1,10 @@
-use Rattle.std.proofs.Common.{◌≡◌, ◌+◌, ◌<◌, List, Bor, map, take, length, sym, ◌∙◌, ap, reverse}
+use Rattle.std.proofs.Common.{◌≡◌, ◌+◌, ◌<◌, List, Bor, map, length, sym, ◌∙◌, ap, reverse}
 use Rattle.access_history.specs.Past.{Past}
-use Rattle.board_prelude.proofs.Common.{Entry, version_of, length-map}
+use Rattle.board_prelude.proofs.Common.{Entry, length-map}
 use Rattle.run_order.specs.declared.done.Done.{Done}
 use Rattle.phase_work.specs.declared.worker.Work.{Work}
-use Rattle.phase_threads.specs.Common.{AreAsked, GrowsBy, done_in, entries_of}
-use Rattle.phase_threads.proofs.Phases.{gained, Grew, gained_all, gained_within, front_is, front_all, back_is}
-use Rattle.phase_threads.proofs.Phases.{phase_is_run, takes_in}
+use Rattle.phase_threads.specs.Common.{AreAsked, GrowsBy, done_in}
+use Rattle.phase_threads.proofs.Phases.{gained, Grew, gained_all, gained_within, front_is, front_all, back_is, takes_in}
 use Rattle.phase_threads.proofs.run.run_phase.Given.{Over}
 use Rattle.phase_threads.proofs.run.run_phase.Goals.{After-works_of}
 use Rattle.phase_threads.proofs.run.run_phase.Goals as goal
@@ -54,18 +53,12 @@ returns-clause-goes_on g c = grows g (goal.at.returns-clause-goes_on g c).After-
 pub returns-clause-takes_in : goal.returns-clause-takes_in
 returns-clause-takes_in g c =
     let at = (goal.at.returns-clause-takes_in g c).After-works_of in
-    let before = c.args.run.board in let now = c.in_ok-run.run'.board in
-    let opened : List Entry = c.entries.result in let entries : List Entry = c.entries-entries.result in
     let ran = rw c.deref.ensures.value at c.in_ok-run.ensures.run in
-    let run = phase_is_run before now opened entries c.args.phase.items c.in_ok-run.run'.works.items ran (grew g at)
-    c.requires.cards c.history-2.ensures.legal (asked g at).actors (rw (grows g at).count c.requires.can.in_range) in
-    let version : c.version-version.result ≡ version_of before.setup before.entries = c.version-version.ensures.version
-    ∙ c.map.ensures.version in
     let added = rw (c.len-opened.ensures.length, are_done g at) at c.in_ok-add.ensures.placed in
-    let history : List Entry = entries_of c.args.placing.now.order (reverse (take (length opened) entries)) in
-    takes_in before now opened entries c.args.phase.items ran.lists c.args.placing.now.order c.add.new.self.order
-    c.version-version.result c.law_phase_runs.ensures.runs run (grew g at) version c.requires.legal c.requires.same
-    (added ∙ ran.same c.version-version.result (gained opened entries) history)
+    takes_in c.args.placing.now.order c.add.new.self.order c.version-version.result c.law_phase_runs.ensures.runs ran
+    (grew g at) c.requires.cards c.history-2.ensures.legal (asked g at).actors
+    (rw (grows g at).count c.requires.can.in_range) (c.version-version.ensures.version ∙ c.map.ensures.version)
+    c.requires.legal c.requires.same added
 
 pub returns-clause-up_to : goal.returns-clause-up_to
 returns-clause-up_to g c =
