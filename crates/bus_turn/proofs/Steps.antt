@@ -336,8 +336,7 @@ module _ {T E F : Type 0} (entries : T → List E) (actor : E → ℕ) (fixed : 
       )
 
   lies_longer : (b : B) (views : List V) (right : V) (p : Place T) → L b views p → L b (views ++ right ∷ []) p
-  lies_longer b views right (home x) h = h
-  lies_longer b views right away h = (h.0, at_longer views (right ∷ []) (b.owner b.serving) h.0 h.1, h.2)
+  lies_longer b views right p h = grind (arith, at_longer)
 
   pub splits_seat : (id : ℕ) (v : V) → v.stage ≡ Idle → v.number ≡ 0 → v.splits < 255
       → Splits R id v (after_split v) (split_off v)
@@ -405,28 +404,18 @@ module _ {T E F : Type 0} (entries : T → List E) (actor : E → ℕ) (fixed : 
       let stay₁ : Stays b b s.views views₁ = set_stays b b s.views other w spent at' lives' (λ n _. refl) in
       let stay₂ : Stays b b views₁ views₂ = set_stays b b views₁ id v both at₁ lives (λ n _. refl) in
       let P : ℕ × List E → Type 0 = λ p. (own_by actor p.0 b.since ≡ p.1) × IsSpent views₂ p.0 in
+      let splits : id ≡ 0 → both.splits + 1 ≡ length views₂ = λ z. k.splits z ∙ sym (length-set views₁ id both) in
+      let stage : AtStage first b id both.seen both.stage = rw idle tt in
+      let all = All-append P v.joined ((w.number, w.mine) ∷ w.joined)
+      (joined_on b b views₁ views₂ stay₂ v.joined k.joined) (All-cons P (w.number, w.mine) w.joined (
+        ap (λ (n : ℕ). own_by actor n b.since) kw.number ∙ kw.mine,
+        ap (get_elem? views₂) kw.number ∙ (stay₂ other (set_here s.views other spent (at_lt s.views other w at'))).1,
+      )
+      (joined_on b b views₁ views₂ stay₂ w.joined (joined_on b b s.views views₁ stay₁ w.joined kw.joined))) in
       let o₂ : O record { words = s.words; homes = s.homes; views = views₂ } = moved s₁ o₁ id v both s.words s.homes b
       at₁ lives o.words_are o.home_is (omega arith)
       (lies_on s₁ o₁ b id v both at₁ (λ e. cc) refl (λ _. refl) b.place o₁.lies)
-      (prefix_refl (log_of first b)) (λ n _. refl) o₁.numbered (λ j u _ h. h)
-      (λ _. record {
-        opened = k.opened;
-        part_is = k.part_is;
-        begins = k.begins;
-        told = kw.begins;
-        number = k.number;
-        splits = λ z. k.splits z ∙ sym (length-set views₁ id both);
-        mine = k.mine;
-        joined = All-append P v.joined ((w.number, w.mine) ∷ w.joined)
-            (joined_on b b views₁ views₂ stay₂ v.joined k.joined)
-            (All-cons P (w.number, w.mine) w.joined (
-              ap (λ (n : ℕ). own_by actor n b.since) kw.number ∙ kw.mine,
-              ap (get_elem? views₂) kw.number
-                  ∙ (stay₂ other (set_here s.views other spent (at_lt s.views other w at'))).1,
-            )
-            (joined_on b b views₁ views₂ stay₂ w.joined (joined_on b b s.views views₁ stay₁ w.joined kw.joined)));
-        stage = rw idle tt;
-      }) in
+      (prefix_refl (log_of first b)) (λ n _. refl) o₁.numbered (λ j u _ h. h) (λ _. assumption) in
       let lost = total_set is_gone s.views other w spent at' in let lost' = total_set is_gone views₁ id v both at₁ in
       let found = total_set joins s.views other w spent at' in let found' = total_set joins views₁ id v both at₁ in
       let long = length-append v.joined ((w.number, w.mine) ∷ w.joined) in
