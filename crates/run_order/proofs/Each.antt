@@ -1,8 +1,8 @@
 -- What holds of each processor's statements, where a call of the bus passes.
 use Rattle.std.proofs.Common.{◌≡◌, ◌≢◌, ℕ, ◌+◌, ◌<◌, ◌==◌, false, List, [], ◌∷◌, map, length, get_or, set, refl, arith}
-use Rattle.std.proofs.Common.{ap, get_or-set_other, zero, suc, true, ◌∙◌, inl, inr, MatchBool}
+use Rattle.std.proofs.Common.{ap, get_or-set_other, zero, suc, true, inl, inr, MatchBool}
 use Rattle.board_prelude.proofs.Common.{nat_tests, get_or-set_at, Event, Saw, Entry, entries_by, next_entry, length-map}
-use Rattle.board_prelude.proofs.Common.{cases_eq, cases_lt, Setup, version_of, length-set, get_or_past}
+use Rattle.board_prelude.proofs.Common.{cases_eq, Setup, version_of, length-set, get_or_past}
 use Rattle.board_spec.specs.declared.event.Event.TheVariants.{Look as LookAt}
 use Rattle.run_order.specs.declared.done.Done.{Done}
 use Rattle.run_order.specs.declared.done.Done.TheVariants.{Looked}
@@ -58,11 +58,8 @@ passed_own actor rests few = grind (arith, from_first, get_or-set_at)
 passed_other : (actor c : ℕ) (rests : List (List Done)) → c ≢ actor
     → done_by 0 c (passed 0 actor rests) ≡ done_by 0 c rests
 passed_other actor c rests other =
-    let next : List Done = without_first (get_or rests actor []) in
-    let at = from_first rests actor in
-    let after = from_first (set rests actor next) c in
-    let before = from_first rests c in
-    rw (at.1, after.0, before.0) (get_or-set_other rests actor c next [] other)
+    let next : List Done = without_first (get_or rests actor []) in let after = from_first (set rests actor next) c in
+    grind (arith, from_first rests actor, from_first rests c, after, get_or-set_other rests actor c next [] other)
 
 -- a call takes a processor's first statement
 pub call_own : (c : ℕ) (new : Entry) (looked : List Entry) (left : List (List Done)) → new.actor < length left
@@ -105,10 +102,7 @@ passed_each K L actor rests own others each =
     ])
 
 pub none_at : (rests : List (List Done)) (c : ℕ) → Each (λ _ rest. rest ≡ []) 0 rests → done_by 0 c rests ≡ []
-none_at rests c each = (from_first rests c).0 ∙ elim (cases_lt c (length rests)) [
-  | inl less ↦ each c c (omega arith) less
-  | inr past ↦ get_or_past rests c [] (omega (arith, past))
-]
+none_at rests c each = grind (arith, from_first rests c, each c c, get_or_past)
 
 -- ---- a call of the bus
 

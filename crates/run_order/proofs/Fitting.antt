@@ -192,8 +192,7 @@ module _ (setup : Setup) (whole : List Entry) (actor : ℕ) where
   until_call : (items : List Done) (from : List Entry) (low : ℕ) → Follows setup whole actor from low items
       → (before : List Entry) (entry : Entry) → Begins (entry ∷ before) whole
       → entry.actor ≡ actor → entries_by actor before ≡ entries_by actor from → low ≤ version_of setup before
-  until_call [] from low f before entry b own n =
-      absurd (omega (arith, own_later actor entry before whole b own, ap length f, ap length n))
+  until_call [] from low f before entry b own n = grind (arith, own_later actor entry before whole b own)
   until_call (Looked kind addr smm look ∷ items) from low f before entry b own n =
       omega (arith, f.0, until_call items from look.version f.3 before entry b own n)
   until_call (Went after event ∷ items) from low f before entry b own n =
@@ -228,9 +227,7 @@ module _ (setup : Setup) (whole : List Entry) (actor : ℕ) where
   none_left before from is n (Looked kind addr smm look ∷ items) low f late =
       absurd (omega (arith, ap (version_of setup) is, f.1, late))
   none_left before from is n (Went after event ∷ items) low f late =
-      let call = f.2 in
-      let all = ap (λ (h : List Entry). length (entries_by actor h)) is in
-      absurd (omega (arith, own_later actor f.1 f.0 whole call.place call.own, all, ap length n, ap length call.next))
+      let call = f.2 in grind (arith, own_later actor f.1 f.0 whole call.place call.own, call.next)
 
   -- a call of the processor's own is its next statement
   headed : (entry : Entry) (before from : List Entry) (P : List Done → Type 0) → Begins (entry ∷ before) whole
@@ -240,7 +237,7 @@ module _ (setup : Setup) (whole : List Entry) (actor : ℕ) where
       → (items : List Done) (low : ℕ) → Follows setup whole actor from low items
       → Late (version_of setup before + 1) items → IsHeaded entry.event (version_of setup (entry ∷ before)) P items
   headed entry before from P b own n p [] low f late =
-      absurd (omega (arith, own_later actor entry before whole b own, ap length f, ap length n))
+      absurd (grind (arith, own_later actor entry before whole b own))
   headed entry before from P b own n p (Looked kind addr smm look ∷ items) low f late =
       absurd (omega (arith, until_call items from look.version f.3 before entry b own n, late))
   headed entry before from P b own n p (Went after event ∷ items) low f late =

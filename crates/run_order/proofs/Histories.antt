@@ -50,15 +50,9 @@ own_later actor entry before whole b own = rw b.1 (own_counts actor b.0 entry be
 same : (actor : ℕ) (more others : List Entry) (left right : Entry) (before other : List Entry) →
     more ++ left ∷ before ≡ others ++ right ∷ other → left.actor ≡ actor → right.actor ≡ actor →
     length (entries_by actor before) ≡ length (entries_by actor other) → (left ≡ right) × (before ≡ other)
-same actor [] [] left right before other e l r n = (cc (e), cc (e))
-same actor [] (last ∷ others) left right before other e l r n =
-    let tail : before ≡ others ++ right ∷ other = cc (e) in
-    let less = own_counts actor others right other r in
-    absurd (omega (arith, less, ap (λ (h : List Entry). length (entries_by actor h)) tail, n))
-same actor (last ∷ more) [] left right before other e l r n =
-    let tail : more ++ left ∷ before ≡ other = cc (e) in
-    let less = own_counts actor more left before l in
-    absurd (omega (arith, less, ap (λ (h : List Entry). length (entries_by actor h)) tail, n))
+same actor [] [] left right before other e l r n = grind arith
+same actor [] (last ∷ others) left right before other e l r n = grind (arith, own_counts actor others right other r)
+same actor (last ∷ more) [] left right before other e l r n = grind (arith, own_counts actor more left before l)
 same actor (last ∷ more) (last' ∷ others) left right before other e l r n = same actor more others left right before
     other (cc (e)) l r n
 
