@@ -1,6 +1,6 @@
 -- Lists of jobs and of callers, by the numbers of their processors.
 use Rattle.std.proofs.Common.{◌≡◌, ℕ, ◌+◌, ◌<◌, ◌≤◌, ◌==◌, List, [], ◌∷◌, ◌++◌, map, length, take, drop, All, refl, sym}
-use Rattle.std.proofs.Common.{◌∙◌, ap, arith, inl, inr, reverse, slice_index_or, filter, Bool, true, false, get_or, set}
+use Rattle.std.proofs.Common.{◌∙◌, ap, arith, inl, inr, reverse, slice_index_or, filter, Bool, true, false, set}
 use Rattle.std.proofs.Common.{slice_index}
 use Rattle.board_prelude.proofs.Common.{Any, range_with_len, cases_Bool, nat_tests, get_or-map, get_or_default}
 use Rattle.board_prelude.proofs.Common.{reverse-append, append-nil, take_all, drop_all, map-append, length-map}
@@ -122,9 +122,7 @@ abbrev count_in : List Statement → ℕ → ℕ
 count_in phase actor = length (events_by actor phase)
 
 pub few_by : (actor : ℕ) (phase : List Statement) → length (events_by actor phase) ≤ length phase
-few_by actor phase =
-    let counted = length-map (filter (is_by actor) phase) event_in in
-    omega (arith, counted, length-filter (is_by actor) phase, count_by-le-length (is_by actor) phase)
+few_by actor phase = grind (arith, length-map, length-filter, count_by-le-length)
 
 -- one statement more
 pub counts_more : (counts : List ℕ) (phase : List Statement) (i : ℕ) (d : Statement) (actor other : ℕ)
@@ -134,11 +132,7 @@ pub counts_more : (counts : List ℕ) (phase : List Statement) (i : ℕ) (d : St
     (events_by other (take (i + 1) phase))
 counts_more counts phase i d actor other many small less own was =
     let more = length-filter_more (is_by other) phase i d less in
-    let before = length-map (filter (is_by other) (take i phase)) event_in in
-    let after = length-map (filter (is_by other) (take (i + 1) phase)) event_in in
-    let next : ℕ = get_or counts actor 0 + 1 in
-    let place = get_or-set_other counts actor other next 0 in
-    grind (arith, nat_tests, more, before, after, many, small, own, was, get_or-set_at counts actor other next 0, place)
+    grind (arith, nat_tests, more, length-map, get_or-set_at, get_or-set_other)
 
 -- one processor more
 pub due_more : (works : List Work) (work : Work) (phase : List Statement) (actor : ℕ) (next : List Work)

@@ -1,7 +1,7 @@
 -- A phase in which one processor acts.
-use Rattle.std.proofs.Common.{set, Result, Ok, Err, OnOk, ◌≡◌, ◌≢◌, ℕ, ◌+◌, ◌<◌, ◌≤◌, ◌==◌, not, List, [], ◌∷◌, length}
-use Rattle.std.proofs.Common.{All, get_or, slice_index_or, refl, sym, ◌∙◌, ap, arith, inl, inr, map, zero, suc, false}
-use Rattle.std.proofs.Common.{◌++◌, take, reverse, length-append, Bool, filter, true}
+use Rattle.std.proofs.Common.{set, Result, OnOk, ◌≡◌, ◌≢◌, ℕ, ◌+◌, ◌<◌, ◌≤◌, ◌==◌, not, List, [], ◌∷◌, length, All}
+use Rattle.std.proofs.Common.{get_or, slice_index_or, refl, sym, ◌∙◌, ap, arith, inl, inr, map, zero, suc, false, ◌++◌}
+use Rattle.std.proofs.Common.{take, reverse, length-append, Bool, filter, true}
 use Rattle.board_prelude.proofs.Common.{cases_eq, nat_tests, length-map, get_or-map, All-head, All-tail, All-cons}
 use Rattle.board_prelude.proofs.Common.{Entry, Statement, MapChange, Setup, entries_by, events_by, map_writes_of}
 use Rattle.board_prelude.proofs.Common.{ne_eqb, eq-eqb, get_or-set_at, get_or-set_other, length-reverse, length-set}
@@ -223,8 +223,7 @@ module _ (number : ℕ) (before now : Standing) (phase : List Statement) (old : 
 
 pub both_ok : {T E : Type 0} {P Q R : Type 0} (result : Result T E) → (P → Q → R) → OnOk result P → OnOk result Q
     → OnOk result R
-both_ok (Ok value) more one two = more one two
-both_ok (Err error) more one two = tt
+both_ok result more one two = grind (arith, more)
 
 -- ---- a phase of which what was done is not kept, since none of it is a look
 
@@ -282,10 +281,7 @@ own_more number more opened own =
 
 added_count : (number : ℕ) (phase : List Statement) (before now : Standing) (a : HasAdded number phase before now)
     → length a.more ≡ length phase
-added_count number phase before now a =
-    let turned = length-reverse (map (λ (entry : Entry). entry.event) a.more) in
-    let more = length-map a.more (λ (entry : Entry). entry.event) in
-    omega (arith, ap length a.said, turned, more, length-map phase (λ (statement : Statement). statement.event))
+added_count number phase before now a = grind (arith, ap length a.said, length-reverse, length-map)
 
 -- ---- the phase
 
@@ -341,8 +337,7 @@ plain_has_run {number} {before} {now} {phase} {old} {new} can only stepped =
 kept_in : (old : List Work) (number : ℕ) (was work : Work) → was ≡ slice_index_or old number was →
     work.done.items ≡ was.done.items → done_in (set old number work) ≡ done_in old
 kept_in [] number was work is same = refl
-kept_in (one ∷ old) zero was work is same =
-    ap (λ (done : List Done). done ∷ done_in old) (same ∙ ap (λ (w : Work). w.done.items) is)
+kept_in (one ∷ old) zero was work is same = grind arith
 kept_in (one ∷ old) (suc number) was work is same = rw (kept_in old number was work is same) refl
 
 pub has_stepped : {number : ℕ} {before now : Standing} {phase : List Statement} (old : List Work) (was work : Work)

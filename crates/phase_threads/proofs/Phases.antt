@@ -1,6 +1,6 @@
 -- A phase, as the history of the run takes it in.
 use Rattle.std.proofs.Common.{◌≡◌, ℕ, ◌+◌, ◌<◌, ◌≤◌, List, [], ◌∷◌, ◌++◌, map, length, take, drop, get_or, flat_map}
-use Rattle.std.proofs.Common.{All, Option, Vec, Global, sym, ◌∙◌, ap, arith, reverse, Some, Result, Ok, Err, OnOk}
+use Rattle.std.proofs.Common.{All, Option, Vec, Global, sym, ◌∙◌, ap, arith, reverse, Some, Result, OnOk}
 use Rattle.std.proofs.Common.{take-append-drop}
 use Rattle.board_prelude.proofs.Common.{reverse-append, reverse-reverse, length-append, map-append, append-nil}
 use Rattle.board_prelude.proofs.Common.{drop_more, flat_map-append, drop-append_seam, take-append_seam, All-drop, Entry}
@@ -147,5 +147,4 @@ taken_in bus opened version works old new fits size within is =
     rw (reverse-reverse bus, reverse-reverse (take opened bus), front) (rw size at is)
 
 pub on_ok : {T E : Type 0} {P Q : Type 0} (result : Result T E) → (P → Q) → OnOk result P → OnOk result Q
-on_ok (Ok value) more is = more is
-on_ok (Err error) more is = is
+on_ok result more is = grind (arith, more)

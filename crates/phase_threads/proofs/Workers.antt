@@ -25,10 +25,8 @@ use Rattle.phase_threads.proofs.Numbers.{numbered_length, numbers_below, same_nu
 
 zip_append : {X : Type 0} (R : X → X → Type 0) (xs ys us vs : List X) → AllZip R xs us → AllZip R ys vs
     → AllZip R (xs ++ ys) (us ++ vs)
-zip_append R [] ys [] vs front back = back
-zip_append R [] ys (u ∷ us) vs front back = absurd front
-zip_append R (x ∷ xs) ys [] vs front back = absurd front
-zip_append R (x ∷ xs) ys (u ∷ us) vs front back = (front.0, zip_append R xs ys us vs front.1 back)
+zip_append R [] ys us vs front back = grind arith
+zip_append R (x ∷ xs) ys us vs front back = grind (arith, zip_append R xs ys)
 
 -- both halves of a list
 pub zip_both : {X : Type 0} (R : X → X → Type 0) (xs ys us vs all : List X) → all ≡ xs ++ ys → AllZip R xs us
