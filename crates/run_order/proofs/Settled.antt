@@ -82,12 +82,12 @@ pub record AreAll (version : ℕ) (rests left : List (List Done)) (before now : 
     pub left_is : left ≡ all_left version rests
     pub room : spare' + all_looks_in rests ≡ spare + all_looks_in left
 
-pub one_is_all : {X : Type 0} (f : X → List Done) (xs : List X) (x none : X) (version k actor : ℕ)
-    (before now : List Entry) (spare spare' : ℕ) → k ≡ actor → IsSettledBut version actor (map f xs) → k < length xs
+pub one_is_all : {X : Type 0} {version k actor : ℕ} {before now : List Entry} {spare spare' : ℕ} (f : X → List Done)
+    (xs : List X) (x none : X) → k ≡ actor → IsSettledBut version actor (map f xs) → k < length xs
     → f x ≡ left_after version (f (get_or xs k none)) → now ≡ with_looks version actor (f (get_or xs k none)) before
     → spare' + looks_in (f (get_or xs k none)) ≡ spare + looks_in (f x)
     → AreAll version (map f xs) (map f (set xs k x)) before now spare spare'
-one_is_all f xs x none version k actor before now spare spare' is so' less left_is now_is room_is =
+one_is_all {version = version} {k} {actor} {before} f xs x none is so' less left_is now_is room_is =
     let rests : List (List Done) = map f xs in let so : IsSettledBut version k rests = rw is so' in
     let at : 0 + k ≡ k = omega arith in
     let few : k < length rests = omega (arith, less, length-map xs f) in

@@ -28,10 +28,4 @@ returns c =
     let l = c.loop-actor in
     let all = λ (bus : List Entry). looked_last (λ done. done.now) l.rests (l.invariant.looked bus)
     (omega (arith, c.loop-actor-test.false, l.auto.rests)) in
-    record {
-      placed = λ bus. (all bus).placed;
-      left = (all []).left_is;
-      bus = l.invariant.bus;
-      room = (all []).room;
-      keeps = l.invariant.keeps;
-    }
+    let placed = λ (bus : List Entry). (all bus).placed in let one = all [] in assumption

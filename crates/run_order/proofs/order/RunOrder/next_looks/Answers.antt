@@ -1,6 +1,5 @@
 use Rattle.std.proofs.Common.{List, [], arith}
 use Rattle.board_prelude.proofs.Common.{Entry}
-use Rattle.run_order.specs.Common.{over}
 use Rattle.run_order.proofs.Counts.{one_of}
 use Rattle.run_order.proofs.Settled.{one_is_all}
 use Rattle.run_order.proofs.order.RunOrder.next_looks.Goals as goal
@@ -15,14 +14,7 @@ pub returns : goal.returns
 returns c =
     let so = c.requires.settled c.if-version-before.false in
     let all = λ (bus : List Entry). one_is_all (λ done. done.now) c.args.rests.now c.looks.result
-    (record { ref_ptr = (0, 0); now = [] }) c.args.version c.from-place.result c.args.actor
-    (over bus c.args.self.now.entries) (over bus c.looks.new.self.entries) c.args.self.now.spare c.looks.new.self.spare
-    c.from-place.ensures so (omega (arith, c.requires.actor, c.from-place.ensures)) c.looks.ensures.left
-    (c.looks.ensures.placed bus) c.looks.ensures.room in
-    record {
-      placed = λ bus. (all bus).placed;
-      left = (all []).left_is;
-      bus = c.looks.ensures.bus;
-      room = (all []).room;
-      keeps = c.looks.ensures.keeps;
-    }
+    (record { ref_ptr = (0, 0); now = [] }) c.from-place.ensures so
+    (omega (arith, c.requires.actor, c.from-place.ensures)) c.looks.ensures.left (c.looks.ensures.placed bus)
+    c.looks.ensures.room in
+    let placed = λ (bus : List Entry). (all bus).placed in let one = all [] in assumption
