@@ -37,27 +37,22 @@ numbered_length f xs n e = sym (length-map xs f) ∙ (ap length e ∙ length-ran
 pub filter_all : {X : Type 0} (p : X → Bool) (xs : List X) → All (λ x. p x ≡ true) xs → filter p xs ≡ xs
 filter_all p [] all = refl
 filter_all p (x ∷ xs) all =
-    let own : p x ≡ true = All-head (λ x. p x ≡ true) x xs all in
-    rw (own, filter_all p xs (All-tail (λ x. p x ≡ true) x xs all)) refl
+    rw (All-head (λ x. p x ≡ true) x xs all, filter_all p xs (All-tail (λ x. p x ≡ true) x xs all)) refl
 
 pub filter_none : {X : Type 0} (p : X → Bool) (xs : List X) → All (λ x. p x ≡ false) xs → filter p xs ≡ []
 filter_none p [] none = refl
 filter_none p (x ∷ xs) none =
-    let own : p x ≡ false = All-head (λ x. p x ≡ false) x xs none in
-    rw own (filter_none p xs (All-tail (λ x. p x ≡ false) x xs none))
+    rw (All-head (λ x. p x ≡ false) x xs none) (filter_none p xs (All-tail (λ x. p x ≡ false) x xs none))
 
 -- each stands at the place of its number
 pub number_at : {X : Type 0} (f : X → ℕ) (xs : List X) (n : ℕ) → map f xs ≡ range_with_len 0 n → (k : ℕ) (d : X)
     → k < length xs → f (slice_index_or xs k d) ≡ k
 number_at f xs n e k d less =
-    let few : k < n = rw (numbered_length f xs n e) at less in
-    sym (get_or-map f xs k d (f d) less) ∙ rw e (get_or-range_with_len 0 n k (f d) few ∙ omega arith)
+    grind (arith, numbered_length f xs n e, get_or-map f xs k d (f d) less, get_or-range_with_len 0 n k (f d))
 
 pub numbers_below : {X : Type 0} (f : X → ℕ) (xs : List X) (n a : ℕ) → map f xs ≡ range_with_len 0 n
     → Any (λ x. f x ≡ a) xs → a < n
-numbers_below f xs n a e any =
-    let is : any.0 ≡ a = sym (number_at f xs n e any.0 any.1 any.2) ∙ (ap f any.3 ∙ any.4) in
-    omega (arith, is, numbered_length f xs n e, any.2)
+numbers_below f xs n a e any = grind (arith, number_at f xs n e any.0 any.1 any.2, numbered_length f xs n e)
 
 pub same_numbers : {X : Type 0} (f : X → ℕ) (xs ys : List X) (a : ℕ) → map f ys ≡ map f xs → Any (λ x. f x ≡ a) xs
     → Any (λ x. f x ≡ a) ys
@@ -103,9 +98,7 @@ lent_back n old now size same =
 pub counted : (works old now : List Work) (count len : ℕ)
     → map (λ (work : Work). work.asked) works ≡ map (λ (work : Work). work.asked) now → now ≡ old → count ≡ len
     → len ≡ length works → count ≡ length old
-counted works old now count len asked is count_is len_is =
-    let size = same_lengths (λ (work : Work). work.asked) (λ (work : Work). work.asked) works now asked in
-    count_is ∙ (len_is ∙ (size ∙ ap length is))
+counted works old now count len asked is count_is len_is = grind (arith, ap length asked, length-map)
 
 -- ---- how many statements each processor has in a phase
 

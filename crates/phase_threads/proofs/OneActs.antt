@@ -238,10 +238,7 @@ no_looks : (setup : Setup) (opened more : List Entry) → looks_in (reverse (don
 no_looks setup opened [] = refl
 no_looks setup opened (entry ∷ before) =
     let one : List Done = Went (length (map_writes_of setup (entry ∷ (before ++ opened)))) entry.event ∷ [] in
-    let others : List Done = dones setup opened before in
-    let same : looks_in (reverse (one ++ others)) ≡ looks_in (reverse others ++ one) =
-    ap looks_in (reverse-append one others) in
-    omega (arith, same, looks_append (reverse others) one, no_looks setup opened before)
+    grind (arith, reverse-append one (dones setup opened before), looks_append, no_looks setup opened before)
 
 dones_events : (setup : Setup) (opened more : List Entry)
     → map event_of (dones setup opened more) ≡ map (λ (entry : Entry). entry.event) more

@@ -68,10 +68,8 @@ all_idle live phase (job ∷ jobs) idle =
 
 pub numbers_stay : (live : Live) (phase : List Statement) (jobs now : List Job) → AllZip (Runs live phase) jobs now
     → map (λ (job : Job). job.cpu.number) now ≡ map (λ (job : Job). job.cpu.number) jobs
-numbers_stay live phase [] [] ran = refl
-numbers_stay live phase [] (last ∷ now) ran = absurd ran
-numbers_stay live phase (job ∷ jobs) [] ran = absurd ran
-numbers_stay live phase (job ∷ jobs) (last ∷ now) ran = rw (ran.0.number, numbers_stay live phase jobs now ran.1) refl
+numbers_stay live phase [] now ran = grind arith
+numbers_stay live phase (job ∷ jobs) now ran = grind (arith, numbers_stay live phase jobs)
 
 pub all_run : (live : Live) (board : Standing) (part : Option Origin) (phase : List Statement) (before : ℕ)
     (jobs now : List Job) → AllZip (Runs live phase) jobs now

@@ -17,8 +17,7 @@ room_for : (done : List Phase) (phase : Phase) (rest phases : List Phase) → do
     → length (flat_map in_phase phases) ≤ most_statements
     → length (flat_map in_phase done) + length phase.items ≤ most_statements
 room_for done phase rest phases whole most =
-    let all : length (flat_map in_phase (done ++ phase ∷ rest)) ≤ most_statements = rw whole most in
-    omega (arith, statements_within done phase rest, all)
+    omega (arith, rw whole at (statements_within done phase rest))
 
 pub run_phase-requires-clause-can : goal.run_phase-requires-clause-can
 run_phase-requires-clause-can g c κs within =
