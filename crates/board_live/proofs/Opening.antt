@@ -30,9 +30,7 @@ new_of one other cpu opened part new = record {
 
 range_more : (a n : ℕ) → range_with_len a (suc n) ≡ range_with_len a n ++ (a + n) ∷ []
 range_more a zero = simp add-zero
-range_more a (suc n) =
-    let next : (a + 1) + n ≡ a + suc n = omega arith in
-    ap (λ (w : List ℕ). a ∷ w) (rw next at (range_more (a + 1) n))
+range_more a (suc n) = grind (arith, range_more (a + 1) n)
 
 -- a caller more has the next number
 pub numbers_more : (cpus all : List Cpu) (cpu : Cpu) → all ≡ cpus ++ cpu ∷ [] → cpu.number ≡ length cpus + 1 →

@@ -89,25 +89,17 @@ pub finds : (cpu : Cpu) (held : Shared) → IsPrefix (seen_in cpu.pass) (reverse
     part_of cpu.pass ≡ Some (opened_with held) →
     IsPrefix cpu.viewer.front.seen.log held.publisher.value.front.seen.log → Finds cpu held
 finds cpu held begins opens own part meets =
-    let pass = cpu.pass in
-    let history = held.board.value.entries in
-    let both = sym cpu.passed.part ∙ part in
+    let pass = cpu.pass in let history = held.board.value.entries in let both = sym cpu.passed.part ∙ part in
     let setup : setup_in pass ≡ held.board.value.setup = ap (λ (o : Option Origin). (origin_in o).setup) part in
     let opened : opened_in pass ≡ oldest held.opened history = ap (λ (o : Option Origin). (origin_in o).entries) both in
     let listed =
     own_in cpu.number (opened_by pass) (reverse history) (mine_in pass) opens (rw cpu.passed.number at own) in
     let known = known_extend (setup_in pass) (opened_in pass) cpu.viewer.front.seen.log
     held.publisher.value.front.seen.log meets in
-    record {
-      setup = setup;
-      opened = opened;
-      begins = rw (reverse-reverse history) at (extends_prefix (seen_in pass) (reverse history) begins);
-      own =
-          rw (reverse-reverse history) at
-          (own_same cpu.number (reverse history) (seen_in pass) (listed ∙ sym cpu.passed.mine));
-      listed = listed;
-      meets = rw (known_all pass held setup opened) at known;
-    }
+    let goes_on = rw (reverse-reverse history) at (extends_prefix (seen_in pass) (reverse history) begins) in
+    let own = own_same cpu.number (reverse history) (seen_in pass) (listed ∙ sym cpu.passed.mine) in
+    let mine = rw (reverse-reverse history) at own in
+    let meets = rw (known_all pass held setup opened) at known in assumption
 
 -- and the same of the caller's pass after it has learnt that list
 pub known_left : (before now : SharedPass) (held : Shared) (log : List Mark) → IsSamePass before now →
@@ -238,12 +230,9 @@ module _ (pass : SharedPass) (done : Shared) (cpu : Cpu)
       let mine = own_in cpu.number (opened_by pass) (reverse history) own.1 opens (rw has.0 at is) in
       let all : own_by by_actor cpu.number (reverse history) ≡ own_by by_actor cpu.number (seen_in cpu.pass) =
       rw mine (rw same at has.1) in
-      record {
-        setup = setup;
-        begins = extends_trans _ _ _ begins grown;
-        mine = rw (reverse-reverse history) at (own_same cpu.number (reverse history) (seen_in cpu.pass) all);
-        meets = subst (λ (s : Setup). Extends (known_of cpu) (map_writes_of s history)) setup known;
-      }
+      let goes_on = extends_trans _ _ _ begins grown in
+      let mine = rw (reverse-reverse history) at (own_same cpu.number (reverse history) (seen_in cpu.pass) all) in
+      let meets = subst (λ (s : Setup). Extends (known_of cpu) (map_writes_of s history)) setup known in assumption
 
   -- and of a caller whose pass was joined
   pub closes_joined : IsJoined pass cpu
