@@ -7,7 +7,6 @@ use Rattle.run_order.specs.declared.done.Done.{Done}
 use Rattle.run_order.specs.Common.{done_by, without_first, passed, looks_in, all_looks_in, IsPlacedBelow, entry_of}
 use Rattle.run_order.specs.Common.{over, Order, IsOrder}
 use Rattle.std.proofs.lemmas.List.Sums.{length-filter, count_by-le-length}
-use Rattle.run_order.specs.declared.done.Done.TheVariants.{Went, Looked}
 use Rattle.run_order.specs.declared.entry.RunEntry.{RunEntry}
 use Rattle.run_order.proofs.Histories.{within_more}
 
@@ -123,10 +122,9 @@ order_reserved items items' capacity' n kept same room few =
 -- what a processor did has no look, where none of it is one
 pub none_looked : (done : List Done) → All (λ one. looks_in (one ∷ []) ≢ 1) done → looks_in done ≡ 0
 none_looked [] none = refl
-none_looked (Went version event ∷ done) none =
-    none_looked done (All-tail (λ one. looks_in (one ∷ []) ≢ 1) (Went version event) done none)
-none_looked (Looked kind addr smm look ∷ done) none =
-    absurd (All-head (λ one. looks_in (one ∷ []) ≢ 1) (Looked kind addr smm look) done none refl)
+none_looked (one ∷ done) none =
+    let rest = none_looked done (All-tail (λ one. looks_in (one ∷ []) ≢ 1) one done none) in
+    grind (arith, rest, All-head (λ one. looks_in (one ∷ []) ≢ 1) one done none)
 
 pub nobody_looked : {X : Type 0} (f : X → List Done) (works : List X) → All (λ work. looks_in (f work) ≡ 0) works
     → all_looks_in (map f works) ≡ 0

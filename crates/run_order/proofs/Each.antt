@@ -1,6 +1,6 @@
 -- What holds of each processor's statements, where a call of the bus passes.
 use Rattle.std.proofs.Common.{◌≡◌, ◌≢◌, ℕ, ◌+◌, ◌<◌, ◌==◌, false, List, [], ◌∷◌, map, length, get_or, set, refl, arith}
-use Rattle.std.proofs.Common.{ap, get_or-set_other, zero, suc, true, inl, inr, MatchBool}
+use Rattle.std.proofs.Common.{get_or-set_other, zero, suc, true, inl, inr, MatchBool}
 use Rattle.board_prelude.proofs.Common.{nat_tests, get_or-set_at, Event, Saw, Entry, entries_by, next_entry, length-map}
 use Rattle.board_prelude.proofs.Common.{cases_eq, Setup, version_of, length-set, get_or_past}
 use Rattle.board_spec.specs.declared.event.Event.TheVariants.{Look as LookAt}
@@ -67,10 +67,7 @@ pub call_own : (c : ℕ) (new : Entry) (looked : List Entry) (left : List (List 
     → onto (map event_of (done_by 0 c (passed 0 new.actor left))) (own c (new ∷ looked))
     ≡ onto (map event_of (done_by 0 c left)) (own c looked)
 call_own c new looked left few events =
-    let taken : onto (map event_of (done_by 0 new.actor left)) (own c looked)
-    ≡ onto (map event_of (without_first (done_by 0 new.actor left))) (new.event ∷ own c looked) =
-    ap (λ (es : List Event). onto es (own c looked)) events in
-    grind (arith, nat_tests, taken, passed_own new.actor left few, passed_other new.actor c left)
+    grind (arith, nat_tests, events, passed_own new.actor left few, passed_other new.actor c left)
 
 -- ---- what holds of each processor's statements, where a call of the bus passes
 
@@ -132,7 +129,4 @@ module _ (setup : Setup) (entry : Entry) (before later : List Entry) where
 
 -- there are as many processors when one has done its call
 pub count_passed : (v actor : ℕ) (rests : List (List Done)) → length (passed 0 actor (all_left v rests)) ≡ length rests
-count_passed v actor rests =
-    let left : List (List Done) = all_left v rests in
-    rw ((from_first left actor).1, length-set left actor (without_first (get_or left actor [])))
-    (length-map rests (left_after v))
+count_passed v actor rests = grind (arith, from_first (all_left v rests) actor, length-set, length-map)

@@ -50,9 +50,7 @@ extends_length shorter longer e = omega (arith, ap length e.1 ∙ length-append 
 same_end : (xs ys shorter other : List MapChange) → xs ++ shorter ≡ ys ++ other → length shorter ≡ length other
     → shorter ≡ other
 same_end xs ys shorter other e n =
-    let size : length xs ≡ length ys =
-    omega (arith, n, ap length e, length-append xs shorter, length-append ys other) in
-    sym (drop-append_seam xs shorter) ∙ rw (e, size) (drop-append_seam ys other)
+    grind (arith, ap length e, length-append, drop-append_seam xs shorter, drop-append_seam ys other)
 
 writes_begin : (setup : Setup) (more before : List Entry)
     → HasMoreWrites (map_writes_of setup before) (map_writes_of setup (more ++ before))

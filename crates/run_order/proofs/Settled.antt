@@ -59,21 +59,14 @@ one_looks : (version first k : ℕ) (rests : List (List Done)) (history : List E
 unfolding with_all_looks
 one_looks version first k [] history so less = absurd (omega (arith, less))
 one_looks version first zero (done ∷ rests) history so less =
-    let at : first ≡ first + 0 = omega arith in
-    let others : IsSettled version rests = λ j. so (suc j) (λ e. cc) in (
-      settled_placed version (first + 1) rests (with_looks version first done history) others
-          ∙ ap (λ (n : ℕ). with_looks version n done history) at,
-      ap (λ (r : List (List Done)). left_after version done ∷ r) (settled_left version rests others),
-    )
+    let others : IsSettled version rests = λ j. so (suc j) (λ e. cc) in
+    let placed = settled_placed version (first + 1) rests (with_looks version first done history) others in
+    grind (arith, placed, settled_left version rests others)
 one_looks version first (suc k) (done ∷ rests) history so less =
-    let at : first + 1 + k ≡ first + suc k = omega arith in
     let one = not_due version first done history (so 0 (λ e. cc)) in
     let more = one_looks version (first + 1) k rests history (λ j other. so (suc j) (λ e. other (cc e)))
     (omega (arith, less)) in
-    rw (one.0, one.1) (
-      more.0 ∙ ap (λ (n : ℕ). with_looks version n (get_or rests k []) history) at,
-      ap (λ (r : List (List Done)). done ∷ r) more.1,
-    )
+    grind (arith, one, more)
 
 -- one processor's looks are those of all
 pub record AreAll (version : ℕ) (rests left : List (List Done)) (before now : List Entry) (spare spare' : ℕ) : Type 0
