@@ -1,11 +1,9 @@
 -- Lists of jobs and of callers, by the numbers of their processors.
 use Rattle.std.proofs.Common.{◌≡◌, ℕ, ◌+◌, ◌<◌, ◌≤◌, ◌==◌, List, [], ◌∷◌, ◌++◌, map, length, take, drop, All, refl, sym}
-use Rattle.std.proofs.Common.{◌∙◌, ap, arith, inl, inr, reverse, slice_index_or, filter, Bool, true, false, set}
-use Rattle.std.proofs.Common.{slice_index}
-use Rattle.board_prelude.proofs.Common.{Any, range_with_len, cases_Bool, nat_tests, get_or-map, get_or_default}
-use Rattle.board_prelude.proofs.Common.{reverse-append, append-nil, take_all, drop_all, map-append, length-map}
-use Rattle.board_prelude.proofs.Common.{All-head, All-tail, get_or-set_at, get_or-set_other, length-append, Event}
-use Rattle.board_prelude.proofs.Common.{Statement, events_by}
+use Rattle.std.proofs.Common.{◌∙◌, ap, arith, reverse, slice_index_or, filter, Bool, true, false, set, slice_index}
+use Rattle.board_prelude.proofs.Common.{Any, range_with_len, nat_tests, get_or-map, get_or_default, reverse-append}
+use Rattle.board_prelude.proofs.Common.{append-nil, take_all, drop_all, map-append, length-map, All-head, All-tail}
+use Rattle.board_prelude.proofs.Common.{get_or-set_at, get_or-set_other, length-append, Event, Statement, events_by}
 use Rattle.std.proofs.lemmas.List.FromFn.{get_or-range_with_len, length-range_with_len, map-range_with_len_more}
 use Rattle.std.proofs.lemmas.List.Elements.{All-map}
 use Rattle.run_order.specs.declared.done.Done.{Done}
@@ -69,17 +67,11 @@ pub by_number : (W : ℕ → List Done → Type 0) (jobs : List Job) (first : �
     map (λ (job : Job). job.cpu.number) jobs ≡ range_with_len first (length jobs) → (actor : ℕ) → first ≤ actor →
     actor < first + length jobs → W actor (done_by first actor (done_in (map (λ (job : Job). job.work) jobs)))
 unfolding done_by
-by_number W [] first all numbers actor low high = absurd (omega (arith, low, high))
+by_number W [] first all numbers actor low high = grind arith
 by_number W (job ∷ jobs) first all numbers actor low high =
     let P : Job → Type 0 = λ job. W job.cpu.number job.work.done.items in
-    let own : job.cpu.number ≡ first = cc numbers in
-    let others : map (λ (job : Job). job.cpu.number) jobs ≡ range_with_len (first + 1) (length jobs) = cc numbers in
-    elim (cases_Bool (actor == first)) [
-      | inl is ↦
-          let at : actor ≡ job.cpu.number = grind (arith, nat_tests) in rw (is, at) (All-head P job jobs all)
-      | inr not ↦ let past : first + 1 ≤ actor = grind (arith, nat_tests) in
-          rw not (by_number W jobs (first + 1) (All-tail P job jobs all) others actor past (omega (arith, high)))
-    ]
+    let rest = by_number W jobs (first + 1) (All-tail P job jobs all) in
+    grind (arith, nat_tests, All-head P job jobs all, rest)
 
 pub asked_again : (most : ℕ) (works next : List Work)
     → map (λ (work : Work). work.asked) next ≡ map (λ (work : Work). work.asked) works

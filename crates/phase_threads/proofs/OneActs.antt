@@ -86,8 +86,7 @@ gone_alone setup number entry before own = record {
 -- another processor has the entries that it had
 pub theirs : (number actor : ℕ) (before now : List Entry) → actor ≢ number → others number now ≡ others number before
     → entries_by actor now ≡ entries_by actor before
-theirs number actor before now unlike same =
-    by_other number actor unlike now ∙ (ap (entries_by actor) same ∙ sym (by_other number actor unlike before))
+theirs number actor before now unlike same = grind (arith, by_other number actor unlike, same)
 
 -- what each processor did of a phase, where one acted and the others had nothing to do
 pub one_acted : {number : ℕ} {before now : Standing} {phase : List Statement} {old new : List Work}

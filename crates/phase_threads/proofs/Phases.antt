@@ -120,11 +120,8 @@ statements_within done phase rest = simp (flat_map-append, length-append) (omega
 pub few_so_far : (phases : List Phase) (i : ℕ) (phase : Phase) → i < length phases → phase ≡ get_or phases i phase
     → length (flat_map in_phase (take i phases)) + length phase.items ≤ length (flat_map in_phase phases)
 few_so_far phases i phase less is =
-    let cut : take i phases ++ phase ∷ drop (i + 1) phases ≡ phases =
-    ap (λ (rest : List Phase). take i phases ++ rest) (ap (λ (p : Phase). p ∷ drop (i + 1) phases) is
-    ∙ sym (drop_more phases i phase less))
-    ∙ take-append-drop i phases in
-    rw cut at (statements_within (take i phases) phase (drop (i + 1) phases))
+    let within = statements_within (take i phases) phase (drop (i + 1) phases) in
+    grind (arith, within, take-append-drop i phases, drop_more phases i phase less)
 
 -- ---- a phase that an order takes in, and an order that begins
 
