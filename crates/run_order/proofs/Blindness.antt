@@ -1,8 +1,8 @@
 -- No answer depends on the looks and the numbers before it: each definition over histories gives the same without them.
 use Rattle.std.proofs.Common.{◌≡◌, ℕ, zero, suc, ◌==◌, nat_lt, Bool, true, false, List, [], ◌∷◌, length, refl, sym, ◌∙◌}
-use Rattle.std.proofs.Common.{ap, arith, inl, inr, Option, Some, None, if◌then◌else◌}
-use Rattle.board_prelude.proofs.Common.{option_map_or, cases_Bool, Pic0, Pic1, Pit, Elcr, Ata, trigger_byte, read_value}
-use Rattle.board_prelude.proofs.Common.{read_of, port_byte, Event, Memory, Wide, Port, Ack, Pulses, Reply, Bus, Saw}
+use Rattle.std.proofs.Common.{ap, arith, Option, Some, None, if◌then◌else◌}
+use Rattle.board_prelude.proofs.Common.{option_map_or, Pic0, Pic1, Pit, Elcr, Ata, trigger_byte, read_value, read_of}
+use Rattle.board_prelude.proofs.Common.{port_byte, Event, Memory, Wide, Port, Ack, Pulses, Reply, Bus, Saw, nat_tests}
 use Rattle.board_prelude.proofs.Common.{Entry, plain_value, map-same, levels-same, disk_of-same, elcr-same}
 use Rattle.board_spec.specs.Common.{Kind, Width, Reg, Target, Rom, Card, Device, Config, Abort, Dev, largest_of}
 use Rattle.board_spec.specs.Common.{Triggers, PitState, out_of, pulses, port_read, Clock, Disk, Pair, answer_of, Setup}
@@ -56,10 +56,7 @@ along : {X : Type 0} (f : List Entry → X) →
 unfolding bare
 along f looks steps [] = refl
 along f looks steps (entry ∷ before) =
-    elim (cases_Bool (is_look entry.event)) [
-      | inl is ↦ rw is (looks entry before is ∙ along f looks steps before)
-      | inr not ↦ rw not (steps entry before not (along f looks steps before))
-    ]
+    grind (arith, nat_tests, looks entry before, steps entry before, along f looks steps before)
 
 control_bare : (h : List Entry) → reset_control h ≡ reset_control (bare h)
 unfolding reset_control

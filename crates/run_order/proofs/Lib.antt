@@ -1,6 +1,5 @@
 pub mod Blindness
 pub mod Counts
-pub mod Each
 pub mod Fitting
 pub mod Histories
 pub mod Phases

@@ -12,9 +12,8 @@ use Rattle.run_order.specs.declared.done.Done.{Done}
 use Rattle.run_order.specs.Common.{event_of, placed, done_by, bare, AnswersAreBlind, PhaseRuns}
 use Rattle.run_order.proofs.Histories.{onto, onto_is}
 use Rattle.run_order.proofs.Fitting.{Fits, late_by, fits, follows}
-use Rattle.run_order.proofs.Each.{Each, own}
+use Rattle.run_order.proofs.Placement.{Each, own, has_placed}
 use Rattle.run_order.proofs.Counts.{from_first}
-use Rattle.run_order.proofs.Placement.{has_placed}
 
 -- ---- statements and events
 
