@@ -206,17 +206,9 @@ module _ (setup : Setup) (whole : List Entry) (actor : ℕ) where
   due before from K b k [] low f late = k [] low f tt
   due before from K b k (Went after event ∷ items) low f late = k (Went after event ∷ items) low f tt
   due before from K b k (Looked kind addr smm look ∷ items) low f late =
-      elim (cases_Bool (nat_le look.version (version_of setup before))) [
-        | inl is ↦
-            let here : version_of setup before ≡ look.version = grind (arith, nat_tests) in
-            let more = due before from K b k items look.version f.3
-            (late_by setup whole actor from look.version (version_of setup before) items f.3
-            (omega (arith, here))) in
-            rw is (f.2 before b here, more)
-        | inr not ↦
-            let past : version_of setup before + 1 ≤ look.version = grind (arith, nat_tests) in
-            rw not (k (Looked kind addr smm look ∷ items) low f past)
-      ]
+      let right = f.2 before b in let more = due before from K b k items look.version f.3 in
+      let later = late_by setup whole actor from look.version (version_of setup before) items f.3 in
+      grind (arith, nat_tests, right, more, later, k (Looked kind addr smm look ∷ items) low f)
 
   none_left : (before from : List Entry) → whole ≡ before → entries_by actor before ≡ entries_by actor from
       → (items : List Done) (low : ℕ)
