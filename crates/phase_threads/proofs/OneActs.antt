@@ -179,21 +179,13 @@ module _ {number : ℕ} {run : Run} {phase : List Statement} {given old : List W
           actors = all_below number n (omega (arith, below, size)) now.board.entries
               (rw grown.others (All-filter (λ (e : Entry). not (e.actor == number)) (λ (e : Entry). e.actor < n)
               run.board.entries (rw size at asked.actors)));
-          mine = λ actor. elim (cases_eq actor number) [
-            | inl is ↦ rw is (omega (arith, grown.mine, asked.mine number))
-            | inr other ↦
-                let same = ap length (theirs number actor run.board.entries now.board.entries other grown.others) in
-                omega (arith, same, asked.mine actor)
-          ];
+          mine = λ actor.
+              let same = theirs number actor run.board.entries now.board.entries in
+              grind (arith, nat_tests, grown.mine, grown.others, asked.mine number, asked.mine actor, same);
           asked = λ k d less.
               let few = asked_again most run.works.items old (again ∙ ap (map (λ (w : Work). w.asked)) lent)
               asked.asked in
-              elim (cases_eq k number) [
-                | inl is ↦ rw is (grown.asked most d few)
-                | inr other ↦
-                    let was : (slice_index_or old k d).asked ≤ most = few k d (omega (arith, less, grown.count)) in
-                    omega (arith, ap (λ (w : Work). w.asked) (grown.same k d other), was)
-              ];
+              grind (arith, nat_tests, grown.count, grown.same k d, grown.asked most d few, few k d);
         };
       }
 
@@ -210,10 +202,7 @@ module _ (number : ℕ) (before now : Standing) (phase : List Statement) (old : 
     count = length-set old number work;
     same = λ k d unlike. get_or-set_other old number k work d unlike;
     mine = mine;
-    asked = λ most d few.
-        let before : (slice_index_or old number was).asked ≤ most = few number was within in
-        rw (get_or-set_same old number work d within)
-        (omega (arith, before, ap (λ (w : Work). w.asked) is, asked));
+    asked = λ most d few. grind (arith, get_or-set_same old number work d within, few number was within, is, asked);
   }
 
   pub has_acted : HasDone before.setup number before.entries phase work.done.items now.entries
