@@ -135,11 +135,7 @@ module _ {T E F : Type 0} (entries : T → List E) (actor : E → ℕ) (fixed : 
         out = omega arith;
         few = (omega arith, omega arith);
         lies = lies;
-        each_seat = λ j u e living. ⊎_elim
-            (λ (t : (j ≡ id) × (w ≡ u)). subst (λ (z : ℕ × V). K b views z.0 z.1) (λ i. (sym t.0 i, t.1 i))
-            (mine (λ dead. living (ap (λ (z : V). z.stage) (sym t.1) ∙ dead))))
-            (λ (t : (j ≢ id) × (get_elem? s.views j ≡ some u)). other j u t.0 (o.each_seat j u t.1 living))
-            (at_set s.views id j w u e);
+        each_seat = λ j u e living. grind (arith, at_set s.views id j w u e, other j u, o.each_seat j u, mine);
         numbered = rw long numbered;
       }
 
@@ -444,9 +440,7 @@ module _ {T E F : Type 0} (entries : T → List E) (actor : E → ℕ) (fixed : 
           out = refl;
           few = (omega arith, omega arith);
           lies = (ap entries (sym same) ∙ sym (append-nil first), ap fixed (sym same));
-          each_seat = λ i u e live. ⊎_elim (λ none. absurd (some-ne-none u (sym none)))
-              (λ (t : (i ≡ 0) × (v ≡ u)). subst (λ (z : ℕ × View E F). Knows actor first part b (v ∷ []) z.0 z.1)
-              (λ j. (sym t.0 j, t.1 j)) knows) (at_end [] v u i e);
+          each_seat = λ i u e live. grind (arith, at_end [] v u i e, knows, some-ne-none u);
           numbered = All-nil (λ (e : E). actor e < 1);
         },
         refl,
