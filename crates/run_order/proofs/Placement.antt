@@ -111,17 +111,14 @@ module _ (setup : Setup) (entry : Entry) (before later : List Entry) where
       → Each (λ a. Fits setup a (entry ∷ before) later) 0 (passed 0 entry.actor rests)
   pass rests =
       passed_each (Beside setup entry before later) (λ a. Fits setup a (entry ∷ before) later) entry.actor rests
-      (λ items beside. let is : (entry.actor == entry.actor) ≡ true = grind (arith, nat_tests) in
-      let head = rw is at beside in head.rest)
-      (λ a items other beside. let not : (entry.actor == a) ≡ false = grind (arith, nat_tests) in rw not at beside)
+      (λ items beside. grind (arith, nat_tests, beside))
+      (λ a items other beside. grind (arith, nat_tests, beside, other))
 
   -- what the processor of the call does next
   pub own_head : (left : List (List Done)) → entry.actor < length left → Each (Beside setup entry before later) 0 left
       → IsHeaded entry.event (version_of setup (entry ∷ before)) (Fits setup entry.actor (entry ∷ before) later)
       (done_by 0 entry.actor left)
-  own_head left few each =
-      let is : (entry.actor == entry.actor) ≡ true = grind (arith, nat_tests) in
-      rw ((from_first left entry.actor).0) (rw is at (each entry.actor entry.actor (omega arith) few))
+  own_head left few each = grind (arith, nat_tests, from_first left entry.actor, each entry.actor entry.actor)
 
 -- there are as many processors when one has done its call
 pub count_passed : (v actor : ℕ) (rests : List (List Done)) → length (passed 0 actor (all_left v rests)) ≡ length rests
