@@ -357,7 +357,10 @@ module _ {T E F : Type 0} (entries : T → List E) (actor : E → ℕ) (fixed : 
       let splits : n ≡ 0 → right.splits + 1 ≡ length views = λ z. absurd (omega arith) in
       let mine = own_none actor n b.since o.numbered in
       let none = All-nil (λ (p : ℕ × List E). (own_by actor p.0 b.since ≡ p.1) × IsSpent views p.0) in
-      let new : K b views n right = assumption in (
+      let new : K b views n right = assumption in
+      let kept : K b views id left = old id v (v.splits + 1) (λ _. omega arith) k in
+      let others : (j : ℕ) (u : V) → j ≢ id → get_elem? s.views j ≡ some u → u.stage ≢ Spent → K b views j u =
+      λ j u other e live. old j u u.splits (λ z. absurd (other (z ∙ sym zeroth))) (o.each_seat j u e live) in (
         record {
           book = b;
           words_are = o.words_are;
@@ -366,15 +369,9 @@ module _ {T E F : Type 0} (entries : T → List E) (actor : E → ℕ) (fixed : 
           few = (omega arith, omega arith);
           lies = lies_longer b changed right b.place
               (lies_on s o b id v left at (λ e. cc) refl (λ _. refl) b.place o.lies);
-          each_seat = λ j u e live. ⊎_elim
-              (λ (was : get_elem? changed j ≡ some u). ⊎_elim
-              (λ (t : (j ≡ id) × (left ≡ u)). subst (λ (z : ℕ × V). K b views z.0 z.1) (λ i. (sym t.0 i, t.1 i))
-              (old id v (v.splits + 1) (λ _. omega arith) k))
-              (λ (t : (j ≢ id) × (get_elem? s.views j ≡ some u)).
-              old j u u.splits (λ z. absurd (t.0 (z ∙ sym zeroth))) (o.each_seat j u t.1 live))
-              (at_set s.views id j left u was))
-              (λ (t : (j ≡ length changed) × (right ≡ u)). subst (λ (z : ℕ × V). K b views z.0 z.1)
-              (λ i. (sym (t.0 ∙ size) i, t.1 i)) new) (at_end changed right u j e);
+          each_seat = λ j u e live.
+              let was = at_set s.views id j left u in
+              grind (arith, at_end changed right u j e, was, size, kept, others j u, new);
           numbered = All-more (λ (e : E). actor e < n) (λ (e : E). actor e < length views) b.since
               (λ e low. omega arith) o.numbered;
         },
