@@ -10,6 +10,8 @@ use Rattle.std.proofs.lemmas.List.Sums.{length-filter, count_by-le-length}
 use Rattle.run_order.specs.declared.entry.RunEntry.{RunEntry}
 use Rattle.run_order.proofs.Histories.{within_more}
 
+-- ---- what a processor did, by its place among the lists
+
 at_place : (rests : List (List Done)) (first k : ℕ) → (done_by first (first + k) rests ≡ get_or rests k [])
     × (passed first (first + k) rests ≡ set rests k (without_first (get_or rests k [])))
 unfolding done_by passed

@@ -13,6 +13,8 @@ use Rattle.run_order.specs.Trace.{HasMoreWrites, IsLookOf, IsDone, IsClosed}
 use Rattle.run_order.proofs.Histories.{onto, begins_before, begins_trans, onto_begins, own_later, same_place}
 use Rattle.run_order.proofs.Histories.{version_step}
 
+-- ---- a processor's statements in the bus's whole history: where its calls stand, and between which versions its looks
+
 -- what a look saw is the answer after every beginning of the history that has as many map writes
 abbrev pub IsRight : Setup → List Entry → Event → Look → Type 0
 IsRight setup whole event look =

@@ -17,6 +17,8 @@ use Rattle.run_order.proofs.Fitting.{IsHeaded, Fits, Due, FirstLook, first_goes,
 use Rattle.run_order.proofs.Settled.{not_due_left}
 use Rattle.run_order.proofs.Blindness.{version_same}
 
+-- ---- each processor's events stand in the placed history, in its order
+
 -- a processor's events in a history, the newest first
 abbrev pub own : ℕ → List Entry → List Event
 own actor history = map (λ entry. entry.event) (entries_by actor history)
@@ -124,7 +126,7 @@ module _ (setup : Setup) (entry : Entry) (before later : List Entry) where
 pub count_passed : (v actor : ℕ) (rests : List (List Done)) → length (passed 0 actor (all_left v rests)) ≡ length rests
 count_passed v actor rests = grind (arith, from_first (all_left v rests) actor, length-set, length-map)
 
--- ---- what comes last
+-- ---- where a look that comes next is in its place: what comes last
 
 -- looks of processors below this one
 abbrev pub AreLower : ℕ → List Entry → Type 0
