@@ -215,8 +215,7 @@ both_ok result more one two = grind (arith, more)
 
 -- ---- a phase of which what was done is not kept, since none of it is a look
 
--- ---- what was done, as the history tells it, the newest first
-
+-- what was done, as the history tells it, the newest first
 abbrev dones : Setup → (opened more : List Entry) → List Done
 dones setup opened [] = []
 dones setup opened (entry ∷ before) =

@@ -23,6 +23,8 @@ use Rattle.phase_work.specs.declared.worker.Work.{Work}
 use Rattle.phase_threads.proofs.Numbers.{due_by_number, filter_none, map_reverse, all_mapped, same_lengths}
 use Rattle.phase_threads.proofs.Numbers.{numbered_length, numbers_below, same_numbers, by_number}
 
+-- ---- what the halves of a phase's workers do
+
 zip_append : {X : Type 0} (R : X → X → Type 0) (xs ys us vs : List X) → AllZip R xs us → AllZip R ys vs
     → AllZip R (xs ++ ys) (us ++ vs)
 zip_append R [] ys us vs front back = grind arith
