@@ -37,10 +37,7 @@ pub numbers_more : (cpus all : List Cpu) (cpu : Cpu) → all ≡ cpus ++ cpu ∷
     map (λ (c : Cpu). c.number) cpus ≡ range_with_len 1 (length cpus) →
     map (λ (c : Cpu). c.number) all ≡ range_with_len 1 (length cpus + 1)
 numbers_more cpus all cpu is number before =
-    let next : cpu.number ≡ 1 + length cpus = omega (arith, number) in
-    let one : suc (length cpus) ≡ length cpus + 1 = omega arith in
-    rw (is, map-append (λ (c : Cpu). c.number) cpus (cpu ∷ []), before, next, ← one)
-    (sym (range_more 1 (length cpus)))
+    grind (arith, is, map-append (λ (c : Cpu). c.number) cpus (cpu ∷ []), range_more 1 (length cpus))
 
 -- ---- what a board is opened with
 

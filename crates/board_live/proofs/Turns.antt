@@ -135,17 +135,14 @@ has_learnt {cpu} {held} {now} found number same learnt listed =
 
 -- ---- passes that are joined into another, one after another
 
--- ---- lists
-
 module _ {X : Type 0} where
   -- the last of a list's first elements is taken away
   pub popped : (whole items rest : List X) (x : X) → items ≡ take (length items) whole → items ≡ rest ++ x ∷ [] →
       (rest ≡ take (length rest) whole) × (drop (length rest) whole ≡ x ∷ drop (length items) whole)
   popped whole items rest x front is =
-      let later = drop (length items) whole in
-      let all : whole ≡ rest ++ x ∷ later =
-      cc (take-append-drop (length items) whole, append_assoc rest (x ∷ []) later) in
-      (cc (all, take-append_seam rest (x ∷ later)), cc (all, drop_front rest (x ∷ later)))
+      let later = drop (length items) whole in let joined = append_assoc rest (x ∷ []) later in
+      let first = take-append_seam rest (x ∷ later) in let last = drop_front rest (x ∷ later) in
+      grind (arith, take-append-drop (length items) whole, joined, first, last)
 
   any_left : (P : X → Type 0) (xs ys : List X) → Any P xs → Any P (xs ++ ys)
   any_left P xs ys (k, x, below, at', holds) =
