@@ -124,11 +124,9 @@ pub due_more : (works : List Work) (work : Work) (phase : List Statement) (actor
     → next ≡ works ++ work ∷ [] → length works ≡ actor
     → AreDue phase works → work.due ≡ length (events_by actor phase) → AreDue phase next
 due_more works work phase actor next more size was own =
-    let long : length next ≡ actor + 1 = omega (arith, ap length more ∙ length-append works (work ∷ []), size) in
-    let old : map due_in works ≡ map (count_in phase) (range_with_len 0 actor) = was
-    ∙ ap (λ (n : ℕ). map (count_in phase) (range_with_len 0 n)) size in
-    rw (long, more, map-append due_in works (work ∷ []), old, own)
-    (sym (map-range_with_len_more (count_in phase) 0 actor actor (omega arith)))
+    let split = map-append due_in works (work ∷ []) in
+    let last = map-range_with_len_more (count_in phase) 0 actor actor in
+    grind (arith, ap length more, length-append works (work ∷ []), split, last)
 
 same_each : {X : Type 0} (f g : X → ℕ) (xs : List X) → map f xs ≡ map g xs → All (λ x. f x ≡ g x) xs
 same_each f g xs e = λ k d less.

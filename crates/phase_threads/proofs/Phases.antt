@@ -104,9 +104,7 @@ pub all_in_place : (setup : Setup) (phase : List Statement) (earlier : List (Lis
     (added history all : List Entry) → all ≡ added ++ history → length added ≡ length phase →
     AreInPlace setup history added → AreAllInPlace setup earlier history → AreAllInPlace setup (phase ∷ earlier) all
 all_in_place setup phase earlier added history all is size places before =
-    let front : take (length phase) all ≡ added = rw (is, ← size) (take-append_seam added history) in
-    let back : drop (length phase) all ≡ history = rw (is, ← size) (drop-append_seam added history) in
-    rw (front, back) (places, before)
+    grind (arith, is, size, take-append_seam added history, drop-append_seam added history, places, before)
 
 pub statements_more : (done : List Phase) (phase : Phase)
     → length (flat_map in_phase (done ++ phase ∷ [])) ≡ length (flat_map in_phase done) + length phase.items
