@@ -140,11 +140,8 @@ pub due_by_number : (jobs : List Job) (works : List Work) (phase : List Statemen
 due_by_number jobs works phase n are_works numbers size due =
     let work : Job → Work = λ job. job.work in
     let number : Job → ℕ = λ job. job.cpu.number in
-    let dues : map (λ (job : Job). job.work.due) (reverse jobs) ≡ map due_in works =
-    sym (map-map due_in work (reverse jobs)) ∙ ap (map due_in) are_works in
-    let counts : map (count_in phase) (range_with_len 0 n) ≡ map (λ (job : Job). count_in phase job.cpu.number)
+    let all : map (λ (job : Job). job.work.due) (reverse jobs) ≡ map (λ (job : Job). count_in phase job.cpu.number)
     (reverse jobs) =
-    ap (map (count_in phase)) (sym numbers) ∙ map-map (count_in phase) number (reverse jobs) in
+    grind (arith, are_works, numbers, size, due, map-map due_in work, map-map (count_in phase) number) in
     all_turned (λ job. job.work.due ≡ length (events_by job.cpu.number phase)) jobs
-    (same_each (λ (job : Job). job.work.due) (λ (job : Job). count_in phase job.cpu.number) (reverse jobs)
-    (dues ∙ (due ∙ (ap (λ (m : ℕ). map (count_in phase) (range_with_len 0 m)) size ∙ counts))))
+    (same_each (λ (job : Job). job.work.due) (λ (job : Job). count_in phase job.cpu.number) (reverse jobs) all)

@@ -356,8 +356,7 @@ added_more {number} {entry = entry} phase i d less a setup is own said none =
       own = All-cons (λ (e : Entry). e.actor ≡ number) entry a.more own a.own;
       plain = All-cons (λ (e : Entry). is_look e.event ≡ false) entry a.more (ap is_look said ∙ none) a.plain;
       said =
-          reverse-append (entry.event ∷ []) (map told a.more)
-          ∙ ((λ t. a.said t ++ said t ∷ [])
-          ∙ (sym (map-append event (take i phase) (slice_index_or phase i d ∷ []))
-          ∙ ap (map event) (sym (take_more phase i d less))));
+          let split = map-append event (take i phase) (slice_index_or phase i d ∷ []) in
+          let turned = reverse-append (entry.event ∷ []) (map told a.more) in
+          grind (arith, a.said, said, split, turned, take_more phase i d less);
     }

@@ -104,8 +104,7 @@ to_jobs f P jobs xs e all = rw e at (All-map P f (reverse jobs) (all_reverse (λ
 
 job_numbers : (cpus1 : List Cpu) (jobs1 : List Job) (n : ℕ) → map cpu_in (reverse jobs1) ≡ cpus1 →
     map number_by cpus1 ≡ range_with_len 0 n → map number_in (reverse jobs1) ≡ range_with_len 0 n
-job_numbers cpus1 jobs1 n are_cpus1 numbers = sym (map-map number_by cpu_in (reverse jobs1))
-    ∙ (ap (map number_by) are_cpus1 ∙ numbers)
+job_numbers cpus1 jobs1 n are_cpus1 numbers = grind (arith, are_cpus1, numbers, map-map)
 
 pub begins_opened : (setup : Setup) (actor : ℕ) (opened : List Entry) (done : List Done) (seen : List Entry)
     (known : List MapChange) → IsDone setup actor opened done seen known → Begins opened seen
@@ -181,10 +180,7 @@ pub record HaveRun (live : Live) (board : Standing) (n : ℕ) (cpus cpus1 : List
 module _ {live : Live} {board : Standing} {n : ℕ} {cpus cpus1 : List Cpu} {phase : List Statement} {before : ℕ}
     {jobs1 : List Job} (h : HaveRun live board n cpus cpus1 phase before jobs1) where
   again : map number_by cpus1 ≡ map number_by cpus
-  again =
-      ap (map number_by) (sym h.are_cpus1) ∙ (map-map number_by cpu_in (reverse jobs1) ∙ (map_reverse number_in jobs1
-      ∙ (ap reverse h.same ∙ (sym (map_reverse number_in h.jobs)
-      ∙ (sym (map-map number_by cpu_in (reverse h.jobs)) ∙ ap (map number_by) h.are_cpus)))))
+  again = grind (arith, h.are_cpus, h.are_cpus1, h.same, map-map, map_reverse)
 
   size_again : length (reverse jobs1) ≡ n
   size_again = numbered_length number_in (reverse jobs1) n (job_numbers cpus1 jobs1 n h.are_cpus1 (again ∙ h.o.numbers))
