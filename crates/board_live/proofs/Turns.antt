@@ -168,10 +168,9 @@ joined_more before now more cpu later joined has =
 own_back : (number : ℕ) (one other : List Entry) → entries_by number (reverse one) ≡ entries_by number (reverse other) →
     own_by by_actor number one ≡ own_by by_actor number other
 own_back number one other same =
-    let turned : reverse (own_by by_actor number one) ≡ reverse (own_by by_actor number other) =
-    sym (entries_reversed number one) ∙ (same ∙ entries_reversed number other) in
-    sym (reverse-reverse (own_by by_actor number one))
-    ∙ (ap reverse turned ∙ reverse-reverse (own_by by_actor number other))
+    let left = reverse-reverse (own_by by_actor number one) in
+    let right = reverse-reverse (own_by by_actor number other) in
+    grind (arith, same, entries_reversed number one, entries_reversed number other, left, right)
 
 -- what a pass has of a caller that knew all that was published, where it has seen as much
 pub caught_up : (pass : SharedPass) (cpu now : Cpu) → IsSameCaller cpu now → AddsNone cpu now →
@@ -206,9 +205,8 @@ joined_new before pass {cpu} {now} same none later joined =
 -- passes with one fixed part were opened with one history
 pub opened_same : (cpu other : Cpu) → part_of cpu.pass ≡ part_of other.pass → opened_by cpu.pass ≡ opened_by other.pass
 opened_same cpu other same =
-    let turned : reverse (opened_by cpu.pass) ≡ reverse (opened_by other.pass) =
-    ap (λ (o : Option Origin). (origin_in o).entries) (sym cpu.passed.part ∙ (same ∙ other.passed.part)) in
-    sym (reverse-reverse (opened_by cpu.pass)) ∙ (ap reverse turned ∙ reverse-reverse (opened_by other.pass))
+    let turned = ap (λ (o : Option Origin). (origin_in o).entries) (sym cpu.passed.part ∙ (same ∙ other.passed.part)) in
+    grind (arith, turned, reverse-reverse (opened_by cpu.pass), reverse-reverse (opened_by other.pass))
 
 module _ (pass : SharedPass) (done : Shared) (cpu : Cpu)
     (later : IsPrefix (seen_in pass) (reverse done.board.value.entries))
