@@ -55,11 +55,7 @@ loop-viewer-preserved c =
       own = c.split-further.ensures.own.0;
       idle = c.split-further.ensures.idle.0;
       same = (same.0 ∙ i.same.0, same.1 ∙ i.same.1, same.2 ∙ i.same.2);
-      fresh = record {
-        seen = c.split-further.ensures.seen.0 ∙ (i.fresh.seen ∙ sym same.1);
-        mine = c.split-further.ensures.seen.1 ∙ i.fresh.mine;
-        joined = c.split-further.ensures.seen.2 ∙ i.fresh.joined;
-      };
+      fresh = grind (arith, c.split-further.ensures.seen, i.fresh, same);
       splits = c.split-further.ensures.splits ∙ (ap (λ (n : ℕ). n + 1) i.splits ∙ sym long);
       left = omega (arith, i.left, long, fewer);
       viewers = viewers.0;
