@@ -1,7 +1,7 @@
 -- Callers of a board that was just opened.
 use Rattle.std.proofs.Common.{◌≡◌, ℕ, zero, suc, ◌+◌, ◌<◌, Option, Some, List, [], ◌∷◌, ◌++◌, length, get_or, map, refl}
 use Rattle.std.proofs.Common.{sym, ap, ◌∙◌, arith, add-zero, Any, reverse}
-use Rattle.board_prelude.proofs.Common.{range_with_len, map-append, reverse-reverse, get_or_default, map_writes_of}
+use Rattle.board_prelude.proofs.Common.{range_with_len, map-append, reverse-reverse, get_or_default}
 use Rattle.bus_turn.specs.Passes.{opened_of as opened_by, part_of}
 use Rattle.map_publish.specs.declared.viewer.Viewer.{Viewer}
 use Rattle.map_publish.specs.Lists.{changes_of}
@@ -22,11 +22,7 @@ viewer_for one other viewer opened part has =
 
 pub new_of : (one other : SharedPass) (cpu : Cpu) → opened_by other ≡ opened_by one → part_of other ≡ part_of one →
     IsNewOf other cpu → IsNewOf one cpu
-new_of one other cpu opened part new = record {
-  part = new.part ∙ part;
-  seen = new.seen ∙ ap reverse opened;
-  known = new.known ∙ λ k. map_writes_of (origin_in (part k)).setup (reverse (opened k));
-}
+new_of one other cpu opened part new = grind (arith, opened, part, new)
 
 range_more : (a n : ℕ) → range_with_len a (suc n) ≡ range_with_len a n ++ (a + n) ∷ []
 range_more a zero = simp add-zero

@@ -1,4 +1,4 @@
-use Rattle.std.proofs.Common.{rules, ◌≡◌, ℕ, ◌+◌, Some, [], ◌∷◌, ◌++◌, length, sym, ap, ◌∙◌, refl, arith, length-append}
+use Rattle.std.proofs.Common.{rules, ◌≡◌, ℕ, ◌+◌, Some, [], ◌∷◌, ◌++◌, length, sym, ap, ◌∙◌, arith, length-append}
 use Rattle.board_prelude.proofs.Common.{range_with_len, All-nil, All-push}
 use Rattle.std.proofs.lemmas.List.Elements.{All-pop}
 use Rattle.board_live.specs.Common.{IsViewerFor, IsCallerOf, IsNewOf}
@@ -14,19 +14,8 @@ loop-viewer-init c =
     let none = c.requires.room.0 in
     let no_cpus : length c.args.cpus.items ≡ 0 = ap length none in
     let long = simp length-append at (ap length is) in
-    record {
-      own = c.requires.own;
-      idle = c.requires.idle;
-      same = (refl, refl, refl);
-      fresh = c.requires.fresh;
-      splits = c.requires.first.1 ∙ sym no_cpus;
-      left = omega (arith, no_cpus, long, c.requires.count);
-      viewers = viewers.0;
-      room = c.requires.room.1;
-      callers = rw none (All-nil (IsCallerOf c.args.self.now));
-      new = rw none (All-nil (IsNewOf pass));
-      numbers = rw none refl;
-    }
+    let callers = All-nil (IsCallerOf c.args.self.now) in let new = All-nil (IsNewOf pass) in
+    grind (arith, c.requires, viewers, none, no_cpus, long, callers, new)
 
 pub new-requires-clause-viewer : goal.new-requires-clause-viewer
 new-requires-clause-viewer c =
