@@ -1,16 +1,16 @@
 -- The window of a card that claims an address has the size of its base, of 4 bytes or more, and all bytes of an aligned
 -- access lie in one area.
-use Rattle.board_prelude.proofs.Common.{nat_tests, cases_Bool, ne_eqb, All-nil, All-cons, All-head, All-tail}
-use Rattle.board_prelude.proofs.Common.{All-append, enumerate_from, Base, MemoryBase, IoBase, OutsideBase, FittedCard}
-use Rattle.board_prelude.proofs.Common.{Setup, IsCard, IsCardList, IsExpansionRom, card_at, window_bits, Bytes, Window}
-use Rattle.board_prelude.proofs.Common.{is_covered, is_enabled_for, is_rom_on, memory_window, memory_windows}
-use Rattle.board_prelude.proofs.Common.{rom_window, rom_window_of, vga_window, memory_claim, Kind, lies_in}
-use Rattle.board_prelude.proofs.Common.{upper_memory, row_of, is_smram_range, is_shadowed, area_of, is_in_hole}
-use Rattle.board_prelude.proofs.Common.{is_bios_selected, is_smram_open, common_steps, and_parts, eqb-true, Width}
-use Rattle.board_prelude.proofs.Common.{bytes_of, IsBase, boundary, address_count, six_areas, base_value, rom_value}
-use Rattle.std.proofs.Common.{◌≡◌, ℕ, ◌+◌, ◌<◌, ◌≤◌, Bool, false, ◌&&◌, List, [], ◌∷◌, ◌++◌, length, Option, Some, None}
-use Rattle.std.proofs.Common.{inl, inr, refl, ap, subst, ◌∙◌, arith, ◌==◌, All, flat_map, slice_get, if◌then◌else◌}
-use Rattle.std.proofs.Common.{is_some, not, unwrap_or, ◌-◌, ◌*◌, ◌/◌, ◌%◌, ◌^◌, true}
+use Rattle.board_prelude.proofs.Common.{nat_tests, ne_eqb, All-nil, All-cons, All-head, All-tail, All-append}
+use Rattle.board_prelude.proofs.Common.{enumerate_from, Base, MemoryBase, IoBase, OutsideBase, FittedCard, Setup}
+use Rattle.board_prelude.proofs.Common.{IsCard, IsCardList, IsExpansionRom, card_at, window_bits, Bytes, Window}
+use Rattle.board_prelude.proofs.Common.{is_covered, is_enabled_for, memory_window, memory_windows, rom_window}
+use Rattle.board_prelude.proofs.Common.{rom_window_of, vga_window, memory_claim, Kind, lies_in, upper_memory, row_of}
+use Rattle.board_prelude.proofs.Common.{is_smram_range, is_shadowed, area_of, is_in_hole, is_bios_selected}
+use Rattle.board_prelude.proofs.Common.{is_smram_open, common_steps, and_parts, eqb-true, Width, bytes_of, IsBase}
+use Rattle.board_prelude.proofs.Common.{boundary, address_count, six_areas, base_value, rom_value}
+use Rattle.std.proofs.Common.{◌≡◌, ℕ, ◌+◌, ◌<◌, ◌≤◌, Bool, true, false, ◌&&◌, List, [], ◌∷◌, length, Option, Some, None}
+use Rattle.std.proofs.Common.{refl, ap, subst, ◌∙◌, arith, ◌==◌, All, flat_map, slice_get, if◌then◌else◌, is_some, not}
+use Rattle.std.proofs.Common.{unwrap_or, ◌-◌, ◌*◌, ◌/◌, ◌%◌, ◌^◌}
 use Rattle.board_base.specs.declared.target.Area.TheVariants.{Card as CardArea}
 use Rattle.board_chipset.proofs.HeldTargets.{IsClaim, claim_line}
 use Rattle.pci_bars.specs.Common.{IsBaseNumber}
@@ -60,6 +60,11 @@ module _ (setup : Setup) (bytes : Bytes) (card : FittedCard) (is : IsFound setup
       (base_windows (k + 1) later (omega arith)
       (λ i. ap (slice_get card.bases) (omega arith) ∙ same (i + 1) ∙ grind arith))
 
+  choice : (on : Bool) (left right : List Window) → All (OfCard setup) left → All (OfCard setup) right →
+      All (OfCard setup) (if on then left else right)
+  choice true left right l r = l
+  choice false left right l r = r
+
   rom_windows : (rom : Option ℕ) → card.rom ≡ rom → IsExpansionRom rom →
       All (OfCard setup) (rom_window_of bytes card.dev rom)
   rom_windows None none size = All-nil (OfCard setup)
@@ -67,18 +72,10 @@ module _ (setup : Setup) (bytes : Bytes) (card : FittedCard) (is : IsFound setup
 
   card_windows : All (OfCard setup) (memory_windows bytes card)
   card_windows =
-      let bases : List Window =
-      flat_map (λ numbered. memory_window bytes card.dev numbered.0 numbered.1) (enumerate_from 0 card.bases) in
-      let rom : List Window = if is_rom_on bytes card.dev then rom_window bytes card else [] in
-      let of_rom : All (OfCard setup) rom =
-      elim (cases_Bool (is_rom_on bytes card.dev)) [
-        | inl on ↦ rw on (rom_windows card.rom refl is.0.rom)
-        | inr off ↦ rw off (All-nil (OfCard setup))
-      ] in
-      All-append (OfCard setup) (bases ++ rom) (vga_window card)
-      (All-append (OfCard setup) bases rom
-      (base_windows 0 card.bases (let few = is.0.count in omega arith)
-      (λ i. ap (slice_get card.bases) (omega arith))) of_rom) (grind (arith, nat_tests))
+      let few = is.0.count in
+      let bases = base_windows 0 card.bases (omega arith) (λ i. ap (slice_get card.bases) (omega arith)) in
+      let vga : All (OfCard setup) (vga_window card) = grind (arith, nat_tests) in
+      search (All-append, choice, rom_windows card.rom refl is.0.rom, bases, vga, All-nil)
 
 all_windows : (setup : Setup) (bytes : Bytes) (cards : List FittedCard) → All (IsFound setup) cards →
     All (OfCard setup) (flat_map (memory_windows bytes) cards)
