@@ -324,10 +324,10 @@ unfolding chip_after_read
 still-quiet chip quiet = grind (arith, nat_tests, cond, acknowledged_if, cases_Bool, interrupt, interrupt-unpolled)
 
 -- another slave leaves a master alone that has latched the request of the one before, or had none to latch
-other-slave : (pair : Pair) (slave : Chip) (o : Option ℕ) → interrupt pair.slave ≡ o → settled pair ≡ pair →
+other-slave : (pair : Pair) (slave : Chip) → settled pair ≡ pair →
     (interrupt pair.slave ≡ None → interrupt slave ≡ None) →
     (settled (record pair { slave = slave })).master ≡ pair.master
-other-slave pair slave x2 e is quiet = grind (arith, nat_tests)
+other-slave pair slave is quiet = grind (arith, nat_tests)
 
 pub reads_leave : ReadsLeaveTheOther
 reads_leave pair port = grind (arith, nat_tests, settled-slave, chip_after_read, other-slave, interrupt, still-quiet)
