@@ -3,11 +3,10 @@ use Rattle.std.proofs.Common.{◌≡◌, ℕ, ◌%◌, ◌<◌, false, ◌&&◌,
 use Rattle.std.proofs.Common.{set, refl, ◌∙◌, arith, get_or-set_other, get_or-set_same}
 use Rattle.board_prelude.proofs.Common.{cases_eq, nat_tests, get_or-set_at, length-set, CivilTime, Clock, number_byte}
 use Rattle.board_prelude.proofs.Common.{hour_byte, control_of, time_bytes, put, tell, alarm_fits, alarm_rings}
-use Rattle.board_prelude.proofs.Common.{control_reset, written, after_write, after_reset, is_bit}
+use Rattle.board_prelude.proofs.Common.{control_reset, written, is_bit}
 use Rattle.device_spec.specs.Clock.{power_on}
 use Rattle.board_laws.specs.ClockLaws.{number_read, hour_read, Shows, IsShowable, HasAlarm, same_time_of_day}
-use Rattle.board_laws.specs.ClockLaws.{RingsAtItsTime, ReadingQuiets, ResetKeepsTheTime, MemoryKeeps, IsSound}
-use Rattle.board_laws.specs.ClockLaws.{StaysSound}
+use Rattle.board_laws.specs.ClockLaws.{RingsAtItsTime, ReadingQuiets, ResetKeepsTheTime, MemoryKeeps, StaysSound}
 
 -- bytes with others at the seven places of the time and the calendar, and what stays
 record Timed (bytes after : List ℕ) (second minute hour weekday day month year : ℕ) : Type 0 where
@@ -102,10 +101,6 @@ pub memory_keeps : MemoryKeeps
 memory_keeps clock address byte size past_registers within =
     grind (arith, nat_tests, get_or, length, set, get_or-set_same, get_or-set_other)
 
-sound_power_on : IsSound power_on
-unfolding power_on
-sound_power_on = record { size = refl; within = omega arith; no_update = omega arith; stopped = λ never. refl }
-
 -- the byte of a register after a write of any byte
 register_after : (bytes : List ℕ) (register k byte : ℕ) → register < length bytes →
     get_or (set bytes k (written k (get_or bytes k 0) byte)) register 0
@@ -113,24 +108,19 @@ register_after : (bytes : List ℕ) (register k byte : ℕ) → register < lengt
 register_after bytes register k byte inside =
     grind (arith, nat_tests, cases_eq, get_or-set_same, written, get_or, get_or-set_other)
 
-sound_write : (clock : Clock) (port byte : ℕ) → IsSound clock → IsSound (after_write clock port byte)
-sound_write clock port byte was =
-    let a = register_after clock.bytes 10 clock.index byte (omega (arith, was.size)) in
-    let b = register_after clock.bytes 11 clock.index byte (omega (arith, was.size)) in
-    grind (arith, nat_tests, length-set)
-
-sound_reset : (clock : Clock) → IsSound clock → IsSound (after_reset clock)
-sound_reset clock was =
-    let b = control_of clock in
-    let there = get_or-set_same clock.bytes 11 (control_reset b) 0 (omega (arith, was.size)) in
-    let a_same = get_or-set_other clock.bytes 11 10 (control_reset b) 0 (omega arith) in
-    grind (arith, nat_tests, length-set, reset_bit b 4 (omega arith))
-
 pub stays_sound : StaysSound
+unfolding power_on
 stays_sound = record {
-  at_power_on = sound_power_on;
+  at_power_on = record { size = refl; within = omega arith; no_update = omega arith; stopped = λ never. refl };
   at_read = λ clock port was. grind (arith, nat_tests);
-  at_write = sound_write;
+  at_write = λ clock port byte was.
+      let a = register_after clock.bytes 10 clock.index byte (omega (arith, was.size)) in
+      let b = register_after clock.bytes 11 clock.index byte (omega (arith, was.size)) in
+      grind (arith, nat_tests, length-set);
   at_moment = λ clock time was. let is = told clock time was.size in grind (arith, nat_tests);
-  at_reset = sound_reset;
+  at_reset = λ clock was.
+      let b = control_of clock in
+      let there = get_or-set_same clock.bytes 11 (control_reset b) 0 (omega (arith, was.size)) in
+      let a_same = get_or-set_other clock.bytes 11 10 (control_reset b) 0 (omega arith) in
+      grind (arith, nat_tests, length-set, reset_bit b 4 (omega arith));
 }
