@@ -160,20 +160,17 @@ goes_on gate n m null low c r (suc k) =
 -- after a write
 after_write : (gate : Bool) (byte n k : ℕ) (c : CounterState) → is_periodic c.mode ≡ true → c.started ≡ true →
     c.count ≡ Some n → let d = write byte c in
-    IsWaiting c d
-    × ((pulses_of gate k d ≡ waiting (pulses_of gate k c) (unwrap_or d.count 0) d.null_count d.low_written)
-    ⊎ HasTaken (unwrap_or d.count 0) (pulses_of gate k d))
+    (pulses_of gate k d ≡ waiting (pulses_of gate k c) (unwrap_or d.count 0) d.null_count d.low_written)
+    ⊎ HasTaken (unwrap_or d.count 0) (pulses_of gate k d)
 after_write gate byte n k c p started count =
     let d = write byte c in
-    let is = waits byte n c p started count in
-    let on =
-    goes_on gate n (unwrap_or d.count 0) d.null_count d.low_written c (record { periodic = p; count = count }) k in
-    (is, rw (← is) at on)
+    rw (← waits byte n c p started count) at
+    (goes_on gate n (unwrap_or d.count 0) d.null_count d.low_written c (record { periodic = p; count = count }) k)
 
 pub count_waits : CountWaits
 count_waits c gate byte n k p started count waits =
-    let now = (after_write gate byte n k c p started count).1 in grind (arith, nat_tests)
+    let now = after_write gate byte n k c p started count in grind (arith, nat_tests)
 
 pub count_is_taken : CountIsTaken
 count_is_taken c gate byte n m k p started count null is taken =
-    let now = (after_write gate byte n k c p started count).1 in grind (arith, nat_tests)
+    let now = after_write gate byte n k c p started count in grind (arith, nat_tests)

@@ -53,9 +53,8 @@ low-part :
     (byte_at : ℕ → ℕ) (from : ℕ) (width : Width) (count : ℕ) →
     wide byte_at from width + 256 ^ bytes_of width * low_first byte_at (from + bytes_of width) count
     ≡ low_first byte_at from (bytes_of width + count)
-low-part byte_at from One count = simp (unary_clauses) (grind (arith))
-low-part byte_at from Two count = simp (unary_clauses) (grind (arith))
-low-part byte_at from Four count = simp (unary_clauses) (grind (arith))
+low-part byte_at from One count = simp unary_clauses (grind arith)
+low-part byte_at from _ count = simp unary_clauses (grind arith)
 
 abbrev Lands : Setup → List Entry → Access → Type 0
 Lands setup before part = first_cell (memory_target setup before part) part.addr ≡ Some (DramCell part.addr)
