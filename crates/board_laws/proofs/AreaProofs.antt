@@ -81,16 +81,13 @@ find-none test (other ∷ later) fail =
     rw (All-head (λ it. test it ≡ false) other later fail)
     (find-none test later (All-tail (λ it. test it ≡ false) other later fail))
 
-find-first : (test : Window → Bool) (earlier later : List Window) (window : Window) →
-    All (λ it. test it ≡ false) earlier → test window ≡ true → find test (earlier ++ window ∷ later) ≡ Some window
-find-first test earlier later window fail here =
-    rw (find-append test earlier (window ∷ later), find-none test earlier fail, here) refl
-
 claim-first : (setup : Setup) (bytes : Bytes) (addr : ℕ) (earlier later : List Window) (window : Window) →
     memory_windows_of setup bytes ≡ earlier ++ window ∷ later → NoneClaims bytes addr earlier →
     claims bytes addr window ≡ true → memory_claim setup bytes addr ≡ Some window
 unfolding memory_claim
-claim-first setup bytes addr earlier later window are none here = grind (arith, nat_tests, find, find-first)
+claim-first setup bytes addr earlier later window are none here =
+    let test = claims bytes addr in
+    ap (find test) are ∙ rw (find-append test earlier (window ∷ later), find-none test earlier none, here) refl
 
 -- ---- the map
 
