@@ -6,8 +6,8 @@ use Rattle.board_prelude.proofs.Common.{IsCard, IsCardList, IsExpansionRom, card
 use Rattle.board_prelude.proofs.Common.{is_covered, is_enabled_for, memory_window, memory_windows, rom_window}
 use Rattle.board_prelude.proofs.Common.{rom_window_of, vga_window, memory_claim, Kind, lies_in, upper_memory, row_of}
 use Rattle.board_prelude.proofs.Common.{is_smram_range, is_shadowed, area_of, is_in_hole, is_bios_selected}
-use Rattle.board_prelude.proofs.Common.{is_smram_open, common_steps, and_parts, eqb-true, Width, bytes_of, IsBase}
-use Rattle.board_prelude.proofs.Common.{boundary, address_count, six_areas, base_value, rom_value}
+use Rattle.board_prelude.proofs.Common.{is_smram_open, common_steps, Width, bytes_of, IsBase, boundary, address_count}
+use Rattle.board_prelude.proofs.Common.{six_areas, base_value, rom_value}
 use Rattle.std.proofs.Common.{◌≡◌, ℕ, ◌+◌, ◌<◌, ◌≤◌, Bool, true, false, ◌&&◌, List, [], ◌∷◌, length, Option, Some, None}
 use Rattle.std.proofs.Common.{refl, ap, subst, ◌∙◌, arith, ◌==◌, All, flat_map, slice_get, if◌then◌else◌, is_some, not}
 use Rattle.std.proofs.Common.{unwrap_or, ◌-◌, ◌*◌, ◌/◌, ◌%◌, ◌^◌}
@@ -124,20 +124,9 @@ window_all window above =
     first_even : (n size fourth : ℕ) → size ≡ fourth * 4 → n * size % 4 ≡ 0
     first_even n size fourth is = rw (is, ← mul_assoc n fourth 4) (omega arith)
 
--- edges that are written out, by a test
-abbrev are_even : List ℕ → Bool
-are_even [] = true
-are_even (edge ∷ later) = (edge % 4 == 0) && are_even later
-
-all_even : (edges : List ℕ) → are_even edges ≡ true → All IsEven edges
-all_even [] are = All-nil IsEven
-all_even (edge ∷ later) are =
-    let both = and_parts (edge % 4 == 0) (are_even later) are in
-    All-cons IsEven edge later (eqb-true (edge % 4) 0 both.0) (all_even later both.1)
-
 fixed_even : All IsEven fixed_edges
 unfolding fixed_edges
-fixed_even = all_even fixed_edges refl
+fixed_even = All-from_recursion IsEven fixed_edges (omega arith)
 
 module _ (bytes : Bytes) where
   rows_even : All IsEven (row_edges bytes)
