@@ -1,16 +1,17 @@
 -- Where a walk stops, the bytes leave the logs of the script.
 use Rattle.std.proofs.Common.{ℕ, ◌≡◌, ◌≢◌, ◌+◌, List, [], ◌∷◌, ◌++◌, length, reverse, All, refl, sym, ap, ◌∙◌, subst}
-use Rattle.std.proofs.Common.{append_assoc, append-nil, length-append, arith}
+use Rattle.std.proofs.Common.{append_assoc, append-nil, length-append, arith, ◌-◌}
 use Rattle.board_prelude.proofs.Common.{common_steps, nat_tests, All-nil, Entry, Statement, Setup, IsNext, IsLegal}
 use Rattle.board_prelude.proofs.Common.{IsBegunFor, IsCompleteFor, in_file_order, IsAddressed, OneReplay, line_feed}
 use Rattle.board_prelude.proofs.Common.{line_text, lines_text, log_text, complete_is_begun, none_so_far}
+use Rattle.board_prelude.proofs.Common.{begun_is_bounded}
 use Rattle.board_spec.proofs.ReplayLaws.{legal_before}
 use Rattle.script_spec.specs.Common.{text_of_lines, IsOneLine, AreBegun, IsLogOf, DiffersAt}
 use Rattle.script_spec.proofs.LogLaws.{line_whole}
 use Rattle.log_check.specs.Common.{IsTyped, GoesOnWithNone, StopsAt}
 use Rattle.log_check.proofs.TextCuts.{cut_line}
-use Rattle.log_check.proofs.LogLines.{heading_whole, heading-log, log_parts, lines_from, newest_last, lines_left}
-use Rattle.log_check.proofs.LogLines.{log_joined, lined, one_line_more}
+use Rattle.log_check.proofs.LogLines.{heading_whole, log_parts, lines_from, newest_last, lined, one_line_more}
+use Rattle.log_check.proofs.LogLines.{lines_left, log_joined}
 use Rattle.log_check.proofs.Histories.{begun_front, Extends, extends, completed}
 use Rattle.logs_and_maps.specs.Reading.{heading}
 
@@ -26,7 +27,8 @@ module _ (setup : Setup) (version : ℕ) (phases : List (List Statement)) where
       IsBegunFor phases history → (rest : List ℕ) → text_of_lines lines ++ rest ≡ log_text version history →
       AreBegun (IsLogOf setup version phases) lines
   lines_begin history lines known legal begun rest text =
-      let whole = completed setup phases history known.addressed legal begun in
+      let whole = completed (length (in_file_order phases) - length history) setup phases history known.addressed
+      legal begun (omega (arith, begun_is_bounded phases history begun)) in
       let more : List ℕ = lines_from (length history) whole.more in
       record {
         later = rest ++ more;
@@ -74,8 +76,8 @@ module _ (setup : Setup) (version : ℕ) (phases : List (List Statement)) where
       let goes_on : (log : List ℕ) (left : List ℕ) (whole : IsLogOf setup version phases log) →
       log ≡ log_text version history ++ left → Extends history whole.history left =
       λ log left whole is.
-      extends known.one setup phases history whole.history left known.typed stops.legal stops.begun whole.legal
-      (complete_is_begun phases whole.history whole.complete)
+      extends known.one setup phases known.typed whole.history whole.legal
+      (complete_is_begun phases whole.history whole.complete) history left stops.legal stops.begun
       (lines_left version whole.history history left (sym whole.text ∙ is)) in
       record {
         before = first.lines;
@@ -91,11 +93,9 @@ module _ (setup : Setup) (version : ℕ) (phases : List (List Statement)) where
             rw (
               one_line_more first.lines this,
               append_assoc (text_of_lines first.lines) (this ++ line_feed ∷ []) begun.later,
+              append_assoc this (line_feed ∷ []) begun.later,
               first.text,
-            )
-            (ap (λ (text : List ℕ). log_text version history ++ text)
-            (append_assoc this (line_feed ∷ []) begun.later))
-            in
+            ) refl in
             let ext = goes_on _ (this ++ line_feed ∷ begun.later) begun.text log in
             no_more history begun.text.history begun.later this after ext.more
             (subst (GoesOnWithNone setup phases history) is stops.none) single begun.text.legal
@@ -108,6 +108,7 @@ module _ (setup : Setup) (version : ℕ) (phases : List (List Statement)) where
   -- bytes that do not begin with the heading leave the logs of the script at once
   pub differs_at_once : (bytes : List ℕ) → Known setup phases →
       ((after : List ℕ) → bytes ≢ log_text version [] ++ after) → DiffersAt setup version phases bytes 1
+  unfolding lines_text
   differs_at_once bytes known none = record {
     before = [];
     each = All-nil IsOneLine;
@@ -117,15 +118,10 @@ module _ (setup : Setup) (version : ℕ) (phases : List (List Statement)) where
     begun = lines_begin [] [] known tt (none_so_far phases) (log_text version []) refl;
     leaves = λ this after single is begun.
         let log : this ++ line_feed ∷ begun.later ≡ heading version ++ line_feed ∷ lines_text begun.text.history =
-        sym (append_assoc this (line_feed ∷ []) begun.later)
-        ∙ ap (λ (text : List ℕ). text ++ begun.later) (sym (append-nil (this ++ line_feed ∷ [])))
-        ∙ begun.text.text in
+        simp (append_assoc, append-nil) at begun.text.text in
         let cut =
         cut_line this (heading version) begun.later (lines_text begun.text.history) single (heading_whole version) log
         in
-        none after
-        (is ∙ ap (λ (first : List ℕ). first ++ line_feed ∷ after) cut.0
-        ∙ sym (append_assoc (heading version) (line_feed ∷ []) after)
-        ∙ ap (λ (first : List ℕ). first ++ after) (sym (heading-log version)));
+        none after (rw (is, cut.0) (sym (append_assoc (heading version) (line_feed ∷ []) after)));
     other = λ log. none (lines_text log.history) (log.text ∙ log_parts version log.history);
   }

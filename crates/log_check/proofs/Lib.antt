@@ -5,8 +5,6 @@ pub mod NextStatements
 pub mod Histories
 pub mod LogLines
 pub mod Differences
-pub mod Steps
 pub mod PhaseLists
-pub mod Fronts
 pub mod LineSteps
 pub mod LogChecks

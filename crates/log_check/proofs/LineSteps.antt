@@ -1,17 +1,21 @@
--- A line of a log: past it, or where the walk stops.
+-- The walk within a phase: past a line of a log, or where it stops.
 use Rattle.std.proofs.Common.{ℕ, ◌≡◌, ◌≢◌, ◌+◌, ◌-◌, ◌<◌, List, [], ◌∷◌, ◌++◌, length, All, refl, sym, ap, ◌∙◌, inl}
-use Rattle.std.proofs.Common.{inr, append_assoc, arith, Option, Some, None, Result, Ok, Err, MatchResult}
+use Rattle.std.proofs.Common.{inr, append_assoc, arith, Option, Some, None, Result, Ok, Err, MatchResult, ◌≤◌}
+use Rattle.std.proofs.Common.{append-nil, length-append}
 use Rattle.std.specs.Borrow.{Bor}
 use Rattle.std.specs.Result.{IsErrAnd}
 use Rattle.board_prelude.proofs.Common.{Event, Entry, Statement, Setup, IsNext, IsLegal, IsBegunFor, OneReplay}
-use Rattle.board_prelude.proofs.Common.{line_feed, line_text, log_text}
+use Rattle.board_prelude.proofs.Common.{line_feed, line_text, log_text, common_steps, nat_tests, cases_eq}
+use Rattle.board_prelude.proofs.Common.{append_cancel_left, statement_of, statements_of, events_by, IsFrontOfPhase}
+use Rattle.board_prelude.proofs.Common.{IsCompleteFor, statements-newest}
 use Rattle.log_check.specs.declared.fault.CheckFault.{CheckFault}
 use Rattle.log_check.specs.declared.fault.CheckFault.TheVariants.{Differs, NoMemory}
 use Rattle.log_check.specs.Common.{IsTyped, IsAtMostNext, WalkPlace, IsWithin, IsPast, GoesOnWithNone, StoppedCheck}
 use Rattle.script_spec.proofs.Common.{same_some}
-use Rattle.log_check.proofs.NextStatements.{same_next}
+use Rattle.log_check.proofs.NextStatements.{same_next, events-last, events-last_other, GoesFirst, goes_first}
+use Rattle.log_check.proofs.NextStatements.{known_first}
 use Rattle.log_check.proofs.LogLines.{log-newest}
-use Rattle.log_check.proofs.Steps.{within_begun, within_unfinished, within_next, small_actor, none_left}
+use Rattle.log_check.proofs.PhaseCuts.{begun_joined, whole_after, begun_left, in_first_phase, full_phase, phase_fits}
 
 -- the phases of a place with an open one
 abbrev pub phases_of : WalkPlace → List Statement → List (List Statement)
@@ -38,6 +42,84 @@ pub record Made (setup : Setup) (left after : ℕ → List Event) (history : Lis
   pub next : IsNext setup history entry
   pub own : left entry.actor ≡ entry.event ∷ after entry.actor
   pub others : (other : ℕ) → other ≢ entry.actor → after other ≡ left other
+
+-- at the start of a phase all of it is left
+pub within_start : (place : WalkPlace) (phase : List Statement) (left : ℕ → List Event) (history : List Entry) →
+    IsCompleteFor place.done history → place.count ≡ 0 → ((actor : ℕ) → left actor ≡ events_by actor phase) →
+    IsWithin place phase left history
+within_start place phase left history complete none all =
+    grind (arith, nat_tests, common_steps, statements_of, append-nil)
+
+module _ (place : WalkPlace) (phase : List Statement) (left : ℕ → List Event) (history : List Entry)
+    (within : IsWithin place phase left history) where
+  front_of : place.count ≤ length phase → IsFrontOfPhase phase within.part
+  front_of short = grind (arith, nat_tests, common_steps)
+
+  -- a history within a phase is begun
+  within_begun : place.count ≤ length phase → IsBegunFor (place.done ++ phase ∷ place.later) history
+  within_begun short = grind (arith, nat_tests, common_steps, begun_joined, front_of)
+
+  -- with all statements of the phase it is complete
+  pub within_whole : place.count ≡ length phase → IsCompleteFor (place.done ++ phase ∷ []) history
+  within_whole full =
+      rw within.statements
+      ((whole_after place.done (phase ∷ []) within.before within.part within.whole).1
+      (full_phase phase within.part (front_of (omega (arith, full))) (within.size ∙ full)))
+
+  -- with fewer it is not
+  within_unfinished : place.count < length phase → ¬ IsCompleteFor (place.done ++ phase ∷ place.later) history
+  within_unfinished short complete =
+      let after = whole_after place.done (phase ∷ place.later) within.before within.part within.whole in
+      omega (arith, phase_fits phase within.part (after.0 (rw within.statements at complete)).0, within.size)
+
+  module _ (entry : Entry) where
+    abbrev last : Statement
+    last = statement_of entry
+
+    said : statements_of (entry ∷ history) ≡ within.before ++ (within.part ++ last ∷ [])
+    said = statements-newest entry history ∙ rw within.statements (append_assoc within.before within.part (last ∷ []))
+
+    -- an entry that may come next is of its processor's next statement
+    next_first :
+        place.count < length phase → IsBegunFor (place.done ++ phase ∷ place.later) (entry ∷ history) →
+        GoesFirst phase within.part last
+    next_first short begun =
+        grind (arith, nat_tests, common_steps, length-append, goes_first, in_first_phase, begun_left, said)
+
+    small_actor :
+        place.count < length phase → All IsTyped phase →
+        IsBegunFor (place.done ++ phase ∷ place.later) (entry ∷ history) → entry.actor < 256
+    small_actor short typed begun = known_first phase within.part last typed (next_first short begun)
+
+    -- a processor that has nothing left has no entry that may come next
+    none_left :
+        place.count < length phase → left entry.actor ≡ [] →
+        IsBegunFor (place.done ++ phase ∷ place.later) (entry ∷ history) → ⊥
+    none_left short nothing begun = grind (arith, nat_tests, common_steps, next_first, append_cancel_left, events_by)
+
+  -- an entry is of a processor's next statement
+  within_next :
+      (after : ℕ → List Event) (entry : Entry) → left entry.actor ≡ entry.event ∷ after entry.actor →
+      ((other : ℕ) → other ≢ entry.actor → after other ≡ left other) →
+      IsWithin (record place { count = place.count + 1 }) phase after (entry ∷ history)
+  within_next after entry own others = record {
+    before = within.before;
+    part = within.part ++ last entry ∷ [];
+    statements = said entry;
+    whole = within.whole;
+    size = omega (arith, length-append within.part (last entry ∷ []), within.size);
+    each = λ actor. elim (cases_eq actor entry.actor) [
+      | inl mine ↦
+          within.each actor
+          ∙ rw (mine, own, events-last entry.actor within.part (last entry) refl)
+          (sym (append_assoc (events_by entry.actor within.part) (entry.event ∷ []) (after entry.actor)))
+      | inr apart ↦
+          within.each actor
+          ∙ rw (others actor apart, events-last_other actor within.part (last entry) (λ same. apart (sym same)))
+    ];
+  }
+
+-- ---- a line
 
 module _ {setup : Setup} {phase : List Statement} {left : ℕ → List Event} {history : List Entry} {rest : List ℕ}
     {lines : ℕ} (walk : Walk setup phase left history rest lines) (place : WalkPlace)

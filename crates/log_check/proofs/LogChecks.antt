@@ -1,10 +1,10 @@
 -- A whole check: passed, or where it fails.
-use Rattle.std.proofs.Common.{ℕ, ◌≡◌, ◌≢◌, ◌+◌, ◌⊎◌, List, [], ◌∷◌, ◌++◌, length, All, refl, sym, ap, ◌∙◌, inl, inr}
-use Rattle.std.proofs.Common.{append-nil, arith, ◌==◌, true, false, Result, Ok, Err, MatchResult}
-use Rattle.board_prelude.proofs.Common.{common_steps, nat_tests, eq-eqb, eqb-true, true≢false, All-nil, All-cons}
-use Rattle.board_prelude.proofs.Common.{All-head, All-tail, Event, Wide, Entry, Statement, Setup, IsInRange, IsLegal}
-use Rattle.board_prelude.proofs.Common.{IsBegunFor, IsCompleteFor, in_file_order, IsAddressed, OneReplay, log_text}
-use Rattle.board_prelude.proofs.Common.{complete_is_begun, begun_is_bounded, complete_is_whole, none_so_far}
+use Rattle.std.proofs.Common.{get_or, ℕ, ◌≡◌, ◌≢◌, ◌+◌, ◌⊎◌, List, [], ◌∷◌, ◌++◌, length, All, refl, sym, ap, ◌∙◌, inl}
+use Rattle.std.proofs.Common.{inr, append-nil, arith, ◌==◌, true, false, Result, Ok, Err, MatchResult}
+use Rattle.board_prelude.proofs.Common.{common_steps, nat_tests, eq-eqb, eqb-true, true≢false, Event, Wide, Entry}
+use Rattle.board_prelude.proofs.Common.{Statement, Setup, IsInRange, IsLegal, IsBegunFor, IsCompleteFor, in_file_order}
+use Rattle.board_prelude.proofs.Common.{IsAddressed, OneReplay, log_text, complete_is_begun, begun_is_bounded}
+use Rattle.board_prelude.proofs.Common.{complete_is_whole, none_so_far}
 use Rattle.board_spec.specs.declared.event.Event.TheVariants.{Look as LookAt}
 use Rattle.board_core.specs.Steps.{AreInRange}
 use Rattle.script_spec.specs.Checks.{IsLogOf}
@@ -20,19 +20,14 @@ addressed setup (Wide access) fits range = range
 addressed setup (LookAt kind addr smm) fits range = fits
 addressed setup _ fits range = tt
 
-all_addressed : (setup : Setup) (statements : List Statement) → All IsTyped statements → AreInRange setup statements →
-    All (λ statement. IsAddressed statement.event) statements
-all_addressed setup [] typed range = All-nil (λ (statement : Statement). IsAddressed statement.event)
-all_addressed setup (first ∷ later) typed range =
-    let InRange : Statement → Type 0 = λ statement. IsInRange setup statement.event in
-    All-cons (λ (statement : Statement). IsAddressed statement.event) first later
-    (addressed setup first.event (All-head IsTyped first later typed).look (All-head InRange first later range))
-    (all_addressed setup later (All-tail IsTyped first later typed) (All-tail InRange first later range))
-
 pub known : (setup : Setup) (phases : List (List Statement)) → OneReplay → All IsTyped (in_file_order phases) →
     AreInRange setup (in_file_order phases) → Known setup phases
-known setup phases one typed range =
-    record { one = one; typed = typed; addressed = all_addressed setup (in_file_order phases) typed range }
+known setup phases one typed range = record {
+  one = one;
+  typed = typed;
+  addressed = λ k d below.
+      addressed setup (get_or (in_file_order phases) k d).event (typed k d below).look (range k d below);
+}
 
 -- ---- before the first line of an entry
 
@@ -42,77 +37,77 @@ nothing_begun phases entries fresh = rw fresh (none_so_far phases)
 nothing_legal : (setup : Setup) (entries : List Entry) → entries ≡ [] → IsLegal setup entries
 nothing_legal setup entries fresh = rw fresh tt
 
-module _ (setup : Setup) (version : ℕ) (phases : List (List Statement)) (bytes : List ℕ) where
-  pub failed_first : (entries : List Entry) → entries ≡ [] → FailedCheck setup version phases bytes entries NoMemory
-  failed_first entries fresh = grind (arith, nat_tests, common_steps, nothing_legal, nothing_begun)
+module _ {setup : Setup} {version : ℕ} {phases : List (List Statement)} {bytes : List ℕ} {entries : List Entry} where
+  pub failed_first : entries ≡ [] → FailedCheck setup version phases bytes entries NoMemory
+  failed_first fresh = grind (arith, nat_tests, common_steps, nothing_legal, nothing_begun)
 
-  pub failed_heading : (entries : List Entry) → Known setup phases → entries ≡ [] →
-      ((after : List ℕ) → bytes ≢ log_text version [] ++ after) →
+  pub failed_heading : Known setup phases → entries ≡ [] → ((after : List ℕ) → bytes ≢ log_text version [] ++ after) →
       FailedCheck setup version phases bytes entries (Differs 1)
-  failed_heading entries known fresh none =
+  failed_heading known fresh none =
       grind (arith, nat_tests, common_steps, differs_at_once, known, nothing_legal, nothing_begun)
 
   -- ---- at a line
 
-  pub failed_within : (entries : List Entry) (fault : CheckFault) → Known setup phases →
+  pub failed_within : (fault : CheckFault) → Known setup phases →
       StoppedCheck setup version phases bytes entries fault → FailedCheck setup version phases bytes entries fault
-  failed_within entries (Differs line) known stopped = record {
+  failed_within (Differs line) known stopped = record {
     refused = differs setup version phases bytes entries line known stopped.by;
     legal = stopped.legal;
     begun = stopped.begun;
     stands = inr stopped.by.at_line;
   }
-  failed_within entries NoMemory known stopped = grind (arith, nat_tests, common_steps)
+  failed_within NoMemory known stopped = grind (arith, nat_tests, common_steps)
 
   -- ---- after all lines
 
-  pub passed : (history : List Entry) (rest : List ℕ) (count : ℕ) → IsLegal setup history →
-      IsCompleteFor phases history → bytes ≡ log_text version history ++ rest → rest ≡ [] → count ≡ length history →
-      IsCheckedLog setup version phases bytes history count
-  passed history rest count legal complete text nothing is = record {
+  pub passed : (rest : List ℕ) (count : ℕ) → IsLegal setup entries → IsCompleteFor phases entries →
+      bytes ≡ log_text version entries ++ rest → rest ≡ [] → count ≡ length entries →
+      IsCheckedLog setup version phases bytes entries count
+  passed rest count legal complete text nothing is = record {
     log = record {
-      history = history;
+      history = entries;
       legal = legal;
       complete = complete;
-      text = rw nothing at text ∙ append-nil (log_text version history);
+      text = rw nothing at text ∙ append-nil (log_text version entries);
     };
     same = refl;
     count_is = is;
   }
 
-  pub failed_end : (history : List Entry) (rest : List ℕ) (count : ℕ) → Known setup phases → IsLegal setup history →
-      IsCompleteFor phases history → bytes ≡ log_text version history ++ rest → rest ≢ [] → count ≡ length history →
-      FailedCheck setup version phases bytes history (Differs (count + 2))
-  failed_end history rest count known legal complete text some is =
-      let begun : IsBegunFor phases history = complete_is_begun phases history complete in
-      failed_within history (Differs (count + 2)) known (record {
+  pub failed_end : (rest : List ℕ) (count : ℕ) → Known setup phases → IsLegal setup entries →
+      IsCompleteFor phases entries → bytes ≡ log_text version entries ++ rest → rest ≢ [] → count ≡ length entries →
+      FailedCheck setup version phases bytes entries (Differs (count + 2))
+  failed_end rest count known legal complete text some is =
+      let begun : IsBegunFor phases entries = complete_is_begun phases entries complete in
+      failed_within (Differs (count + 2)) known (record {
         by = record {
-          at_line = record { before = history; rest = rest; text = text; place = omega arith; stepped = inl refl };
+          at_line = record { before = entries; rest = rest; text = text; place = omega arith; stepped = inl refl };
           legal = legal;
           begun = begun;
           none = λ entry after next more same.
-              omega (arith, complete_is_whole phases history complete, begun_is_bounded phases (entry ∷ history) more);
+              omega (arith, complete_is_whole phases entries complete, begun_is_bounded phases (entry ∷ entries) more);
           unfinished = λ nothing whole. some nothing;
         };
         legal = legal;
         begun = begun;
       })
 
-  -- ---- what a caller hears
+-- ---- what a caller hears
 
-  pub begun_after : (entries : List Entry) (result : Result ℕ CheckFault) →
-      MatchResult result (IsCheckedLog setup version phases bytes entries)
-      (FailedCheck setup version phases bytes entries) → IsBegunFor phases entries
-  begun_after entries (Ok count) checked = complete_is_begun phases entries (rw checked.same at checked.log.complete)
-  begun_after entries (Err fault) checked = checked.begun
+pub begun_after : (setup : Setup) (version : ℕ) (phases : List (List Statement)) (bytes : List ℕ) (entries : List Entry)
+    (result : Result ℕ CheckFault) → MatchResult result (IsCheckedLog setup version phases bytes entries)
+    (FailedCheck setup version phases bytes entries) → IsBegunFor phases entries
+begun_after setup version phases bytes entries (Ok count) checked =
+    complete_is_begun phases entries (rw checked.same at checked.log.complete)
+begun_after setup version phases bytes entries (Err fault) checked = checked.begun
 
-  pub exactly : (entries : List Entry) (result : Result ℕ CheckFault) →
-      MatchResult result (IsCheckedLog setup version phases bytes entries)
-      (FailedCheck setup version phases bytes entries) → (log : IsLogOf setup version phases bytes) →
-      (result ≡ Ok (length log.history)) ⊎ (result ≡ Err NoMemory)
-  exactly entries (Ok count) checked log = grind (arith, nat_tests, common_steps, complete_is_whole)
-  exactly entries (Err (Differs line)) checked log = absurd (checked.refused.other log)
-  exactly entries (Err NoMemory) checked log = inr refl
+pub exactly : {setup : Setup} {version : ℕ} {phases : List (List Statement)} {bytes : List ℕ} (entries : List Entry)
+    (result : Result ℕ CheckFault) → MatchResult result (IsCheckedLog setup version phases bytes entries)
+    (FailedCheck setup version phases bytes entries) → (log : IsLogOf setup version phases bytes) →
+    (result ≡ Ok (length log.history)) ⊎ (result ≡ Err NoMemory)
+exactly entries (Ok count) checked log = grind (arith, nat_tests, common_steps, complete_is_whole)
+exactly entries (Err (Differs line)) checked log = absurd (checked.refused.other log)
+exactly entries (Err NoMemory) checked log = inr refl
 
 -- whether a text is at its end
 pub nothing_left : (rest : List ℕ) → (length rest == 0) ≡ true → rest ≡ []

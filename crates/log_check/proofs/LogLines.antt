@@ -2,8 +2,8 @@
 use Rattle.std.proofs.Common.{ℕ, ◌≡◌, ◌+◌, List, [], ◌∷◌, ◌++◌, length, reverse, All, refl, sym, ap, ◌∙◌, append_assoc}
 use Rattle.std.proofs.Common.{append-nil, length-append, add-one, arith, codes, decimal}
 use Rattle.board_prelude.proofs.Common.{common_steps, nat_tests, flat_map-append, reverse-append, reverse-reverse}
-use Rattle.board_prelude.proofs.Common.{append_cancel_left, All-nil, All-cons, All-push, Entry, line_feed, line_text}
-use Rattle.board_prelude.proofs.Common.{lines_text, log_text}
+use Rattle.board_prelude.proofs.Common.{All-nil, All-cons, All-push, Entry, line_feed, line_text, lines_text, log_text}
+use Rattle.board_prelude.proofs.Common.{append_cancel_left}
 use Rattle.script_spec.specs.Lines.{text_of_lines, IsOneLine}
 use Rattle.script_spec.proofs.Common.{lacks-append, one_line, lacks-word, decimal_word, line_whole}
 use Rattle.logs_and_maps.specs.Reading.{heading}
@@ -11,10 +11,6 @@ use Rattle.logs_and_maps.specs.Reading.{heading}
 pub heading_whole : (version : ℕ) → IsOneLine (heading version)
 heading_whole version =
     grind (arith, nat_tests, common_steps, one_line, lacks-append, line_feed, codes, decimal, lacks-word, decimal_word)
-
-pub heading-log : (version : ℕ) → log_text version [] ≡ heading version ++ line_feed ∷ []
-unfolding lines_text
-heading-log version = refl
 
 -- a log is its heading and the lines of its entries
 pub log_parts :
@@ -51,9 +47,7 @@ lines-joined (entry ∷ later) history =
 
 pub lines-all : (history : List Entry) → lines_text history ≡ lines_from 0 (reverse history)
 unfolding lines_text
-lines-all history =
-    ap lines_text (sym (reverse-reverse history) ∙ sym (append-nil (reverse (reverse history))))
-    ∙ lines-joined (reverse history) []
+lines-all history = simp (append-nil, reverse-reverse) at (lines-joined (reverse history) [])
 
 -- where a log goes on after that of a history, so do the lines
 pub lines_left : (version : ℕ) (whole history : List Entry) (rest : List ℕ) →

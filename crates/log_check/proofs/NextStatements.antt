@@ -1,14 +1,16 @@
 -- A processor has one statement that may come next.
 use Rattle.std.proofs.Common.{ℕ, ◌≡◌, ◌≢◌, ◌+◌, ◌<◌, ◌≤◌, List, [], ◌∷◌, ◌++◌, length, drop, All, refl, sym, ◌∙◌, subst}
-use Rattle.std.proofs.Common.{ap, inl, inr, append_assoc, length-append, add-one, arith}
-use Rattle.board_prelude.proofs.Common.{common_steps, nat_tests, take-append_seam, drop-append_seam, cases_lt}
-use Rattle.board_prelude.proofs.Common.{cond-true, eq-eqb, ne_eqb, append_cancel_left, append-nil, All-head, All-tail}
-use Rattle.board_prelude.proofs.Common.{All-drop, Event, Entry, Statement, Setup, IsNext, IsLegal, statement_of}
-use Rattle.board_prelude.proofs.Common.{statements_of, entries_by, events_by, IsFrontOfPhase, HasPhasesSoFar}
-use Rattle.board_prelude.proofs.Common.{IsBegunFor, in_file_order, OneReplay, statements-newest}
+use Rattle.std.proofs.Common.{ap, inl, inr, append_assoc, length-append, arith, get_or, add-one}
+use Rattle.board_prelude.proofs.Common.{common_steps, nat_tests, take-append_seam, drop-append_seam, cases_lt, eq-eqb}
+use Rattle.board_prelude.proofs.Common.{drop-cons, ne_eqb, append_cancel_left, append-nil, All-head, All-tail, All-drop}
+use Rattle.board_prelude.proofs.Common.{Event, Entry, Statement, Setup, IsNext, IsLegal, statement_of, statements_of}
+use Rattle.board_prelude.proofs.Common.{events_by, IsFrontOfPhase, HasPhasesSoFar, IsBegunFor, in_file_order, OneReplay}
+use Rattle.board_prelude.proofs.Common.{statements-newest}
 use Rattle.std.proofs.lemmas.List.Elements.{All-take}
 use Rattle.board_spec.proofs.OrderLawProofs.{events-append}
+use Rattle.std.proofs.lemmas.Option.{slice_get-get_or}
 use Rattle.log_check.specs.Phases.{IsTyped}
+use Rattle.log_check.specs.Fronts.{IsNextOf}
 use Rattle.log_check.proofs.PhaseCuts.{in_first_phase, past_first_phase}
 
 -- ---- the events of a processor
@@ -25,6 +27,13 @@ pub events-last_other : (actor : ℕ) (part : List Statement) (last : Statement)
     events_by actor (part ++ last ∷ []) ≡ events_by actor part
 events-last_other actor part last other =
     rw (events-append actor part (last ∷ []), ne_eqb last.actor actor other) (append-nil (events_by actor part))
+
+-- the next statement of a processor in a phase
+pub found : (phase : List Statement) (start actor place : ℕ) (other : Statement) → place < length phase →
+    (get_or phase place other).actor ≡ actor → events_by actor (drop start phase) ≡ events_by actor (drop place phase) →
+    IsNextOf phase start actor place
+found phase start actor place other within own passed =
+    grind (arith, nat_tests, common_steps, slice_get-get_or, drop-cons, add-one, events-own)
 
 -- ---- the next statement of a front
 
@@ -94,11 +103,6 @@ same_next one setup phases history left right legal l r begun others same =
     cc
 
 -- ---- processors
-
--- a processor's entries are one more with its next
-pub last_number : (history : List Entry) (entry : Entry) →
-    length (entries_by entry.actor (entry ∷ history)) ≡ length (entries_by entry.actor history) + 1
-last_number history entry = grind (arith, nat_tests, common_steps, cond-true, eq-eqb, add-one, entries_by)
 
 no_events : (actor : ℕ) (phase : List Statement) → All IsTyped phase → 256 ≤ actor → events_by actor phase ≡ []
 no_events actor [] typed large = refl

@@ -1,5 +1,6 @@
 -- Phases that are done, and what follows them.
-use Rattle.std.proofs.Common.{◌≡◌, ◌<◌, ◌≤◌, List, [], ◌∷◌, ◌++◌, length, take, drop, inl, inr, length-append, arith}
+use Rattle.std.proofs.Common.{◌≡◌, ◌↔◌, ◌<◌, ◌≤◌, List, [], ◌∷◌, ◌++◌, length, take, drop, inl, inr, length-append}
+use Rattle.std.proofs.Common.{arith}
 use Rattle.board_prelude.proofs.Common.{take-append-le, drop-append-le, length-take, take_all, Statement, IsWholePhase}
 use Rattle.board_prelude.proofs.Common.{IsFrontOfPhase, HasPhases, HasPhasesSoFar, whole_front, nothing_left}
 use Rattle.board_prelude.proofs.Common.{whole_is_front}
@@ -27,21 +28,16 @@ begun_joined (phase ∷ done) later before tail whole begun =
           (begun_joined done later (drop (length phase) before) tail whole.1 begun),
     )
 
-pub whole_joined : (done later : List (List Statement)) (before tail : List Statement) → HasPhases done before →
-    HasPhases later tail → HasPhases (done ++ later) (before ++ tail)
-whole_joined [] later before tail whole more = rw whole more
-whole_joined (phase ∷ done) later before tail whole more = (
-  whole_again phase before tail whole.0,
-  rw (left_again phase before tail whole.0) (whole_joined done later (drop (length phase) before) tail whole.1 more),
-)
-
--- what stands after the phases that are done has the phases that follow
-pub whole_left : (done later : List (List Statement)) (before tail : List Statement) → HasPhases done before →
-    HasPhases (done ++ later) (before ++ tail) → HasPhases later tail
-whole_left [] later before tail whole more = rw whole at more
-whole_left (phase ∷ done) later before tail whole more =
-    whole_left done later (drop (length phase) before) tail whole.1
-    (rw (left_again phase before tail whole.0) at more.1)
+-- what stands after the phases that are done has the phases that follow, exactly where the whole has all
+pub whole_after : (done later : List (List Statement)) (before tail : List Statement) → HasPhases done before →
+    HasPhases (done ++ later) (before ++ tail) ↔ HasPhases later tail
+whole_after [] later before tail whole = rw whole ((λ more. more), (λ more. more))
+whole_after (phase ∷ done) later before tail whole =
+    let after = whole_after done later (drop (length phase) before) tail whole.1 in
+    let left = left_again phase before tail whole.0 in (
+      (λ more. after.0 (rw left at more.1)),
+      (λ more. (whole_again phase before tail whole.0, rw left (after.1 more))),
+    )
 
 pub begun_left : (done later : List (List Statement)) (before tail : List Statement) → HasPhases done before →
     0 < length tail → HasPhasesSoFar (done ++ later) (before ++ tail) → HasPhasesSoFar later tail

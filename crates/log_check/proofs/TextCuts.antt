@@ -3,12 +3,11 @@ use Rattle.std.proofs.Common.{ℕ, ◌≡◌, ◌≢◌, ◌+◌, ◌-◌, ◌<�
 use Rattle.std.proofs.Common.{◌++◌, length, take, drop, All, Option, Some, None, Result, Ok, Err, refl, sym, ap, ◌∙◌}
 use Rattle.std.proofs.Common.{inl, append_assoc, subst, MatchOption, arith, decimal, codes, MatchResult, ◌==◌}
 use Rattle.board_prelude.proofs.Common.{length-append, length-drop, common_steps, nat_tests, position, position_or_len}
-use Rattle.board_prelude.proofs.Common.{result_ok, IsUtf8-from_ascii, take-append_seam, eq-eqb, ne_eqb, eqb-false}
-use Rattle.board_prelude.proofs.Common.{lt-ltb, cond-true, take_all, All-nil, All-cons, All-head, All-tail, Entry}
-use Rattle.board_prelude.proofs.Common.{space, line_feed, event_text, value_bytes, reply_text, line_text}
+use Rattle.board_prelude.proofs.Common.{result_ok, eq-eqb, ne_eqb, eqb-false, lt-ltb, cond-true, take_all, All-nil}
+use Rattle.board_prelude.proofs.Common.{All-cons, All-head, All-tail, Entry, space, line_feed, event_text, value_bytes}
+use Rattle.board_prelude.proofs.Common.{reply_text, line_text, take-append_seam}
 use Rattle.std.specs.Option.{ok_or}
-use Rattle.std.specs.Str.{IsUtf8}
-use Rattle.std.proofs.lemmas.Fmt.{IsAscii-decimal, decimal_injective}
+use Rattle.std.proofs.lemmas.Fmt.{decimal_injective}
 use Rattle.std.proofs.Math.Seq.{drop-append-add}
 use Rattle.script_spec.specs.Lines.{IsOneLine}
 use Rattle.script_spec.proofs.Common.{lacks, front, back, front-field, back-field, lacks-first, lacks-later}
@@ -63,11 +62,6 @@ pub the_value : {T E : Type 0} (P : T → Type 0) (Q : E → Type 0) (result : R
 the_value P Q (Ok other) value holds some = let same : other ≡ value = cc in subst P same holds
 the_value P Q (Err fault) value holds some = cc
 
--- the bytes of a decimal are text
-pub digits_utf8 : (bytes : List ℕ) (number : ℕ) → number < 256 → bytes ≡ decimal number → IsUtf8 bytes
-digits_utf8 bytes number small is =
-    subst IsUtf8 (sym is) (IsUtf8-from_ascii (decimal number) (IsAscii-decimal number (omega (arith, small))))
-
 -- an option as a result
 pub ok_or_cases : {T E : Type 0} (P : Type 0) (Q : T → Type 0) (result : Option T) (fault : E) →
     MatchOption result P Q → MatchResult (ok_or result fault) Q (λ given. (given ≡ fault) × P)
@@ -113,21 +107,11 @@ named n entry after =
     }
 
 -- no byte of a number is a full stop
-pub decimal_apart : (n : ℕ) → n < 256 → All (λ byte. byte ≢ 0x2E) (decimal n)
-decimal_apart n small = apart_from 0x2E (decimal n) (lacks-decimal 0x2E n (inl (omega arith)) (omega (arith, small)))
+pub lacks_stop : (n : ℕ) → n < 256 → lacks 0x2E (decimal n) ≡ true
+lacks_stop n small = lacks-decimal 0x2E n (inl (omega arith)) (omega (arith, small))
 
--- a digit before a full stop is the number that stands before the first one
-pub single_is : (byte digit : ℕ) (bytes after later : List ℕ) (number : ℕ) → digit < 256 → number < 256 →
-    decimal digit ≡ byte ∷ [] → bytes ≡ byte ∷ 0x2E ∷ later → bytes ≡ decimal number ++ 0x2E ∷ after → number ≡ digit
-single_is byte digit bytes after later number small less is one other =
-    let digits : (n : ℕ) → n < 256 → lacks 0x2E (decimal n) ≡ true =
-    λ n few. lacks-decimal 0x2E n (inl (omega arith)) (omega (arith, few)) in
-    let first : front 0x2E bytes ≡ decimal digit =
-    ap (front 0x2E) (one ∙ ap (λ (front : List ℕ). front ++ 0x2E ∷ later) (sym is))
-    ∙ front-field 0x2E (decimal digit) later (digits digit small) in
-    let second : front 0x2E bytes ≡ decimal number =
-    ap (front 0x2E) other ∙ front-field 0x2E (decimal number) after (digits number less) in
-    decimal_injective number digit (omega (arith, less)) (omega (arith, small)) (sym second ∙ first)
+pub decimal_apart : (n : ℕ) → n < 256 → All (λ byte. byte ≢ 0x2E) (decimal n)
+decimal_apart n small = apart_from 0x2E (decimal n) (lacks_stop n small)
 
 two_first : (bytes : List ℕ) → 2 ≤ length bytes
     → bytes ≡ slice_index_or bytes 0 0 ∷ slice_index_or bytes 1 0 ∷ drop 2 bytes
@@ -135,7 +119,7 @@ two_first [] some = absurd (omega (arith, some))
 two_first (a ∷ []) some = absurd (omega (arith, some))
 two_first (a ∷ b ∷ rest) some = refl
 
--- what one digit before a full stop says, where there is such a digit
+-- a digit before a full stop is the number that stands before the first one
 pub single_if :
     (digit : Option ℕ) (bytes : List ℕ) → 2 ≤ length bytes → slice_index_or bytes 1 0 ≡ 0x2E →
     IfSome digit (λ d. decimal d ≡ slice_index_or bytes 0 0 ∷ []) → IfSome digit (λ d. d < 10) →
@@ -143,5 +127,9 @@ pub single_if :
     number ≡ d)
 single_if None bytes some stop is small = tt
 single_if (Some d) bytes some stop is small = λ number after less other.
-    single_is (slice_index_or bytes 0 0) d bytes after (drop 2 bytes) number (omega (arith, small)) less is
-    (two_first bytes some ∙ ap (λ (byte : ℕ). slice_index_or bytes 0 0 ∷ byte ∷ drop 2 bytes) stop) other
+    let one : bytes ≡ decimal d ++ 0x2E ∷ drop 2 bytes = rw is (rw stop at (two_first bytes some)) in
+    let first : front 0x2E bytes ≡ decimal d =
+    ap (front 0x2E) one ∙ front-field 0x2E (decimal d) (drop 2 bytes) (lacks_stop d (omega (arith, small))) in
+    let second : front 0x2E bytes ≡ decimal number =
+    ap (front 0x2E) other ∙ front-field 0x2E (decimal number) after (lacks_stop number less) in
+    decimal_injective number d (omega (arith, less)) (omega (arith, small)) (sym second ∙ first)

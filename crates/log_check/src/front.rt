@@ -16,7 +16,7 @@ pub(crate) struct Front<'a> {
 }
 
 /// The place of a processor's first statement at this place of a phase or after it.
-#[tactic(auto, using(crate::proofs::Fronts::found))]
+#[tactic(auto, using(crate::proofs::NextStatements::found))]
 fn index_of_next(phase: &[Statement], from: usize, actor: u8) -> Option<usize>
     ensures place { MatchOption result (events_by actor (drop from phase.now) ≡ [])
         (λ place. IsNextOf phase.now from actor place) }

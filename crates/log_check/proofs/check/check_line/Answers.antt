@@ -1,7 +1,7 @@
-use Rattle.std.proofs.Common.{◌≡◌, ◌+◌, ◌-◌, [], ◌∷◌, length, refl, sym, ap, ◌∙◌, arith}
-use Rattle.board_prelude.proofs.Common.{All-head, Entry, Statement, IsInRange, next_entry}
+use Rattle.std.proofs.Common.{◌≡◌, ◌+◌, ◌-◌, [], ◌∷◌, length, refl, sym, ap, ◌∙◌, arith, add-one}
+use Rattle.board_prelude.proofs.Common.{All-head, Entry, Statement, IsInRange, next_entry, nat_tests, eq-eqb}
+use Rattle.board_prelude.proofs.Common.{common_steps, cond-true, entries_by}
 use Rattle.log_check.specs.Common.{left_of}
-use Rattle.log_check.proofs.NextStatements.{last_number}
 use Rattle.log_check.proofs.LineSteps.{Walk, Made, stops_unnamed, stops_idle, stops_without_memory, past_line}
 use Rattle.log_check.proofs.LineSteps.{handed_on}
 use Rattle.log_check.specs.declared.fault.CheckFault.TheVariants.{NoMemory}
@@ -58,7 +58,7 @@ pub returns-clause-walked : goal.returns-clause-walked
 returns-clause-walked c = λ place within past short.
     let at = goal.at.returns-clause-walked c in let made_at = at.After-step-reply in
     let last : c.last_of-seq.result ≡ (entry made_at).seq = c.last_of-seq.ensures.last
-    ∙ rw (grown made_at) (last_number c.args.board.now.entries (entry made_at)) in
+    ∙ rw (grown made_at) (grind (arith, nat_tests, common_steps, cond-true, eq-eqb, add-one, entries_by)) in
     let number : c.len-line.result + 2 - 1 ≡ length c.args.board.now.entries + 1 =
     omega (arith, (walk at.After-len-line).count) in
     rw (grown made_at) (past_line (walk at.After-len-line) place within past short (made made_at) c.deref.result.now

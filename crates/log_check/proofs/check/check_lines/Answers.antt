@@ -23,8 +23,7 @@ count_is c = c.len-count.ensures.length ∙ ap (λ history. length history.entri
 pub returns-in_err-print_heading-clause-checked : goal.returns-in_err-print_heading-clause-checked
 returns-in_err-print_heading-clause-checked c =
     handed_on c.from_residual.result NoMemory _ _ c.from_residual.ensures.1
-    (failed_first c.args.board.now.setup c.args.version (lists_of c.args.phases.now) c.args.bytes.now
-    c.args.board.now.entries c.requires.fresh)
+    (failed_first c.requires.fresh)
 
 pub returns-in_err-rest-clause-checked : goal.returns-in_err-rest-clause-checked
 returns-in_err-rest-clause-checked c =
@@ -32,16 +31,14 @@ returns-in_err-rest-clause-checked c =
     let printed = c.deref.ensures ∙ c.in_ok-print_heading.ensures.printed in
     handed_on c.from_residual-in_err-rest.result c.in_err-rest.field-0.0 _ _ c.from_residual-in_err-rest.ensures.1
     (rw c.in_err-rest.ensures.cases.0
-    (failed_heading c.args.board.now.setup c.args.version (lists_of c.args.phases.now) c.args.bytes.now
-    c.args.board.now.entries (script at) c.requires.fresh
+    (failed_heading (script at) c.requires.fresh
     (λ after text. c.in_err-rest.ensures.cases.1 after (rw printed text))))
 
 pub returns-in_err-rest-2-clause-checked : goal.returns-in_err-rest-2-clause-checked
 returns-in_err-rest-2-clause-checked c =
     let at = goal.at.returns-in_err-rest-2-clause-checked c in
     handed_on c.from_residual-in_err-rest-2.result c.in_err-rest-2.field-0.0 _ _ c.from_residual-in_err-rest-2.ensures.1
-    (failed_within c.args.board.now.setup c.args.version (lists_of c.args.phases.now) c.args.bytes.now
-    c.check_phases.new.board.entries c.in_err-rest-2.field-0.0 (script at.After-law_one_replay)
+    (failed_within c.in_err-rest-2.field-0.0 (script at.After-law_one_replay)
     (c.in_err-rest-2.ensures.walked c.args.version c.args.bytes.now (past_heading at.After-check_phases)))
 
 pub returns-then-is_empty-clause-checked : goal.returns-then-is_empty-clause-checked
@@ -49,8 +46,7 @@ returns-then-is_empty-clause-checked c =
     let at = goal.at.returns-then-is_empty-clause-checked c in
     let walked =
     c.in_ok-rest-2.ensures.walked c.args.version c.args.bytes.now (past_heading at.After-check_phases) in
-    passed c.args.board.now.setup c.args.version (lists_of c.args.phases.now) c.args.bytes.now
-    c.check_phases.new.board.entries c.in_ok-rest-2.rest.now c.len-count.result
+    passed c.in_ok-rest-2.rest.now c.len-count.result
     (rw c.check_phases.ensures.setup at c.history.ensures.legal) walked.0 walked.1
     (nothing_left c.in_ok-rest-2.rest.now (sym c.is_empty.ensures ∙ c.if-is_empty.true)) (count_is at.After-len-count)
 
@@ -59,8 +55,7 @@ returns-clause-checked c =
     let at = goal.at.returns-clause-checked c in
     let walked =
     c.in_ok-rest-2.ensures.walked c.args.version c.args.bytes.now (past_heading at.After-check_phases) in
-    failed_end c.args.board.now.setup c.args.version (lists_of c.args.phases.now) c.args.bytes.now
-    c.check_phases.new.board.entries c.in_ok-rest-2.rest.now c.len-count.result (script at.After-law_one_replay)
+    failed_end c.in_ok-rest-2.rest.now c.len-count.result (script at.After-law_one_replay)
     (rw c.check_phases.ensures.setup at c.history.ensures.legal) walked.0 walked.1
     (something_left c.in_ok-rest-2.rest.now (sym c.is_empty.ensures ∙ c.if-is_empty.false))
     (count_is at.After-len-count)

@@ -1,10 +1,8 @@
 use Rattle.std.proofs.Common.{ap}
-use Rattle.script_spec.specs.Phases.{lists_of}
 use Rattle.log_check.proofs.LogChecks.{exactly}
 use Rattle.log_check.proofs.check.check_log.Goals as goal
 
 pub returns-clause-exactly : goal.returns-clause-exactly
 returns-clause-exactly c =
-    exactly c.args.board.now.setup c.args.version (lists_of c.args.phases.now) c.args.bytes.now
-    c.check_lines.new.board.entries c.check_lines.result
+    exactly c.check_lines.new.board.entries c.check_lines.result
     (rw (ap (λ board. board.setup) c.in_ok-reserve.ensures.ok) at c.check_lines.ensures.checked)

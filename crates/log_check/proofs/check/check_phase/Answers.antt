@@ -1,7 +1,7 @@
 use Rattle.std.proofs.Common.{All, sym, subst, add-zero, arith}
 use Rattle.board_prelude.proofs.Common.{common_steps, nat_tests}
 use Rattle.log_check.specs.Common.{IsTyped}
-use Rattle.log_check.proofs.Steps.{within_start}
+use Rattle.log_check.proofs.LineSteps.{within_start}
 use Rattle.log_check.proofs.check.check_phase.Goals as goal
 
 pub check_line-requires-clause-spare : goal.check_line-requires-clause-spare

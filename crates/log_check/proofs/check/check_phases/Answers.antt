@@ -1,4 +1,4 @@
-use Rattle.std.proofs.Common.{ℕ, ◌+◌, ◌++◌, [], List, length, take, drop, refl, ap, ◌∙◌, subst, arith}
+use Rattle.std.proofs.Common.{ℕ, ◌+◌, [], List, length, take, drop, refl, ap, ◌∙◌, subst, arith}
 use Rattle.board_prelude.proofs.Common.{common_steps, nat_tests, take_all, Statement, IsInRange, log_text}
 use Rattle.board_prelude.proofs.Common.{statements_of, IsCompleteFor}
 use Rattle.script_spec.specs.Phases.{lists_of}
@@ -44,8 +44,7 @@ loop-phase-preserved c =
       setup = c.check_phase.ensures.setup ∙ l.invariant.setup;
       spare = omega (arith, l.invariant.spare, c.in_ok-left.ensures.spare, size, same);
       complete =
-          let first : List ℕ = log_text 0 l.board.entries ++ l.left.now in
-          let walked = c.in_ok-left.ensures.walked (between 0 first before []) l.invariant.complete refl in
+          let walked = c.in_ok-left.ensures.walked (between 0 _ before []) l.invariant.complete refl in
           rw more (rw c.deref.ensures.value at walked.0);
       past = λ version bytes text.
           (c.in_ok-left.ensures.walked (between version bytes before []) l.invariant.complete
