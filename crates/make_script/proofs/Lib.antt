@@ -1,5 +1,3 @@
 pub mod CountLemmas
-pub mod TextLemmas
 pub mod AskedLemmas
-pub mod FineLemmas
 pub mod MadeLemmas

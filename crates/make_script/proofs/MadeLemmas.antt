@@ -1,9 +1,11 @@
--- The text that is made is that of the made script.
-use Rattle.board_prelude.proofs.Common.{nat_tests, find, list_all, digits, and_from, map-append, length-append, All-nil}
-use Rattle.board_prelude.proofs.Common.{All-cons, length-map-range_with_len, IsCardList, IsRomSize, IsDisk, MemoryBase}
-use Rattle.board_prelude.proofs.Common.{IoBase, line_feed, event_text, Statement}
-use Rattle.std.proofs.Common.{ℕ, zero, suc, ◌≡◌, ◌*◌, ◌%◌, ◌/◌, ◌<◌, ◌≤◌, true, false, List, [], ◌∷◌, ◌++◌, length, map}
-use Rattle.std.proofs.Common.{Some, None, refl, sym, ap, ◌∙◌, inl, inr, append_assoc, append-nil, arith, codes}
+-- The text that is made, round after round, is that of the made script.
+use Rattle.script_spec.specs.Lines.{text_of_lines}
+use Rattle.std.proofs.Common.{Result, Ok, Err, OnOk, ◌+◌, add-one, ℕ, zero, suc, ◌≡◌, ◌*◌, ◌%◌, ◌/◌, ◌<◌, ◌≤◌, true}
+use Rattle.std.proofs.Common.{false, List, [], ◌∷◌, ◌++◌, length, map, Some, None, refl, sym, ap, ◌∙◌, inl, inr}
+use Rattle.std.proofs.Common.{append_assoc, append-nil, arith, codes}
+use Rattle.board_prelude.proofs.Common.{flat_map-append, nat_tests, find, list_all, digits, and_from, map-append}
+use Rattle.board_prelude.proofs.Common.{length-append, All-nil, All-cons, length-map-range_with_len, IsRomSize, IsDisk}
+use Rattle.board_prelude.proofs.Common.{MemoryBase, IoBase, line_feed, event_text, Statement}
 use Rattle.std.proofs.lemmas.List.Folds.{list_all-append}
 use Rattle.std.proofs.lemmas.List.Sorted.{IsPermutation-reverse}
 use Rattle.script_spec.specs.Common.{lines_of, Item, SetCpus, SetMemory, SetRom, SetDisk, FitCard, BeginPhase, Ask}
@@ -12,11 +14,32 @@ use Rattle.script_spec.specs.Common.{lacks_setup, least_reason, most_bytes, is_s
 use Rattle.script_spec.proofs.Common.{lacks, scripts_are_in_range}
 use Rattle.make_script.specs.Common.{setup_lines, opening_lines, round_lines, lines_of_rounds, make_lines, make_text}
 use Rattle.make_script.specs.Common.{asks, opening_events, round_statements, statements_of_rounds, made_statements}
-use Rattle.make_script.specs.Common.{vga_card, plain_card, made_cards, made_script, rom_image, disk_image}
-use Rattle.make_script.specs.Common.{MakeTextIsScript, MadeIsInRange, StatementCount, MadeSetupFits}
+use Rattle.make_script.specs.Common.{vga_card, plain_card, made_script, rom_image, disk_image, MakeTextIsScript}
+use Rattle.make_script.specs.Common.{MadeIsInRange, StatementCount, MadeSetupFits}
 use Rattle.make_script.proofs.AskedLemmas.{lines-back, said, said-lines, AreAsked, items_asked, asks-read, asked-keeps}
-use Rattle.make_script.proofs.AskedLemmas.{asked-run}
-use Rattle.make_script.proofs.FineLemmas.{made-fine}
+use Rattle.make_script.proofs.AskedLemmas.{asked-run, made-fine}
+
+-- ---- the text of one round more
+
+pub text-append : (front more : List (List ℕ))
+    → text_of_lines (front ++ more) ≡ text_of_lines front ++ text_of_lines more
+text-append front more = flat_map-append (λ line. line ++ line_feed ∷ []) front more
+
+-- with round i the text is that of one round more
+pub text-more : (i : ℕ) (text new : List ℕ) → text ≡ text_of_lines (make_lines i) →
+    new ≡ text ++ text_of_lines (round_lines i) → new ≡ text_of_lines (make_lines (i + 1))
+unfolding lines_of_rounds
+text-more i text new so_far round = rw (round, so_far, add-one) (simp (text-append, append_assoc))
+
+-- ---- one round, in four pieces
+
+-- three pieces, and a last one that may not come
+pub appended_pieces : {T E : Type 0} (r : Result T E) (old a b c rest one two three new whole : List ℕ) → one ≡ old ++ a →
+    two ≡ one ++ b → three ≡ two ++ c → OnOk r (new ≡ three ++ rest) → whole ≡ a ++ (b ++ (c ++ rest)) →
+    OnOk r (new ≡ old ++ whole)
+appended_pieces (Ok x) old a b c rest one two three new whole first second third last pieces =
+    rw (last, third, second, first, pieces) (simp append_assoc)
+appended_pieces (Err e) old a b c rest one two three new whole first second third last pieces = tt
 
 -- ---- each line is that of its statement
 
@@ -111,21 +134,16 @@ setup-read later items read =
 
 -- ---- the whole
 
-opening-count : length (map (asks 0) opening_events) ≡ 47
-unfolding opening_events
-opening-count = refl
-
-round-count : (i : ℕ) → length (round_statements i) ≡ 11
-unfolding round_statements
-round-count i = refl
-
 rounds-count : (n : ℕ) → length (statements_of_rounds n) ≡ 11 * n
-unfolding statements_of_rounds
+unfolding statements_of_rounds round_statements
 rounds-count zero = refl
-rounds-count (suc i) = grind (arith, nat_tests, length-append, round-count, rounds-count i)
+rounds-count (suc i) =
+    omega (arith, length-append (statements_of_rounds i) (round_statements i), rounds-count i)
 
 pub statement-count : StatementCount
-statement-count n = grind (arith, nat_tests, length-append, opening-count, rounds-count)
+unfolding opening_events
+statement-count n =
+    omega (arith, length-append (map (asks 0) opening_events) (statements_of_rounds n), rounds-count n)
 
 said-by : (n : ℕ) → IsSaidBy (made_script n) (items_asked (made_statements n) setup_items)
 unfolding made_script
@@ -179,9 +197,6 @@ disk-fits : IsDisk (Some disk_image)
 unfolding disk_image
 disk-fits = (64, omega arith, omega arith, length-map-range_with_len (λ offset. offset / 512) 0 (64 * 512))
 
-made-cards : IsCardList made_cards
-unfolding made_script
-made-cards = (made-is-in-range 0 (omega arith)).cards
-
 pub made-setup-fits : MadeSetupFits
-made-setup-fits = grind (arith, nat_tests, made-cards, rom-fits, disk-fits)
+unfolding made_script
+made-setup-fits = grind (arith, nat_tests, (made-is-in-range 0 (omega arith)).cards, rom-fits, disk-fits)

@@ -96,6 +96,7 @@ fn push_opening(text: &mut String) -> Result<(), NoMemory>
 }
 
 /// Appends words, a number in eight hexadecimal digits, and a line feed.
+#[tactic(auto, using(logs_and_maps::proofs::Joined::appended_more, logs_and_maps::proofs::Joined::appended_twice, logs_and_maps::proofs::Joined::front_more))]
 fn push_numbered_line(text: &mut String, words: &str, number: u32) -> Result<(), NoMemory>
     ensures appended { OnOk result (AddsWords text.old text.new (words.now ++ hex_long number ++ line_feed ∷ [])) }
     ensures front { OnErr result (KeepsFront text.old text.new) }
@@ -106,6 +107,7 @@ fn push_numbered_line(text: &mut String, words: &str, number: u32) -> Result<(),
 }
 
 /// Appends the line of words, an address and a value.
+#[tactic(auto, using(logs_and_maps::proofs::Joined::appended_more, logs_and_maps::proofs::Joined::appended_twice, std::proofs::lemmas::List::append_assoc))]
 fn push_write(text: &mut String, words: &str, addr: u32, value: u32) -> Result<(), NoMemory>
     ensures appended { OnOk result (AddsWords text.old text.new
         (words.now ++ hex_long addr ++ space ∷ hex_long value ++ line_feed ∷ [])) }
@@ -117,7 +119,7 @@ fn push_write(text: &mut String, words: &str, addr: u32, value: u32) -> Result<(
 }
 
 /// Appends the eleven statements of a round. Rounds count from 0.
-#[tactic(auto, unfolding(crate::specs::MakeText::round_lines))]
+#[tactic(auto, using(crate::proofs::MadeLemmas::appended_pieces), unfolding(crate::specs::MakeText::round_lines))]
 pub(crate) fn push_round(text: &mut String, round: u32) -> Result<(), NoMemory>
     ensures appended { OnOk result (AddsWords text.old text.new (text_of_lines (round_lines round))) }
     ensures front { OnErr result (KeepsFront text.old text.new) }

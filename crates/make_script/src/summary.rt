@@ -13,6 +13,7 @@ use board_base::NoMemory;
 use logs_and_maps::{push_decimal, push_words};
 
 /// Appends the line of words and a number.
+#[tactic(auto, using(logs_and_maps::proofs::Joined::appended_more, logs_and_maps::proofs::Joined::appended_twice, logs_and_maps::proofs::Joined::front_more))]
 fn push_row(text: &mut String, words: &str, number: u64) -> Result<(), NoMemory>
     ensures appended { OnOk result (AddsWords text.old text.new (words.now ++ decimal number ++ line_feed ∷ [])) }
     ensures front { OnErr result (KeepsFront text.old text.new) }
