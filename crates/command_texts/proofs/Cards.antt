@@ -1,8 +1,7 @@
 -- What `==` says of the bases of cards.
 use Rattle.std.proofs.Common.{◌≡◌, ℕ, Bool, true, false, List, [], ◌∷◌, Decides, refl, sym, ap, ◌∙◌, map, not, nat_eq}
-use Rattle.std.proofs.Common.{Option, Some, None, arith}
-use Rattle.board_prelude.proofs.Common.{option_eq, nat_tests, false≢true, eqb-true, eq-eqb, Base, MemoryBase, IoBase}
-use Rattle.board_prelude.proofs.Common.{OutsideBase, FittedCard}
+use Rattle.std.proofs.Common.{Option, arith}
+use Rattle.board_prelude.proofs.Common.{option_eq, nat_tests, Base, MemoryBase, IoBase, OutsideBase, FittedCard}
 use Rattle.std.specs.Cmp.Lexicographic.{pointwise}
 use Rattle.std.proofs.lemmas.Bool.Decides.{Decides-like}
 use Rattle.std.proofs.lemmas.Slice.Eq.{slice_eq-Decides}
@@ -12,15 +11,10 @@ use Rattle.pci_bars.specs.contracts.spec.BaseSpecPartialEq.TheImpl.{eq-value}
 use Rattle.pci_bars.specs.Bases.{base_of}
 
 base_true : (a b : BaseSpec) → eq-value.it a b ≡ true → a ≡ b
-base_true (Memory bits) (Memory other) same = ap Memory (eqb-true bits other same)
-base_true (Io bits) (Io other) same = ap Io (eqb-true bits other same)
-base_true (Outside bits) (Outside other) same = ap Outside (eqb-true bits other same)
-base_true _ _ same = absurd (false≢true same)
+base_true a b same = grind (arith, nat_tests)
 
 base_same : (a : BaseSpec) → eq-value.it a a ≡ true
-base_same (Memory bits) = eq-eqb bits bits refl
-base_same (Io bits) = eq-eqb bits bits refl
-base_same (Outside bits) = eq-eqb bits bits refl
+base_same a = grind (arith, nat_tests)
 
 base_eq : (a b : BaseSpec) → Decides (eq-value.it a b) (a ≡ b)
 base_eq a b = (base_true a b, λ same. rw (← same) (base_same a))
@@ -50,7 +44,4 @@ pub card_same : (one other : FittedCard) → one.dev ≡ other.dev → one.vga �
 card_same one other dev vga rom bases = λ k. record { dev = dev k; vga = vga k; bases = bases k; rom = rom k }
 
 pub rom_same : (one other : Option ℕ) → false ≡ not (option_eq nat_eq one other) → one ≡ other
-rom_same None None same = refl
-rom_same None (Some bits) same = absurd (false≢true same)
-rom_same (Some bits) None same = absurd (false≢true same)
-rom_same (Some bits) (Some bits') same = grind (arith, nat_tests)
+rom_same one other same = grind (arith, nat_tests)

@@ -5,7 +5,6 @@ use Rattle.board_spec.proofs.OrderLawProofs.{statements-append}
 use Rattle.board_prelude.proofs.Common.{cases_Bool, length-map, length-reverse, nil_from_length, Event, Line, Entry}
 use Rattle.board_prelude.proofs.Common.{Statement, IsAnswer, reset_control, is_hard_reset, statement_of, statements_of}
 use Rattle.board_core.specs.Kept.{Standing}
-use Rattle.uart_16550.specs.declared.com1.Com1.{Com1}
 use Rattle.uart_16550.specs.declared.com1.Happening.{Happening}
 use Rattle.uart_16550.specs.declared.com1.Happening.TheVariants.{Comes, Happens}
 use Rattle.uart_16550.specs.Common.{received, differ, com1_actor, com1_at_reset, com1_irq, level_of, line_steps}
@@ -46,7 +45,8 @@ none_sent port (byte ∷ bytes) = none_sent (sending_after port (Comes byte)) by
 -- ---- the steps of the board
 
 abbrev IsLeftHere : Standing → Bool → List Entry → Type 0
-IsLeftHere board level history = IsLeftAt (λ (b : Standing) (h : List Entry). b.entries ≡ h) board level history
+IsLeftHere board level history =
+    IsLeftAt (λ (b : Standing) (h : List Entry). b.entries ≡ h) board level history
 
 abbrev IsAfterHere : Standing → Bool → List Entry → List Statement → Type 0
 IsAfterHere board level before steps =
@@ -62,27 +62,25 @@ now_at new before steps after = (
 
 steps_added : (before after : List Entry) (steps : List Statement) → GoesOnBy before steps after →
     statements_of after ≡ statements_of before ++ steps
-steps_added before after steps goes_on = rw (goes_on.grows, statements-append goes_on.more before, goes_on.same) refl
+steps_added before after steps goes_on =
+    rw (goes_on.grows, statements-append goes_on.more before, goes_on.same) refl
 
 -- ---- the reset control register
-
-no_more : (more : List Entry) → statements_of more ≡ [] → more ≡ []
-no_more more none =
-    nil_from_length more (sym (length-map (reverse more) statement_of ∙ length-reverse more) ∙ ap length none)
 
 -- a level of line 4 leaves it
 line_leaves : (before after : List Entry) (old new : Bool) →
     GoesOnBy before (line_steps old new) after → reset_control after ≡ reset_control before
 line_leaves before after old new goes_on = elim (cases_Bool (differ old new)) [
-  | inl moves ↦ control_follows before after com1_actor (Line com1_irq new) com1_at_reset (rw moves at goes_on)
+  | inl moves ↦
+      control_follows before after com1_actor (Line com1_irq new) com1_at_reset (rw moves at goes_on)
   | inr stays ↦
       let still : GoesOnBy before [] after = rw stays at goes_on in
-      rw (still.grows, no_more still.more still.same) refl
+      rw (
+        still.grows,
+        nil_from_length still.more
+            (sym (length-map (reverse still.more) statement_of ∙ length-reverse still.more) ∙ ap length still.same),
+      ) refl
 ]
-
-pub port_is : (com1 com1' : Com1) (control control' : ℕ) → com1 ≡ com1' → control ≡ control' →
-    ◌≡◌ {A = Sending} (record { com1 = com1; control = control }) (record { com1 = com1'; control = control' })
-port_is com1 com1' control control' same equal = rw (same, equal) refl
 
 -- ---- one thing
 
@@ -97,10 +95,10 @@ byte_came actor byte old new setup com1 after =
     record {
       setup = setup;
       standing = now.0;
-      port =
-          port_is new.com1 (record old.com1 { uart = received old.com1.uart byte }) _ _ com1
-          (line_leaves old.board.entries new.board.entries (level_of old.com1) (level_of new.com1) now.1);
-      steps = rw append-nil (rw com1 at (steps_added old.board.entries new.board.entries steps now.1));
+      port = rw (com1, line_leaves old.board.entries new.board.entries (level_of old.com1) (level_of new.com1) now.1)
+          refl;
+      steps =
+          rw append-nil (rw com1 at (steps_added old.board.entries new.board.entries steps now.1));
     }
 
 pub event_done : (actor : ℕ) (event : Event) (old new : Serial Standing) →
@@ -115,9 +113,7 @@ event_done actor event old new setup com1 after =
     record {
       setup = setup;
       standing = now.0;
-      port =
-          port_is new.com1 (com1_after (is_hard_reset old.board.entries event) event old.com1) _ _ com1
-          (control_follows old.board.entries new.board.entries actor event old.com1 now.1);
+      port = rw (com1, control_follows old.board.entries new.board.entries actor event old.com1 now.1) refl;
       steps = rw append-nil (steps_added old.board.entries new.board.entries steps now.1);
     }
 

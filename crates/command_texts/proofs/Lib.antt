@@ -1,17 +1,11 @@
 pub mod Statements
-pub mod MapLemmas
 pub mod MadeScripts
-pub mod Opened
 pub mod Done
-pub mod PhaseSteps
 pub mod MapWrites
 pub mod BlameLemmas
-pub mod EntryLaw
 pub mod Cards
 pub mod TextLines
 pub mod Happenings
 pub mod SerialReplays
-pub mod Sums
 pub mod TransferTexts
-pub mod SerialTexts
 pub mod ReplayLogs

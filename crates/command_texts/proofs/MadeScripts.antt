@@ -1,13 +1,10 @@
--- The script that is made, and its images.
-use Rattle.std.proofs.Common.{◌≡◌, ℕ, zero, suc, ◌+◌, ◌*◌, ◌<◌, ◌≤◌, List, [], ◌∷◌, ◌++◌, length, refl, subst}
-use Rattle.std.proofs.Common.{length-append, arith, Some, Result, Ok, Err, IfOk}
-use Rattle.board_prelude.proofs.Common.{Entry, IsReplayOf, Setup, IsRomSize, IsSetup, line_feed}
+-- The script that is made.
+use Rattle.std.proofs.Common.{◌≡◌, ℕ, zero, suc, ◌+◌, ◌*◌, ◌<◌, ◌≤◌, List, [], ◌∷◌, ◌++◌, length, refl, length-append}
+use Rattle.std.proofs.Common.{arith, Result, Ok, Err, IfOk}
+use Rattle.board_prelude.proofs.Common.{Entry, IsReplayOf, Setup, line_feed}
 use Rattle.script_spec.specs.Common.{statements_in, text_of_lines, Script as Said, IsScriptText}
 use Rattle.make_script.specs.Common.{setup_lines, opening_lines, round_lines, lines_of_rounds, make_lines, make_text}
-use Rattle.make_script.specs.Common.{rom_image, disk_image, made_setup}
-use Rattle.board_chipset.specs.declared.setup.BoardOpen.{BoardOpen}
-use Rattle.board_chipset.specs.declared.setup.BoardOpen.TheVariants.{BadRom, BadDisk}
-use Rattle.command_texts.specs.Common.{HasSummary, IsMakeText, made_setup_of, IsNotOpened}
+use Rattle.command_texts.specs.Common.{HasSummary, IsMakeText, made_setup_of}
 
 -- ---- how long the text is
 
@@ -52,18 +49,6 @@ text_is_short n few =
       fixed.1,
       rounds_total n,
     )
-
--- ---- the images fit
-
-pub rom_fits : (rom : List ℕ) → IsSetup made_setup → rom ≡ rom_image → IsRomSize (length rom)
-rom_fits rom fits is = rw is fits.rom
-
-pub rom_opens : (disk : List ℕ) (fault : BoardOpen) → IsNotOpened (Some disk) fault → fault ≡ BadRom → ⊥
-rom_opens disk fault refused is = subst (IsNotOpened (Some disk)) is refused
-
-pub disk_opens : (disk : List ℕ) (fault : BoardOpen) → IsSetup made_setup → disk ≡ disk_image →
-    IsNotOpened (Some disk) fault → fault ≡ BadDisk → ⊥
-disk_opens disk fault fits same refused is = subst (IsNotOpened (Some disk)) is refused (rw same fits.disk)
 
 -- ---- the summary
 

@@ -1,22 +1,11 @@
--- The map writes of a history as they are noted.
-use Rattle.std.proofs.Common.{◌≡◌, ℕ, ◌+◌, ◌-◌, ◌<◌, ◌≤◌, inl, inr, List, [], ◌∷◌, ◌++◌, length, reverse, refl, sym, ap}
-use Rattle.std.proofs.Common.{◌∙◌, arith, length-append, Some, None, slice_index}
+-- The map writes of a history as they are noted. The entry of a version is the first after which the map had it.
+use Rattle.std.proofs.Common.{◌≡◌, ℕ, ◌+◌, ◌-◌, ◌<◌, ◌≤◌, inl, inr, List, [], ◌∷◌, ◌++◌, length, refl, sym, ap, ◌∙◌}
+use Rattle.std.proofs.Common.{arith, length-append, Some, None, slice_index, zero, suc, drop, Option}
 use Rattle.board_prelude.proofs.Common.{cases_lt, nat_tests, length-reverse, reverse-append, get_or_append_left}
 use Rattle.board_prelude.proofs.Common.{get_or-append_seam, Entry, MapChange, Setup, map_change_of, map_writes_of}
-use Rattle.board_prelude.proofs.Common.{version_of}
-use Rattle.board_core.specs.Kept.{Standing}
+use Rattle.board_prelude.proofs.Common.{version_of, option_to_list}
 use Rattle.command_texts.specs.declared.writes.MapWrites.{MapWrites}
-use Rattle.command_texts.specs.Common.{entry_of_version, AreWritesOf}
-
-pub no_writes : (setup : Setup) (writes : MapWrites) → writes.changes.items ≡ [] → writes.entries.items ≡ [] →
-    AreWritesOf setup [] writes
-unfolding map_writes_of
-no_writes setup writes changes entries = record {
-  changes = ap reverse changes;
-  count = ap length entries ∙ sym (ap length changes);
-  entry = λ index below. let none : length writes.changes.items ≡ 0 = ap length changes in
-      absurd (omega (arith, below, none));
-}
+use Rattle.command_texts.specs.Common.{entry_of_version, AreWritesOf, first_entries, EntryOfVersionIsFirst}
 
 pub version_is : (setup : Setup) (history : List Entry) (writes : MapWrites) → AreWritesOf setup history writes →
     version_of setup history ≡ length writes.changes.items
@@ -90,8 +79,75 @@ writes_more setup entry before change old new some changes entries are =
       ];
     }
 
-pub writes_after :
-    (old new : Standing) (entry : Entry) (spare : ℕ) (writes : MapWrites) →
-    new ≡ record { setup = old.setup; entries = entry ∷ old.entries; spare = spare } →
-    AreWritesOf old.setup (entry ∷ old.entries) writes → AreWritesOf new.setup new.entries writes
-writes_after old new entry spare writes is are = rw is are
+-- ---- versions rise by at most one with each entry
+
+listed_few : (change : Option MapChange) → length (option_to_list change) ≤ 1
+listed_few None = omega arith
+listed_few (Some change) = omega arith
+
+rises_by_one :
+    (setup : Setup) (entry : Entry) (before : List Entry) →
+    (version_of setup before ≤ version_of setup (entry ∷ before))
+    × (version_of setup (entry ∷ before) ≤ version_of setup before + 1)
+unfolding map_writes_of
+rises_by_one setup entry before =
+    let change = option_to_list (map_change_of setup before entry.event) in
+    let next : version_of setup (entry ∷ before) ≡ length change + version_of setup before =
+    length-append change (map_writes_of setup before) in
+    let few = listed_few (map_change_of setup before entry.event) in
+    (omega (arith, next), omega (arith, next, few))
+
+earlier_is_lower : (setup : Setup) (history : List Entry) (k : ℕ)
+    → version_of setup (drop k history) ≤ version_of setup history
+earlier_is_lower setup history zero = omega arith
+earlier_is_lower setup [] (suc k) = omega arith
+earlier_is_lower setup (entry ∷ before) (suc k) =
+    omega (arith, earlier_is_lower setup before k, (rises_by_one setup entry before).0)
+
+-- ---- the first entries
+
+all_entries : (history : List Entry) (count : ℕ) → length history ≤ count → first_entries count history ≡ history
+all_entries history count all = let none : length history - count ≡ 0 = omega (arith, all) in rw none refl
+
+fewer_entries : (entry : Entry) (before : List Entry) (count : ℕ) → count ≤ length before →
+    first_entries count (entry ∷ before) ≡ first_entries count before
+fewer_entries entry before count few =
+    let next : length (entry ∷ before) - count ≡ suc (length before - count) = omega (arith, few) in rw next refl
+
+entry_within :
+    (setup : Setup) (history : List Entry) (version : ℕ) → entry_of_version setup history version ≤ length history
+unfolding entry_of_version
+entry_within setup [] version = omega arith
+entry_within setup (entry ∷ before) version = grind (arith, nat_tests, entry_within setup before version)
+
+-- ---- the law
+
+pub entry_is_first : EntryOfVersionIsFirst
+unfolding map_writes_of entry_of_version
+entry_is_first setup [] version most = record { had = omega (arith, most); least = λ other has. omega arith }
+entry_is_first setup (entry ∷ before) version most = elim (cases_lt (version_of setup before) version) [
+  | inl above ↦
+      let rise = (rises_by_one setup entry before).1 in
+      rw (entry_now setup entry before version above) (record {
+        had = rw (all_entries (entry ∷ before) (length before + 1) (omega arith)) (omega (arith, most, above, rise));
+        least =
+            λ other has. elim (cases_lt (length before) other) [
+              | inl all ↦ omega (arith, all)
+              | inr few ↦
+                  let same = ap (version_of setup) (fewer_entries entry before other few) in
+                  let lower = earlier_is_lower setup before (length before - other) in
+                  absurd (omega (arith, above, has, same, lower))
+            ];
+      })
+  | inr below ↦
+      let earlier = entry_is_first setup before version below in
+      let within = entry_within setup before version in
+      rw (entry_before setup entry before version below) (record {
+        had = rw (fewer_entries entry before (entry_of_version setup before version) within) earlier.had;
+        least =
+            λ other has. elim (cases_lt (length before) other) [
+              | inl all ↦ omega (arith, all, within)
+              | inr few ↦ earlier.least other (rw (fewer_entries entry before other few) at has)
+            ];
+      })
+]

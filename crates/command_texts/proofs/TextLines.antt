@@ -1,8 +1,10 @@
--- Lines of a text.
+-- Lines of a text, one after another.
 use Rattle.std.proofs.Common.{◌≡◌, ℕ, ◌+◌, ◌-◌, ◌<◌, List, ◌∷◌, ◌++◌, [], take, length, get_or, ap, ◌∙◌, append_assoc}
-use Rattle.std.proofs.Common.{length-append, arith, flat_map, slice_index}
-use Rattle.board_prelude.proofs.Common.{take-append_seam, get_or-append_seam, take_more}
+use Rattle.std.proofs.Common.{length-append, arith, flat_map, slice_index, map}
+use Rattle.board_prelude.proofs.Common.{take-append_seam, get_or-append_seam, take_more, map-append, line_feed}
+use Rattle.board_prelude.proofs.Common.{MapRange, range_text, map_text}
 use Rattle.std.proofs.lemmas.List.{flat_map_more}
+use Rattle.map_builder.specs.Common.{Range, range_of}
 
 -- the line of the element at i makes the text one line longer
 pub lines_more : {A : Type 0} (line_of : A → List ℕ) (elements : List A) (i : ℕ) (default : A) → i < length elements →
@@ -22,3 +24,18 @@ last_gone old text new line size last said ascii whole cut =
     let there : slice_index text (size - 1) ≡ last = rw (place, is) (get_or-append_seam (old ++ line) last [] 0) in
     cut (omega (arith, long, whole)) (omega (arith, there, ascii))
     ∙ rw (place, is) (take-append_seam (old ++ line) (last ∷ []))
+
+abbrev line_of : MapRange → List ℕ
+line_of range = range_text range ++ line_feed ∷ []
+
+-- the line of the range at i makes the text of the map one range longer
+pub map_text-more : (ranges : List Range) (i : ℕ) (default : Range) → i < length ranges → (old text new : List ℕ) →
+    text ≡ old ++ map_text (map range_of (take i ranges)) → new ≡ text ++ line_of (range_of (get_or ranges i default)) →
+    new ≡ old ++ map_text (map range_of (take (i + 1) ranges))
+map_text-more ranges i default inside old text new so_far added =
+    rw (
+      added,
+      so_far,
+      take_more ranges i default inside,
+      map-append range_of (take i ranges) (get_or ranges i default ∷ []),
+    ) (flat_map_more line_of old (map range_of (take i ranges)) (range_of (get_or ranges i default)))

@@ -1,19 +1,72 @@
 -- What a transfer tells is that of the definition over what the history left.
-use Rattle.std.proofs.Common.{◌≡◌, ℕ, ◌<◌, List, [], ◌∷◌, ◌++◌, length, append_assoc, refl, ◌∙◌, slice_index, Result}
-use Rattle.std.proofs.Common.{Ok, Err, IfOk, OnOk}
-use Rattle.board_prelude.proofs.Common.{lt-ltb, One, Entry, Setup, installed, byte_of, disk_of, space, Cell, DramCell}
-use Rattle.dram_store.specs.Dram.{dram_at, IsDramOf}
+use Rattle.std.proofs.Common.{ap, add-one, ◌≡◌, ℕ, ◌<◌, List, [], ◌++◌, length, refl, slice_index, Result, Ok, Err}
+use Rattle.std.proofs.Common.{IfOk, zero, suc, ◌+◌, ◌-◌, ◌*◌, ◌≤◌, take, drop, add-suc, add-zero, arith, ◌∷◌}
+use Rattle.std.proofs.Common.{append_assoc, OnOk}
+use Rattle.board_prelude.proofs.Common.{lt-ltb, One, Entry, Setup, installed, byte_of, disk_of, Cell, DramCell, space}
+use Rattle.dram_store.specs.Dram.{IsDramOf}
 use Rattle.dram_store.proofs.DramLemmas.{read_stored}
 use Rattle.pci_bars.specs.Contents.{IsContentsOf}
 use Rattle.board_chipset.specs.declared.store.Store.{Store}
 use Rattle.bus_master.specs.declared.done.Done.{Done}
-use Rattle.bus_master.specs.Common.{Master, register_of, Moving, done_of, master_after, with_medium, cells_of}
-use Rattle.bus_master.specs.Common.{transfer_of, IsCell}
+use Rattle.bus_master.specs.Common.{Master, Moving, done_of, master_after, with_medium, cells_of, transfer_of, IsCell}
 use Rattle.command_words.specs.declared.transfer.Transfer.{Transfer}
 use Rattle.command_texts.specs.Laws.{RomsAreRead}
 use Rattle.command_texts.specs.Transfers.{AreCellsAfter, HasTransferText, started, sum_below, dram_sum, disk_sum}
 use Rattle.command_texts.specs.Transfers.{ended_line, sums_line}
-use Rattle.command_texts.proofs.Sums.{sum_below-same}
+use Rattle.std.proofs.Math.Nat.{suc-mul, min-le_left}
+use Rattle.std.proofs.lemmas.List.{get_or_past, get_or-take, get_or-drop, length-take}
+
+-- ---- sums of bytes, in parts
+
+pub sum_below_more : (count : ℕ) (byte_at : ℕ → ℕ)
+    → sum_below (count + 1) byte_at ≡ sum_below count byte_at + byte_at count
+unfolding sum_below
+sum_below_more count byte_at = ap (λ (n : ℕ). sum_below n byte_at) (add-one count)
+
+pub sum_below-same : (count : ℕ) (byte_at other : ℕ → ℕ) → ((k : ℕ) → k < count → byte_at k ≡ other k) →
+    sum_below count byte_at ≡ sum_below count other
+unfolding sum_below
+sum_below-same zero byte_at other same = refl
+sum_below-same (suc count) byte_at other same =
+    rw (sum_below-same count byte_at other (λ k below. same k (omega (arith, below))), same count (omega arith)) refl
+
+-- the bytes below, and those from there on
+sum_below-append : (first more : ℕ) (byte_at : ℕ → ℕ) →
+    sum_below (first + more) byte_at ≡ sum_below first byte_at + sum_below more (λ k. byte_at (first + k))
+unfolding sum_below
+sum_below-append first zero byte_at = simp add-zero
+sum_below-append first (suc more) byte_at = rw add-suc (omega (arith, sum_below-append first more byte_at))
+
+-- bytes past the end of a list count nothing
+sum_below-past : (bytes : List ℕ) (more : ℕ) →
+    sum_below (length bytes + more) (slice_index bytes) ≡ sum_below (length bytes) (slice_index bytes)
+unfolding sum_below
+sum_below-past bytes zero = simp add-zero
+sum_below-past bytes (suc more) =
+    rw add-suc (omega (arith, sum_below-past bytes more, get_or_past bytes (length bytes + more) 0 (omega arith)))
+
+-- one part more, each of as many bytes. What is not kept of it is 0
+pub part_added : (size i : ℕ) (byte_at : ℕ → ℕ) (part : List ℕ) → length part ≤ size →
+    ((k : ℕ) → k < size → byte_at (i * size + k) ≡ slice_index part k) →
+    sum_below (i * size) byte_at + sum_below (length part) (slice_index part) ≡ sum_below ((i + 1) * size) byte_at
+part_added size i byte_at part within same =
+    let room : length part + (size - length part) ≡ size = omega (arith, within) in
+    let kept = rw room at (sum_below-past part (size - length part)) in
+    let this = sum_below-same size (λ k. byte_at (i * size + k)) (slice_index part) same in
+    rw (add-one i, suc-mul i size) (omega (arith, sum_below-append (i * size) size byte_at, this, kept))
+
+-- the bytes of a part that is cut out of a list
+pub cut_byte : (size i k : ℕ) (bytes : List ℕ) → k < size →
+    slice_index bytes (i * size + k) ≡ slice_index (take size (drop (size * i) bytes)) k
+cut_byte size i k bytes below =
+    let place : i * size + k ≡ size * i + k = omega arith in
+    rw (get_or-take size (drop (size * i) bytes) k 0 below, get_or-drop (size * i) bytes k 0, place) refl
+
+pub cut_length : (size i : ℕ) (bytes : List ℕ) → length (take size (drop (size * i) bytes)) ≤ size
+cut_length size i bytes =
+    omega (arith, length-take size (drop (size * i) bytes), min-le_left size (length (drop (size * i) bytes)))
+
+-- ---- what is told
 
 pub cells_left : (setup : Setup) (history : List Entry) (store : Store) → IsDramOf setup history store.dram →
     IsContentsOf setup history store.contents → AreCellsAfter setup history (cells_of store)
@@ -27,9 +80,6 @@ cells_left setup history store dram contents = record {
 pub roms_are_read : RomsAreRead
 roms_are_read setup history cells are dev off = are.roms dev off
 
-dram_here : (dram : List ℕ) (addr : ℕ) → addr < length dram → slice_index dram addr ≡ dram_at dram addr
-dram_here dram addr within = rw (lt-ltb addr (length dram) within) refl
-
 -- the bytes of the memory are those that the transfer left
 dram_told : (setup : Setup) (store : Store) (moving : Moving) → length store.dram ≡ installed setup →
     ((cell : Cell) → IsCell cell → cells_of store cell ≡ moving.cells cell) →
@@ -37,7 +87,7 @@ dram_told : (setup : Setup) (store : Store) (moving : Moving) → length store.d
 dram_told setup store moving size cells =
     rw (← size)
     (sum_below-same (length store.dram) (slice_index store.dram) (λ addr. moving.cells (DramCell addr))
-    (λ addr below. dram_here store.dram addr below ∙ cells (DramCell addr) tt))
+    (λ addr below. rw (lt-ltb addr (length store.dram) below) at (cells (DramCell addr) tt)))
 
 pub transfer_told : (setup : Setup) (history : List Entry) (transfer : Transfer) (old new : Store)
     (master after : Master) (done : Done) (status dram disk : ℕ) (text : List ℕ) (moving : Moving) →
@@ -61,10 +111,6 @@ pub ok_then : {T E : Type 0} {P Q : T → Type 0} (result : Result T E) → IfOk
     → IfOk result Q
 ok_then (Ok x) is more = more x is
 ok_then (Err fault) is more = tt
-
-pub status_read : (master : Master) → register_of master 2 ≡ master.status
-unfolding register_of
-status_read master = refl
 
 -- four pieces, one after another
 pub abort_added : {T E : Type 0} (result : Result T E) (old one two three new first second last : List ℕ) →

@@ -82,6 +82,7 @@ pub fn image_of_replay(alloc: Global, board: &mut Board, script: &Script) -> Res
 }
 
 /// The board of an image, which has then done the statements of a script too.
+#[tactic(auto, using(crate::proofs::Done::replay_goes_on, crate::proofs::Done::length_of_replay))]
 fn resumed(alloc: Global, image: Image, script: &Script) -> Result<Board, NoMemory>
     requires image { IsImage image.setup image.steps }
     requires in_range { IsInRangeScript (said_of script.now) }

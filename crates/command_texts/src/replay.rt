@@ -40,6 +40,7 @@ pub(crate) fn do_statements(board: &mut Board, script: &Script) -> Result<(), No
 
 /// Does the statements of a script in the order of its file, on a fresh board with the script's cards. Refused for want
 /// of memory; then the board is as before.
+#[tactic(auto, using(crate::proofs::Done::replay_result, crate::proofs::Done::same_setup))]
 pub fn replay_script(board: &mut Board, script: &Script) -> Result<(), NoMemory>
     requires fresh { IsFreshFor (said_of script.now) board.old }
     ensures replay { OnOk result (IsReplayOf board.old.setup (statements_in (said_of script.now)) board.new.entries) }

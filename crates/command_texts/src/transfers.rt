@@ -40,7 +40,7 @@ fn start(transfer: &Transfer) -> BusMaster
 }
 
 /// The sum of these bytes, of which there are at most a MiB.
-#[tactic(auto, unfolding(crate::specs::Transfers::sum_below))]
+#[tactic(auto, using(crate::proofs::TransferTexts::sum_below_more), unfolding(crate::specs::Transfers::sum_below))]
 fn sum_of(bytes: &[u8]) -> u64
     requires few { length bytes.now ≤ bank_size }
     ensures sum { result ≡ sum_below (length bytes.now) (slice_index bytes.now) }

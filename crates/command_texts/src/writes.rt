@@ -80,6 +80,7 @@ fn step_noting(
 }
 
 /// Does statements in their order, and notes the map writes among them.
+#[tactic(auto, using(crate::proofs::Done::done_none, crate::proofs::Done::done_next))]
 fn steps_noting(
     board: &mut Board,
     writes: &mut MapWrites,

@@ -1,4 +1,4 @@
-use Rattle.command_texts.proofs.EntryLaw.{entry_is_first}
+use Rattle.command_texts.proofs.MapWrites.{entry_is_first}
 use Rattle.command_texts.proofs.laws.law_entry_of_version.Goals as goal
 
 pub returns : goal.returns

@@ -2,8 +2,7 @@ use Rattle.std.proofs.Common.{arith}
 use Rattle.board_prelude.proofs.Common.{take_all, IsInRange}
 use Rattle.script_text.specs.Script.{said_of}
 use Rattle.command_texts.proofs.Statements.{in_range}
-use Rattle.command_texts.proofs.Done.{done_more}
-use Rattle.command_texts.proofs.PhaseSteps.{phase_adds, of_phase, none_said}
+use Rattle.command_texts.proofs.Done.{done_more, phase_adds, of_phase, none_said}
 use Rattle.command_texts.proofs.replay.do_statements.Goals as goal
 
 pub loop-phase-init : goal.loop-phase-init
@@ -23,16 +22,14 @@ steps-requires-clause-in_range c =
 
 pub steps-requires-clause-spare : goal.steps-requires-clause-spare
 steps-requires-clause-spare c =
-    let adds =
-    phase_adds c.deref-phase-items.result.now c.loop-phase.phase-index c.phase-item.result
-    c.deref-in-loop-phase.result.now c.loop-phase-test.true c.phase-item.is c.deref-in-loop-phase.ensures.value in
+    let adds = phase_adds _ _ _ c.deref-in-loop-phase.result.now c.loop-phase-test.true c.phase-item.is
+    c.deref-in-loop-phase.ensures.value in
     omega (arith, c.loop-phase.invariant.room, adds.few)
 
 pub loop-phase-preserved : goal.loop-phase-preserved
 loop-phase-preserved c =
-    let adds =
-    phase_adds c.deref-phase-items.result.now c.loop-phase.phase-index c.phase-item.result
-    c.deref-in-loop-phase.result.now c.loop-phase-test.true c.phase-item.is c.deref-in-loop-phase.ensures.value in
+    let adds = phase_adds _ _ _ c.deref-in-loop-phase.result.now c.loop-phase-test.true c.phase-item.is
+    c.deref-in-loop-phase.ensures.value in
     record {
       done =
           rw adds.said (done_more _ _ _ _ _ c.loop-phase.invariant.done (record {

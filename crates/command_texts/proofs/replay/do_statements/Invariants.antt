@@ -3,7 +3,7 @@ use Rattle.std.proofs.Common.{◌+◌, ◌≤◌, length}
 use Rattle.board_spec.specs.OrderLaws.{in_file_order}
 use Rattle.script_spec.specs.Phases.{lists_of}
 use Rattle.command_texts.specs.Done.{DidStatements}
-use Rattle.command_texts.proofs.PhaseSteps.{said_before}
+use Rattle.command_texts.proofs.Done.{said_before}
 use Rattle.command_texts.proofs.replay.do_statements.Given as goal
 
 abbrev pub invariant-loop-phase : goal.invariant-loop-phase

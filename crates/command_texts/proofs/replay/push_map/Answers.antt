@@ -1,4 +1,4 @@
-use Rattle.command_texts.proofs.MapLemmas.{map_text-more}
+use Rattle.command_texts.proofs.TextLines.{map_text-more}
 use Rattle.command_texts.proofs.replay.push_map.Goals as goal
 
 pub loop-range-preserved : goal.loop-range-preserved

@@ -3,7 +3,7 @@ use Rattle.board_prelude.proofs.Common.{take_all, IsInRange, in_file_order}
 use Rattle.script_spec.specs.Phases.{lists_of}
 use Rattle.script_text.specs.Script.{said_of}
 use Rattle.command_texts.proofs.Statements.{in_range}
-use Rattle.command_texts.proofs.PhaseSteps.{phase_adds, of_phase, said_before}
+use Rattle.command_texts.proofs.Done.{phase_adds, of_phase, said_before}
 use Rattle.command_texts.proofs.replay_log.push_replay.Goals as goal
 
 pub loop-phase-init : goal.loop-phase-init
@@ -28,9 +28,7 @@ push_phase-requires-clause-in_range c =
 
 pub push_phase-requires-clause-few : goal.push_phase-requires-clause-few
 push_phase-requires-clause-few c =
-    let adds =
-    phase_adds c.deref-phase-items.result.now c.loop-phase.phase-index c.phase-item.result c.deref.result.now
-    c.loop-phase-test.true c.phase-item.is c.deref.ensures.value in
+    let adds = phase_adds _ _ _ c.deref.result.now c.loop-phase-test.true c.phase-item.is c.deref.ensures.value in
     let all = ap (λ ps. length (in_file_order (lists_of ps))) c.deref-phase-items.ensures.value in
     omega (arith, c.loop-phase.invariant.count, adds.few, all, c.requires.in_range.statements)
 
@@ -38,9 +36,7 @@ pub loop-phase-preserved : goal.loop-phase-preserved
 loop-phase-preserved c =
     let phases = c.deref-phase-items.result.now in
     let before = c.loop-phase.invariant in
-    let adds =
-    phase_adds phases c.loop-phase.phase-index c.phase-item.result c.deref.result.now c.loop-phase-test.true
-    c.phase-item.is c.deref.ensures.value in
+    let adds = phase_adds _ _ _ c.deref.result.now c.loop-phase-test.true c.phase-item.is c.deref.ensures.value in
     record {
       setup = c.push_phase.ensures.setup ∙ before.setup;
       count = omega (arith, c.in_ok-push_phase.ensures.count, before.count, adds.long);

@@ -1,7 +1,7 @@
 -- The phases so far are done, and have their lines.
 use Rattle.std.proofs.Common.{◌≡◌, length, string_bytes}
 use Rattle.command_texts.specs.ReplayLog.{HasLog}
-use Rattle.command_texts.proofs.PhaseSteps.{said_before}
+use Rattle.command_texts.proofs.Done.{said_before}
 use Rattle.command_texts.proofs.replay_log.push_replay.Given as goal
 
 abbrev pub invariant-loop-phase : goal.invariant-loop-phase

@@ -1,6 +1,6 @@
 use Rattle.std.proofs.Common.{arith}
 use Rattle.command_texts.specs.SerialSteps.{IsForPort}
-use Rattle.command_texts.proofs.PhaseSteps.{phase_adds, of_phase}
+use Rattle.command_texts.proofs.Done.{phase_adds, of_phase}
 use Rattle.command_texts.proofs.SerialReplays.{went_nowhere, went_on_twice}
 use Rattle.command_texts.proofs.serial.all_steps.Goals as goal
 
@@ -18,14 +18,10 @@ steps-requires-clause-for_port c =
 
 pub steps-requires-clause-spare : goal.steps-requires-clause-spare
 steps-requires-clause-spare c =
-    let adds =
-    phase_adds c.args.phases.now c.loop-phase.phase-index c.phase-item.result c.deref.result.now
-    c.loop-phase-test.true c.phase-item.is c.deref.ensures.value in
+    let adds = phase_adds _ _ _ c.deref.result.now c.loop-phase-test.true c.phase-item.is c.deref.ensures.value in
     omega (arith, adds.few, c.requires.spare, c.loop-phase.invariant.spare)
 
 pub loop-phase-preserved : goal.loop-phase-preserved
 loop-phase-preserved c =
-    let adds =
-    phase_adds c.args.phases.now c.loop-phase.phase-index c.phase-item.result c.deref.result.now
-    c.loop-phase-test.true c.phase-item.is c.deref.ensures.value in
+    let adds = phase_adds _ _ _ c.deref.result.now c.loop-phase-test.true c.phase-item.is c.deref.ensures.value in
     rw adds.said (went_on_twice _ _ _ _ _ c.loop-phase.invariant c.in_ok-left.ensures.went_on)

@@ -2,7 +2,7 @@ use Rattle.std.proofs.Common.{ℕ, List, map, sym, subst, slice_index}
 use Rattle.uart_16550.specs.declared.com1.Happening.TheVariants.{Comes}
 use Rattle.command_texts.specs.SerialSteps.{Happened}
 use Rattle.command_texts.proofs.Happenings.{byte_came}
-use Rattle.command_texts.proofs.SerialTexts.{one_comes}
+use Rattle.command_texts.proofs.SerialReplays.{one_comes}
 use Rattle.command_texts.proofs.serial.receive_next.Goals as goal
 
 pub returns-clause-happened : goal.returns-clause-happened

@@ -10,11 +10,9 @@ receive_next-left-requires-clause-standing c = c.loop-statement.invariant.standi
 
 pub receive_next-left-requires-clause-spare : goal.receive_next-left-requires-clause-spare
 receive_next-left-requires-clause-spare c =
-    omega (
-      arith,
-      room_for_next c.args.statements.now c.loop-statement.statement-index _ _ c.loop-statement-test.true
-          c.requires.spare c.loop-statement.invariant,
-    )
+    let room = room_for_next c.args.statements.now c.loop-statement.statement-index _ _ c.loop-statement-test.true
+    c.requires.spare c.loop-statement.invariant in
+    omega (arith, room)
 
 pub step-requires-clause-standing : goal.step-requires-clause-standing
 step-requires-clause-standing c = (c.receive_next-left.ensures.happened 0).standing
@@ -26,12 +24,9 @@ step-requires-clause-for_port c =
 
 pub step-requires-clause-spare : goal.step-requires-clause-spare
 step-requires-clause-spare c =
-    omega (
-      arith,
-      room_for_next c.args.statements.now c.loop-statement.statement-index _ _ c.loop-statement-test.true
-          c.requires.spare c.loop-statement.invariant,
-      c.receive_next-left.ensures.spare,
-    )
+    let room = room_for_next c.args.statements.now c.loop-statement.statement-index _ _ c.loop-statement-test.true
+    c.requires.spare c.loop-statement.invariant in
+    omega (arith, room, c.receive_next-left.ensures.spare)
 
 pub loop-statement-preserved : goal.loop-statement-preserved
 loop-statement-preserved c =

@@ -1,6 +1,6 @@
 use Rattle.std.proofs.Common.{arith, slice_index}
 use Rattle.dram_store.specs.Bank.{bank_size}
-use Rattle.command_texts.proofs.Sums.{part_added}
+use Rattle.command_texts.proofs.TransferTexts.{part_added}
 use Rattle.command_texts.proofs.transfers.dram_sum.Goals as goal
 
 pub loop-bank-preserved : goal.loop-bank-preserved

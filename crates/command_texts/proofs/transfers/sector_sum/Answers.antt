@@ -1,5 +1,5 @@
 use Rattle.std.proofs.Common.{◌≤◌, length, ap, sym, ◌∙◌, arith, slice_index}
-use Rattle.command_texts.proofs.Sums.{part_added, cut_byte, cut_length}
+use Rattle.command_texts.proofs.TransferTexts.{part_added, cut_byte, cut_length}
 use Rattle.command_texts.proofs.transfers.sector_sum.Goals as goal
 
 pub sum_of-sum-requires : goal.sum_of-sum-requires

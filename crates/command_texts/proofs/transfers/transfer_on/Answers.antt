@@ -1,8 +1,10 @@
 use Rattle.std.proofs.Common.{refl, ◌∙◌}
-use Rattle.command_texts.proofs.TransferTexts.{cells_left, transfer_told, ok_then, status_read}
+use Rattle.bus_master.specs.Common.{register_of}
+use Rattle.command_texts.proofs.TransferTexts.{cells_left, transfer_told, ok_then}
 use Rattle.command_texts.proofs.transfers.transfer_on.Goals as goal
 
 pub returns : goal.returns
+unfolding register_of
 returns c =
     let setup = c.args.board.setup in
     let history = c.args.board.entries in
@@ -18,6 +20,5 @@ returns c =
           (c.transfer-done.ensures.shape.memory ∙ of.memory) (c.transfer-done.ensures.done setup _ of)
           (c.transfer-done.ensures.registers setup _ of) (c.transfer-done.ensures.disk setup _ of)
           (λ cell there. c.transfer-done.ensures.cells setup _ cell of there)
-          (c.port_read-status.ensures.value ∙ status_read c.transfer-done.new.self) c.dram_sum.ensures.sum
-          c.disk_sum.ensures.sum lines);
+          c.port_read-status.ensures.value c.dram_sum.ensures.sum c.disk_sum.ensures.sum lines);
     }

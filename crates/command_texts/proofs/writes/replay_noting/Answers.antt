@@ -3,8 +3,7 @@ use Rattle.board_prelude.proofs.Common.{take_all, IsInRange}
 use Rattle.board_core.specs.Kept.{Standing}
 use Rattle.script_text.specs.Script.{said_of}
 use Rattle.command_texts.proofs.Statements.{in_range}
-use Rattle.command_texts.proofs.Done.{done_more, done_is_replay}
-use Rattle.command_texts.proofs.PhaseSteps.{phase_adds, of_phase, none_said}
+use Rattle.command_texts.proofs.Done.{done_more, done_is_replay, phase_adds, of_phase, none_said}
 use Rattle.command_texts.proofs.writes.replay_noting.Goals as goal
 
 pub loop-phase-init : goal.loop-phase-init
@@ -30,16 +29,14 @@ steps_noting-requires-clause-in_range c =
 
 pub steps_noting-requires-clause-spare : goal.steps_noting-requires-clause-spare
 steps_noting-requires-clause-spare c =
-    let adds =
-    phase_adds c.deref-phase-items.result.now c.loop-phase.phase-index c.phase-item.result
-    c.deref-in-loop-phase.result.now c.loop-phase-test.true c.phase-item.is c.deref-in-loop-phase.ensures.value in
+    let adds = phase_adds _ _ _ c.deref-in-loop-phase.result.now c.loop-phase-test.true c.phase-item.is
+    c.deref-in-loop-phase.ensures.value in
     omega (arith, c.loop-phase.invariant.room, adds.few)
 
 pub loop-phase-preserved : goal.loop-phase-preserved
 loop-phase-preserved c =
-    let adds =
-    phase_adds c.deref-phase-items.result.now c.loop-phase.phase-index c.phase-item.result
-    c.deref-in-loop-phase.result.now c.loop-phase-test.true c.phase-item.is c.deref-in-loop-phase.ensures.value in
+    let adds = phase_adds _ _ _ c.deref-in-loop-phase.result.now c.loop-phase-test.true c.phase-item.is
+    c.deref-in-loop-phase.ensures.value in
     record {
       done = rw adds.said (done_more _ _ _ _ _ c.loop-phase.invariant.done c.in_ok-steps_noting.ensures.done);
       room = omega (arith, c.loop-phase.invariant.room, c.in_ok-steps_noting.ensures.spare, adds.few, adds.long);

@@ -3,7 +3,7 @@ use Rattle.std.proofs.Common.{◌+◌, ◌≤◌, length}
 use Rattle.board_spec.specs.OrderLaws.{in_file_order}
 use Rattle.script_spec.specs.Phases.{lists_of}
 use Rattle.command_texts.specs.Common.{DidStatements, AreWritesOf}
-use Rattle.command_texts.proofs.PhaseSteps.{said_before}
+use Rattle.command_texts.proofs.Done.{said_before}
 use Rattle.command_texts.proofs.writes.replay_noting.Given as goal
 
 abbrev pub invariant-loop-phase : goal.invariant-loop-phase

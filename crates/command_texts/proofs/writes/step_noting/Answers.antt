@@ -1,6 +1,6 @@
-use Rattle.std.proofs.Common.{rules, ◌+◌, ◌-◌, length}
+use Rattle.std.proofs.Common.{rules, length}
 use Rattle.board_prelude.proofs.Common.{Entry, next_entry}
-use Rattle.command_texts.proofs.MapWrites.{writes_same, writes_more, writes_after}
+use Rattle.command_texts.proofs.MapWrites.{writes_same, writes_more}
 use Rattle.command_texts.proofs.writes.step_noting.Goals as goal
 use Rattle.command_texts.proofs.writes.step_noting.Goals.{in-Some+in_ok-add, in_default}
 
@@ -8,7 +8,7 @@ pub returns-clause-writes : goal.returns-clause-writes
 returns-clause-writes c =
     let board = c.args.board.now in
     let entry : Entry = next_entry board.entries c.args.statement.now.actor c.args.statement.now.event c.step.result in
-    writes_after board c.step.new.self entry (board.spare - 1) c.match-map_change.writes c.step.ensures.entry
+    rw c.step.ensures.entry
     (elim c.match-map_change.branch [
       | in-Some+in_ok-add w ↦
           let count = rw w.history.ensures.history at w.len.ensures.length in
