@@ -3,9 +3,9 @@ use Rattle.std.proofs.Common.{◌≡◌, ℕ, List, [], ◌∷◌, length, rever
 use Rattle.board_spec.specs.Setup.{IsRomSize}
 use Rattle.script_spec.specs.Common.{Script as Said, IsInRangeScript}
 use Rattle.command_words.specs.Words.{Command, Check, Make, Resume, Serial, script_name}
-use Rattle.command_files.specs.declared.status.Which.TheVariants.{Script, Rom, Disk, Image}
-use Rattle.command_files.specs.Common.{files_of, Files, Known, rom_name, disk_name, OfScript, HasBoard, HasImage}
-use Rattle.command_files.specs.Common.{HasRead, IsTaken, IsPassed}
+use Rattle.command_files.specs.declared.status.Which.TheVariants.{Script, Rom, Disk}
+use Rattle.command_files.specs.Common.{files_of, Files, Known, rom_name, disk_name, OfScript, HasBoard, HasRead}
+use Rattle.command_files.specs.Common.{IsTaken, IsPassed}
 use Rattle.command_files.proofs.Places.{AreTaken}
 
 -- a script was read, and no disk yet
@@ -57,22 +57,17 @@ module _ (told : Option Files) where
       HasBoard now
   board_kept before now log input has is = rw is (record { script = has.script; rom = has.rom; disk = has.disk })
 
-  -- an image was read, and a script
-  image_read : (before between now : Known) (name other : List ℕ) → IsTaken told before Image name between →
-      IsTaken told between Script other now → HasImage now
-  image_read before between now name other image script =
-      let found = image.learns in
-      record {
-        script = script.range;
-        image = (found.0, ap (λ (k : Known). k.image) script.learns.2 ∙ ap (λ (k : Known). k.image) found.3, found.1);
-      }
-
   pub has_read : (command : Command) (known : Known) → AreTaken command told (reverse (files_of command)) known
       → HasRead command known
   has_read (Check script log) known is =
       board_kept is.0 known _ is.0.input (board_read (Check script log) script refl is.0 is.1) is.2.learns
   has_read (Make rounds) known is = tt
-  has_read (Resume image script) known is = image_read is.1.0 is.0 known image script is.1.2 is.2
+  has_read (Resume image script) known is =
+      let found = is.1.2.learns in
+      record {
+        script = is.2.range;
+        image = (found.0, ap (λ (k : Known). k.image) is.2.learns.2 ∙ ap (λ (k : Known). k.image) found.3, found.1);
+      }
   has_read (Serial script input) known is =
       board_kept is.0 known is.0.log _ (board_read (Serial script input) script refl is.0 is.1) is.2.learns
   has_read command known is = board_read command _ refl known is

@@ -1,4 +1,3 @@
-pub mod FrontLemmas
 pub mod OneStatus
 pub mod CallLemmas
 pub mod Refusals

@@ -15,7 +15,7 @@ use Rattle.command_files.specs.declared.status.Status.{Status}
 use Rattle.command_files.specs.declared.status.Status.TheVariants.{Done, TooLong, BadScript, BadImage, Differs}
 use Rattle.command_files.specs.declared.status.Status.TheVariants.{OtherBoard}
 use Rattle.command_files.specs.Common.{OfImage, files_of, limit_of, Files, Known, nothing_known, file_name, Learns}
-use Rattle.command_files.specs.Common.{Passes, AreReadAs, AllRead, ComesTo, board_of, IsNoImage, LogIsLegal, LogDiffers}
+use Rattle.command_files.specs.Common.{Passes, AreReadAs, ComesTo, board_of, IsNoImage, LogIsLegal, LogDiffers}
 use Rattle.command_files.specs.Common.{BoardsAgree, BoardsDiffer, EndsWith, AsksFor, OneStatus}
 
 -- at most one status holds
@@ -80,17 +80,13 @@ boards_apart known differ agree =
     differ.2.2 (subst (λ (image : Saved). IsForBoard image.setup differ.0) same images.2)
 
 one_with : (command : Command) (known : Known) → IsOne (EndsWith command known)
-one_with (Check script log) known Done Done one two = refl
 one_with (Check script log) known Done (Differs line) one two = absurd (log_apart known line two one)
-one_with (Check script log) known Done _ one two = absurd two
 one_with (Check script log) known (Differs line) Done one two = absurd (log_apart known line one two)
 one_with (Check script log) known (Differs line) (Differs place) one two =
     ap Differs (one_difference (board_of known one.0) one.0.version one.0.phases known.log line place one.2
     (rw (same_some two.0 one.0 (sym two.1 ∙ one.1)) at two.2))
 one_with (Check script log) known (Differs line) _ one two = absurd two
-one_with (Resume image script) known Done Done one two = refl
 one_with (Resume image script) known Done OtherBoard one two = absurd (boards_apart known two one)
-one_with (Resume image script) known Done _ one two = absurd two
 one_with (Resume image script) known OtherBoard Done one two = absurd (boards_apart known one two)
 one_with (Resume image script) known OtherBoard OtherBoard one two = refl
 one_with (Resume image script) known OtherBoard _ one two = absurd two
@@ -178,14 +174,6 @@ at_file command files which known name status comes ends =
     rw comes.place
     (from_start command files comes.before (which ∷ comes.later) known status comes.read (rw comes.named ends))
 
-at_end : (command : Command) (files : Files) (status : Status) →
-    (known : Known) × AllRead command files known × EndsWith command known status →
-    EndsAt command files nothing_known (files_of command) status
-at_end command files status ends =
-    subst (λ (whiches : List Which). EndsAt command files nothing_known whiches status)
-    (append-nil (reverse (reverse (files_of command))) ∙ reverse-reverse (files_of command))
-    (from_start command files (reverse (files_of command)) [] ends.0 status ends.1 ends.2)
-
 at_some : (command : Command) (files : Files) (status : Status) → AsksFor command files status →
     EndsAt command files nothing_known (files_of command) status
 at_some command files (TooLong which) asks =
@@ -196,7 +184,10 @@ at_some command files (BadScript line why) asks =
 at_some command files (BadImage which) asks =
     at_file command files which asks.known asks.name (BadImage which) asks.comes
     (inr (inl (asks.holds.fits, no_image_refused which (files asks.name) asks.holds.holds)))
-at_some command files status asks = at_end command files status asks
+at_some command files status asks =
+    subst (λ (whiches : List Which). EndsAt command files nothing_known whiches status)
+    (append-nil (reverse (reverse (files_of command))) ∙ reverse-reverse (files_of command))
+    (from_start command files (reverse (files_of command)) [] asks.0 status asks.1 asks.2)
 
 pub one_status : OneSpelling → OneStatus
 one_status spelling = λ command files status other one two.

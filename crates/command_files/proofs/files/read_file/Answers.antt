@@ -1,22 +1,19 @@
-use Rattle.std.proofs.Common.{◌≤◌, rules, vec_len}
+use Rattle.std.proofs.Common.{rules}
 use Rattle.command_files.proofs.CallLemmas.{reading_failed, read_once, read_end, read_piece}
 use Rattle.command_files.proofs.files.read_file.Goals as goal
 
 pub returns-in_err-taken-clause-fetches : goal.returns-in_err-taken-clause-fetches
 returns-in_err-taken-clause-fetches g c =
-    let within : vec_len c.loop-shelf.bytes ≤ c.args.limit = search rules in
     reading_failed _ _ c.from_residual-in_err-taken.result c.in_err-taken.field-0.0 _ _ (search rules)
-    (read_once _ _ _ _ _ _ within c.loop-shelf.invariant.fetches _ c.read_on.ensures.once)
+    (read_once _ _ _ _ _ _ (search rules) c.loop-shelf.invariant.fetches _ c.read_on.ensures.once)
 
 pub returns-then-taken-eq0-clause-fetches : goal.returns-then-taken-eq0-clause-fetches
 returns-then-taken-eq0-clause-fetches g c =
-    let within : vec_len c.loop-shelf.bytes ≤ c.args.limit = search rules in
-    read_end _ _ _ _ _ _ within c.loop-shelf.invariant.fetches c.in_ok-taken.taken c.if-taken-eq0.true
+    read_end _ _ _ _ _ _ (search rules) c.loop-shelf.invariant.fetches c.in_ok-taken.taken c.if-taken-eq0.true
     c.in_ok-taken.ensures.once
 
 pub loop-shelf-preserved : goal.loop-shelf-preserved
 loop-shelf-preserved g c =
-    let within : vec_len c.loop-shelf.bytes ≤ c.args.limit = search rules in
     record {
       front = search rules;
       room = search rules;
@@ -24,6 +21,6 @@ loop-shelf-preserved g c =
       same = search rules;
       fetches =
           rw c.in_ok-taken.ensures.grows
-          (read_piece _ _ _ _ _ _ within c.loop-shelf.invariant.fetches c.in_ok-taken.taken c.if-taken-eq0.false
+          (read_piece _ _ _ _ _ _ (search rules) c.loop-shelf.invariant.fetches c.in_ok-taken.taken c.if-taken-eq0.false
           c.in_ok-taken.ensures.once);
     }
