@@ -1,39 +1,12 @@
--- A read or a write after tries that left the known bytes as they were.
+-- What reads leave of known bytes, and what they give of a file.
 use Rattle.std.proofs.Common.{◌≡◌, ℕ, zero, suc, ◌+◌, ◌-◌, ◌≤◌, List, [], ◌++◌, length, take, drop, Option, None, Some}
-use Rattle.std.proofs.Common.{Result, Ok, Err, refl, sym, ap, ◌∙◌, arith}
-use Rattle.board_base.proofs.Common.{Keeps, Appends, ReadConsumes, drop-drop, drop_at, take_at, length-drop}
+use Rattle.std.proofs.Common.{refl, sym, ap, ◌∙◌, arith}
+use Rattle.board_base.proofs.Common.{drop-drop, drop_at, take_at, length-drop}
 use Rattle.board_outside.specs.Outside.{OfFile}
-use Rattle.std.specs.Io.KnownBytes.{Consumes, IsAtEnd, WriteAppends}
+use Rattle.std.specs.Io.KnownBytes.{Consumes, IsAtEnd}
 
-pub kept : (old mid new : Option (List ℕ)) → Keeps old mid → Keeps mid new → Keeps old new
-kept None mid new first then = tt
-kept (Some xs) None new first then = absurd first
-kept (Some xs) (Some ys) None first then = absurd then
-kept (Some xs) (Some ys) (Some zs) first then = then ∙ first
-
-consumed : (old mid new : Option (List ℕ)) (bytes : List ℕ) → Keeps old mid → Consumes mid new bytes →
-    Consumes old new bytes
-consumed None mid new bytes first then = tt
-consumed (Some xs) None new bytes first then = absurd first
-consumed (Some xs) (Some ys) None bytes first then = absurd then
-consumed (Some xs) (Some ys) (Some zs) bytes first then = sym first ∙ then
-
-appended : (old mid new : Option (List ℕ)) (bytes : List ℕ) → Keeps old mid → Appends mid new bytes →
-    Appends old new bytes
-appended None mid new bytes first then = tt
-appended (Some xs) None new bytes first then = absurd first
-appended (Some xs) (Some ys) None bytes first then = absurd then
-appended (Some xs) (Some ys) (Some zs) bytes first then = rw first at then
-
-pub read_after : {E : Type 0} (old mid new : Option (List ℕ)) (result : Result ℕ E) (into : List ℕ) → Keeps old mid →
-    ReadConsumes mid new result into → ReadConsumes old new result into
-read_after old mid new (Ok n) into first then = (consumed old mid new (take n into) first then.0, then.1)
-read_after old mid new (Err e) into first then = kept old mid new first then
-
-pub write_after : {E : Type 0} (old mid new : Option (List ℕ)) (result : Result ℕ E) (piece : List ℕ) → Keeps old mid →
-    WriteAppends mid new result piece → WriteAppends old new result piece
-write_after old mid new (Ok n) piece first then = appended old mid new (take n piece) first then
-write_after old mid new (Err e) piece first then = kept old mid new first then
+some_is : (xs ys : List ℕ) → ◌≡◌ {A = Option (List ℕ)} (Some xs) (Some ys) → xs ≡ ys
+some_is xs ys same = cc
 
 -- ---- bytes of a file that were passed over
 
@@ -45,9 +18,6 @@ passed_more (Some xs) None bytes taken from count is then size = absurd then
 passed_more (Some xs) (Some ys) bytes taken from count is then size =
     let all : drop from bytes ≡ taken ++ ys = sym (some_is xs (drop from bytes) is) ∙ then in
     ap Some (sym (sym (drop-drop count from bytes) ∙ ap (drop count) all ∙ drop_at taken ys count size))
-  where
-    some_is : (xs ys : List ℕ) → ◌≡◌ {A = Option (List ℕ)} (Some xs) (Some ys) → xs ≡ ys
-    some_is xs ys same = cc
 
 -- where nothing is left after so many, nothing is left after more
 pub passed_all : (new : Option (List ℕ)) (bytes : List ℕ) (from count : ℕ) → from ≤ count →
@@ -59,9 +29,6 @@ passed_all (Some xs) bytes from count below is end =
     (none ∙ sym (none_left (count - from)) ∙ ap (drop (count - from)) (sym none) ∙ drop-drop (count - from) from bytes
     ∙ ap (λ (n : ℕ). drop n bytes) (let within : from ≤ count = below in omega arith))
   where
-    some_is : (xs ys : List ℕ) → ◌≡◌ {A = Option (List ℕ)} (Some xs) (Some ys) → xs ≡ ys
-    some_is xs ys same = cc
-
     none_left : (n : ℕ) → ◌≡◌ {A = List ℕ} (drop n []) []
     none_left zero = refl
     none_left (suc n) = refl
@@ -76,9 +43,6 @@ came_from (Some xs) None file taken at count is then size = absurd then
 came_from (Some xs) (Some ys) file taken at count is then size =
     let all : drop at file ≡ taken ++ ys = sym (some_is xs (drop at file) is) ∙ then in
     sym (ap (take count) all ∙ take_at taken ys count size)
-  where
-    some_is : (xs ys : List ℕ) → ◌≡◌ {A = Option (List ℕ)} (Some xs) (Some ys) → xs ≡ ys
-    some_is xs ys same = cc
 
 -- where nothing came at the end, the file ends at this place or before
 pub ends_by : (left new : Option (List ℕ)) (file taken : List ℕ) (at : ℕ) → left ≡ Some (drop at file) →

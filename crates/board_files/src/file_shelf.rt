@@ -53,6 +53,7 @@ impl<F: Folder> FileShelf<F> {
     }
 
     // Reads from byte `at` of a file on. The file stays open, unless something was refused.
+    #[tactic(auto, using(crate::proofs::Known::came_from, crate::proofs::Known::ends_by))]
     fn read_at(&mut self, name: &str, at: u64, into: &mut [u8]) -> io::Result<usize>
         requires room { 0 < length into.old }
         ensures fits { IfOk result (λ k. k ≤ length into.new) }

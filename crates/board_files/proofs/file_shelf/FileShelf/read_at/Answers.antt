@@ -1,5 +1,5 @@
 use Rattle.std.proofs.Common.{rules, ◌≡◌, ℕ, List, drop, take, Some, ap, sym, ◌∙◌}
-use Rattle.board_files.proofs.Known.{passed_more, came_from, ends_by}
+use Rattle.board_files.proofs.Known.{passed_more, ends_by}
 use Rattle.board_files.proofs.file_shelf.FileShelf.read_at.Goals as goal
 
 pub invariant_of-self : goal.invariant_of-self
@@ -17,25 +17,6 @@ invariant_of-self g c = record {
 
 pub returns-in-Some-clause-end : goal.returns-in-Some-clause-end
 returns-in-Some-clause-end g c = λ none file_of told.
-    ends_by _ (g.F.File.Read.remaining c.read_on.new.file) (file_of c.args.name.now)
-    (take c.in_ok-count.count c.read_on.new.into) c.args.at (c.in_ok-file.ensures.stands file_of told)
-    c.in_ok-count.ensures.bytes.0 (sym c.in_ok-count.ensures.fits.1 ∙ none)
-    (c.in_ok-count.ensures.bytes.1 none (search rules))
-
-pub returns-in-Some-clause-bytes : goal.returns-in-Some-clause-bytes
-returns-in-Some-clause-bytes g c = λ file_of told.
-    came_from _ (g.F.File.Read.remaining c.read_on.new.file) (file_of c.args.name.now)
-    (take c.in_ok-count.count c.read_on.new.into) c.args.at c.in_ok-count.count
-    (c.in_ok-file.ensures.stands file_of told) c.in_ok-count.ensures.bytes.0 (sym c.in_ok-count.ensures.fits.1)
-
-pub returns-in_default-clause-bytes : goal.returns-in_default-clause-bytes
-returns-in_default-clause-bytes g c = λ file_of told.
-    came_from _ (g.F.File.Read.remaining c.read_on.new.file) (file_of c.args.name.now)
-    (take c.in_ok-count.count c.read_on.new.into) c.args.at c.in_ok-count.count
-    (c.in_ok-file.ensures.stands file_of told) c.in_ok-count.ensures.bytes.0 (sym c.in_ok-count.ensures.fits.1)
-
-pub returns-in_default-clause-end : goal.returns-in_default-clause-end
-returns-in_default-clause-end g c = λ none file_of told.
     ends_by _ (g.F.File.Read.remaining c.read_on.new.file) (file_of c.args.name.now)
     (take c.in_ok-count.count c.read_on.new.into) c.args.at (c.in_ok-file.ensures.stands file_of told)
     c.in_ok-count.ensures.bytes.0 (sym c.in_ok-count.ensures.fits.1 ∙ none)
