@@ -9,8 +9,7 @@ use Rattle.command_words.specs.Words.{Command, Check, Resume}
 use Rattle.command_files.specs.declared.status.Which.{Which}
 use Rattle.command_files.specs.declared.status.Which.TheVariants.{Script, Rom, Disk}
 use Rattle.command_files.specs.declared.status.Status.{Status}
-use Rattle.command_files.specs.declared.status.Status.TheVariants.{Done, Usage, ReadFault, WriteFault, TooLong}
-use Rattle.command_files.specs.declared.status.Status.TheVariants.{BadScript, BadImage, Differs, OtherBoard, NoMemory}
+use Rattle.command_files.specs.declared.status.Status.TheVariants.{ReadFault, Differs, OtherBoard, NoMemory}
 use Rattle.command_files.specs.Common.{status_of_check_fault, Files, Known, AllRead, board_of, CanBeDone, OfCheck}
 use Rattle.command_files.specs.Common.{OfResume, LogDiffers, BoardsDiffer, AsksFor, ShelfCall, OfFiles, CanEnd}
 use Rattle.command_files.specs.Common.{CompareBoards, IsRefused}
@@ -45,13 +44,6 @@ module _ (command : Command) (shelf : ShelfCall) (known : Known)
 
   -- the text stopped
   pub stopped : (status : Status) → HasNoText command known status → IsRefused command shelf status
-  stopped Done is = absurd is
-  stopped Usage is = absurd is
-  stopped (ReadFault which) is = absurd is
-  stopped WriteFault is = absurd is
-  stopped (TooLong which) is = absurd is
-  stopped (BadScript line why) is = absurd is
-  stopped (BadImage which) is = absurd is
   stopped (Differs line) is = (
     log_is_read command (LogDiffers known line) is,
     asked_at_end (λ files. AsksFor command files (Differs line)) (λ files all. (known, all, is)),
@@ -61,6 +53,7 @@ module _ (command : Command) (shelf : ShelfCall) (known : Known)
     asked_at_end (λ files. AsksFor command files OtherBoard) (λ files all. (known, all, is)),
   )
   stopped NoMemory is = tt
+  stopped _ is = absurd is
 
   -- what a command answers whose files were read
   pub read_answer : (result : Result (List ℕ) Status) → shelf.faults_now ≡ shelf.faults_before →

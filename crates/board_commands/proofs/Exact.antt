@@ -1,5 +1,5 @@
 -- The status that the words and the files ask for comes, while the outside is quiet.
-use Rattle.std.proofs.Common.{◌≡◌, ℕ, List, inl, inr, Option, Some, None, refl, arith}
+use Rattle.std.proofs.Common.{◌≡◌, inl, inr, Option, Some, None, refl, arith}
 use Rattle.board_outside.specs.Outside.{Rose}
 use Rattle.command_files.specs.declared.status.Status.{Status}
 use Rattle.command_files.specs.declared.status.Status.TheVariants.{Done, Usage, ReadFault, WriteFault, TooLong}
@@ -7,7 +7,6 @@ use Rattle.command_files.specs.declared.status.Status.TheVariants.{BadScript, Ba
 use Rattle.command_words.specs.Words.{Command}
 use Rattle.command_files.specs.Common.{Files, AsksFor, ShelfCall, OfFiles, OneStatus}
 use Rattle.board_commands.specs.Common.{SinkCall, PutsText, PutsTextFront, IsCaused, IsOrNoMemory, IsQuietFor, IsExact}
-use Rattle.board_commands.specs.Common.{IsCommandText}
 use Rattle.command_files.proofs.Refusals.{at_files}
 
 -- the shelf is quiet wherever a status is to come
@@ -15,11 +14,6 @@ quiet_shelf_for : (wanted : Status) (quiet_shelf quiet_sink : Type 0) → IsQuie
     → quiet_shelf
 quiet_shelf_for Done quiet_shelf quiet_sink quiet = quiet.0
 quiet_shelf_for _ quiet_shelf quiet_sink quiet = quiet
-
--- a command that has a text can be done
-done_of_text : (command : Command) (files : Files) (text : List ℕ) → IsCommandText command files text
-    → AsksFor command files Done
-done_of_text command files text is = (is.known, is.read, is.done)
 
 module _ (one_status : OneStatus) (command : Command) (files : Files) (shelf : ShelfCall) (sink : SinkCall)
     (told : shelf.files ≡ Some files) (wanted : Status)
@@ -32,29 +26,29 @@ module _ (one_status : OneStatus) (command : Command) (files : Files) (shelf : S
   abbrev Calm : Type 0
   Calm = ¬ Rose sink.faults_before sink.faults_now
 
-  same : (status : Status) → AsksFor command files status → IsOrNoMemory status wanted
-  same status also = inl (one_status command files status wanted also asks)
-
   told_of : (P : Files → Type 0) → OfFiles shelf.files P → P files
   told_of P = at_files shelf.files files P told
+
+  same : (status : Status) → OfFiles shelf.files (λ files'. AsksFor command files' status) →
+      IsOrNoMemory status wanted
+  same status is =
+      inl (one_status command files status wanted (told_of (λ files'. AsksFor command files' status) is) asks)
 
   left : (status : Status) → IsCaused status (Some command) shelf sink → IsOrNoMemory status wanted
   left Done is =
       let puts = told_of (PutsText sink.taken_before sink.taken_now command) is.cause in
-      same Done (done_of_text command files puts.text puts.says)
+      inl (one_status command files Done wanted (puts.says.known, puts.says.read, puts.says.done) asks)
   left Usage is = let never = is.cause in absurd cc
   left (ReadFault which) is = absurd (quiet_shelf_for wanted Quiet Calm quiet is.cause.rose)
   left WriteFault is =
       let puts = told_of (PutsTextFront sink.taken_before sink.taken_now command) is.stopped in
-      let done = one_status command files Done wanted (done_of_text command files puts.text puts.says) asks in
+      let done = one_status command files Done wanted (puts.says.known, puts.says.read, puts.says.done) asks in
       absurd ((rw (← done) at quiet).1 is.cause)
-  left (TooLong which) is = same (TooLong which) (told_of (λ files'. AsksFor command files' (TooLong which)) is.cause)
-  left (BadScript line why) is =
-      same (BadScript line why) (told_of (λ files'. AsksFor command files' (BadScript line why)) is.cause)
-  left (BadImage which) is =
-      same (BadImage which) (told_of (λ files'. AsksFor command files' (BadImage which)) is.cause)
-  left (Differs line) is = same (Differs line) (told_of (λ files'. AsksFor command files' (Differs line)) is.cause)
-  left OtherBoard is = same OtherBoard (told_of (λ files'. AsksFor command files' OtherBoard) is.cause)
+  left (TooLong which) is = same (TooLong which) is.cause
+  left (BadScript line why) is = same (BadScript line why) is.cause
+  left (BadImage which) is = same (BadImage which) is.cause
+  left (Differs line) is = same (Differs line) is.cause
+  left OtherBoard is = same OtherBoard is.cause
   left NoMemory is = inr refl
 
 pub exact : OneStatus → (command : Option Command) (told : Option Files) (shelf : ShelfCall) (sink : SinkCall)

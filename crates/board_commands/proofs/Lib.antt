@@ -1,5 +1,4 @@
 pub mod SentLemmas
-pub mod Statements
 pub mod PutLemmas
 pub mod Answers
 pub mod Causes

@@ -21,6 +21,7 @@ use std::sync::Wait;
 use std::thread::Threads;
 
 /// Reads the files of a command, and gives the text that it makes of them.
+#[tactic(auto, using(crate::proofs::Answers::refused_answer))]
 fn answer<R: Threads + Wait + Sync, S: Shelf, G: Gate>(
     rt: &R,
     alloc: Global,
@@ -40,6 +41,7 @@ fn answer<R: Threads + Wait + Sync, S: Shelf, G: Gate>(
 }
 
 /// Makes the text of a command from its files, and puts it to the sink.
+#[tactic(auto, using(crate::proofs::Causes::caused_done))]
 fn run_command<R: Threads + Wait + Sync, S: Shelf, K: Sink, G: Gate>(
     rt: &R,
     alloc: Global,

@@ -1,7 +1,7 @@
 use Rattle.std.proofs.Common.{◌≡◌, rules, refl}
 use Rattle.std.proofs.KnownBytes.{Keeps-refl}
 use Rattle.command_files.specs.Statuses.{status_of, status_of_put_fault}
-use Rattle.board_commands.proofs.Causes.{caused_refusal, caused_put_fault, caused_done, refusal_of}
+use Rattle.board_commands.proofs.Causes.{caused_refusal, caused_put_fault, refusal_of}
 use Rattle.command_files.proofs.Common.{holds_of_error, none_made, calls_hold}
 use Rattle.board_commands.proofs.PutLemmas.{nothing_put, put_refused}
 use Rattle.board_commands.proofs.command.run_command.Goals as goal
@@ -27,11 +27,6 @@ returns-in_err-put_all-clause-caused g c =
     (caused_put_fault _ _ _ _ c.in_ok-text.ensures.answer.text c.in_ok-text.ensures.answer.quiet
     c.in_err-put_all.field-0.0
     c.in_err-put_all.ensures.front c.in_err-put_all.ensures.failed c.in_err-put_all.ensures.no_fault)
-
-pub returns-clause-caused : goal.returns-clause-caused
-returns-clause-caused g c =
-    caused_done _ _ _ _ c.in_ok-text.ensures.answer.text c.in_ok-text.ensures.answer.quiet
-    c.in_ok-put_all.ensures.whole c.in_ok-put_all.ensures.quiet
 
 pub returns-in_err-text-clause-puts : goal.returns-in_err-text-clause-puts
 returns-in_err-text-clause-puts g c =

@@ -1,13 +1,33 @@
-use Rattle.std.proofs.Common.{sym}
+use Rattle.std.proofs.Common.{◌≡◌, ℕ, ◌+◌, List, [], ◌∷◌, take, drop, get_or, refl, All, slice_index_or, flat_map, sym}
+use Rattle.board_prelude.proofs.Common.{Vec, Global, get_or_default, Statement, IsScripted, in_file_order, Setup}
+use Rattle.phase_threads.specs.Jobs.{IsStatement}
+use Rattle.script_spec.specs.Phases.{lists_of}
+use Rattle.log_check.proofs.PhaseLists.{phases_cut, all_of_phase}
 use Rattle.script_text.specs.Script.{said_of}
-use Rattle.board_commands.proofs.Statements.{phases_in_range, listed_one_by_one}
 use Rattle.board_commands.proofs.run.run_script.Goals as goal
+
+-- the statements of each phase are in range
+phases_in_range : (setup : Setup) (version cpus : ℕ) (phases : List (Vec Statement Global)) →
+    All (IsScripted setup version cpus) (in_file_order (lists_of phases)) →
+    All (λ phase. All (IsStatement setup cpus) phase.items) phases
+phases_in_range setup version cpus phases all i d within =
+    let phase : Vec Statement Global = get_or phases i d in
+    let own : All (IsScripted setup version cpus) phase.items =
+    all_of_phase (IsScripted setup version cpus) (lists_of (take i phases)) phase.items (lists_of (drop (i + 1) phases))
+    (rw (phases_cut phases i phase within (get_or_default phases i d phase within)) at all) in
+    λ k e inside. let is : IsScripted setup version cpus (slice_index_or phase.items k e) = own k e inside in
+    record { actor = is.actor; event = is.event }
+
+listed_one_by_one :
+    (phases : List (Vec Statement Global)) → in_file_order (lists_of phases) ≡ flat_map (λ phase. phase.items) phases
+listed_one_by_one [] = refl
+listed_one_by_one (phase ∷ later) = rw (listed_one_by_one later) refl
 
 pub run_phases-requires-clause-in_range : goal.run_phases-requires-clause-in_range
 run_phases-requires-clause-in_range g c = λ _ _.
     let script = said_of c.args.script in
-    (phases_in_range c.args.board.setup script.version script.cpus c.args.script.phases.items
-    (c.requires.in_range.each c.args.board.setup c.requires.cards))
+    phases_in_range c.args.board.setup script.version script.cpus c.args.script.phases.items
+    (c.requires.in_range.each c.args.board.setup c.requires.cards)
 
 pub run_phases-requires-clause-statements : goal.run_phases-requires-clause-statements
 run_phases-requires-clause-statements g c = λ _ _.
