@@ -1,35 +1,9 @@
 -- Texts that are put one after another.
 use Rattle.std.proofs.Common.{ℕ, List, ◌++◌, Option, sym, ap, ◌∙◌, append_assoc, Result, Ok, Err, IsErr}
-use Rattle.board_prelude.proofs.Common.{Appends}
 use Rattle.board_outside.specs.Counts.{next_fault}
 use Rattle.board_files.specs.declared.out_sink.OutSink.{OutSink}
-use Rattle.board_commands.specs.Output.{AppendsFront}
 use Rattle.board_commands.proofs.SentLemmas.{more_taken}
 use Rattle.board_main.specs.Common.{TookAll, TookFront, IsPut, out_call}
-
--- a text was taken, and a front of another one
-front_more : (before between now : Option (List ℕ)) (first second : List ℕ) → Appends before between first →
-    AppendsFront between now second → AppendsFront before now (first ++ second)
-front_more before between now first second taken then = record {
-  rest = then.rest;
-  sent = record {
-    front = first ++ then.sent.front;
-    whole = rw then.sent.whole (sym (append_assoc first then.sent.front then.rest));
-    taken = more_taken before between now first then.sent.front taken then.sent.taken;
-  };
-}
-
--- a front of a text is one of a longer text
-front_of_more : (before now : Option (List ℕ)) (first second : List ℕ) → AppendsFront before now first →
-    AppendsFront before now (first ++ second)
-front_of_more before now first second is = record {
-  rest = is.rest ++ second;
-  sent = record {
-    front = is.sent.front;
-    whole = rw is.sent.whole (append_assoc is.sent.front is.rest second);
-    taken = is.sent.taken;
-  };
-}
 
 module _ {W T E : Type 0} (contents : W → Option (List ℕ)) (first second : List ℕ) where
   -- a text was put whole, and then another one with this result
@@ -42,8 +16,15 @@ module _ {W T E : Type 0} (contents : W → Option (List ℕ)) (first second : L
     quiet = then.quiet ∙ taken.quiet;
   }
   put_more (Err fault) before between now taken then = record {
-    taken = front_more (contents before.out) (contents between.out) (contents now.out) first second taken.taken
-        then.taken;
+    taken = record {
+      rest = then.taken.rest;
+      sent = record {
+        front = first ++ then.taken.sent.front;
+        whole = rw then.taken.sent.whole (sym (append_assoc first then.taken.sent.front then.taken.rest));
+        taken = more_taken (contents before.out) (contents between.out) (contents now.out) first
+            then.taken.sent.front taken.taken then.taken.sent.taken;
+      };
+    };
     failed = then.failed ∙ ap next_fault taken.quiet;
   }
 
@@ -52,6 +33,13 @@ module _ {W T E : Type 0} (contents : W → Option (List ℕ)) (first second : L
       TookFront (out_call contents before now) first → IsPut result (first ++ second) (out_call contents before now)
   put_stopped (Ok done) before now failed then = absurd cc
   put_stopped (Err fault) before now failed then = record {
-    taken = front_of_more (contents before.out) (contents now.out) first second then.taken;
+    taken = record {
+      rest = then.taken.rest ++ second;
+      sent = record {
+        front = then.taken.sent.front;
+        whole = rw then.taken.sent.whole (append_assoc then.taken.sent.front then.taken.rest second);
+        taken = then.taken.sent.taken;
+      };
+    };
     failed = then.failed;
   }

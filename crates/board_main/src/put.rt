@@ -16,6 +16,7 @@ fn after(bytes: &[u8], count: usize) -> &[u8]
 }
 
 /// Puts a whole text, in as many calls as the output needs.
+#[tactic(auto, using(board_commands::proofs::SentLemmas::then_sent))]
 pub fn put_text<W: Write>(out: &mut OutSink<W>, text: &str) -> Result<(), Failed>
     ensures put { IsPut result text.now (out_call W.contents out.old out.new) }
 {
@@ -30,6 +31,7 @@ pub fn put_text<W: Write>(out: &mut OutSink<W>, text: &str) -> Result<(), Failed
 }
 
 /// Puts one text after another.
+#[tactic(auto, using(crate::proofs::Puts::put_more, crate::proofs::Puts::put_stopped))]
 pub fn put_two<W: Write>(out: &mut OutSink<W>, first: &str, second: &str) -> Result<(), Failed>
     ensures put { IsPut result (first.now ++ second.now) (out_call W.contents out.old out.new) }
 {
@@ -38,6 +40,7 @@ pub fn put_two<W: Write>(out: &mut OutSink<W>, first: &str, second: &str) -> Res
 }
 
 /// Puts three texts, one after another.
+#[tactic(auto, using(crate::proofs::Puts::put_more, crate::proofs::Puts::put_stopped))]
 pub fn put_three<W: Write>(
     out: &mut OutSink<W>,
     first: &str,
