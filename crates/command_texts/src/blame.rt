@@ -74,6 +74,7 @@ fn push_ranges(text: &mut String, writes: &MapWrites, ranges: &[Blamed]) -> Resu
 }
 
 /// Appends the lines of the map writes on which the map rests.
+#[tactic(auto, using(crate::proofs::TextLines::lines_more))]
 fn push_keeps(text: &mut String, writes: &MapWrites, keep: &[u32]) -> Result<(), NoMemory>
     requires versions { All (λ version. version ≤ length writes.now.entries.items) keep.now }
     ensures appended { (setup : Setup) (history : List Entry) → AreWritesOf setup history writes.now

@@ -76,6 +76,7 @@ fn step(
 
 /// Does statements, and before each receives the next byte of the input. Adds the bytes that the port sends to `sent`,
 /// and returns the input that is left.
+#[tactic(auto, using(crate::proofs::SerialReplays::went_nowhere))]
 fn steps<'a>(
     serial: &mut SerialBoard<Board>,
     statements: &[Statement],
@@ -98,6 +99,7 @@ fn steps<'a>(
 }
 
 /// Does the statements of all phases as `steps` does.
+#[tactic(auto, using(crate::proofs::SerialReplays::went_nowhere))]
 fn all_steps<'a>(
     serial: &mut SerialBoard<Board>,
     phases: &[Vec<Statement>],

@@ -1,14 +1,8 @@
 use Rattle.std.proofs.Common.{arith}
 use Rattle.command_texts.specs.SerialSteps.{IsForPort}
 use Rattle.command_texts.proofs.Done.{phase_adds, of_phase}
-use Rattle.command_texts.proofs.SerialReplays.{went_nowhere, went_on_twice}
+use Rattle.command_texts.proofs.SerialReplays.{went_on_twice}
 use Rattle.command_texts.proofs.serial.all_steps.Goals as goal
-
-pub loop-phase-init : goal.loop-phase-init
-loop-phase-init c = went_nowhere _ c.requires.standing
-
-pub steps-requires-clause-standing : goal.steps-requires-clause-standing
-steps-requires-clause-standing c = c.loop-phase.invariant.standing
 
 pub steps-requires-clause-for_port : goal.steps-requires-clause-for_port
 steps-requires-clause-for_port c =

@@ -1,12 +1,6 @@
 use Rattle.std.proofs.Common.{◌∙◌, arith}
-use Rattle.command_texts.proofs.SerialReplays.{went_nowhere, went_on_step, went_on_more, room_for_next}
+use Rattle.command_texts.proofs.SerialReplays.{went_on_step, went_on_more, room_for_next}
 use Rattle.command_texts.proofs.serial.steps.Goals as goal
-
-pub loop-statement-init : goal.loop-statement-init
-loop-statement-init c = went_nowhere _ c.requires.standing
-
-pub receive_next-left-requires-clause-standing : goal.receive_next-left-requires-clause-standing
-receive_next-left-requires-clause-standing c = c.loop-statement.invariant.standing
 
 pub receive_next-left-requires-clause-spare : goal.receive_next-left-requires-clause-spare
 receive_next-left-requires-clause-spare c =
