@@ -87,6 +87,7 @@ fn read_on<S: Shelf>(
 
 /// Reads a file of at most `limit` bytes: until the shelf is at its end, fails, has given more
 /// bytes than the limit, or memory is refused.
+#[tactic(auto, using(crate::proofs::CallLemmas::reading_failed, crate::proofs::CallLemmas::read_once))]
 pub(crate) fn read_file<S: Shelf>(
     alloc: Global,
     shelf: &mut S,

@@ -1,11 +1,6 @@
 use Rattle.std.proofs.Common.{rules}
-use Rattle.command_files.proofs.CallLemmas.{reading_failed, read_once, read_end, read_piece}
+use Rattle.command_files.proofs.CallLemmas.{read_end, read_piece}
 use Rattle.command_files.proofs.files.read_file.Goals as goal
-
-pub returns-in_err-taken-clause-fetches : goal.returns-in_err-taken-clause-fetches
-returns-in_err-taken-clause-fetches g c =
-    reading_failed _ _ c.from_residual-in_err-taken.result c.in_err-taken.field-0.0 _ _ (search rules)
-    (read_once _ _ _ _ _ _ (search rules) c.loop-shelf.invariant.fetches _ c.read_on.ensures.once)
 
 pub returns-then-taken-eq0-clause-fetches : goal.returns-then-taken-eq0-clause-fetches
 returns-then-taken-eq0-clause-fetches g c =
