@@ -17,6 +17,7 @@ use script_text::{Script, ScriptFault, read_script};
 use std::alloc::Global;
 
 /// The made script of so many rounds, read from its text.
+#[tactic(auto, using(crate::proofs::MadeScripts::text_is_short))]
 fn made_script(alloc: Global, rounds: u32) -> Result<Script, NoMemory>
     requires most { rounds ≤ most_rounds }
     ensures says { IfOk result (λ script. IsScriptText (make_text rounds) (said_of script)) }

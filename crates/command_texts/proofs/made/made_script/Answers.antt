@@ -1,11 +1,6 @@
 use Rattle.script_spec.proofs.ReadingLaws.{not_both}
 use Rattle.make_script.specs.Common.{make_text, made_script}
-use Rattle.command_texts.proofs.MadeScripts.{text_is_short}
 use Rattle.command_texts.proofs.made.made_script.Goals as goal
-
-pub read_script-requires : goal.read_script-requires
-read_script-requires c =
-    rw (c.as_bytes.ensures.bytes, c.in_ok-text.ensures.text) (text_is_short c.args.rounds c.requires.most)
 
 pub unreachable-requires : goal.unreachable-requires
 unreachable-requires c =

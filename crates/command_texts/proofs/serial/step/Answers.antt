@@ -23,11 +23,3 @@ returns-in_default-clause-happened c =
     c.step-reply.ensures.setup
     (c.step-reply.ensures.com1 c.args.serial.now.board.entries c.requires.standing)
     (c.step-reply.ensures.history c.args.serial.now.board.entries c.requires.standing)
-
-pub returns-in_default-clause-spare : goal.returns-in_default-clause-spare
-returns-in_default-clause-spare c =
-    omega (
-      arith,
-      c.requires.spare,
-      c.step-reply.ensures.spare (c.args.serial.now.board.spare - 2) (omega (arith, c.requires.spare)),
-    )
