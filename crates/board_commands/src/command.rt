@@ -41,7 +41,7 @@ fn answer<R: Threads + Wait + Sync, S: Shelf, G: Gate>(
 }
 
 /// Makes the text of a command from its files, and puts it to the sink.
-#[tactic(auto, using(crate::proofs::Causes::caused_done))]
+#[tactic(auto, using(crate::proofs::Causes::caused_done, crate::proofs::Causes::refusal_of))]
 fn run_command<R: Threads + Wait + Sync, S: Shelf, K: Sink, G: Gate>(
     rt: &R,
     alloc: Global,

@@ -1,8 +1,8 @@
 use Rattle.std.proofs.Common.{◌≡◌, rules, refl}
 use Rattle.std.proofs.KnownBytes.{Keeps-refl}
 use Rattle.command_files.specs.Statuses.{status_of, status_of_put_fault}
-use Rattle.board_commands.proofs.Causes.{caused_refusal, caused_put_fault, refusal_of}
-use Rattle.command_files.proofs.Common.{holds_of_error, none_made, calls_hold}
+use Rattle.board_commands.proofs.Causes.{caused_refusal, caused_put_fault}
+use Rattle.command_files.proofs.Common.{none_made, calls_hold}
 use Rattle.board_commands.proofs.PutLemmas.{nothing_put, put_refused}
 use Rattle.board_commands.proofs.command.run_command.Goals as goal
 
@@ -13,11 +13,6 @@ returns-in_err-text-clause-caused g c =
     (caused_refusal _ _ _ c.in_err-text.field-0.0 c.in_err-text.ensures.answer.refused
     c.in_err-text.ensures.answer.no_fault_hidden
     refl (Keeps-refl (g.K.Sink.taken c.args.out.now)))
-
-pub returns-in_err-text-clause-only : goal.returns-in_err-text-clause-only
-returns-in_err-text-clause-only g c =
-    holds_of_error _ c.from_residual.result c.in_err-text.field-0.0 (search rules)
-    (refusal_of _ _ c.in_err-text.field-0.0 c.in_err-text.ensures.answer.refused)
 
 pub returns-in_err-put_all-clause-caused : goal.returns-in_err-put_all-clause-caused
 returns-in_err-put_all-clause-caused g c =
