@@ -1,8 +1,8 @@
 -- What two calls in a row append. In the second lemma the last call may still fail.
-use Rattle.board_prelude.specs.Common.{Event, value_bytes, Entry, Wide, WideAccess, event_text, hex_long, is_write}
-use Rattle.board_prelude.specs.Common.{kind_text, line_text, reply_text, size_text, smm_text, space, written_text}
-use Rattle.std.proofs.Common.{◌∷◌, ◌≡◌, ℕ, ◌++◌, List, Result, Ok, Err, OnOk, ap, sym, ◌∙◌, append_assoc, codes}
-use Rattle.std.proofs.Common.{decimal, OnErr}
+use Rattle.board_prelude.specs.Common.{Entry, Wide, WideAccess, event_text, hex_long, is_write, kind_text, line_text}
+use Rattle.board_prelude.specs.Common.{reply_text, size_text, smm_text, space, written_text, Event, value_bytes}
+use Rattle.std.proofs.Common.{◌∷◌, ◌≡◌, ℕ, ◌++◌, List, Result, Ok, Err, OnOk, append_assoc, codes, decimal, OnErr, ap}
+use Rattle.std.proofs.Common.{sym, ◌∙◌}
 use Rattle.logs_and_maps.specs.Adds.{IsFront}
 
 pub appended_more : (old first middle new second : List ℕ) → middle ≡ old ++ first → new ≡ middle ++ second →
@@ -11,8 +11,7 @@ appended_more old first middle new second one two = rw (two, one) (simp append_a
 
 pub appended_twice : {T E : Type 0} (r : Result T E) (old first : List ℕ) (middle new second whole : List ℕ) →
     middle ≡ old ++ first → OnOk r (new ≡ middle ++ second) → whole ≡ first ++ second → OnOk r (new ≡ old ++ whole)
-appended_twice (Ok x) old first middle new second whole one two joined =
-    appended_more old first middle new second one two ∙ ap (λ t. old ++ t) (sym joined)
+appended_twice (Ok x) old first middle new second whole one two joined = rw (two, one, joined) (simp append_assoc)
 appended_twice (Err e) old first middle new second whole one two joined = tt
 
 -- after a text that has grown a text that begins with it begins with the old one too

@@ -28,7 +28,7 @@ lines_after (entry ∷ entries) before =
 
 pub lines_of_history : (entries : List Entry) → lines_text (reverse entries) ≡ lines_from 1 entries
 unfolding lines_text
-lines_of_history entries = ap lines_text (sym (append-nil (reverse entries))) ∙ lines_after entries []
+lines_of_history entries = rw append-nil at (lines_after entries [])
 
 -- the log is the heading and the lines from 1 on
 pub log_text-lines : (version : ℕ) (entries : List Entry) →

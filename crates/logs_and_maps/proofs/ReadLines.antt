@@ -1,8 +1,8 @@
 -- The lines of a log, read one by one.
-use Rattle.board_prelude.proofs.Common.{length-reverse, none-some, nat_tests, digits, reverse-append, length-append}
-use Rattle.board_prelude.proofs.Common.{All-cons, Entry, line_feed, line_text, lines_text}
-use Rattle.std.proofs.Common.{◌≡◌, ◌≢◌, ℕ, ◌+◌, ◌≤◌, Option, Some, None, List, [], ◌∷◌, ◌++◌, length, reverse, All}
-use Rattle.std.proofs.Common.{refl, sym, ap, subst, ◌∙◌, inl, inr, append_assoc, arith, MatchOption}
+use Rattle.board_prelude.proofs.Common.{length-reverse, nat_tests, digits, reverse-append, Entry, line_feed, line_text}
+use Rattle.board_prelude.proofs.Common.{lines_text}
+use Rattle.std.proofs.Common.{◌≡◌, ◌≢◌, ℕ, ◌+◌, Option, Some, None, List, [], ◌∷◌, ◌++◌, length, reverse, refl, sym, ap}
+use Rattle.std.proofs.Common.{subst, ◌∙◌, inl, inr, append_assoc, arith, MatchOption}
 use Rattle.script_spec.specs.Common.{IsVersion, IsWellFormed, cut}
 use Rattle.script_spec.proofs.Common.{lacks-line, line_whole, some_is, word_is, cut_field, cut_joined}
 use Rattle.logs_and_maps.specs.Reading.{heading, parse_heading, HasEntry, HasNoEntry}
@@ -14,12 +14,10 @@ use Rattle.logs_and_maps.proofs.Lines.{lines_text-newest}
 entry_cut : (version n : ℕ) (rest : List ℕ) (entry : Entry) (after : List ℕ) → HasEntry version n rest entry after
     → cut line_feed rest ≡ Some (line_text n entry, after)
 entry_cut version n rest entry after has =
-    ap (cut line_feed) has.line ∙ cut_field line_feed (line_text n entry) after
-    (lacks-line (line_text n entry) (line_whole n entry))
+    rw has.line (cut_field line_feed (line_text n entry) after (lacks-line (line_text n entry) (line_whole n entry)))
 
 pub none_uncut : (version n : ℕ) (rest : List ℕ) → None ≡ cut line_feed rest → HasNoEntry version n rest
-none_uncut version n rest uncut entry after has =
-    absurd (none-some (line_text n entry, after) (uncut ∙ entry_cut version n rest entry after has))
+none_uncut version n rest uncut entry after has = absurd (cc (uncut, entry_cut version n rest entry after has))
 
 -- what one line says
 abbrev IsRead : (version n : ℕ) → (line : List ℕ) → Option Entry → Type 0
@@ -32,10 +30,7 @@ pub has_entry : (version n : ℕ) (rest line after : List ℕ) (read : Option En
     → IsRead version n line read → read ≡ Some entry → HasEntry version n rest entry after
 has_entry version n rest line after read entry parts exact is =
     let e = subst (IsRead version n line) is exact in
-    record {
-      formed = e.0;
-      line = cut_joined line_feed rest line after (sym parts) ∙ ap (λ (text : List ℕ). text ++ line_feed ∷ after) e.1;
-    }
+    record { formed = e.0; line = rw (← e.1) (cut_joined line_feed rest line after (sym parts)) }
 
 pub no_entry : (version n : ℕ) (rest line after : List ℕ) (read : Option Entry) →
     Some (line, after) ≡ cut line_feed rest → IsRead version n line read → read ≡ None → HasNoEntry version n rest
@@ -58,19 +53,6 @@ lines_more version n lines rest after entries entry place cut has =
       lines_text-newest (reverse entries) entry (length entries) (length-reverse entries),
     ) (simp append_assoc)
 
-pub each_more : (version n : ℕ) (rest after : List ℕ) (entries : List Entry) (entry : Entry)
-    → HasEntry version n rest entry after
-    → All (IsWellFormed version) (reverse entries) → All (IsWellFormed version) (reverse (entries ++ entry ∷ []))
-each_more version n rest after entries entry has each =
-    rw (reverse-append entries (entry ∷ [])) (All-cons (IsWellFormed version) entry (reverse entries) has.formed each)
-
-pub room_left : (version n : ℕ) (rest : List ℕ) (entry : Entry) (after : List ℕ) (entries : List Entry) (most : ℕ)
-    → HasEntry version n rest entry after → length entries + length rest ≤ most
-    → length (entries ++ entry ∷ []) + length after ≤ most
-room_left version n rest entry after entries most has room =
-    let line = ap length has.line ∙ length-append (line_text n entry) (line_feed ∷ after) in
-    omega (arith, line, room, length-append entries (entry ∷ []))
-
 -- ---- headings
 
 pub version_said : (line : List ℕ) (version : ℕ) → parse_heading line ≡ Some version
@@ -82,7 +64,3 @@ pub version_known : (version : ℕ) → IsVersion version → parse_heading (hea
 unfolding digits
 version_known version (inl one) = rw one refl
 version_known version (inr two) = rw two refl
-
-pub no_lines : (rest : List ℕ) → rest ≡ lines_text (reverse []) ++ rest
-unfolding lines_text
-no_lines rest = refl

@@ -1,10 +1,10 @@
 -- Where the bytes of a log stop being one.
-use Rattle.board_prelude.proofs.Common.{none-some, get_or-append_seam, common_steps, nat_tests, cases_lt}
-use Rattle.board_prelude.proofs.Common.{get_or_append_left, append_cancel_left, length-append, All-nil, All-cons}
-use Rattle.board_prelude.proofs.Common.{All-head, All-tail, All-push, Entry, line_feed, line_text, lines_text, log_text}
+use Rattle.board_prelude.proofs.Common.{get_or-append_seam, common_steps, nat_tests, cases_lt, get_or_append_left}
+use Rattle.board_prelude.proofs.Common.{append_cancel_left, length-append, All-nil, All-cons, All-head, All-tail}
+use Rattle.board_prelude.proofs.Common.{All-push, Entry, line_feed, line_text, lines_text, log_text}
 use Rattle.std.proofs.Common.{◌≡◌, ◌≢◌, ℕ, ◌+◌, ◌<◌, true, Some, None, List, [], ◌∷◌, ◌++◌, length, reverse, get_or}
-use Rattle.std.proofs.Common.{drop, All, refl, sym, ap, subst, ◌∙◌, inl, inr, append_assoc, append-nil, arith, Result}
-use Rattle.std.proofs.Common.{Ok, Err, IfErr, IsErrAnd, codes, decimal}
+use Rattle.std.proofs.Common.{All, refl, sym, ap, subst, ◌∙◌, inl, inr, append_assoc, append-nil, arith, Result, Ok}
+use Rattle.std.proofs.Common.{Err, IfErr, IsErrAnd, codes, decimal, drop}
 use Rattle.script_spec.specs.Common.{text_of_lines, IsOneLine, IsVersion, IsWellFormed, IsLogText, IsSomeLog, IsBadLog}
 use Rattle.script_spec.specs.Common.{cut}
 use Rattle.script_spec.proofs.Common.{lacks, lacks-append, lacks-word, decimal_word, one_line, compared, log_lines}
@@ -61,11 +61,7 @@ line_at P (entry ∷ before) k each lt = elim (cases_lt k (length before)) [
       (r.0, r.1, get_or_append_left (log_lines before) (line_text (length before + 1) entry ∷ []) [] k inside ∙ r.2)
   | inr last ↦
       let at_end : k ≡ length before = omega (arith, lt, last) in
-      let place : k ≡ length (log_lines before) = omega (arith, at_end, lines_length before) in (
-        entry,
-        All-head P entry before each,
-        rw at_end (get_at (log_lines before) (line_text (length before + 1) entry) [] _ (sym (lines_length before))),
-      )
+      (entry, All-head P entry before each, rw at_end (get_at (log_lines before) _ [] _ (sym (lines_length before))))
 ]
 
 -- no log goes on where no entry's line does
@@ -116,22 +112,20 @@ bad_heading bytes none = record {
       let log = begun.text.log in
       let on = begins (this ∷ []) begun.later begun.text.version begun.text.entries
       (All-cons IsOneLine this [] one (All-nil IsOneLine)) log.text in
-      let first : heading begun.text.version ≡ this = ap (λ (lines : List (List ℕ)). get_or lines 0 []) on.1 in
-      none begun.text.version after log.known (is ∙ ap (λ (text : List ℕ). text ++ line_feed ∷ after) (sym first));
+      none begun.text.version after log.known (cc (is, on.1));
   other = λ some. none some.version (lines_text some.entries) some.log.known some.log.text;
 }
 
 pub bad_uncut : (bytes : List ℕ) → None ≡ cut line_feed bytes → IsBadLog bytes 1
 bad_uncut bytes uncut = bad_heading bytes (λ version after known is.
-    none-some (heading version, after)
-    (uncut ∙ ap (cut line_feed) is ∙ cut_field line_feed (heading version) after (heading_lacks version)))
+    absurd (cc (uncut, is, cut_field line_feed (heading version) after (heading_lacks version))))
 
 pub bad_version : (bytes line after : List ℕ) → Some (line, after) ≡ cut line_feed bytes → None ≡ parse_heading line
     → IsBadLog bytes 1
 bad_version bytes line after parts none = bad_heading bytes (λ version later known is.
-    let same = some_is (line, after) (heading version, later)
-    (parts ∙ ap (cut line_feed) is ∙ cut_field line_feed (heading version) later (heading_lacks version)) in
-    none-some version (none ∙ ap (λ (p : List ℕ × List ℕ). parse_heading p.0) same ∙ version_known version known))
+    let whole = cut_field line_feed (heading version) later (heading_lacks version) in
+    let same = some_is (line, after) (heading version, later) (parts ∙ rw is whole) in
+    absurd (cc (none, ap (λ (p : List ℕ × List ℕ). parse_heading p.0) same, version_known version known)))
 
 -- ---- bad lines after the heading
 
@@ -143,10 +137,7 @@ module _ (bytes heading_line lines : List ℕ) (version : ℕ) (parts : Some (he
   -- the text is that of the lines in front with the rest after it
   text_is : (front rest : List ℕ) → lines ≡ front ++ rest → bytes ≡ (heading version ++ line_feed ∷ front) ++ rest
   text_is front rest is =
-      cut_joined line_feed bytes heading_line lines (sym parts)
-      ∙ ap (λ (text : List ℕ). text ++ line_feed ∷ lines) said.1
-      ∙ ap (λ (text : List ℕ). heading version ++ line_feed ∷ text) is
-      ∙ sym (append_assoc (heading version) (line_feed ∷ front) rest)
+      rw (cut_joined line_feed bytes heading_line lines (sym parts), said.1, is) (simp append_assoc)
 
   bad_after : (line : ℕ) → IsBadAfter version lines line → IsBadLog bytes line
   bad_after line bad =
@@ -198,8 +189,7 @@ module _ (bytes heading_line lines : List ℕ) (version : ℕ) (parts : Some (he
   good_log entries is each = record {
     known = said.0;
     each = each;
-    text = text_is (lines_text (reverse entries)) [] (is ∙ sym (append-nil (lines_text (reverse entries))))
-        ∙ append-nil (log_text version (reverse entries));
+    text = rw append-nil at (text_is (lines_text (reverse entries)) [] (rw append-nil is));
   }
 
 pub passed_on : {T : Type 0} (result : Result T LogFault) (fault : LogFault) (Named : LogFault → Type 0) →

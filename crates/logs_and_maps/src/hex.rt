@@ -42,6 +42,7 @@ fn digits_of_byte(byte: u8) -> (u8, u8)
 }
 
 /// A byte of a value; byte 0 is the lowest, and those past the seventh are 0.
+#[tactic(auto, using(crate::proofs::Digits::byte_shifted, crate::proofs::Digits::byte_past))]
 fn byte_at(value: u64, index: u32) -> u8
     ensures byte { result ≡ byte value index }
 {

@@ -1,15 +1,18 @@
-use Rattle.std.proofs.Common.{[], ◌∷◌, length, subst, arith, MatchOption, length-append}
+use Rattle.std.proofs.Common.{[], ◌∷◌, length, subst, arith, MatchOption, length-append, refl, ap, ◌∙◌, reverse}
+use Rattle.board_prelude.proofs.Common.{reverse-append, All-cons, line_feed, line_text, lines_text}
+use Rattle.script_spec.specs.Common.{IsWellFormed}
 use Rattle.logs_and_maps.specs.Reading.{HasEntry, HasNoEntry}
-use Rattle.logs_and_maps.proofs.ReadLines.{no_lines, lines_more, each_more, room_left}
+use Rattle.logs_and_maps.proofs.ReadLines.{lines_more}
 use Rattle.logs_and_maps.proofs.read.read_entries.Goals as goal
 
 pub loop-rest-init : goal.loop-rest-init
-loop-rest-init c = record {
-  cut = rw c.new-entries.ensures.items (no_lines c.args.lines.now);
-  each = rw c.new-entries.ensures.items (λ k d lt. absurd (omega (arith, lt)));
-  place = rw c.new-entries.ensures.items (omega arith);
-  room = rw c.new-entries.ensures.items (omega arith);
-}
+unfolding lines_text
+loop-rest-init c = rw c.new-entries.ensures.items (record {
+  cut = refl;
+  each = λ k d lt. absurd (omega (arith, lt));
+  place = omega arith;
+  room = omega arith;
+})
 
 pub loop-rest-preserved : goal.loop-rest-preserved
 loop-rest-preserved c =
@@ -21,17 +24,13 @@ loop-rest-preserved c =
     let after = c.in-Some.after.now in
     let has = subst (λ read. MatchOption read (HasNoEntry version n rest) (λ p. HasEntry version n rest p.0 p.1.now))
     c.in-Some.is c.in_ok-entry.ensures.exact in
-    record {
-      cut = rw c.in_ok-push.ensures.items (lines_more version n c.args.lines.now rest after entries entry
-          c.loop-rest.invariant.place c.loop-rest.invariant.cut has);
-      each = rw c.in_ok-push.ensures.items (each_more version n rest after entries entry has
-          c.loop-rest.invariant.each);
-      place = rw c.in_ok-push.ensures.items (omega (
-        arith,
-        c.loop-rest.invariant.place,
-        length-append entries
-            (entry ∷ []),
-      ));
-      room = rw c.in_ok-push.ensures.items (room_left version n rest entry after entries (length c.args.lines.now)
-          has c.loop-rest.invariant.room);
-    }
+    rw c.in_ok-push.ensures.items (record {
+      cut = lines_more version n c.args.lines.now rest after entries entry c.loop-rest.invariant.place
+          c.loop-rest.invariant.cut has;
+      each = rw (reverse-append entries (entry ∷ []))
+          (All-cons (IsWellFormed version) entry (reverse entries) has.formed c.loop-rest.invariant.each);
+      place = omega (arith, c.loop-rest.invariant.place, length-append entries (entry ∷ []));
+      room =
+          let line = ap length has.line ∙ length-append (line_text n entry) (line_feed ∷ after) in
+          omega (arith, line, c.loop-rest.invariant.room, length-append entries (entry ∷ []));
+    })

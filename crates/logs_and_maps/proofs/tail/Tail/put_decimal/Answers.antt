@@ -1,8 +1,10 @@
-use Rattle.std.proofs.Common.{ap, arith, ◌∙◌, length, decimal, length-append, length-drop}
-use Rattle.std.proofs.lemmas.Fmt.{IsAscii-decimal}
+use Rattle.std.proofs.Common.{ℕ, ◌≤◌, ◌<◌, ◌^◌, ap, arith, ◌∙◌, length, decimal, length-append, length-drop}
+use Rattle.std.proofs.lemmas.Fmt.{IsAscii-decimal, length-decimal-le}
 use Rattle.std.proofs.lemmas.Str.{IsAscii-append}
-use Rattle.logs_and_maps.proofs.Places.{long_line}
 use Rattle.logs_and_maps.proofs.tail.Tail.put_decimal.Goals as goal
+
+long_line : (n : ℕ) → n < 2 ^ 64 → length (decimal n) ≤ 20
+long_line n fits = length-decimal-le 20 n (omega arith) (omega (arith, fits)) fits
 
 pub write_digits-start-requires : goal.write_digits-start-requires
 write_digits-start-requires c =
