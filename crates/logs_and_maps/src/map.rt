@@ -31,6 +31,7 @@ fn push_areas(text: &mut String, areas: &[Area; 6]) -> Result<(), NoMemory>
 
 /// Appends the line of a range of the map, with its line feed: its first and last address, and what a fetch, a read and
 /// a write reach there outside SMM, and then in SMM.
+#[tactic(auto, using(crate::proofs::Joined::appended_more, crate::proofs::Joined::appended_twice, crate::proofs::Joined::front_more))]
 pub fn push_range(text: &mut String, lo: u32, hi: u32, areas: &[Area; 6]) -> Result<(), NoMemory>
     ensures appended { OnOk result (AddsWords text.old text.new
         (range_text (record { lo = lo; hi = hi; areas = areas.now }) ++ line_feed ∷ [])) }
