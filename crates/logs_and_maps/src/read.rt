@@ -103,6 +103,7 @@ fn read_entries(alloc: Global, version: u8, lines: &[u8]) -> Result<Vec<Entry>, 
 /// Reads a log. `Ok` for exactly the texts of logs of well-formed entries, with the version and the entries. Otherwise,
 /// where there is memory, it names the first line that, after those before it, begins no such text: one without its
 /// line feed, for instance.
+#[tactic(auto, using(crate::proofs::ReadLogs::bad_uncut, crate::proofs::ReadLogs::bad_version, crate::proofs::ReadLogs::good_log))]
 pub fn read_log(alloc: Global, bytes: &[u8]) -> Result<Log, LogFault>
     requires { length bytes.now < 2 ^ 32 - 1 }
     ensures log { IfOk result (λ log. IsLogText log.version (reverse log.entries.items) bytes.now) }
