@@ -1,6 +1,4 @@
-pub mod Digits
 pub mod TextCuts
-pub mod PhaseCuts
 pub mod NextStatements
 pub mod Histories
 pub mod LogLines

@@ -13,9 +13,9 @@ use Rattle.log_check.specs.declared.fault.CheckFault.TheVariants.{Differs, NoMem
 use Rattle.log_check.specs.Common.{IsTyped, IsAtMostNext, WalkPlace, IsWithin, IsPast, GoesOnWithNone, StoppedCheck}
 use Rattle.script_spec.proofs.Common.{same_some}
 use Rattle.log_check.proofs.NextStatements.{same_next, events-last, events-last_other, GoesFirst, goes_first}
-use Rattle.log_check.proofs.NextStatements.{known_first}
+use Rattle.log_check.proofs.NextStatements.{known_first, begun_joined, whole_after, begun_left, in_first_phase}
+use Rattle.log_check.proofs.NextStatements.{full_phase, phase_fits}
 use Rattle.log_check.proofs.LogLines.{log-newest}
-use Rattle.log_check.proofs.PhaseCuts.{begun_joined, whole_after, begun_left, in_first_phase, full_phase, phase_fits}
 
 -- the phases of a place with an open one
 abbrev pub phases_of : WalkPlace → List Statement → List (List Statement)

@@ -1,13 +1,14 @@
--- A text is cut at a byte, and a line of a log names its processor.
+-- A text is cut at a byte, and a line of a log names its processor. How many digits a number has.
 use Rattle.std.proofs.Common.{ℕ, ◌≡◌, ◌≢◌, ◌+◌, ◌-◌, ◌<◌, ◌≤◌, IfSome, slice_index_or, true, cond, ltb, List, [], ◌∷◌}
 use Rattle.std.proofs.Common.{◌++◌, length, take, drop, All, Option, Some, None, Result, Ok, Err, refl, sym, ap, ◌∙◌}
-use Rattle.std.proofs.Common.{inl, append_assoc, subst, MatchOption, arith, decimal, codes, MatchResult, ◌==◌}
+use Rattle.std.proofs.Common.{inl, append_assoc, subst, MatchOption, arith, decimal, codes, MatchResult, ◌==◌, ◌/◌, ◌%◌}
+use Rattle.std.proofs.Common.{◌^◌}
 use Rattle.board_prelude.proofs.Common.{length-append, length-drop, common_steps, nat_tests, position, position_or_len}
 use Rattle.board_prelude.proofs.Common.{result_ok, eq-eqb, ne_eqb, eqb-false, lt-ltb, cond-true, take_all, All-nil}
 use Rattle.board_prelude.proofs.Common.{All-cons, All-head, All-tail, Entry, space, line_feed, event_text, value_bytes}
 use Rattle.board_prelude.proofs.Common.{reply_text, line_text, take-append_seam}
 use Rattle.std.specs.Option.{ok_or}
-use Rattle.std.proofs.lemmas.Fmt.{decimal_injective}
+use Rattle.std.proofs.lemmas.Fmt.{decimal_injective, decimal_digit, decimal_step, length-decimal-le_succ}
 use Rattle.std.proofs.Math.Seq.{drop-append-add}
 use Rattle.script_spec.specs.Lines.{IsOneLine}
 use Rattle.script_spec.proofs.Common.{lacks, front, back, front-field, back-field, lacks-first, lacks-later}
@@ -133,3 +134,34 @@ single_if (Some d) bytes some stop is small = λ number after less other.
     let second : front 0x2E bytes ≡ decimal number =
     ap (front 0x2E) other ∙ front-field 0x2E (decimal number) after (lacks_stop number less) in
     decimal_injective number d (omega (arith, less)) (omega (arith, small)) (sym second ∙ first)
+
+-- ---- digits
+
+pub one_digit : (n : ℕ) → n < 10 → length (decimal n) ≡ 1
+one_digit n below = ap length (decimal_digit n below)
+
+one_more : (n : ℕ) → 10 ≤ n → n < 2 ^ 64 → length (decimal n) ≡ length (decimal (n / 10)) + 1
+one_more n large fits = ap length (decimal_step n large fits) ∙ length-append (decimal (n / 10)) ((48 + n % 10) ∷ [])
+
+pub two_digits : (n : ℕ) → 10 ≤ n → n < 100 → length (decimal n) ≡ 2
+two_digits n large below = omega (arith, one_more n large (omega arith), one_digit (n / 10) (omega arith))
+
+pub three_digits : (n : ℕ) → 100 ≤ n → n < 1000 → length (decimal n) ≡ 3
+three_digits n large below =
+    omega (arith, one_more n (omega arith) (omega arith), two_digits (n / 10) (omega arith) (omega arith))
+
+pub four_digits : (n : ℕ) → 1000 ≤ n → n < 10000 → length (decimal n) ≡ 4
+four_digits n large below =
+    omega (arith, one_more n (omega arith) (omega arith), three_digits (n / 10) (omega arith) (omega arith))
+
+pub five_digits : (n : ℕ) → 10000 ≤ n → n < 100000 → length (decimal n) ≡ 5
+five_digits n large below =
+    omega (arith, one_more n (omega arith) (omega arith), four_digits (n / 10) (omega arith) (omega arith))
+
+pub ruleset digit_counts = (one_digit, two_digits, three_digits, four_digits, five_digits)
+
+-- without its last five a number has five digits less
+pub five_more : (n : ℕ) → 100000 ≤ n → n < 2 ^ 64 → length (decimal n) ≡ length (decimal (n / 100000)) + 5
+five_more n large fits = grind (arith, nat_tests, common_steps, one_more, decimal)
+
+pub ruleset more_digits = (five_more, length-decimal-le_succ)

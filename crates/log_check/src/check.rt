@@ -66,7 +66,7 @@ fn check_line<'a>(
 }
 
 /// Goes past the lines of a phase.
-#[tactic(auto, using(crate::proofs::LineSteps::handed_on, crate::proofs::LineSteps::within_whole))]
+#[tactic(auto, using(crate::proofs::LineSteps::handed_on, crate::proofs::LineSteps::within_start, crate::proofs::LineSteps::within_whole))]
 fn check_phase<'a>(
     board: &mut Board,
     text: &mut String,

@@ -65,7 +65,7 @@ fn before_stop(bytes: &[u8]) -> Option<u8>
 }
 
 /// How many digits a number below 100,000 has.
-#[tactic(auto, using(crate::proofs::Digits::digit_counts))]
+#[tactic(auto, using(crate::proofs::TextCuts::digit_counts))]
 fn few_digits(n: u32) -> usize
     requires below { n < 100_000 }
     ensures digits { result ≡ length (decimal n) }
@@ -86,7 +86,7 @@ fn few_digits(n: u32) -> usize
 }
 
 /// How many digits a number has.
-#[tactic(auto, using(crate::proofs::Digits::more_digits))]
+#[tactic(auto, using(crate::proofs::TextCuts::more_digits))]
 fn digit_count(n: u32) -> usize
     ensures digits { result ≡ length (decimal n) }
 {

@@ -1,7 +1,5 @@
-use Rattle.std.proofs.Common.{All, sym, subst, add-zero, arith}
-use Rattle.board_prelude.proofs.Common.{common_steps, nat_tests}
+use Rattle.std.proofs.Common.{All, sym, subst, arith}
 use Rattle.log_check.specs.Common.{IsTyped}
-use Rattle.log_check.proofs.LineSteps.{within_start}
 use Rattle.log_check.proofs.check.check_phase.Goals as goal
 
 pub check_line-requires-clause-spare : goal.check_line-requires-clause-spare
@@ -12,9 +10,3 @@ check_line-requires-clause-in_range c = rw (c.loop.invariant.setup, c.loop.invar
 
 pub check_line-requires-clause-typed : goal.check_line-requires-clause-typed
 check_line-requires-clause-typed c = subst (All IsTyped) (sym c.loop.invariant.phase) c.requires.typed
-
-pub loop-init : goal.loop-init
-loop-init c = grind (arith, nat_tests, common_steps, add-zero, within_start)
-
-pub loop-preserved : goal.loop-preserved
-loop-preserved c = grind (arith, nat_tests, common_steps)
