@@ -1,9 +1,6 @@
-use Rattle.std.proofs.Common.{All, sym, subst, arith}
+use Rattle.std.proofs.Common.{All, sym, subst}
 use Rattle.log_check.specs.Common.{IsTyped}
 use Rattle.log_check.proofs.check.check_phase.Goals as goal
-
-pub check_line-requires-clause-spare : goal.check_line-requires-clause-spare
-check_line-requires-clause-spare c = omega (arith, c.loop.invariant.spare, c.requires.spare, c.loop-test.true)
 
 pub check_line-requires-clause-in_range : goal.check_line-requires-clause-in_range
 check_line-requires-clause-in_range c = rw (c.loop.invariant.setup, c.loop.invariant.phase) c.requires.in_range
