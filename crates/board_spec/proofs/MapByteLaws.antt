@@ -173,7 +173,8 @@ module _ (setup : Setup) (bytes other : Bytes) (same : SameMapBytes setup bytes 
       (windows_same setup.cards fitted_cards (rom_cards list) (recursion_from_All IsCard setup.cards list.each))
       ∙ first_same left right addr _
       (of_all (memory_windows other)
-      (λ card fitted. search (All-append, of_choice, of_rom, of_vga, of_bases, All-nil)) setup.cards fitted_cards) counted
+      (λ card fitted. search (All-append, of_choice, of_rom, of_vga, of_bases, All-nil)) setup.cards fitted_cards)
+      counted
 
   claim_same : (addr : ℕ) → IsCardList setup.cards → memory_claim setup bytes addr ≡ memory_claim setup other addr
   unfolding memory_claim

@@ -289,12 +289,12 @@ cut_format {size = size} {says = says} spelled IsGood to from = record {
       le-ltb _ _ (omega (arith, length-append (spelled value) rest, told.0)) in
       rw (long, take_at (spelled value) rest size told.0, drop_at (spelled value) rest size told.0, told.1) refl;
   taken = λ bytes value rest are is.
-      let got : (nat_lt (length bytes) size ≡ false) × (says (take size bytes) ≡ Some value) × (drop size bytes ≡ rest) =
+      let it : (nat_lt (length bytes) size ≡ false) × (says (take size bytes) ≡ Some value) × (drop size bytes ≡ rest) =
       grind arith in
-      let long : size ≤ length bytes = ltb-false _ _ got.0 in
+      let long : size ≤ length bytes = ltb-false _ _ it.0 in
       let meant = from (take size bytes) value (omega (arith, length-take size bytes, long))
-      (front_bytes size bytes are) got.1 in
-      (rw (← meant.0, ← got.2) (sym (take-append-drop size bytes)), meant.1);
+      (front_bytes size bytes are) it.1 in
+      (rw (← meant.0, ← it.2) (sym (take-append-drop size bytes)), meant.1);
   bad = λ bytes left are is.
       let same : length bytes ≡ left = grind arith in
       (omega (arith, same), omega (arith, same));

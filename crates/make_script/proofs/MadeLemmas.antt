@@ -34,9 +34,9 @@ text-more i text new so_far round = rw (round, so_far, add-one) (simp (text-appe
 -- ---- one round, in four pieces
 
 -- three pieces, and a last one that may not come
-pub appended_pieces : {T E : Type 0} (r : Result T E) (old a b c rest one two three new whole : List ℕ) → one ≡ old ++ a →
-    two ≡ one ++ b → three ≡ two ++ c → OnOk r (new ≡ three ++ rest) → whole ≡ a ++ (b ++ (c ++ rest)) →
-    OnOk r (new ≡ old ++ whole)
+pub appended_pieces : {T E : Type 0} (r : Result T E) (old a b c rest one two three new whole : List ℕ) →
+    one ≡ old ++ a → two ≡ one ++ b → three ≡ two ++ c → OnOk r (new ≡ three ++ rest) →
+    whole ≡ a ++ (b ++ (c ++ rest)) → OnOk r (new ≡ old ++ whole)
 appended_pieces (Ok x) old a b c rest one two three new whole first second third last pieces =
     rw (last, third, second, first, pieces) (simp append_assoc)
 appended_pieces (Err e) old a b c rest one two three new whole first second third last pieces = tt
