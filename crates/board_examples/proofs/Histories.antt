@@ -1,5 +1,6 @@
 -- The histories of memory and ports without looks, the examples of the machines, of the devices and of the interrupt
--- lines are computed from the definitions, and so are the versions and what the lock law says of a history that breaks it.
+-- lines are computed from the definitions, and so are the versions and what the lock law says of a history that breaks
+-- it.
 use Rattle.std.proofs.Common.{ℕ, ◌≡◌, ◌%◌, ◌<◌, length, slice_index, arith, ◌/◌, [], ◌∷◌, refl, inl, inr, rules}
 use Rattle.board_prelude.proofs.Common.{length-map-range_with_len, get_or-map-range_with_len, reset, map_change_of}
 use Rattle.board_prelude.proofs.Common.{map_writes_of, wire_of, irq_of, triggers_of, levels_with, pair_pulsed, pair_of}

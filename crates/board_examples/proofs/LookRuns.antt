@@ -1,5 +1,5 @@
--- The spans that the worked examples look at, the flat maps, the histories with looks, and both orders of the script for
--- two processors.
+-- The spans that the worked examples look at, the flat maps, the histories with looks, and both orders of the script
+-- for two processors.
 use Rattle.std.proofs.Common.{ℕ, ◌≡◌, ◌+◌, ◌-◌, ◌*◌, ◌/◌, ◌^◌, ◌<◌, ◌≤◌, ◌≢◌, Bool, true, false, ◌∷◌, [], nat_lt, refl}
 use Rattle.std.proofs.Common.{List, flat_map, arith, eq-eqb, ne_eqb, inr, sym, ◌∙◌, suc, ◌&&◌, not, if◌then◌else◌, map}
 use Rattle.std.proofs.Common.{replicate, All, rules, inl}

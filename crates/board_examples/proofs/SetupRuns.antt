@@ -1,5 +1,5 @@
--- The borders of setups and events, from the definitions, and what a script may ask for at most. No list of so many items
--- is computed: what is counted in one is counted for each length.
+-- The borders of setups and events, from the definitions, and what a script may ask for at most. No list of so many
+-- items is computed: what is counted in one is counted for each length.
 use Rattle.std.proofs.Common.{refl, arith, rules, ℕ, zero, suc, ◌≡◌, ◌+◌, ◌*◌, Bool, true, false, ◌||◌, nat_lt, List}
 use Rattle.std.proofs.Common.{◌∷◌, length, filter, sum_by, ap, ◌∙◌}
 use Rattle.board_prelude.proofs.Common.{All-nil, All-cons, All-head, weekday_of, days_since_1980, days_of_years}

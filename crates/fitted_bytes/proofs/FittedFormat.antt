@@ -1,5 +1,5 @@
--- Setups and the identities of cards are spelled and read back, and so is what stands in front of the state of a running
--- board.
+-- Setups and the identities of cards are spelled and read back, and so is what stands in front of the state of a
+-- running board.
 use Rattle.std.proofs.Common.{◌≡◌, ℕ, ◌^◌, ◌<◌, ◌≤◌, inl, inr, true, List, length, Option, Some, None, refl, sym, ◌∙◌}
 use Rattle.std.proofs.Common.{arith, ◌==◌, [], ◌∷◌, flat_map, All}
 use Rattle.board_prelude.proofs.Common.{cases_Bool, eqb-true, nat_tests, nil_from_length, AllByRecursion}
