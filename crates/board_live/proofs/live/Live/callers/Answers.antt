@@ -1,5 +1,5 @@
-use Rattle.std.proofs.Common.{rules, ◌≡◌, ℕ, ◌+◌, Some, [], ◌∷◌, ◌++◌, length, sym, ap, ◌∙◌, arith, length-append}
-use Rattle.board_prelude.proofs.Common.{range_with_len, All-nil, All-push}
+use Rattle.std.proofs.Common.{rules, ◌≡◌, ◌+◌, Some, [], ◌∷◌, ◌++◌, length, ap, ◌∙◌, arith, length-append}
+use Rattle.board_prelude.proofs.Common.{All-nil, All-push}
 use Rattle.std.proofs.lemmas.List.Elements.{All-pop}
 use Rattle.board_live.specs.Common.{IsViewerFor, IsCallerOf, IsNewOf}
 use Rattle.board_live.proofs.Opening.{viewer_for, new_of, numbers_more}
@@ -40,19 +40,13 @@ loop-viewer-preserved c =
     let further = c.split-further.ensures.further in let same = c.split-further.ensures.same in
     let new = new_of c.args.pass c.split-further.result cpu (further.opened ∙ (same.1 ∙ i.same.1))
     (further.part ∙ (same.2 ∙ i.same.2)) c.new.ensures.new in
-    record {
-      own = c.split-further.ensures.own.0;
-      idle = c.split-further.ensures.idle.0;
-      same = (same.0 ∙ i.same.0, same.1 ∙ i.same.1, same.2 ∙ i.same.2);
-      fresh = grind (arith, c.split-further.ensures.seen, i.fresh, same);
-      splits = c.split-further.ensures.splits ∙ (ap (λ (n : ℕ). n + 1) i.splits ∙ sym long);
-      left = omega (arith, i.left, long, fewer);
-      viewers = viewers.0;
-      room = search rules;
-      callers = rw added (All-push (IsCallerOf c.args.self.now) cpus cpu i.callers (search rules));
-      new = rw added (All-push (IsNewOf c.args.pass) cpus cpu i.new new);
-      numbers = numbers_more cpus all cpu added (search rules) i.numbers ∙ ap (range_with_len 1) (sym long);
-    }
+    let its : IsCallerOf c.args.self.now cpu = search rules in
+    let callers = All-push (IsCallerOf c.args.self.now) cpus cpu i.callers its in
+    let others = All-push (IsNewOf c.args.pass) cpus cpu i.new new in
+    let number : cpu.number ≡ length cpus + 1 = search rules in
+    let numbers = numbers_more cpus all cpu added number i.numbers in
+    let split = c.split-further.ensures in
+    grind (arith, split, c.push.ensures, i, viewers, long, fewer, added, same, callers, others, numbers)
 
 pub new-requires-2-clause-viewer : goal.new-requires-2-clause-viewer
 new-requires-2-clause-viewer c =
