@@ -137,8 +137,6 @@ module _ (setup : Setup) (before : List Entry) (rom : (at : ℕ) → slice_index
       rw (all_ones width) (wide_byte width (λ at. 255) 0 i (λ at. lit< tt) within)
   byte_alone _ place i width is within = wide_byte width (dram_byte setup before) place i dram_below within
 
--- ---- which part of a read moves a byte of it, that this byte is one of that part's value, and that it is the one told
-
 -- ---- a byte of a sum
 
 low_byte : (width : Width) (n above i : ℕ) → n < 256 ^ bytes_of width → i < bytes_of width →
@@ -227,8 +225,6 @@ module _ (access : WideAccess) (said : Access → PartRecord) (value : Access �
             }
       ]
 
--- ---- the value that is told
-
 -- ---- a number of eight bytes
 
 -- what holds of 0 to 7 holds of every number below 8
@@ -298,8 +294,6 @@ module _ (roms : List (List ℕ)) (bytes : (dev at : ℕ) → slice_index (given
             let others : AreOthers (parts_said said) = grind (arith, nat_tests, rw one at not_read) in
             rw not_read (sym (by_others (parts_said said) event.addr event.bytes 0 k (byte said.value k) others))
       ]
-
--- ---- the bytes of a read
 
 -- ---- the byte of a part, by its target
 

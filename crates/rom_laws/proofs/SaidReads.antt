@@ -128,8 +128,6 @@ module _ (said : EventRecord) where
   unfolding asked_said byte_said
   read_said event read asked reads = grind (arith, nat_tests, common_steps, cases_Bool, of_event)
 
--- ---- the bytes of a step
-
 -- ---- a reply to a read of memory is no reply to one of configuration data
 
 no_config_part : (setup : Setup) (target : Target) (denial : Option Denial) → InMemory setup target →
