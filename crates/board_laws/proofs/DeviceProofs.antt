@@ -23,8 +23,8 @@ lines_stay setup before entry next soft apart routes =
     let others = others_stay setup before entry next soft in
     levels-same setup (entry ∷ before) before (timer_of (entry ∷ before)) (timer_of before) (record {
       out =
-          ap (out_of 0) (cond-false (is_hard_reset before entry.event) _ _ soft) ∙
-          (out-alone setup before entry.event entry.reply (timer_of before) next.answer (λ e. apart (inl e)));
+          ap (out_of 0) (cond-false (is_hard_reset before entry.event) _ _ soft)
+          ∙ out-alone setup before entry.event entry.reply (timer_of before) next.answer (λ e. apart (inl e));
       clock = others.clock (λ e. apart (inr (inl e)));
       disk = others.disk (λ e. apart (inr (inr (inl e))));
       wires = others.wires (λ e. apart (inr (inr (inr e))));
