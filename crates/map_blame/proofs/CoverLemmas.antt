@@ -72,8 +72,7 @@ rom_fitted card is = grind (arith, nat_tests)
 pub map_byte_placed : (setup : Setup) (reg : Reg) → IsCardList setup.cards → is_map_byte setup reg ≡ true →
     is_placed reg ≡ true
 map_byte_placed setup reg cards is =
-    placed_by reg.dev reg.fun reg.off (is_some (card_at setup reg.dev)) (has_rom (card_at setup reg.dev))
-    (found_below setup.cards reg.dev (recursion_from_All IsCard setup.cards cards.each))
+    placed_by _ _ _ _ _ (found_below setup.cards reg.dev (recursion_from_All IsCard setup.cards cards.each))
     (rom_fitted (card_at setup reg.dev)) is
 
 -- ---- the bytes of a store

@@ -220,7 +220,7 @@ module _ (setup : Setup) (keep : List ℕ) where
       is_some (first_lock (chosen keep changes)) ≡ is_some (first_lock changes)
   unfolding first_lock chosen
   lock_same [] since has = refl
-  lock_same (Reset ∷ before) since has = ap (λ changes. is_some (first_lock changes)) (none_of_reset before since)
+  lock_same (Reset ∷ before) since has = ap (λ changes. is_some (first_lock changes)) (none_of_reset _ since)
   lock_same (Store at width value ∷ before) since has =
       let sets : Bool = locks (Store at width value) in
       let number : ℕ = length before + 1 in
@@ -230,8 +230,7 @@ module _ (setup : Setup) (keep : List ℕ) where
             rw among (some_or (first_lock (chosen keep before)) sets _ ∙ ap (λ old. old || sets) rest
             ∙ sym (some_or (first_lock before) sets number))
         | inr none ↦
-            rw none (rest ∙ lock_left (first_lock before) sets number
-            (λ free set. false≢true (sym none ∙ has number (rw (free, set) refl))))
+            rw none (rest ∙ lock_left _ _ number (λ free set. false≢true (sym none ∙ has number (rw (free, set) refl))))
       ]
 
   smram_same : (changes : List MapChange) → Since changes → HasLast smram changes → HasLock changes →
@@ -256,8 +255,8 @@ module _ (setup : Setup) (keep : List ℕ) where
 pub kept_suffice : KeptSuffice
 kept_suffice setup changes keep is reg map_byte =
     let since : Since setup keep changes = λ number among. elim (is.only number among) [
-      | inl cover ↦ (cover_number changes cover.reg number cover.last).after
-      | inr lock ↦ (lock_number changes number lock).after
+      | inl cover ↦ (cover_number _ _ _ cover.last).after
+      | inr lock ↦ (lock_number _ _ lock).after
     ] in
     let last : (reg : Reg) → is_map_byte setup reg ≡ true → HasLast setup keep reg changes =
     λ reg map_byte number found. is.each number (inl (record { reg = reg; map_byte = map_byte; last = found })) in
@@ -266,7 +265,6 @@ kept_suffice setup changes keep is reg map_byte =
           let e : reg ≡ smram =
           same_register reg smram (grind (arith, nat_tests)) (grind (arith, nat_tests)) (grind (arith, nat_tests)) in
           rw e
-          (smram_same setup keep changes since (last smram (rw e at map_byte))
-          (λ number found. is.each number (inr found)))
-      | inr plain ↦ plain_same setup keep reg plain changes since (last reg map_byte)
+          (smram_same setup keep _ since (last smram (rw e at map_byte)) (λ number found. is.each number (inr found)))
+      | inr plain ↦ plain_same setup keep _ plain _ since (last reg map_byte)
     ]

@@ -69,9 +69,8 @@ one_report one_map setup changes blamed blamed' kept kept' is is' =
     is'.ranges.map in
     record {
       ranges = ranges;
-      since = one_since setup changes blamed blamed'
-          (recursion_from_All (λ one. IsSince setup changes (map_range_of one) one.since) blamed is.ranges.since)
-          (recursion_from_All (λ one. IsSince setup changes (map_range_of one) one.since) blamed' is'.ranges.since)
-          ranges;
-      keep = one_keep setup changes kept kept' is.keep is'.keep;
+      since = one_since _ _ _ _ (recursion_from_All (λ one. IsSince setup changes (map_range_of one) one.since) blamed
+          is.ranges.since) (recursion_from_All (λ one. IsSince setup changes (map_range_of one) one.since) blamed'
+          is'.ranges.since) ranges;
+      keep = one_keep _ _ _ _ is.keep is'.keep;
     }

@@ -92,11 +92,9 @@ module _ (map : Mapped) (bounds : Changed) (number : ℕ) (self : Watched) (is :
     range = refl;
     watched = λ setup before change count after hold watched.
         let range : Range = self.blamed.range in
-        watched_same setup change before self self.stands (λ stood. stood)
-        (λ stood. same_after setup range is bounds change before hold beside
-        (rw (all_changes before) at (watched.standing stood (length before) watched.most (omega arith))))
-        (λ fell now. watched.fallen fell
-        (rw (all_changes before) (same_before setup range is bounds change before hold beside now))) watched;
+        watched_same _ _ _ _ _ (λ stood. stood) (λ stood. same_after _ _ is _ _ _ hold beside
+        (rw (all_changes before) at (watched.standing stood (length before) watched.most (omega arith)))) (λ fell now.
+        watched.fallen fell (rw (all_changes before) (same_before _ _ is _ _ _ hold beside now))) watched;
   }
 
   module _ (stands : Bool)
@@ -183,8 +181,7 @@ all_set P old now index new d₀ long within done rest here k d below = elim (ca
 pub are_intervals : (from : ℕ) (ranges : List Range) → Tiles from (map range_of ranges) → All IsInterval ranges
 are_intervals from [] tiles = All-nil IsInterval
 are_intervals from (range ∷ later) tiles =
-    All-cons IsInterval range later
-    (record { order = tiles.1; last = omega (arith, tiles_below (range.hi + 1) (map range_of later) tiles.2) })
+    All-cons IsInterval range later (record { order = tiles.1; last = omega (arith, tiles_below _ _ tiles.2) })
     (are_intervals (range.hi + 1) later tiles.2)
 
 -- what is read past the end of a list of ranges that are watched

@@ -38,6 +38,5 @@ returns c = record {
   keep = λ setup bytes stands cards.
       let all : c.loop-index.index ≡ length (reverse c.args.changes.now) =
       omega (arith, length-reverse c.args.changes.now) in
-      all_kept setup (reverse c.args.changes.now) c.loop-index.keep.items
-      (rw all at (c.loop-index.invariant.kept setup bytes stands cards));
+      all_kept _ _ _ (rw all at (c.loop-index.invariant.kept setup bytes stands cards));
 }

@@ -14,7 +14,6 @@ loop-range-preserved c =
           ∙ sym (take_more c.args.ranges.now c.loop-range.range-index no_range c.loop-range-test.true);
       watched = λ setup start.
           All-push (IsWatched setup []) c.loop-range.watched.items _ (c.loop-range.invariant.watched setup start)
-          (watched_at_reset setup range c.stands.result
-          (λ is. c.stands.ensures.yes is setup (registers_after setup []) start)
+          (watched_at_reset _ _ _ (λ is. c.stands.ensures.yes is setup (registers_after setup []) start)
           (λ is. c.stands.ensures.no is setup (registers_after setup []) start));
     })

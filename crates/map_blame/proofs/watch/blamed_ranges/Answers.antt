@@ -12,9 +12,8 @@ begin-requires c = record {
 
 pub watch-requires-clause-ranges : goal.watch-requires-clause-ranges
 watch-requires-clause-ranges c =
-    rw c.deref_mut.ensures.value
-    (are_watchable c.in_ok-watched.watched.items c.ranges-2.result.now c.in_ok-watched.ensures.ranges
-    (are_intervals 0 c.ranges-2.result.now (rw c.ranges-2.ensures.ranges c.ranges-2.ensures.tiles)))
+    rw c.deref_mut.ensures.value (are_watchable _ _ c.in_ok-watched.ensures.ranges
+    (are_intervals 0 _ (rw c.ranges-2.ensures.ranges c.ranges-2.ensures.tiles)))
 
 pub returns : goal.returns
 returns c = record {
@@ -26,9 +25,8 @@ returns c = record {
       let new = c.watch.new.watched in
       let lent = c.deref_mut.ensures.value in
       rw (items, c.deref.ensures.value, take_at new _ _ (c.watch.ensures.length ∙ c.deref_mut.ensures.len))
-      (are_blamed setup changes c.deref_mut.result.now new c.ranges-2.result.now
-      (ap (map watched_range) lent ∙ c.in_ok-watched.ensures.ranges) c.watch.ensures.length c.watch.ensures.ranges
-      (rw c.ranges-2.ensures.ranges
+      (are_blamed _ _ _ _ _ (ap (map watched_range) lent ∙ c.in_ok-watched.ensures.ranges) c.watch.ensures.length
+      c.watch.ensures.ranges (rw c.ranges-2.ensures.ranges
       (c.ranges-2.ensures.map setup (registers_after setup changes) (c.changed_map-last.ensures.after setup start)))
       (c.watch.ensures.watched setup cards start (rw lent (c.in_ok-watched.ensures.watched setup start)))))
       c.all_blamed.ensures.blamed;
