@@ -1,7 +1,7 @@
 -- The state after bytes were written to a card from outside.
-use Rattle.std.proofs.Common.{◌≡◌, ◌≢◌, ℕ, zero, suc, ◌+◌, ◌-◌, ◌<◌, ◌≤◌, true, false, ◌&&◌, List, [], ◌∷◌, ◌++◌}
-use Rattle.std.proofs.Common.{length, take, drop, Option, Some, None, refl, sym, ◌∙◌, arith, ◌==◌, if◌then◌else◌}
-use Rattle.std.proofs.Common.{slice_index, unwrap_or}
+use Rattle.std.proofs.Common.{◌≡◌, ◌≢◌, ℕ, zero, suc, ◌+◌, ◌<◌, ◌≤◌, true, false, ◌&&◌, List, [], ◌∷◌, ◌++◌, length}
+use Rattle.std.proofs.Common.{take, drop, Option, Some, None, refl, sym, ◌∙◌, arith, ◌==◌, if◌then◌else◌, slice_index}
+use Rattle.std.proofs.Common.{unwrap_or}
 use Rattle.std.proofs.lemmas.Grind.{elements}
 use Rattle.std.proofs.lemmas.Option.{slice_get_past}
 use Rattle.board_prelude.proofs.Common.{eq-eqb, and_from, eqb-false, get_or-take, get_or-drop, nat_tests, Write, One}
@@ -53,8 +53,7 @@ module _ (dev base off : ℕ) (bytes : List ℕ) where
   in_turn kept small [] each = tt
   in_turn kept small (entry ∷ earlier) each =
       let n = length earlier in
-      let is = rw (← each.0.reply) at
-      (write_put dev base (off + n) (slice_index bytes n) each.0.denial entry.event each.0.event) in (
+      let is = rw (← each.0.reply) at (write_put dev base (off + n) _ each.0.denial _ each.0.event) in (
         record {
           writes = is.writes;
           passes = is.passes;
@@ -127,8 +126,7 @@ module _ {setup : Setup} {old : State} {contents : List (List ℕ)} {dev base of
       WriteCard dev base off bytes entries →
       IsStateOf setup (entries ++ history) (record old { stores = record old.stores { contents = contents } })
   card_left history entries kept all =
-      state_in_turn (in_card dev base) off bytes kept entries all.all
-      (in_turn dev base off bytes is.kept small entries all.each)
+      state_in_turn _ _ _ kept _ all.all (in_turn _ _ _ _ is.kept small _ all.each)
       (record {
         size = refl;
         dram = λ at within. refl;

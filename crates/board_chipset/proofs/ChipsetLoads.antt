@@ -94,15 +94,13 @@ pub loads_chipset : SameMap → (setup : Setup) (before after : List ℕ) (resul
     IfOk result (λ (chipset : Running). IsMapped setup.cards chipset.state.registers.map) →
     LoadsChipset setup before after result
 loads_chipset law setup before after (Ok chipset) fits are filled mapped =
-    let mine = read_is setup chipset before after fits are filled mapped in
+    let mine = read_is _ chipset _ _ fits are filled mapped in
     record {
       loaded = mine;
       exact = λ other rest same is begins.
-          let told = ok_is (bare_chipset chipset, after) (bare_chipset other, rest)
-          (sym filled ∙ read_back setup other before rest same is begins) in
+          let told = ok_is _ _ (sym filled ∙ read_back _ _ _ _ same is begins) in
           inr (
-            ap (λ (c : Running). Ok c)
-                (same_chipset law chipset other mine.1 is (ap (λ (read : Running × List ℕ). read.0) told)),
+            ap (λ (c : Running). Ok c) (same_chipset law _ _ mine.1 is (ap (λ (read : Running × List ℕ). read.0) told)),
             ap (λ (read : Running × List ℕ). read.1) told,
           );
       bad = filled;
@@ -110,8 +108,7 @@ loads_chipset law setup before after (Ok chipset) fits are filled mapped =
 loads_chipset law setup before after (Err faults.Bad) fits are filled mapped = record {
   loaded = tt;
   exact = λ other rest same is begins.
-      absurd (not_err (bare_chipset other, rest) (length after)
-      (sym (read_back setup other before rest same is begins) ∙ filled));
+      absurd (not_err _ _ (sym (read_back _ _ _ _ same is begins) ∙ filled));
   bad = filled;
 }
 loads_chipset law setup before after (Err faults.NoMemory) fits are filled mapped =
@@ -123,10 +120,9 @@ pub one_state : SameMap → (saved loaded : Running) → IsChipset saved → IsC
     chipset_bytes saved ≡ chipset_bytes loaded → saved ≡ loaded
 one_state law saved loaded is of same bytes =
     let whole = chipset_bytes saved ++ [] in
-    let told = ok_is (bare_chipset saved, []) (bare_chipset loaded, [])
-    (sym (read_back saved.setup saved whole [] refl is refl)
-    ∙ read_back saved.setup loaded whole [] (sym same) of (ap (λ (bytes : List ℕ). bytes ++ []) bytes)) in
-    same_chipset law saved loaded is of (ap (λ (read : Running × List ℕ). read.0) told)
+    let told = ok_is _ _ (sym (read_back _ _ _ [] refl is refl)
+    ∙ read_back _ _ _ [] (sym same) of (ap (λ (bytes : List ℕ). bytes ++ []) bytes)) in
+    same_chipset law _ _ is of (ap (λ (read : Running × List ℕ). read.0) told)
 
 pub left_alike : (saved loaded : Running) (history : List Entry) → saved ≡ loaded →
     IsLeftBy loaded history ↔ IsLeftBy saved history

@@ -1,5 +1,5 @@
 -- What an access reaches has the bytes that it asks for.
-use Rattle.std.proofs.Common.{◌≡◌, ℕ, ◌+◌, ◌%◌, ◌^◌, ◌≤◌, Bool, List, [], ◌∷◌, length, Option, Some, refl, sym, arith}
+use Rattle.std.proofs.Common.{◌≡◌, ℕ, ◌+◌, ◌%◌, ◌^◌, ◌≤◌, Bool, List, [], ◌∷◌, Option, Some, refl, sym, arith}
 use Rattle.std.proofs.Common.{option_map}
 use Rattle.board_prelude.proofs.Common.{PortAccess, Width, Dev, Reg, Area, Target, Device, Config, Card, Abort}
 use Rattle.board_prelude.proofs.Common.{bytes_of, Part, Setup, IsRomSize, IsBusAccess, is_write, Window, first_of}
@@ -50,20 +50,17 @@ module _ {setup : Setup} {state : State} (kept : IsSound setup state) where
   stands same = rw same kept.registers.kept.map
 
   cards_fitted : AreFitted state.registers.map.regs.cards
-  cards_fitted =
-      fitted_list state.registers.map.regs.cards setup.cards (sym kept.registers.kept.cards.0) kept.fits.cards
+  cards_fitted = fitted_list _ _ (sym kept.registers.kept.cards.0) kept.fits.cards
 
   held_in : (addr : ℕ) (width : Width) (area : Area) → addr % bytes_of width ≡ 0 →
       ((dev base : ℕ) → area ≡ areas.Card dev base → IsClaim (memory_claim setup kept.registers.bytes addr) dev base) →
       IsHeld setup.rom state.stores.contents (target_at setup area addr) width
-  held_in addr width areas.Rom aligned claim = rom_within addr (length setup.rom) width kept.fits.rom aligned
+  held_in addr width areas.Rom aligned claim = rom_within _ _ _ kept.fits.rom aligned
   held_in addr width (areas.Card dev base) aligned claim =
       let by = claim dev base refl in
       let sized : IsSized setup by.0 =
-      memory_claim_sized setup kept.registers.bytes state.registers.map.regs.cards addr by.0 cards_fitted.each
-      kept.registers.kept.map.cards by.1 in
-      lies_in_base setup state.stores.contents by.0 dev base addr width sized by.2 by.3
-      (lies_in_window setup state.stores.contents by.0 addr width sized kept.contents aligned)
+      memory_claim_sized _ _ _ _ _ cards_fitted.each kept.registers.kept.map.cards by.1 in
+      lies_in_base _ _ _ _ _ _ _ sized by.2 by.3 (lies_in_window _ _ _ _ _ sized kept.contents aligned)
   held_in addr width _ aligned claim = tt
 
   pub ready : {rom : List ℕ} {access : Access} {answer : Part} → setup.rom ≡ rom →
@@ -73,8 +70,7 @@ module _ {setup : Setup} {state : State} (kept : IsSound setup state) where
   ready {rom} {access} image bus is = record {
     bus = bus;
     held = rw (is, ← image)
-        (held_in access.addr access.width _ bus.aligned
-        (λ dev base is. claim_line _ _ _ _ _ (memory_claim setup kept.registers.bytes access.addr) dev base is));
+        (held_in _ _ _ bus.aligned (λ dev base is. claim_line _ _ _ _ _ _ _ _ is));
   }
 
   stored_target : (port : ℕ) (width : Width) (target : Target) → port % bytes_of width ≡ 0 →
@@ -86,10 +82,8 @@ module _ {setup : Setup} {state : State} (kept : IsSound setup state) where
   stored_target port width (Card dev base off) aligned is device config =
       let window : Window = is.1.0 in
       let sized : IsSized setup window =
-      io_claim_sized setup kept.registers.bytes state.registers.map.regs.cards port window cards_fitted.each
-      kept.registers.kept.map.cards is.1.1 in
-      rw (← is.1.2, ← is.1.3, ← is.1.4)
-      (lies_in_window setup state.stores.contents window port width sized kept.contents aligned)
+      io_claim_sized _ _ _ _ _ cards_fitted.each kept.registers.kept.map.cards is.1.1 in
+      rw (← is.1.2, ← is.1.3, ← is.1.4) (lies_in_window _ _ _ _ _ sized kept.contents aligned)
   stored_target port width Abort aligned is device config = tt
   stored_target port width _ aligned is device config = absurd is
 

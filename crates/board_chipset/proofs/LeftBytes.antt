@@ -34,8 +34,7 @@ own_page page = let same : bytes_eq page page ≡ true = (bytes_eq-Decides page 
 -- the first page of bytes beside themselves
 own_first : (size : ℕ) (bytes : List ℕ) → 0 < size → 0 < length bytes →
     pages_bytes size bytes bytes ≡ 0 ∷ pages_bytes size (drop size bytes) (drop size bytes)
-own_first size bytes some there =
-    simp (length-take, take_min, drop_min, own_page) at (bytes_first size bytes bytes some there)
+own_first size bytes some there = simp (length-take, take_min, drop_min, own_page) at (bytes_first _ _ bytes some there)
 
 -- as many bytes beside themselves are spelled alike
 pub own_pages : (fuel size : ℕ) (xs ys : List ℕ) → 0 < size → length xs ≤ fuel → length xs ≡ length ys →

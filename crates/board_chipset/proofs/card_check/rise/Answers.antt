@@ -10,8 +10,7 @@ use Rattle.board_chipset.proofs.card_check.rise.Goals as goal
 pub returns-then-card-above : goal.returns-then-card-above
 returns-then-card-above c =
     let dev : c.card.inside.dev ≡ c.card-item.result.dev = ap (λ (card : FittedCard). card.dev) c.card.view_is in
-    let at = rise_at c.args.cards.now c.loop-card.above c.loop-card.card-index c.card-item.result c.loop-card-test.true
-    c.card-item.is c.loop-card.invariant in
+    let at = rise_at _ _ _ _ c.loop-card-test.true c.card-item.is c.loop-card.invariant in
     record {
       rise = (
         λ is. absurd (cc),
@@ -29,8 +28,7 @@ returns-then-card-above c =
 pub loop-card-preserved : goal.loop-card-preserved
 loop-card-preserved c =
     let dev : c.card.inside.dev ≡ c.card-item.result.dev = ap (λ (card : FittedCard). card.dev) c.card.view_is in
-    let at = rise_at c.args.cards.now c.loop-card.above c.loop-card.card-index c.card-item.result c.loop-card-test.true
-    c.card-item.is c.loop-card.invariant in
+    let at = rise_at _ _ _ _ c.loop-card-test.true c.card-item.is c.loop-card.invariant in
     let over = c.if-card-above.false in
     rw dev (
       λ all. (at.0 all).2,

@@ -1,5 +1,5 @@
 use Rattle.std.proofs.Common.{◌∙◌, refl}
-use Rattle.board_prelude.proofs.Common.{parts_of, parts_list, byte_of, wide_value}
+use Rattle.board_prelude.proofs.Common.{parts_list, byte_of, wide_value}
 use Rattle.board_stores.specs.Common.{AreReady}
 use Rattle.board_stores.proofs.MemoryLemmas.{parts_answered}
 use Rattle.board_chipset.proofs.StateSteps.{writes_none, state_put, state_stays}
@@ -34,8 +34,7 @@ write_cycles-requires-clause-writes c =
 pub returns-then-is_write-clause-answer : goal.returns-then-is_write-clause-answer
 unfolding wide_value
 returns-then-is_write-clause-answer c = λ setup history kept image.
-    let decoded = parts_answered setup history (parts_of c.args.access.now) _
-    (c.cycles_of-cut.ensures.decoded setup (byte_of setup history)
+    let decoded = parts_answered _ _ _ _ (c.cycles_of-cut.ensures.decoded setup (byte_of setup history)
     (c.regs.ensures.stand setup history kept.registers) image) in
     record {
       value_is = rw (writes_when c.is_write.ensures.write c.if-is_write.true) refl;
@@ -56,8 +55,7 @@ unfolding wide_value
 returns-clause-answer c = λ setup history kept image.
     let parts = rw (← c.as_slice-cycles.ensures.value) at c.cycles_of-cut.ensures.parts in
     let decoded = rw (← c.as_slice-cycles.ensures.value) at
-    (parts_answered setup history (parts_of c.args.access.now) _
-    (c.cycles_of-cut.ensures.decoded setup (byte_of setup history)
+    (parts_answered _ _ _ _ (c.cycles_of-cut.ensures.decoded setup (byte_of setup history)
     (c.regs.ensures.stand setup history kept.registers) image)) in
     let value = rw parts at (c.read_cycles.ensures.value setup history kept.stores image (rw parts decoded)) in
     record {
@@ -68,8 +66,7 @@ returns-clause-answer c = λ setup history kept image.
 pub returns-clause-board : goal.returns-clause-board
 returns-clause-board c = λ setup history entry kept image event replied.
     let access = c.args.access.now in
-    state_stays kept (writes_none setup history entry.event (λ port is. cc)) (rw event tt)
+    state_stays kept (writes_none setup history _ (λ port is. cc)) (rw event tt)
     (λ cell. rw (event, replied)
-    (parts_none access (parts_of access) (parts_list c.parts_of-parts.result) cell
-    (writes_when c.is_write.ensures.write c.if-is_write.false)
+    (parts_none _ _ (parts_list c.parts_of-parts.result) cell (writes_when c.is_write.ensures.write c.if-is_write.false)
     (c.law_parts.ensures.cut access c.requires.wide).each))

@@ -1,4 +1,4 @@
-use Rattle.std.proofs.Common.{ℕ, false, ◌+◌, ap, refl, subst, arith, get_or, take, reverse}
+use Rattle.std.proofs.Common.{ℕ, false, ◌+◌, ap, refl, subst, arith, get_or}
 use Rattle.board_prelude.proofs.Common.{take_all, length-map, One, Setup, nat_tests}
 use Rattle.board_stores.specs.declared.ports.PortCycle.{PortCycle}
 use Rattle.board_stores.specs.PortCycles.{port_accesses}
@@ -32,15 +32,13 @@ overflow_sub-value c =
 pub overflow_mul-value : goal.overflow_mul-value
 unfolding none
 overflow_mul-value c =
-    let most = shift_most (at_item c.args.cycles.now c.loop-cycle.cycle-index none c.loop-cycle-test.true
-    c.loop-cycle.invariant.at) in
+    let most = shift_most (at_item _ _ none c.loop-cycle-test.true c.loop-cycle.invariant.at) in
     omega arith
 
 pub overflow_shl-value : goal.overflow_shl-value
 unfolding none
 overflow_shl-value c =
-    let most = shift_most (at_item c.args.cycles.now c.loop-cycle.cycle-index none c.loop-cycle-test.true
-    c.loop-cycle.invariant.at) in
+    let most = shift_most (at_item _ _ none c.loop-cycle-test.true c.loop-cycle.invariant.at) in
     omega arith
 
 pub overflow_add-value : goal.overflow_add-value
@@ -57,24 +55,22 @@ loop-cycle-preserved c =
     let cycles = c.args.cycles.now in
     let i = c.loop-cycle.cycle-index in
     let within = c.loop-cycle-test.true in
-    let here = at_item cycles i none within c.loop-cycle.invariant.at in
+    let here = at_item _ i none within c.loop-cycle.invariant.at in
     let read = c.cycle-read.result.0 in
-    let is = ap (λ (n : ℕ). c.loop-cycle.value + n) (shifted here read c.cycle-read.ensures.small) in
+    let is = ap (λ (n : ℕ). c.loop-cycle.value + n) (shifted here _ c.cycle-read.ensures.small) in
     record {
       setup = rw (c.cycle-read.ensures.setup) c.loop-cycle.invariant.setup;
       done =
           rw (
-            reversed (port_accesses cycles) i (get_or cycles i none).access (inside cycles i none within),
-            item cycles i none within,
+            reversed _ i (get_or cycles i none).access (inside _ i none within),
+            item _ i none within,
             is,
             c.or-reset.ensures.stronger,
           )
-          (next_done c.args.self.now.setup c.args.self.now c.loop-cycle.self c.cycle-read.new.self c.args.first
-          (reverse (take i (port_accesses cycles))) (get_or cycles i none).access c.loop-cycle.value read
-          c.loop-cycle.reset c.cycle-read.result.1 c.loop-cycle.invariant.done
+          (next_done _ _ _ _ _ _ _ _ _ _ _ c.loop-cycle.invariant.done
           (subst (λ (setup : Setup). IsCycleStep setup c.loop-cycle.self (get_or cycles i none).access
           c.cycle-read.new.self read c.cycle-read.result.1) c.loop-cycle.invariant.setup c.cycle-read.ensures.step));
-      at = at_next here read _ c.cycle-read.ensures.small is;
+      at = at_next here _ _ c.cycle-read.ensures.small is;
     }
 
 pub returns-clause-done : goal.returns-clause-done

@@ -8,7 +8,6 @@ returns-clause-put c =
     let whole : length c.args.bytes.now ≡ length c.self.inside.state.stores.dram =
     grind (arith, nat_tests, c.if-bytes-size.false, c.size.ensures.size) in
     rw (
-      all_written c.self.inside.state.stores.dram c.write_bytes.new.self c.args.bytes.now c.write_bytes.ensures.bytes
-          c.write_bytes.ensures.size whole,
+      all_written _ _ _ c.write_bytes.ensures.bytes c.write_bytes.ensures.size whole,
       ← c.self.view_is,
     ) refl

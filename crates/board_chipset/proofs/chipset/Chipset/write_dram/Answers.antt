@@ -6,9 +6,8 @@ use Rattle.board_chipset.proofs.chipset.Chipset.write_dram.Goals as goal
 pub returns-clause-left : goal.returns-clause-left
 unfolding IsLeftBy
 returns-clause-left c =
-    rw (← c.self.view_is)
-    (load_left c.self.inside.setup c.self.inside.state c.load.new.self c.args.addr c.args.bytes.now
-    c.load.ensures.size (λ k. omega (arith, c.type_inv.bytes k)) c.load.result c.load.ensures.fits
+    rw (← c.self.view_is) (load_left c.self.inside.setup c.self.inside.state _ _ _
+    c.load.ensures.size (λ k. omega (arith, c.type_inv.bytes k)) _ c.load.ensures.fits
     c.load.ensures.bytes)
 
 pub returns-clause-goes_on : goal.returns-clause-goes_on

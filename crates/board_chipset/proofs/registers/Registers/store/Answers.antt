@@ -14,8 +14,7 @@ returns-clause-registers c = λ setup history entry has writes.
       c.store.ensures.stored setup bytes has.kept.south,
     ))
     (c.store_from.ensures.stored.version setup has.kept.cards.0)
-    (store_follows setup history c.args.register.now.reg c.args.width c.args.value
-    (c.store_from.ensures.stored.windows setup bytes has.kept.map)
+    (store_follows _ _ _ _ _ (c.store_from.ensures.stored.windows setup bytes has.kept.map)
     (c.store_from.ensures.stored.same_windows setup has.kept.cards.0)) c.store_from.ensures.stored.map
 
 pub returns-clause-sound : goal.returns-clause-sound
