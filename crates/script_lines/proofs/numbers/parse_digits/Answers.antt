@@ -1,18 +1,16 @@
 use Rattle.board_prelude.proofs.Common.{nat_tests, common_steps}
-use Rattle.std.proofs.Common.{◌^◌, length, arith}
+use Rattle.std.proofs.Common.{arith}
 use Rattle.script_lines.proofs.NumberLemmas.{number_below, number_fits, goes_on, stops, ends}
 use Rattle.script_lines.proofs.numbers.parse_digits.Goals as goal
 
 pub overflow_mul-number : goal.overflow_mul-number
 overflow_mul-number c =
-    let fits = number_fits c.args.base c.loop-byte.number 0 c.loop-byte.byte-index (length c.args.field.now) (2 ^ 64)
-    c.loop-byte.invariant.below c.requires.some (omega arith) c.requires.fits in
+    let fits = number_fits _ _ 0 _ _ _ c.loop-byte.invariant.below c.requires.some (omega arith) c.requires.fits in
     omega (arith, fits)
 
 pub overflow_add-number : goal.overflow_add-number
 overflow_add-number c =
-    let fits = number_fits c.args.base c.loop-byte.number c.in_ok-number.field-0 c.loop-byte.byte-index
-    (length c.args.field.now) (2 ^ 64) c.loop-byte.invariant.below c.in_ok-number.ensures.below (omega arith)
+    let fits = number_fits _ _ _ _ _ _ c.loop-byte.invariant.below c.in_ok-number.ensures.below (omega arith)
     c.requires.fits in
     omega (arith, fits)
 

@@ -3,7 +3,5 @@ use Rattle.script_lines.proofs.straight.straight_access.Goals as goal
 
 pub returns : goal.returns
 returns c = record {
-  event =
-      access_straight c.args.version _ c.args.kind c.args.text.now _ c.read_event.result c.in_ok-size.ensures.first
-      c.read_event.ensures.event;
+  event = access_straight _ _ _ _ _ _ c.in_ok-size.ensures.first c.read_event.ensures.event;
 }
