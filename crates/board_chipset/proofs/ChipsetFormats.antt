@@ -95,7 +95,8 @@ unfolding stores_fields stores_bytes
 stores_format setup fits =
     fields_format
     (dram_format setup.mib then λ dram good.
-    last_field _ (contents_format _ fits.cards.each)) (λ s is. ((s.dram, is.dram) & (s.contents, is.contents), refl))
+    last_field _ (contents_format setup.cards fits.cards.each))
+    (λ s is. ((s.dram, is.dram) & (s.contents, is.contents), refl))
     (λ t. (record { dram = t.1; contents = t.2.1 }, refl))
 
 -- ---- all that a chipset holds
@@ -114,12 +115,10 @@ unfolding state_fields state_bytes
 state_format setup fits =
     fields_format
     (registers_format setup.cards then λ registers good.
-    stores_format _ fits then λ stores good.
-    last_field _ (devices_format _ fits.disk)) (λ s is. (
-      (s.registers, is.registers) & (s.stores, is.stores)
-          & (s.devices, is.devices),
-      refl,
-    )) (λ t. (record { registers = t.1; stores = t.2.1; devices = t.2.2.1 }, refl))
+    stores_format setup fits then λ stores good.
+    last_field _ (devices_format setup.disk fits.disk))
+    (λ s is. ((s.registers, is.registers) & (s.stores, is.stores) & (s.devices, is.devices), refl))
+    (λ t. (record { registers = t.1; stores = t.2.1; devices = t.2.2.1 }, refl))
 
 -- ---- the chipset
 
@@ -135,9 +134,7 @@ pub chipset_format : (setup : Setup) → IsSetup setup →
 unfolding chipset_fields chipset_bytes
 chipset_format setup fits =
     fields_format
-    (head_format _ fits then λ head any.
-    last_field _ (state_format _ fits)) (λ c is. (
-      (tt, tt) & (c.state, is.state),
-      ap
-          (λ (setup : Setup). record c { setup = setup }) is.same,
-    )) (λ t. (record { same = refl; state = t.2.1 }, refl))
+    (head_format setup fits then λ head any.
+    last_field _ (state_format setup fits))
+    (λ c is. ((tt, tt) & (c.state, is.state), ap (λ (setup : Setup). record c { setup = setup }) is.same))
+    (λ t. (record { same = refl; state = t.2.1 }, refl))
