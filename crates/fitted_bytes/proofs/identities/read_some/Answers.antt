@@ -1,17 +1,14 @@
-use Rattle.std.proofs.Common.{◌+◌, length, ap, ◌∙◌, arith}
+use Rattle.std.proofs.Common.{◌+◌, ap, ◌∙◌, arith}
 use Rattle.board_prelude.proofs.Common.{err_from_is_err_and, length_push}
 use Rattle.byte_fields.proofs.Loops.{goes_on, stops, is_done}
-use Rattle.fitted_bytes.specs.Identities.{some_identities}
-use Rattle.fitted_bytes.proofs.FittedFormat.{one_identity, past_identity, identities_loop}
+use Rattle.fitted_bytes.proofs.FittedFormat.{identities_loop}
 use Rattle.fitted_bytes.proofs.identities.read_some.Goals as goal
 
 pub returns-in_err-read_identity : goal.returns-in_err-read_identity
 returns-in_err-read_identity c =
     let p = err_from_is_err_and c.from_residual.result c.from_residual.ensures.1 in
     record {
-      took = rw p.1 (stops one_identity past_identity some_identities identities_loop c.loop.cards.items tt c.args.count
-          c.loop.counter c.loop.fields (length c.read_identity.new.fields)
-          (some_identities tt c.args.count c.args.fields.now) c.loop-test.true c.in_err-read_identity.ensures.took
+      took = rw p.1 (stops _ _ _ identities_loop _ tt _ _ _ _ _ c.loop-test.true c.in_err-read_identity.ensures.took
           c.loop.invariant.read);
     }
 
@@ -22,16 +19,12 @@ pub loop-preserved : goal.loop-preserved
 loop-preserved c =
     let card = c.in_ok-read_identity.field-0 in
     record {
-      read = rw c.push.ensures.items (goes_on one_identity past_identity some_identities identities_loop
-          c.loop.cards.items tt c.args.count c.loop.counter c.loop.fields c.read_identity.new.fields card
-          (some_identities tt c.args.count c.args.fields.now) c.loop-test.true c.in_ok-read_identity.ensures.took
-          c.loop.invariant.read);
+      read = rw c.push.ensures.items (goes_on _ _ _ identities_loop _ tt _ _ _ _ card _ c.loop-test.true
+          c.in_ok-read_identity.ensures.took c.loop.invariant.read);
       count = rw c.push.ensures.items (length_push c.loop.cards.items card ∙ ap (λ n. n + 1) c.loop.invariant.count);
     }
 
 pub returns : goal.returns
 returns c = record {
-  took = is_done one_identity past_identity some_identities identities_loop c.loop.cards.items tt c.args.count
-      c.loop.counter c.loop.fields (some_identities tt c.args.count c.args.fields.now) c.loop-test.false
-      c.loop.invariant.read;
+  took = is_done _ _ _ identities_loop _ tt _ _ _ _ c.loop-test.false c.loop.invariant.read;
 }

@@ -4,6 +4,5 @@ use Rattle.fitted_bytes.proofs.setup_reader.is_fitted_size.Goals as goal
 
 pub returns : goal.returns
 returns c = record {
-  size = rw (ne_eqb c.args.size 0 c.if-size-eq0.false)
-      (length_same c.args.size c.is_disk_size.result c.is_disk_size.ensures.size);
+  size = rw (ne_eqb c.args.size 0 c.if-size-eq0.false) (length_same _ _ c.is_disk_size.ensures.size);
 }

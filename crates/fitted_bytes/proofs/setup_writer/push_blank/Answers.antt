@@ -15,6 +15,5 @@ counted (Err fault) bytes old mid new first second = tt
 
 pub returns : goal.returns
 returns c = record {
-  added = counted c.push_pages.result c.args.bytes.now c.args.into.now.items c.push_word.new.into.items
-      c.push_pages.new.into.items c.in_ok-push_word.ensures.added c.push_pages.ensures.added;
+  added = counted _ _ _ _ _ c.in_ok-push_word.ensures.added c.push_pages.ensures.added;
 }
