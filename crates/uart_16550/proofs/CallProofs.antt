@@ -10,11 +10,10 @@ use Rattle.uart_16550.specs.declared.com1.Com1.{Com1}
 use Rattle.uart_16550.specs.declared.com1.Happening.{Happening}
 use Rattle.uart_16550.specs.declared.com1.Happening.TheVariants.{Comes, Happens}
 use Rattle.uart_16550.specs.Common.{Uart, is_dlab, is_loopback, pending, register_read, front_of, rest_of, value_of}
-use Rattle.uart_16550.specs.Common.{after_identity, after_value, register_written, is_emptying, with_value, com1_after}
-use Rattle.uart_16550.specs.Common.{Call, Renews, Receives, Reads, Writes, after_call, brought, front_taken, taken}
-use Rattle.uart_16550.specs.Common.{is_kept, is_keeping, after_calls, all_brought, all_taken, ReadInOrder, calls_of}
-use Rattle.uart_16550.specs.Common.{Sending, sending_after, calls_for, all_calls, after_all, bytes_come}
-use Rattle.uart_16550.specs.Common.{SerialReadsInOrder}
+use Rattle.uart_16550.specs.Common.{after_identity, after_value, is_emptying, with_value, com1_after, Call, Renews}
+use Rattle.uart_16550.specs.Common.{Receives, Reads, Writes, after_call, brought, front_taken, taken, is_kept}
+use Rattle.uart_16550.specs.Common.{is_keeping, after_calls, all_brought, all_taken, ReadInOrder, calls_of, Sending}
+use Rattle.uart_16550.specs.Common.{sending_after, calls_for, all_calls, after_all, bytes_come, SerialReadsInOrder}
 use Rattle.uart_16550.specs.declared.register.ReadRegister.TheVariants as read
 use Rattle.uart_16550.specs.declared.register.WriteRegister.TheVariants as write
 
@@ -47,8 +46,7 @@ call_in_order uart Renews kept = absurd (cc kept)
 call_in_order uart (Receives byte) kept = refl
 call_in_order uart (Reads off) kept =
     read_in_order uart (register_read (is_dlab uart) off) ∙ sym (append-nil uart.queue)
-call_in_order uart (Writes off byte) kept =
-    write_keeps uart (register_written (is_dlab uart) off) byte kept ∙ sym (append-nil uart.queue)
+call_in_order uart (Writes off byte) kept = write_keeps _ _ _ kept ∙ sym (append-nil uart.queue)
 
 pub calls_in_order : ReadInOrder
 calls_in_order uart [] kept = sym (append-nil uart.queue)

@@ -33,8 +33,7 @@ module _ (dev base off : ℕ) (bytes : List ℕ) where
   pub writes_card :
       IsWriting (λ entries history. entries ++ history) (λ entries history. WriteCard dev base off bytes entries)
   writes_card =
-      writes_in_turn (WriteCard dev base off bytes) (λ entries history all. line_in_turn entries history all.each)
-      (λ entries all. record {
+      writes_in_turn _ (λ entries history all. line_in_turn _ history all.each) (λ entries all. record {
         all = length-map entries by_processor ∙ all.all;
-        each = in_turn_by entries all.each;
+        each = in_turn_by _ all.each;
       }) (some_card_entries dev base off bytes)

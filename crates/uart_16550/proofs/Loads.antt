@@ -101,10 +101,9 @@ module _ (addr : ℕ) (bytes : List ℕ) where
 
   pub writes_dram : IsWriting (λ entries history. entries ++ history) (λ entries history. WriteAll addr bytes entries)
   writes_dram =
-      writes_in_turn (WriteAll addr bytes) (λ entries history all. line_in_turn entries history all.each)
-      (λ entries all. record {
+      writes_in_turn _ (λ entries history all. line_in_turn _ history all.each) (λ entries all. record {
         all = length-map entries by_processor ∙ all.all;
-        each = in_turn_by entries all.each;
+        each = in_turn_by _ all.each;
       }) (some_entries addr bytes)
 
 -- ---- a byte of the clock

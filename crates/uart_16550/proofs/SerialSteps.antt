@@ -153,5 +153,4 @@ module _ {B : Type 0} {is_answer : Setup → List Entry → Event → Reply → 
         IsLeftAfter is_answer setup_of left_by last (level_of next) history
         (record { actor = actor; event = event } ∷ change_steps com1 next)
     accessed_and_moved last com1 next unset below stays moved =
-        then_more new last level (level_of next) history (record { actor = actor; event = event } ∷ [])
-        (change_steps com1 next) stays (quiet_step unset below) moved
+        then_more _ _ _ _ _ _ _ stays (quiet_step unset below) moved

@@ -11,10 +11,9 @@ differs _ _ is = refl
 
 pub returns-then-old-new-clause-moved : goal.returns-then-old-new-clause-moved
 returns-then-old-new-clause-moved g c = λ history left_at.
-    rw (differs c.args.old c.args.new c.if-old-new.true)
-    (one_step left_at c.step.ensures.setup (c.step.ensures.answer history left_at.left)
-    (c.step.ensures.left history left_at.left)
-    c.args.new refl (λ _. refl))
+    rw (differs _ _ c.if-old-new.true) (one_step left_at c.step.ensures.setup
+    (c.step.ensures.answer history left_at.left) (c.step.ensures.left history left_at.left)
+    _ refl (λ _. refl))
 
 agrees : (old new : Bool) → not (beq old new) ≡ false → (old ≡ new) × (differ old new ≡ false)
 agrees true true is = (refl, refl)

@@ -11,6 +11,5 @@ returns-clause-goes_on c =
 
 pub returns-clause-left : goal.returns-clause-left
 returns-clause-left c =
-    rw (← c.self.view_is)
-    (written (writes_card c.args.dev c.args.base c.args.off c.args.bytes.now) _ _ (refl {a = c.self.inside.com1})
-    c.write_card.result c.write_card.ensures.left)
+    rw (← c.self.view_is) (written (writes_card c.args.dev c.args.base c.args.off c.args.bytes.now) _ _
+    (refl {a = c.self.inside.com1}) _ c.write_card.ensures.left)

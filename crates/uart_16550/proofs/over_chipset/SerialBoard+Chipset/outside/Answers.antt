@@ -24,11 +24,10 @@ returns-clause-com1 c =
 pub returns-clause-answer : goal.returns-clause-answer
 returns-clause-answer c =
     let event = c.args.event.now in
-    let plain = plain_outside event c.requires.devices c.requires.no_line in
+    let plain = plain_outside _ c.requires.devices c.requires.no_line in
     rw (← c.self.view_is)
     (λ history left_at. rw (plain.heard c.self.inside.com1)
-    (answer_outside c.self.inside.board.setup history event (reply_of c.outside.result) c.requires.devices
-    (c.outside.ensures.answer history left_at.left)))
+    (answer_outside _ _ _ _ c.requires.devices (c.outside.ensures.answer history left_at.left)))
 
 pub returns-clause-history : goal.returns-clause-history
 returns-clause-history c =
@@ -37,7 +36,6 @@ returns-clause-history c =
     rw (← c.self.view_is)
     (λ history actor resets below left_at.
     plain_step left_at c.outside.ensures.setup
-    (answer_outside c.self.inside.board.setup history event reply c.requires.devices
-    (c.outside.ensures.answer history left_at.left))
+    (answer_outside _ _ _ _ c.requires.devices (c.outside.ensures.answer history left_at.left))
     (c.outside.ensures.left history (next_entry history actor event reply) left_at.left refl refl)
-    c.self.inside.com1 resets (plain_outside event c.requires.devices c.requires.no_line) below)
+    c.self.inside.com1 resets (plain_outside _ c.requires.devices c.requires.no_line) below)

@@ -1,7 +1,7 @@
 use Rattle.std.proofs.Common.{◌≡◌, false, ◌==◌, refl}
-use Rattle.board_prelude.proofs.Common.{Line, ne_eqb}
-use Rattle.uart_16550.specs.Common.{board_event, com1_irq, level_of}
-use Rattle.uart_16550.proofs.SerialSteps.{with_level, named_step}
+use Rattle.board_prelude.proofs.Common.{ne_eqb}
+use Rattle.uart_16550.specs.Common.{com1_irq}
+use Rattle.uart_16550.proofs.SerialSteps.{named_step}
 use Rattle.uart_16550.proofs.serial.SerialBoard.line.Goals as goal
 
 pub returns-then-irq-eq-COM1_IRQ-clause-history : goal.returns-then-irq-eq-COM1_IRQ-clause-history
@@ -13,8 +13,7 @@ returns-then-irq-eq-COM1_IRQ-clause-history g c =
     (λ history left_at.
     named_step left_at c.step.ensures.setup (c.step.ensures.answer history left_at.left)
     (c.step.ensures.left history left_at.left)
-    (level_of (with_level com1 c.args.on)) (board_event com1 (Line c.args.irq c.args.on)) (rw own level)
-    c.requires.actor (rw (own, level) refl))
+    _ _ (rw own level) c.requires.actor (rw (own, level) refl))
 
 pub returns-clause-history : goal.returns-clause-history
 returns-clause-history g c =
@@ -23,5 +22,4 @@ returns-clause-history g c =
     rw (← c.self.view_is)
     (λ history left_at.
     named_step left_at c.step-2.ensures.setup (c.step-2.ensures.answer history left_at.left)
-    (c.step-2.ensures.left history left_at.left) (level_of com1) (board_event com1 (Line c.args.irq c.args.on))
-    (rw other refl) c.requires.actor (rw other refl))
+    (c.step-2.ensures.left history left_at.left) _ _ (rw other refl) c.requires.actor (rw other refl))

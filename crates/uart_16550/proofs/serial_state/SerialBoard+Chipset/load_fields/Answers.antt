@@ -3,12 +3,10 @@ use Rattle.uart_16550.proofs.serial_state.SerialBoard+Chipset.load_fields.Goals 
 
 pub returns-in-Ok : goal.returns-in-Ok
 returns-in-Ok c = record {
-  loaded = loads_both c.args.setup c.args.fields.now c.load_fields.new.fields c.load_state.new.fields
-      c.in_ok-board.board c.in_ok-board.ensures.loaded c.in-Ok.com1 c.in-Ok.ensures.loaded;
+  loaded = loads_both _ _ _ _ _ c.in_ok-board.ensures.loaded _ c.in-Ok.ensures.loaded;
 }
 
 pub returns-in-Err : goal.returns-in-Err
 returns-in-Err c = record {
-  loaded = port_is_bad c.args.setup c.args.fields.now c.load_fields.new.fields c.load_state.new.fields
-      c.in_ok-board.board c.in_ok-board.ensures.loaded c.in-Err.field-0 c.in-Err.ensures.loaded;
+  loaded = port_is_bad _ _ _ _ _ c.in_ok-board.ensures.loaded _ c.in-Err.ensures.loaded;
 }

@@ -1,5 +1,3 @@
-use Rattle.board_spec.specs.declared.event.Event.TheVariants.{Port}
-use Rattle.board_spec.specs.Registers.{is_hard_reset}
 use Rattle.uart_16550.proofs.Resets.{same_when_true}
 use Rattle.uart_16550.proofs.stepped.BoardSteppedBoard.resets_hard.Goals as goal
 
@@ -9,6 +7,5 @@ returns c = record {
       rw (← is)
       (let kind = c.is_hard.ensures.hard in
       let hard = c.reset_by.ensures.hard in
-      same_when_true c.is_hard.result (is_hard_reset c.args.self.now.entries (Port c.args.access.now))
-      (λ same. hard.0 (kind.0 same), λ same. kind.1 (hard.1 same)));
+      same_when_true _ _ (λ same. hard.0 (kind.0 same), λ same. kind.1 (hard.1 same)));
 }

@@ -1,5 +1,3 @@
-use Rattle.board_spec.specs.declared.event.Event.TheVariants.{Port}
-use Rattle.board_spec.specs.Registers.{is_hard_reset}
 use Rattle.uart_16550.proofs.Resets.{same_when_true}
 use Rattle.uart_16550.proofs.stepped.ChipsetSteppedBoard.resets_hard.Goals as goal
 
@@ -8,6 +6,5 @@ returns c = record {
   resets = λ history left.
       let kind = c.is_hard.ensures.hard in
       let hard = c.reset_by.ensures.hard history left in
-      same_when_true c.is_hard.result (is_hard_reset history (Port c.args.access.now))
-      (λ is. hard.0 (kind.0 is), λ is. kind.1 (hard.1 is));
+      same_when_true _ _ (λ is. hard.0 (kind.0 is), λ is. kind.1 (hard.1 is));
 }

@@ -1,8 +1,7 @@
-use Rattle.uart_16550.specs.Common.{is_dlab, register_written}
+use Rattle.uart_16550.specs.Common.{is_dlab}
 use Rattle.uart_16550.proofs.CallProofs.{write_keeps}
 use Rattle.uart_16550.proofs.uart.Uart.port_write.Goals as goal
 
 pub returns-clause-order : goal.returns-clause-order
 returns-clause-order c = λ kept.
-    rw (c.write.ensures.after, c.at-register.ensures.register, c.is_dlab.ensures.is)
-    (write_keeps c.args.self.now (register_written (is_dlab c.args.self.now) c.args.off) c.args.byte kept)
+    rw (c.write.ensures.after, c.at-register.ensures.register, c.is_dlab.ensures.is) (write_keeps _ _ _ kept)
