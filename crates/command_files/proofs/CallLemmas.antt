@@ -71,29 +71,25 @@ module _ (before between now : Option (List Fetch)) (name : List ℕ) (limit pla
   -- a fetch was made, and failed or not
   pub read_once : {E : Type 0} (result : Result ℕ E) → FetchesOnce between now name place result →
       OfCalls before now (IsReading name limit)
-  read_once result is =
-      call_more before between now (record { name = name; at = place; came = is.came }) (ReadTo name limit place)
-      (IsReading name limit) (next_fetch is.came) so_far is.made
+  read_once result is = call_more _ _ _ _ _ _ (next_fetch is.came) so_far is.made
 
   -- it found the end
   pub read_end : {E : Type 0} (count : ℕ) → count ≡ 0 → FetchesOnce {E = E} between now name place (Ok count) →
       OfCalls before now (λ made. IsReading name limit made × FoundEnd made)
   read_end count none is =
-      call_more before between now (record { name = name; at = place; came = is.came }) (ReadTo name limit place)
-      (λ made. IsReading name limit made × FoundEnd made)
-      (λ made so. (next_fetch is.came made so, is.count ∙ ap Some none)) so_far is.made
+      call_more _ _ _ _ _ (λ made. IsReading name limit made × FoundEnd made)
+      (λ made so. (next_fetch is.came _ so, is.count ∙ ap Some none)) so_far is.made
 
   -- it brought bytes
   pub read_piece : {E : Type 0} (count : ℕ) → count ≢ 0 → FetchesOnce {E = E} between now name place (Ok count) →
       OfCalls before now (ReadTo name limit (place + count))
   read_piece count some is =
       let came : count_come is.came ≡ count = ap count_come is.count in
-      call_more before between now (record { name = name; at = place; came = is.came }) (ReadTo name limit place)
-      (ReadTo name limit (place + count))
+      call_more _ _ _ _ _ _
       (λ made so.
       let there : place_after made ≡ place = so.reached in
       record {
-        reading = next_fetch is.came made so;
+        reading = next_fetch is.came _ so;
         reached = omega (arith, there, came);
         goes_on = omega (arith, came, some);
       }) so_far is.made
@@ -103,5 +99,4 @@ pub reading_failed : {T E : Type 0} (before now : Option (List Fetch)) (result :
     (limit : ℕ) → result ≡ Err error → OfCalls before now (IsReading name limit) →
     OfCalls before now (ReadsBy result name limit)
 reading_failed {T = T} {E = E} before now result error name limit is read =
-    rw is
-    (calls_hold before now (IsReading name limit) (ReadsBy {T = T} (Err error) name limit) (λ made so. (so, tt)) read)
+    rw is (calls_hold _ _ _ _ (λ made so. (so, tt)) read)

@@ -120,14 +120,11 @@ module _ (spelling : OneSpelling) (files : Files) (known : Known) (which : Which
   one_named status other (inl one) (inr (inr two)) = absurd (not-le_of_lt one.0 two.0)
   one_named status other (inr (inl one)) (inl two) = absurd (not-le_of_lt two.0 one.0)
   one_named status other (inr (inl one)) (inr (inl two)) = one_refused which (files name) status other one.1 two.1
-  one_named status other (inr (inl one)) (inr (inr two)) =
-      absurd (apart known which (files name) status two.1.0 one.1 two.1.1)
+  one_named status other (inr (inl one)) (inr (inr two)) = absurd (apart _ _ _ _ _ one.1 two.1.1)
   one_named status other (inr (inr one)) (inl two) = absurd (not-le_of_lt two.0 one.0)
-  one_named status other (inr (inr one)) (inr (inl two)) =
-      absurd (apart known which (files name) other one.1.0 two.1 one.1.1)
+  one_named status other (inr (inr one)) (inr (inl two)) = absurd (apart _ _ _ _ _ two.1 one.1.1)
   one_named status other (inr (inr one)) (inr (inr two)) =
-      later two.1.0 status other
-      (rw (one_learned spelling known which (files name) one.1.0 two.1.0 one.1.1 two.1.1) at one.1.2) two.1.2
+      later two.1.0 status other (rw (one_learned spelling _ _ _ _ _ one.1.1 two.1.1) at one.1.2) two.1.2
 
 one_stage : OneSpelling → (files : Files) (known : Known) (which : Which) (name : Option (List ℕ))
     (Later : Known → Status → Type 0) → ((now : Known) → IsOne (Later now)) → IsOne (Stage files known which name Later)
@@ -162,8 +159,7 @@ from_start command files [] later known status read ends = rw read at ends
 from_start command files (which ∷ before) later known status read ends =
     rw (← reverse_on before later which)
     (from_start command files before (which ∷ later) read.0 status read.1
-    (passed files read.0 known which (file_name command read.0 which)
-    (λ now status'. EndsAt command files now later status') status read.2 ends))
+    (passed _ _ _ _ _ (λ now status'. EndsAt command files now later status') _ read.2 ends))
 
 -- a command that comes to a file, where it ends so
 at_file : (command : Command) (files : Files) (which : Which) (known : Known) (name : List ℕ) (status : Status)
@@ -171,23 +167,18 @@ at_file : (command : Command) (files : Files) (which : Which) (known : Known) (n
     (λ now status'. EndsAt command files now comes.later status') status →
     EndsAt command files nothing_known (files_of command) status
 at_file command files which known name status comes ends =
-    rw comes.place
-    (from_start command files comes.before (which ∷ comes.later) known status comes.read (rw comes.named ends))
+    rw comes.place (from_start _ _ _ _ _ _ comes.read (rw comes.named ends))
 
 at_some : (command : Command) (files : Files) (status : Status) → AsksFor command files status →
     EndsAt command files nothing_known (files_of command) status
-at_some command files (TooLong which) asks =
-    at_file command files which asks.known asks.name (TooLong which) asks.comes (inl (asks.holds, refl))
+at_some command files (TooLong which) asks = at_file _ _ _ _ _ _ asks.comes (inl (asks.holds, refl))
 at_some command files (BadScript line why) asks =
-    at_file command files Script asks.known asks.name (BadScript line why) asks.comes
-    (inr (inl (asks.holds.fits, (line, why, asks.holds.holds, refl))))
+    at_file _ _ _ _ _ _ asks.comes (inr (inl (asks.holds.fits, (line, why, asks.holds.holds, refl))))
 at_some command files (BadImage which) asks =
-    at_file command files which asks.known asks.name (BadImage which) asks.comes
-    (inr (inl (asks.holds.fits, no_image_refused which (files asks.name) asks.holds.holds)))
+    at_file _ _ _ _ _ _ asks.comes (inr (inl (asks.holds.fits, no_image_refused _ _ asks.holds.holds)))
 at_some command files status asks =
-    subst (λ (whiches : List Which). EndsAt command files nothing_known whiches status)
-    (append-nil (reverse (reverse (files_of command))) ∙ reverse-reverse (files_of command))
-    (from_start command files (reverse (files_of command)) [] asks.0 status asks.1 asks.2)
+    subst (λ (whiches : List Which). EndsAt command files nothing_known whiches status) (append-nil
+    (reverse (reverse (files_of command))) ∙ reverse-reverse (files_of command)) (from_start _ _ _ [] _ _ asks.1 asks.2)
 
 pub one_status : OneSpelling → OneStatus
 one_status spelling = λ command files status other one two.

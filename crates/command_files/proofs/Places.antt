@@ -187,8 +187,7 @@ module _ (command : Command) (told : Option Files) (files : List Which) (index :
       OfCalls between now (ReadsNamed {E = E} (Ok value) (file_name command known which) (limit_of which)) →
       OfCalls start now (WholeBefore command told (reverse (take (index + 1) files)))
   fetches_next E value start between now one two =
-      rw (reverse-take_more files index d inside)
-      (calls_hold start now _ _ (own_whole E value) (calls_both start between now _ _ one two))
+      rw (reverse-take_more _ _ d inside) (calls_hold _ _ _ _ (own_whole E value) (calls_both _ _ _ _ _ one two))
 
   -- the table from its end
   mirrored : reverse (files_of command) ≡ reverse later ++ which ∷ before
@@ -217,13 +216,10 @@ module _ (command : Command) (told : Option Files) (files : List Which) (index :
       OfCalls start between (WholeBefore command told before) →
       OfCalls between now (ReadsNamed result (file_name command known which) (limit_of which)) →
       OfCalls start now (FetchesOf command told)
-  fetches_last result start between now one two =
-      calls_hold start now _ _ (last_read result) (calls_both start between now _ _ one two)
+  fetches_last result start between now one two = calls_hold _ _ _ _ (last_read result) (calls_both _ _ _ _ _ one two)
 
 -- the command read all files
 pub fetches_all : (command : Command) (told : Option Files) (start now : Option (List Fetch)) →
     OfCalls start now (WholeBefore command told (reverse (files_of command))) →
     OfCalls start now (FetchesOf command told)
-fetches_all command told start now is =
-    calls_hold start now (WholeBefore command told (reverse (files_of command))) (FetchesOf command told)
-    (λ made whole. whole []) is
+fetches_all command told start now is = calls_hold _ _ _ _ (λ made whole. whole []) is

@@ -4,8 +4,7 @@ use Rattle.command_files.proofs.files.read_file.Goals as goal
 
 pub returns-then-taken-eq0-clause-fetches : goal.returns-then-taken-eq0-clause-fetches
 returns-then-taken-eq0-clause-fetches g c =
-    read_end _ _ _ _ _ _ (search rules) c.loop-shelf.invariant.fetches c.in_ok-taken.taken c.if-taken-eq0.true
-    c.in_ok-taken.ensures.once
+    read_end _ _ _ _ _ _ (search rules) c.loop-shelf.invariant.fetches _ c.if-taken-eq0.true c.in_ok-taken.ensures.once
 
 pub loop-shelf-preserved : goal.loop-shelf-preserved
 loop-shelf-preserved g c =
@@ -15,7 +14,6 @@ loop-shelf-preserved g c =
       no_fault = search rules;
       same = search rules;
       fetches =
-          rw c.in_ok-taken.ensures.grows
-          (read_piece _ _ _ _ _ _ (search rules) c.loop-shelf.invariant.fetches c.in_ok-taken.taken c.if-taken-eq0.false
-          c.in_ok-taken.ensures.once);
+          rw c.in_ok-taken.ensures.grows (read_piece _ _ _ _ _ _ (search rules) c.loop-shelf.invariant.fetches _
+          c.if-taken-eq0.false c.in_ok-taken.ensures.once);
     }

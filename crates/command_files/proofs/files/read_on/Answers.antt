@@ -14,6 +14,5 @@ longer_front (Some file_of) name before now into k at place piece more long = λ
 
 pub returns-clause-front : goal.returns-clause-front
 returns-clause-front g c =
-    longer_front (g.S.Shelf.files c.args.shelf.now) c.args.name.now c.args.bytes.now.items c.append.new.bytes.items
-    c.fetch.new.into
-    c.in_ok-taken.taken c.len.result (search rules) c.in_ok-taken.ensures.bytes (search rules) (search rules)
+    longer_front _ _ _ _ _
+    _ _ (search rules) c.in_ok-taken.ensures.bytes (search rules) (search rules)

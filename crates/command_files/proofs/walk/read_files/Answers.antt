@@ -47,9 +47,8 @@ returns-in_err-read_next-clause-fetches g c =
 
 pub returns-clause-read : goal.returns-clause-read
 returns-clause-read g c =
-    are_read (said_by c.args.command.now) (g.S.Shelf.files c.args.shelf.now) _ _
-    (rw (take_all c.loop-which.which-index _ c.loop-which-test.false, c.files_of-files.ensures.files) at
-    c.loop-which.invariant.taken)
+    are_read _ _ _ _ (rw (take_all c.loop-which.which-index _ c.loop-which-test.false, c.files_of-files.ensures.files)
+    at c.loop-which.invariant.taken)
 
 pub returns-clause-whole : goal.returns-clause-whole
 returns-clause-whole g c =
@@ -59,6 +58,7 @@ returns-clause-whole g c =
 
 pub returns-clause-fetches : goal.returns-clause-fetches
 returns-clause-fetches g c =
-    fetches_all (said_by c.args.command.now) (g.S.Shelf.files c.args.shelf.now) _ _
-    (rw (take_all c.loop-which.which-index _ c.loop-which-test.false, c.files_of-files.ensures.files) at
-    c.loop-which.invariant.fetches)
+    fetches_all _ _ _ _ (rw (
+      take_all c.loop-which.which-index _ c.loop-which-test.false,
+      c.files_of-files.ensures.files,
+    ) at c.loop-which.invariant.fetches)
