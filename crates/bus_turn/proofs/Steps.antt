@@ -121,12 +121,10 @@ module _ {T E F : Type 0} (entries : T → List E) (actor : E → ℕ) (fixed : 
       → O record { words = words; homes = homes; views = set s.views id w }
   moved s o id v w words homes b at lives words_are home_is count lies logs same numbered others mine =
       let views : List V = set s.views id w in let long = length-set s.views id w in
-      let waited = total_set waits s.views id v w at in let out = o.out in let few = o.few in
+      let waited = total_set waits _ id v w at in let out = o.out in let few = o.few in
       let other : (j : ℕ) (u : V) → j ≢ id → K o.book s.views j u → K b views j u = λ j u apart k.
-      knows_on o.book b s.views views j u u.stage u.splits u.seen u.told u.mine
-      (set_stays o.book b s.views id v w at lives same) k (λ z. k.splits z ∙ sym long)
-      (prefix_trans u.seen (log_of first o.book) (log_of first b) k.begins logs)
-      (prefix_trans u.told (log_of first o.book) (log_of first b) k.told logs) (same j apart ∙ k.mine)
+      knows_on _ b _ _ j u _ _ _ _ _ (set_stays o.book b _ id v w at lives same) k (λ z. k.splits z ∙ sym long)
+      (prefix_trans _ _ _ k.begins logs) (prefix_trans _ _ _ k.told logs) (same j apart ∙ k.mine)
       (others j u apart k.stage) in
       record {
         book = b;
@@ -158,12 +156,11 @@ module _ {T E F : Type 0} (entries : T → List E) (actor : E → ℕ) (fixed : 
       others begins telling own stage =
       let w : V = record v { stage = st; seen = seen; told = told; mine = mine } in
       let k = r.0.each_seat id v at lives in
-      let lost = total_set is_gone s.views id v w at in let found = total_set joins s.views id v w at in
+      let lost = total_set is_gone _ id v w at in let found = total_set joins _ id v w at in
       let joined : total is_gone s.views ≡ total joins s.views = r.1 in (
-        moved s r.0 id v w words homes b at lives words_are home_is count lies logs same numbered others
-            (λ _. knows_on r.0.book b s.views (set s.views id w) id v st v.splits seen told mine
-            (set_stays r.0.book b s.views id v w at lives same) k (λ z. k.splits z ∙ sym (length-set s.views id w))
-            begins telling own stage),
+        moved s r.0 id v w _ _ b at lives words_are home_is count lies logs same numbered others
+            (λ _. knows_on _ b _ _ id v st _ _ _ _ (set_stays r.0.book b _ id v w at lives same) k
+            (λ z. k.splits z ∙ sym (length-set s.views id w)) begins telling own stage),
         omega arith,
       )
 
@@ -210,7 +207,7 @@ module _ {T E F : Type 0} (entries : T → List E) (actor : E → ℕ) (fixed : 
       → t ≡ r.0.book.serving → (p : Place T) → r.0.book.place ≡ p → L r.0.book s.views p → Called slots id me s
   hits slots id me t is s r at same (home x) place lies =
       let o = r.0 in let b = o.book in let v : V = me.0 in let w : V = sees v Holds (entries x) in
-      let b' : B = record b { place = away } in let lives = alive v.stage (Waits t) is refl in
+      let b' : B = record b { place = away } in let lives = alive _ _ is refl in
       let k : K b s.views id v = o.each_seat id v at lives in
       let st : AtStage first b id v.seen (Waits t) = rw is at k.stage in
       let one_out : waits v ≡ 1 = ap waiting is in let own : b.owner b.serving ≡ id = ap b.owner (sym same) ∙ st.2 in
@@ -220,17 +217,16 @@ module _ {T E F : Type 0} (entries : T → List E) (actor : E → ℕ) (fixed : 
         w,
         takes 0 (Some x),
         ap (λ (hs : Homes). get_elem? hs 0) (o.home_is ∙ ap (λ (q : Place T). slot_of q ∷ []) place),
-        steps_on s r id v Holds (entries x) [] v.mine _ _ b' at lives (sym (ap gone is))
+        steps_on s r id v _ _ [] _ _ _ b' at lives (sym (ap gone is))
             (ap (λ (ws : List ℕ). set ws 1 (get_or ws 1 0)) o.words_are) (ap (λ (hs : Homes). set hs 0 none) o.home_is)
-            (omega arith)
-            (w, ap (get_elem? (set s.views id w)) own ∙ set_here s.views id w (at_lt s.views id v at), refl)
+            (omega arith) (w, ap (get_elem? (set s.views id w)) own ∙ set_here s.views id w (at_lt _ id v at), refl)
             (prefix_refl (log_of first b)) (λ n _. refl) o.numbered (λ j u _ h. grind arith)
             ([], append-nil (entries x) ∙ lies.0) (log_of first b, refl) k.mine (low, own, refl, lies.0),
-        ((λ _. (x, refl, fits b s.views id v x k lies.0 lies.1)), λ missed. absurd (missed found)),
+        ((λ _. (x, refl, fits b _ id v x k lies.0 lies.1)), λ missed. absurd (missed found)),
       )
   hits slots id me t is s r at same away place lies =
       let o = r.0 in let b = o.book in let v : V = me.0 in
-      let k : K b s.views id v = o.each_seat id v at (alive v.stage (Waits t) is refl) in
+      let k : K b s.views id v = o.each_seat id v at (alive _ _ is refl) in
       let own : b.owner b.serving ≡ id = ap b.owner (sym same) ∙ (rw is at k.stage).2 in
       let one : v ≡ lies.0 = some-injective v lies.0 (sym at ∙ (ap (get_elem? s.views) (sym own) ∙ lies.1)) in
       absurd (cc (is, lies.2, ap (λ (z : V). z.stage) one))
@@ -261,14 +257,13 @@ module _ {T E F : Type 0} (entries : T → List E) (actor : E → ℕ) (fixed : 
       → Allows R slots id me 1 (λ n. n) (looked (step slots 1 0 0 none) me)
   looks slots id me idle s r deep at _ =
       let o = r.0 in let b = o.book in let v : V = me.0 in let w : V = sees v Idle (log_of first b) in
-      let lives = alive v.stage Idle idle refl in
+      let lives = alive _ _ idle refl in
       let k : K b s.views id v = o.each_seat id v at lives in let none_out : waits v ≡ 0 = ap waiting idle in (
         w,
         keeps,
         tt,
-        steps_on s r id v Idle (log_of first b) [] v.mine _ s.homes b at lives (sym (ap gone idle))
-            (ap (λ (ws : List ℕ). set ws 1 (get_or ws 1 0)) o.words_are) o.home_is (omega arith)
-            (lies_on s o b id v w at (λ e. cc) refl (λ _. refl) b.place o.lies)
+        steps_on s r id v _ _ [] _ _ _ b at lives (sym (ap gone idle)) (ap (λ (ws : List ℕ). set ws 1 (get_or ws 1 0))
+            o.words_are) o.home_is (omega arith) (lies_on s o b id v w at (λ e. cc) refl (λ _. refl) _ o.lies)
             (prefix_refl (log_of first b)) (λ n _. refl) o.numbered (λ j u _ h. h)
             (prefix_refl (log_of first b)) (log_of first b, refl) k.mine tt,
         (log_of first b, refl, k.begins, k.told),
@@ -279,10 +274,10 @@ module _ {T E F : Type 0} (entries : T → List E) (actor : E → ℕ) (fixed : 
       → Allows R slots id me 2 (λ n. (n + 1) % 2 ^ 64) (counted (e ∷ []) (step slots 2 1 0 none) me)
   enters slots id me e is by s r deep at _ =
       let o = r.0 in let b = o.book in let v : V = me.0 in let w : V = commits v (e ∷ []) in
-      let b' : B = record b { since = b.since ++ e ∷ [] } in let lives = alive v.stage Holds is refl in
+      let b' : B = record b { since = b.since ++ e ∷ [] } in let lives = alive _ _ is refl in
       let k : K b s.views id v = o.each_seat id v at lives in
       let st : AtStage first b id v.seen Holds = rw is at k.stage in let one_out : waits v ≡ 1 = ap waiting is in
-      let mine : actor e ≡ id = by ∙ k.number in let inside = at_lt s.views id v at in
+      let mine : actor e ≡ id = by ∙ k.number in let inside = at_lt _ id v at in
       let logs : IsPrefix (log_of first b) (log_of first b') = (e ∷ [], append_assoc first b.since (e ∷ [])) in
       let long : length (log_of first b) + 1 ≡ length (log_of first b') =
       omega (arith, length-append (log_of first b) (e ∷ []), ap (λ (xs : List E). length xs) logs.1) in
@@ -290,18 +285,16 @@ module _ {T E F : Type 0} (entries : T → List E) (actor : E → ℕ) (fixed : 
         w,
         keeps,
         tt,
-        steps_on s r id v v.stage (v.seen ++ e ∷ []) v.told (v.mine ++ e ∷ []) _ s.homes b' at lives refl
+        steps_on s r id v _ _ _ _ _ _ b' at lives refl
             (rw (o.words_are, mod-add-mod (length (log_of first b)) (2 ^ 64) 1, long) refl) o.home_is (omega arith)
             (subst (L b' (set s.views id w)) (sym st.2)
-            (w, ap (get_elem? (set s.views id w)) st.1 ∙ set_here s.views id w inside, is)) logs
-            (λ n other. own_else actor n b.since e (λ d. other (sym d ∙ mine)))
-            (All-append (λ (x : E). actor x < length s.views) b.since (e ∷ []) o.numbered
-            (All-cons (λ (x : E). actor x < length s.views) e [] (rw mine inside)
+            (w, ap (get_elem? (set s.views id w)) st.1 ∙ set_here s.views id w inside, is)) logs (λ n other. own_else _
+            n b.since e (λ d. other (sym d ∙ mine))) (All-append (λ (x : E). actor x < length s.views) b.since (e ∷ [])
+            o.numbered (All-cons (λ (x : E). actor x < length s.views) e [] (rw mine inside)
             (All-nil (λ (x : E). actor x < length s.views))))
             (λ j u other h. grind (arith, st.1))
-            ([], append-nil (v.seen ++ e ∷ []) ∙ all)
-            (prefix_trans v.told (log_of first b) (log_of first b') k.told logs)
-            (own_more actor id b.since e mine ∙ ap (λ (xs : List E). xs ++ e ∷ []) k.mine)
+            ([], append-nil (v.seen ++ e ∷ []) ∙ all) (prefix_trans _ _ _ k.told logs)
+            (own_more _ id b.since e mine ∙ ap (λ (xs : List E). xs ++ e ∷ []) k.mine)
             (subst (AtStage first b' id w.seen) (sym is) (st.0, st.1, st.2, all)),
         refl,
       )
@@ -317,17 +310,16 @@ module _ {T E F : Type 0} (entries : T → List E) (actor : E → ℕ) (fixed : 
   gives_back slots id me x is carried list fixed_is s r deep at _ =
       let o = r.0 in let b = o.book in let v : V = me.0 in let w : V = staged v Idle in
       let b' : B = record b { serving = b.serving + 1; place = home x } in
-      let lives = alive v.stage Holds is refl in
+      let lives = alive _ _ is refl in
       let k : K b s.views id v = o.each_seat id v at lives in
       let st : AtStage first b id v.seen Holds = rw is at k.stage in let one_out : waits v ≡ 1 = ap waiting is in (
         w,
         gives,
         tt,
-        steps_on s r id v Idle v.seen v.told v.mine _ _ b' at lives (sym (ap gone is))
-            (rw (o.words_are, mod-add-mod b.serving (2 ^ 64) 1) refl)
-            (ap (put_back s.homes) carried ∙ ap (λ (hs : Homes). set hs 0 (some (Some x))) o.home_is) (omega arith)
-            (list ∙ st.3, ap (part_or part) (sym fixed_is ∙ k.part_is)) (prefix_refl (log_of first b)) (λ n _. refl)
-            o.numbered (λ j u other h. grind (arith, st.1)) k.begins k.told k.mine tt,
+        steps_on s r id v _ _ _ _ _ _ b' at lives (sym (ap gone is)) (rw (o.words_are, mod-add-mod b.serving (2 ^ 64) 1)
+            refl) (ap (put_back s.homes) carried ∙ ap (λ (hs : Homes). set hs 0 (some (Some x))) o.home_is)
+            (omega arith) (list ∙ st.3, ap (part_or part) (sym fixed_is ∙ k.part_is)) (prefix_refl (log_of first b))
+            (λ n _. refl) o.numbered (λ j u other h. grind (arith, st.1)) k.begins k.told k.mine tt,
         ap (λ (cs : List (ℕ × Option T)). (w, cs)) (ap rest carried),
       )
 
