@@ -30,8 +30,7 @@ pub done_next : (statements : List Statement) (i : ℕ) (default : Statement) (o
     i < length statements → DidStatements old (take i statements) between →
     DidStatements between (get_or statements i default ∷ []) new → DidStatements old (take (i + 1) statements) new
 done_next statements i default old between new within one two =
-    rw (take_more statements i default within)
-    (done_more old between new (take i statements) (get_or statements i default ∷ []) one two)
+    rw (take_more statements i default within) (done_more _ _ _ _ _ one two)
 
 -- ---- replays
 
@@ -84,12 +83,11 @@ pub phase_adds :
 phase_adds phases i phase statements within is same =
     let before = lists_of (take i phases) in
     let said : said_before phases (i + 1) ≡ said_before phases i ++ statements =
-    rw (phases_more phases i phase within is, statements_cut before phase.items [], append-nil phase.items, same) refl
-    in
+    rw (phases_more _ i _ within is, statements_cut before phase.items [], append-nil phase.items, same) refl in
     record {
       said = said;
       long = ap length said ∙ length-append (said_before phases i) statements;
-      few = rw same (few_so_far phases i phase within is);
+      few = rw same (few_so_far _ i _ within is);
     }
 
 -- what holds of all statements holds of those of a phase

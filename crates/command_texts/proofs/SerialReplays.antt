@@ -45,8 +45,7 @@ went_on_step statement old middle new input left sent after gone received done a
     let now = happenings_of (bytes_before old.com1.uart input) statement in
     let rest = left_after old.com1.uart input in
     let both : Happened statement.actor old now new =
-    happened_twice statement.actor old middle new (map Comes (bytes_before old.com1.uart input))
-    (Happens statement.event ∷ []) received done in
+    happened_twice _ _ _ _ _ _ received done in
     let sends : after ≡ sent ++ bytes_sent (port_of old) now =
     rw (sent_of (port_of old) (bytes_before old.com1.uart input) statement, ← received.port) added in
     rw gone (record {
@@ -82,8 +81,7 @@ pub went_on_more : (statements : List Statement) (i : ℕ) (statement : Statemen
     i < length statements → WentOn old (take i statements) middle →
     WentOn middle (get_or statements i statement ∷ []) new → WentOn old (take (i + 1) statements) new
 went_on_more statements i statement old middle new within so_far next =
-    rw (take_more statements i statement within)
-    (went_on_twice old middle new (take i statements) (get_or statements i statement ∷ []) so_far next)
+    rw (take_more statements i statement within) (went_on_twice _ _ _ _ _ so_far next)
 
 -- the room that is left is enough for the statements that are left
 pub room_for_next : (statements : List Statement) (i : ℕ) (old middle : SerialPlace) → i < length statements →

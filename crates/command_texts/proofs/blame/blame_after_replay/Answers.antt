@@ -1,7 +1,5 @@
 use Rattle.std.proofs.Common.{rules, ◌≡◌, length, reverse, sym, ap, ◌∙◌, arith}
 use Rattle.std.proofs.lemmas.List.{length-reverse}
-use Rattle.script_spec.specs.ScriptRange.{statements_in}
-use Rattle.script_text.specs.Script.{said_of}
 use Rattle.command_texts.proofs.Done.{length_of_replay}
 use Rattle.command_texts.proofs.MapWrites.{version_is}
 use Rattle.command_texts.proofs.BlameLemmas.{all_since, all_kept, blame_text}
@@ -11,10 +9,9 @@ use Rattle.board_chipset.proofs.MapVersions.{few_writes}
 pub blame-requires-clause-count : goal.blame-requires-clause-count
 blame-requires-clause-count c =
     let board = c.replay_noting.new.board in
-    let is = version_is board.setup board.entries c.in_ok-writes.writes c.in_ok-writes.ensures.writes in
+    let is = version_is _ _ _ c.in_ok-writes.ensures.writes in
     let few = few_writes board.setup board.entries in
-    let count = length_of_replay c.args.board.now.setup (statements_in (said_of c.args.script.now)) board.entries
-    c.in_ok-writes.ensures.replay in
+    let count = length_of_replay _ _ _ c.in_ok-writes.ensures.replay in
     let noted : length c.deref-2.result.now ≡ length c.in_ok-writes.writes.changes.items =
     ap length c.deref-2.ensures.value in
     omega (arith, is, few, count, noted, c.requires.fresh.in_range.statements)
@@ -35,9 +32,8 @@ returns c =
     let board = c.replay_noting.new.board in
     record {
       text =
-          blame_text c.report_text.result c.args.board.now.setup board.setup (said_of c.args.script.now) board.entries
-          (reverse c.deref-2.result.now) c.in_ok-report.report.ranges.items c.in_ok-report.report.keep.items
-          c.in_ok-writes.ensures.setup (ap reverse c.deref-2.ensures.value ∙ c.in_ok-writes.ensures.writes.changes)
-          c.in_ok-writes.ensures.replay (c.in_ok-report.ensures.blame board.setup (search rules))
+          blame_text _ _ _ _ _ _ _ _ c.in_ok-writes.ensures.setup
+          (ap reverse c.deref-2.ensures.value ∙ c.in_ok-writes.ensures.writes.changes) c.in_ok-writes.ensures.replay
+          (c.in_ok-report.ensures.blame board.setup (search rules))
           (c.report_text.ensures.text board.setup board.entries c.in_ok-writes.ensures.writes);
     }

@@ -1,11 +1,9 @@
-use Rattle.script_text.specs.Script.{said_of}
 use Rattle.command_texts.proofs.Statements.{in_range}
 use Rattle.command_texts.proofs.replay.check_log.Goals as goal
 
 pub check_log-requires-clause-in_range : goal.check_log-requires-clause-in_range
 check_log-requires-clause-in_range c =
-    rw c.deref.ensures.value (in_range c.args.board.now.setup (said_of c.args.script.now) c.requires.fresh.in_range
-    c.requires.fresh.cards)
+    rw c.deref.ensures.value (in_range c.args.board.now.setup _ c.requires.fresh.in_range c.requires.fresh.cards)
 
 pub returns-clause-exactly : goal.returns-clause-exactly
 returns-clause-exactly c = rw c.deref.ensures.value at c.check_log.ensures.exactly

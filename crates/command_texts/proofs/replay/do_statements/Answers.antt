@@ -22,14 +22,12 @@ steps-requires-clause-in_range c =
 
 pub steps-requires-clause-spare : goal.steps-requires-clause-spare
 steps-requires-clause-spare c =
-    let adds = phase_adds _ _ _ c.deref-in-loop-phase.result.now c.loop-phase-test.true c.phase-item.is
-    c.deref-in-loop-phase.ensures.value in
+    let adds = phase_adds _ _ _ _ c.loop-phase-test.true c.phase-item.is c.deref-in-loop-phase.ensures.value in
     omega (arith, c.loop-phase.invariant.room, adds.few)
 
 pub loop-phase-preserved : goal.loop-phase-preserved
 loop-phase-preserved c =
-    let adds = phase_adds _ _ _ c.deref-in-loop-phase.result.now c.loop-phase-test.true c.phase-item.is
-    c.deref-in-loop-phase.ensures.value in
+    let adds = phase_adds _ _ _ _ c.loop-phase-test.true c.phase-item.is c.deref-in-loop-phase.ensures.value in
     record {
       done =
           rw adds.said (done_more _ _ _ _ _ c.loop-phase.invariant.done (record {

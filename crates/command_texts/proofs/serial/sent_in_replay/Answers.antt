@@ -12,9 +12,8 @@ pub returns : goal.returns
 returns c =
     let went = rw (c.deref-2.ensures.value, c.new-sent.ensures.items) at c.in_ok-all_steps.ensures.went_on in
     record {
-      text = ok_then c.of_bytes.result c.of_bytes.ensures.bytes (λ text is.
-          serial_told c.law_lock.ensures.kept c.args.board.setup (said_of c.args.script.now) c.in_ok-serial.serial
-          c.all_steps.new.serial c.args.input.now c.in_ok-all_steps.field-0.now c.all_steps.new.sent.items text
-          c.in_ok-serial.ensures.setup c.in_ok-serial.ensures.entries c.in_ok-serial.ensures.com1 went
-          (rw c.board.ensures.board at c.history-legal.ensures.legal) is);
+      text = ok_then _ c.of_bytes.ensures.bytes (λ text is.
+          serial_told c.law_lock.ensures.kept _ _ c.in_ok-serial.serial c.all_steps.new.serial _
+          c.in_ok-all_steps.field-0.now _ _ c.in_ok-serial.ensures.setup c.in_ok-serial.ensures.entries
+          c.in_ok-serial.ensures.com1 went (rw c.board.ensures.board at c.history-legal.ensures.legal) is);
     }

@@ -4,8 +4,7 @@ use Rattle.command_texts.proofs.serial.step.Goals as goal
 
 pub returns-in_ok-push-clause-happened : goal.returns-in_ok-push-clause-happened
 returns-in_ok-push-clause-happened c =
-    event_done c.args.statement.now.actor c.args.statement.now.event c.args.serial.now c.step-reply.new.self
-    c.step-reply.ensures.setup
+    event_done _ _ c.args.serial.now c.step-reply.new.self c.step-reply.ensures.setup
     (c.step-reply.ensures.com1 c.args.serial.now.board.entries c.requires.standing)
     (c.step-reply.ensures.history c.args.serial.now.board.entries c.requires.standing)
 
@@ -19,7 +18,6 @@ returns-in_ok-push-clause-spare c =
 
 pub returns-in_default-clause-happened : goal.returns-in_default-clause-happened
 returns-in_default-clause-happened c =
-    event_done c.args.statement.now.actor c.args.statement.now.event c.args.serial.now c.step-reply.new.self
-    c.step-reply.ensures.setup
+    event_done _ _ c.args.serial.now c.step-reply.new.self c.step-reply.ensures.setup
     (c.step-reply.ensures.com1 c.args.serial.now.board.entries c.requires.standing)
     (c.step-reply.ensures.history c.args.serial.now.board.entries c.requires.standing)

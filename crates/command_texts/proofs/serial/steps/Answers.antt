@@ -4,8 +4,7 @@ use Rattle.command_texts.proofs.serial.steps.Goals as goal
 
 pub receive_next-left-requires-clause-spare : goal.receive_next-left-requires-clause-spare
 receive_next-left-requires-clause-spare c =
-    let room = room_for_next c.args.statements.now c.loop-statement.statement-index _ _ c.loop-statement-test.true
-    c.requires.spare c.loop-statement.invariant in
+    let room = room_for_next _ _ _ _ c.loop-statement-test.true c.requires.spare c.loop-statement.invariant in
     omega (arith, room)
 
 pub step-requires-clause-standing : goal.step-requires-clause-standing
@@ -18,15 +17,11 @@ step-requires-clause-for_port c =
 
 pub step-requires-clause-spare : goal.step-requires-clause-spare
 step-requires-clause-spare c =
-    let room = room_for_next c.args.statements.now c.loop-statement.statement-index _ _ c.loop-statement-test.true
-    c.requires.spare c.loop-statement.invariant in
+    let room = room_for_next _ _ _ _ c.loop-statement-test.true c.requires.spare c.loop-statement.invariant in
     omega (arith, room, c.receive_next-left.ensures.spare)
 
 pub loop-statement-preserved : goal.loop-statement-preserved
 loop-statement-preserved c =
-    went_on_more c.args.statements.now c.loop-statement.statement-index _ _ _ _ c.loop-statement-test.true
-    c.loop-statement.invariant
-    (went_on_step _ c.loop-statement.serial c.receive_next-left.new.serial c.step.new.serial c.loop-statement.left.now
-    c.receive_next-left.result.now c.loop-statement.sent.items c.step.new.sent.items c.receive_next-left.ensures.left
-    (c.receive_next-left.ensures.happened _) c.in_ok-step.ensures.happened c.in_ok-step.ensures.sent
-    c.receive_next-left.ensures.spare c.in_ok-step.ensures.spare)
+    went_on_more _ _ _ _ _ _ c.loop-statement-test.true c.loop-statement.invariant (went_on_step _ _ _ _ _ _ _ _
+    c.receive_next-left.ensures.left (c.receive_next-left.ensures.happened _) c.in_ok-step.ensures.happened
+    c.in_ok-step.ensures.sent c.receive_next-left.ensures.spare c.in_ok-step.ensures.spare)

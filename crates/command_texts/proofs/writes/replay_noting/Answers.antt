@@ -29,14 +29,12 @@ steps_noting-requires-clause-in_range c =
 
 pub steps_noting-requires-clause-spare : goal.steps_noting-requires-clause-spare
 steps_noting-requires-clause-spare c =
-    let adds = phase_adds _ _ _ c.deref-in-loop-phase.result.now c.loop-phase-test.true c.phase-item.is
-    c.deref-in-loop-phase.ensures.value in
+    let adds = phase_adds _ _ _ _ c.loop-phase-test.true c.phase-item.is c.deref-in-loop-phase.ensures.value in
     omega (arith, c.loop-phase.invariant.room, adds.few)
 
 pub loop-phase-preserved : goal.loop-phase-preserved
 loop-phase-preserved c =
-    let adds = phase_adds _ _ _ c.deref-in-loop-phase.result.now c.loop-phase-test.true c.phase-item.is
-    c.deref-in-loop-phase.ensures.value in
+    let adds = phase_adds _ _ _ _ c.loop-phase-test.true c.phase-item.is c.deref-in-loop-phase.ensures.value in
     record {
       done = rw adds.said (done_more _ _ _ _ _ c.loop-phase.invariant.done c.in_ok-steps_noting.ensures.done);
       room = omega (arith, c.loop-phase.invariant.room, c.in_ok-steps_noting.ensures.spare, adds.few, adds.long);

@@ -12,10 +12,8 @@ returns-clause-writes c =
     (elim c.match-map_change.branch [
       | in-Some+in_ok-add w ↦
           let count = rw w.history.ensures.history at w.len.ensures.length in
-          rw w.writes-is
-          (writes_more board.setup entry board.entries w.in-Some.change c.args.writes.now w.add.new.self (search rules)
-          w.in_ok-add.ensures.change (rw count at w.in_ok-add.ensures.entry) c.requires.writes)
+          rw w.writes-is (writes_more _ entry _ _ _ w.add.new.self (search rules) w.in_ok-add.ensures.change
+          (rw count at w.in_ok-add.ensures.entry) c.requires.writes)
       | in_default w ↦
-          rw w.writes-is
-          (writes_same board.setup entry board.entries c.args.writes.now (search rules) c.requires.writes)
+          rw w.writes-is (writes_same _ entry _ _ (search rules) c.requires.writes)
     ])
