@@ -49,5 +49,3 @@ no_list records cards many is list = omega (arith, many, said_count records card
 pub many_cards : (mib : ℕ) (records : List CardRecord) (rom disk : List ℕ) → is_some (cards_said records) ≡ true →
     8 < length records → IsMemory mib → IsSetupRefusal (setup_said mib records rom disk) bad_cards
 many_cards mib records rom disk test many memory = grind (arith, nat_tests, common_steps, some_there, no_list)
-
--- ---- at most eight
