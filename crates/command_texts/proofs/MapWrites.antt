@@ -1,6 +1,6 @@
 -- The map writes of a history as they are noted. The entry of a version is the first after which the map had it.
 use Rattle.std.proofs.Common.{◌≡◌, ℕ, ◌+◌, ◌-◌, ◌<◌, ◌≤◌, inl, inr, List, [], ◌∷◌, ◌++◌, length, refl, sym, ap, ◌∙◌}
-use Rattle.std.proofs.Common.{arith, length-append, Some, None, slice_index, zero, suc, drop, Option}
+use Rattle.std.proofs.Common.{arith, length-append, Some, None, zero, suc, drop, Option}
 use Rattle.board_prelude.proofs.Common.{cases_lt, nat_tests, length-reverse, reverse-append, get_or_append_left}
 use Rattle.board_prelude.proofs.Common.{get_or-append_seam, Entry, MapChange, Setup, map_change_of, map_writes_of}
 use Rattle.board_prelude.proofs.Common.{version_of, option_to_list}
@@ -28,13 +28,6 @@ pub entry_now : (setup : Setup) (entry : Entry) (before : List Entry) (version :
     version_of setup before < version → entry_of_version setup (entry ∷ before) version ≡ length before + 1
 unfolding entry_of_version
 entry_now setup entry before version above = grind (arith, nat_tests)
-
-pub entry_at : (setup : Setup) (history : List Entry) (writes : MapWrites) (version : ℕ) →
-    AreWritesOf setup history writes → 0 < version → version ≤ length writes.entries.items →
-    slice_index writes.entries.items (version - 1) ≡ entry_of_version setup history version
-entry_at setup history writes version are some most =
-    let index : version - 1 + 1 ≡ version = omega (arith, some) in
-    rw index at (are.entry (version - 1) (omega (arith, some, most, are.count)))
 
 -- ---- one entry more
 
