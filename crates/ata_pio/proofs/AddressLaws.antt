@@ -1,5 +1,5 @@
 -- The registers that are written back for a sector name it.
-use Rattle.std.proofs.Common.{◌-◌, arith}
+use Rattle.std.proofs.Common.{arith}
 use Rattle.device_spec.proofs.Common.{nat_tests}
 use Rattle.ata_pio.specs.Ata.Laws.{WrittenBackNames}
 

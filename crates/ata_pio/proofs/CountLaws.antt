@@ -1,6 +1,6 @@
 -- A command moves exactly its count of sectors, or stops at the first that fails.
-use Rattle.std.proofs.Common.{◌≡◌, ◌≢◌, ℕ, zero, suc, ◌+◌, ◌*◌, ◌<◌, ◌≤◌, ◌⊎◌, Bool, true, false, eqb, List, [], ◌∷◌}
-use Rattle.std.proofs.Common.{◌++◌, length, Some, Result, Ok, Err, inl, inr, refl, ap, subst, ◌∙◌, arith, length-set}
+use Rattle.std.proofs.Common.{◌≡◌, ℕ, zero, suc, ◌+◌, ◌*◌, ◌<◌, ◌≤◌, ◌⊎◌, Bool, true, false, eqb, List, [], ◌∷◌, ◌++◌}
+use Rattle.std.proofs.Common.{length, Some, Result, Ok, Err, refl, ap, ◌∙◌, arith, length-set}
 use Rattle.device_spec.proofs.Common.{cond-false, ne_eqb, Medium, Reading, Writing, Drive, Disk, sectors_of}
 use Rattle.device_spec.proofs.Common.{sector_bytes, stored, named, left_of, readable, reads_found, finished, ended}
 use Rattle.device_spec.proofs.Common.{begin_read, begin_write, sector_read, sector_written, verified, counted_down}
@@ -17,26 +17,27 @@ use Rattle.ata_pio.proofs.WordLaws.{begin_read-other, sector_is_read, sector_is_
 abbrev next : ℕ → Drive → Drive
 next sector drive = moved_to (sector + 1) (counted_down drive)
 
--- what it names, and how many it has left
-record IsNext (sector : ℕ) (before now : Drive) : Type 0 where
-  names : named now.registers ≡ Some (sector + 1)
-  left : left_of now.registers + 1 ≡ left_of before.registers
-  chosen : IsChosen now
+-- a drive that can move n sectors from one on
+record CanMove (sector n : ℕ) (d : Drive) : Type 0 where
+  chosen : IsChosen d
+  names : named d.registers ≡ Some sector
+  left : n ≤ left_of d.registers
+  room : sector + n ≤ 65536
 
-goes_on : (drive : Drive) (sector : ℕ) → IsChosen drive → 0 < left_of drive.registers → sector + 1 ≤ 65536 →
-    IsNext sector drive (next sector drive)
-goes_on drive sector h more l = grind (arith, nat_tests)
+goes_on : (sector n : ℕ) (d : Drive) → CanMove sector (suc n) d →
+    CanMove (sector + 1) n (next sector d) × (left_of (next sector d).registers + 1 ≡ left_of d.registers)
+goes_on sector n d can = grind (arith, nat_tests)
 
 pub moves_on : MovesOn
 unfolding moved_on
 moves_on drive sector zero h e n l = grind (arith, nat_tests)
 moves_on drive sector (suc n) h e more l =
-    let first = goes_on drive sector h (omega arith) (omega arith) in
-    let fits : n ≤ left_of (next sector drive).registers = omega (arith, first.left) in
-    let rest = moves_on (next sector drive) (sector + 1) n first.chosen first.names fits (omega arith) in
+    let first = goes_on sector n drive (record { chosen = h; names = e; left = more; room = l }) in
+    let rest =
+    moves_on (next sector drive) (sector + 1) n first.0.chosen first.0.names first.0.left (omega (arith, l)) in
     record {
       names = rest.names ∙ ap Some (omega arith);
-      left = omega (arith, rest.left, first.left);
+      left = omega (arith, rest.left, first.1);
       chosen = rest.chosen;
     }
 
@@ -47,22 +48,18 @@ first_readable m sector n h = grind (arith, nat_tests)
 later_readable : (m : Medium) (sector n : ℕ) → AllReadable m sector (suc n) → AllReadable m (sector + 1) n
 later_readable m sector n h = λ k l.
     let same : sector + suc k ≡ sector + 1 + k = omega arith in
-    subst (λ s. readable m (Some s) ≡ Ok s) same (h (suc k) (omega arith))
+    rw same at (h (suc k) (omega arith))
 
 -- reads of the data port, one run after another
 reads_add : (a b : ℕ) (disk : Disk) →
     (words_read (a + b) disk ≡ words_read a disk ++ words_read b (after_words_read a disk))
     × (after_words_read (a + b) disk ≡ after_words_read b (after_words_read a disk))
 unfolding words_read after_words_read
-reads_add zero b disk =
-    let none : zero + b ≡ b = omega arith in
-    (ap (λ n. words_read n disk) none, ap (λ n. after_words_read n disk) none)
+reads_add zero b disk = let none : zero + b ≡ b = omega arith in rw none (refl, refl)
 reads_add (suc a) b disk =
     let next_is : suc a + b ≡ suc (a + b) = omega arith in
-    let later = reads_add a b (word_read disk) in (
-      ap (λ n. words_read n disk) next_is ∙ ap (λ ws. word_of disk ∷ ws) later.0,
-      ap (λ n. after_words_read n disk) next_is ∙ later.1,
-    )
+    let later = reads_add a b (word_read disk) in
+    rw next_is (ap (λ ws. word_of disk ∷ ws) later.0, later.1)
 
 -- the read of the sector that is named, by whether it can be read
 begin_read-is : (m : Medium) (d : Drive) (x : Result ℕ ℕ) → readable m (named d.registers) ≡ x →
@@ -101,41 +98,23 @@ sector_passes disk sector d h e r =
     (record { drive_zero = h.drive_zero; free = h.free }) refl in
     (ap (words_read 256) begun ∙ moved.words, ap (after_words_read 256) begun ∙ moved.rest)
 
-times : (n : ℕ) → suc n * 256 ≡ 256 + n * 256
-times n = omega arith
-
-reads : (n : ℕ) (disk : Disk) (sector : ℕ) (d : Drive) → IsChosen d → named d.registers ≡ Some sector →
-    n ≤ left_of d.registers → sector + n ≤ 65536 → AllReadable disk.medium sector n
+reads : (n : ℕ) (disk : Disk) (sector : ℕ) (d : Drive) → CanMove sector n d → AllReadable disk.medium sector n
     → (words_read (n * 256) (reading_disk disk d) ≡ words_of_sectors disk.medium sector n)
     × (after_words_read (n * 256) (reading_disk disk d) ≡ reading_disk disk (moved_on sector n d))
-unfolding words_read after_words_read moved_on
-reads zero disk sector d h e n l r = (refl, refl)
-reads (suc n) disk sector d h e more l r =
-    let passes = sector_passes disk sector d h e (first_readable disk.medium sector n r) in
-    let first = goes_on d sector h (omega arith) (omega arith) in
-    let fits : n ≤ left_of (next sector d).registers = omega (arith, first.left) in
-    let after : after_words_read 256 (reading_disk disk d) ≡ reading_disk disk (next sector d) =
-    passes.1 ∙ ap (with_drive disk) (sector_read-more disk.medium sector d (omega arith)) in
+unfolding moved_on
+reads zero disk sector d can r = unfold words_read after_words_read in (refl, refl)
+reads (suc n) disk sector d can r =
+    let times : suc n * 256 ≡ 256 + n * 256 = omega arith in
+    let passes = sector_passes disk sector d can.chosen can.names (first_readable disk.medium sector n r) in
+    let more = sector_read-more disk.medium sector d (omega (arith, can.left)) in
     let parts = reads_add 256 (n * 256) (reading_disk disk d) in
     let later =
-    reads n disk (sector + 1) (next sector d) first.chosen first.names fits (omega arith)
-    (later_readable disk.medium sector n r) in (
-      ap (λ k. words_read k (reading_disk disk d)) (times n)
-          ∙ parts.0
-          ∙ ap (λ ws. ws ++ words_read (n * 256) (after_words_read 256 (reading_disk disk d))) passes.0
-          ∙ ap (λ (x : Disk). sector_words disk.medium sector 0 256 ++ words_read (n * 256) x) after
-          ∙ ap (λ ws. sector_words disk.medium sector 0 256 ++ ws) later.0,
-      ap (λ k. after_words_read k (reading_disk disk d)) (times n) ∙ parts.1
-          ∙ ap (after_words_read (n * 256)) after
-          ∙ later.1,
-    )
-
-times_end : (n : ℕ) → suc n * 256 ≡ n * 256 + 256
-times_end n = omega arith
+    reads n disk (sector + 1) (next sector d) (goes_on sector n d can).0 (later_readable disk.medium sector n r) in
+    rw times (cc (parts.0, passes.0, passes.1, more, later.0), cc (parts.1, passes.1, more, later.1))
 
 pub read_moves_its_sectors : ReadMovesItsSectors
 read_moves_its_sectors disk sector n h e more l r =
-    let on = reads n disk sector disk.drive h e more l r in
+    let on = reads n disk sector disk.drive (record { chosen = h; names = e; left = more; room = l }) r in
     let d = moved_on sector n disk.drive in
     let stands = moves_on disk.drive sector n h e more l in
     record {
@@ -145,29 +124,25 @@ read_moves_its_sectors disk sector n h e more l r =
           on.1 ∙ ap (with_drive disk) (begin_read-is disk.medium d (Err error)
           (ap (readable disk.medium) stands.names ∙ bad));
       ends = λ good last.
-          let none : left_of d.registers ≡ 0 = omega (arith, stands.left) in
-          ap (λ k. after_words_read k (reading_disk disk disk.drive)) (times_end n)
-          ∙ (reads_add (n * 256) 256 (reading_disk disk disk.drive)).1
-          ∙ ap (after_words_read 256) on.1
-          ∙ (sector_passes disk (sector + n) d stands.chosen stands.names good).1
-          ∙ ap (with_drive disk) (sector_read-last disk.medium (sector + n) d none);
+          let times : suc n * 256 ≡ n * 256 + 256 = omega arith in
+          let parts = reads_add (n * 256) 256 (reading_disk disk disk.drive) in
+          let passes = sector_passes disk (sector + n) d stands.chosen stands.names good in
+          let ends = sector_read-last disk.medium (sector + n) d (omega (arith, stands.left)) in
+          rw times (cc (parts.1, on.1, passes.1, ends));
     }
 
 -- verify looks at its sectors in turn
-verifies_on : (n : ℕ) (m : Medium) (sector : ℕ) (d : Drive) → IsChosen d → named d.registers ≡ Some sector →
-    n ≤ left_of d.registers → sector + n ≤ 65536 → AllReadable m sector n
+verifies_on : (n : ℕ) (m : Medium) (sector : ℕ) (d : Drive) → CanMove sector n d → AllReadable m sector n
     → verified m (left_of d.registers) d ≡ verified m (left_of (moved_on sector n d).registers) (moved_on sector n d)
 unfolding moved_on
-verifies_on zero m sector d h e n l r = refl
-verifies_on (suc n) m sector d h e more l r =
-    let first = goes_on d _ h (omega arith) (omega arith) in
-    let fits : n ≤ left_of (next sector d).registers = omega (arith, first.left) in
-    verified-more m _ d (ap (readable m) e ∙ first_readable m _ n r) (λ z. omega arith)
-    ∙ verifies_on n m (sector + 1) (next sector d) first.chosen first.names fits (omega arith) (later_readable m _ n r)
+verifies_on zero m sector d can r = refl
+verifies_on (suc n) m sector d can r =
+    verified-more m _ d (ap (readable m) can.names ∙ first_readable m _ n r) (λ z. omega (arith, can.left))
+    ∙ verifies_on n m (sector + 1) (next sector d) (goes_on sector n d can).0 (later_readable m _ n r)
 
 pub verify_looks_at_its_sectors : VerifyLooksAtItsSectors
 verify_looks_at_its_sectors m sector n drive h e more l r =
-    let on = verifies_on n m _ _ h e more l r in
+    let on = verifies_on n m _ _ (record { chosen = h; names = e; left = more; room = l }) r in
     let d = moved_on sector n drive in
     let stands = moves_on drive sector n h e more l in
     record {
@@ -192,6 +167,11 @@ sector_written-last : (m : Medium) (sector : ℕ) (q : Bool) (d : Drive) → lef
 unfolding sector_written
 sector_written-last m sector q d h = grind (arith, nat_tests)
 
+sector_written-more : (m : Medium) (sector : ℕ) (q : Bool) (d : Drive) → 0 < left_of d.registers →
+    sector_written m sector (ended (writing sector q d)) ≡ begin_write m true (next sector d)
+unfolding sector_written begin_write
+sector_written-more m sector q d h = grind (arith, nat_tests)
+
 -- one whole sector of a write
 sector_comes : (m : Medium) (sector : ℕ) (q : Bool) (d : Drive) (words : List ℕ) → IsChosen d →
     named d.registers ≡ Some sector → sector < sectors_of m → length words ≡ 256
@@ -214,28 +194,23 @@ storing m sector words = stored m sector (bytes_of_words words)
 full : (words : List ℕ) → length words ≡ 256 → length (bytes_of_words words) ≡ 512
 full words e = omega (arith, length-bytes_of_words words)
 
-writes_on : (sectors : List (List ℕ)) (m : Medium) (sector : ℕ) (q : Bool) (d : Drive) → IsChosen d →
-    named d.registers ≡ Some sector → length sectors ≤ left_of d.registers → sector + length sectors ≤ sectors_of m →
-    sectors_of m ≤ 65536 → AreSectors sectors → after_words_written (all_words sectors)
-    (writing_disk m q d) ≡ writing_disk (all_stored m sector sectors) (request_of sectors q)
-    (moved_on sector (length sectors) d)
-unfolding after_words_written moved_on sector_written begin_write
-writes_on [] m sector q d h e n l few a = refl
-writes_on (words ∷ rest) m sector q d h e more l few a =
-    let first = goes_on d sector h (omega arith) (omega arith) in
+writes_on : (sectors : List (List ℕ)) (m : Medium) (sector : ℕ) (q : Bool) (d : Drive) →
+    CanMove sector (length sectors) d → sector + length sectors ≤ sectors_of m → AreSectors sectors →
+    after_words_written (all_words sectors) (writing_disk m q d)
+    ≡ writing_disk (all_stored m sector sectors) (request_of sectors q) (moved_on sector (length sectors) d)
+unfolding after_words_written moved_on
+writes_on [] m sector q d can l a = refl
+writes_on (words ∷ rest) m sector q d can l a =
     let m2 = storing m sector words in
     let same : sectors_of m2 ≡ sectors_of m = length-set m.bad sector false in
-    let fits : length rest ≤ left_of (next sector d).registers = omega (arith, first.left) in
-    after_words_written-append words (all_words rest) (writing_disk m q d)
-    ∙ ap (after_words_written (all_words rest))
-    (sector_comes m sector q d words h e (omega arith) a.0
-    ∙ ap (λ (x : Drive). record { medium = m2; drive = x })
-    (cond-false (eqb (left_of d.registers) 0) _ _ (ne_eqb (left_of d.registers) 0 (λ e. omega arith)) ∙
-    (grind (arith, nat_tests))))
-    ∙ writes_on rest m2 (sector + 1) true (next sector d) first.chosen first.names fits (omega (arith, same))
-    (omega (arith, same)) a.1
-    ∙ ap (λ (b : Bool). writing_disk (all_stored m2 (sector + 1) rest) b
-    (moved_on (sector + 1) (length rest) (next sector d))) (grind (arith, nat_tests))
+    let parts = after_words_written-append words (all_words rest) (writing_disk m q d) in
+    let comes = sector_comes m sector q d words can.chosen can.names (omega arith) a.0 in
+    let more = sector_written-more m2 sector q d (omega (arith, can.left)) in
+    let later =
+    writes_on rest m2 (sector + 1) true (next sector d) (goes_on sector (length rest) d can).0 (omega (arith, same))
+    a.1 in
+    let asks : request_of rest true ≡ true = grind (arith, nat_tests) in
+    cc (parts, comes, more, later, asks)
 
 pub others_stay : (sectors : List (List ℕ)) (m : Medium) (sector other : ℕ) → IsWhole m →
     sector + length sectors ≤ sectors_of m → AreSectors sectors
@@ -245,14 +220,9 @@ others_stay [] m sector other w l a o = refl
 others_stay (words ∷ rest) m sector other w l a o =
     let m2 = storing m sector words in
     let same : sectors_of m2 ≡ sectors_of m = length-set m.bad sector false in
-    let apart : sector ≢ other = λ e. elim o [ inl p ↦ omega arith | inr p ↦ omega arith ] in
-    let later : (other < sector + 1) ⊎ (sector + 1 + length rest ≤ other) = elim o [
-      | inl p ↦ inl (omega arith)
-      | inr p ↦ inr (omega arith)
-    ] in
     others_stay rest m2 (sector + 1) other (stored-whole m sector (bytes_of_words words) w (omega arith)
-    (full words a.0)) (omega (arith, same)) a.1 later
-    ∙ stored-other m sector other (bytes_of_words words) w (omega arith) (full words a.0) apart
+    (full words a.0)) (omega (arith, same)) a.1 (grind arith)
+    ∙ stored-other m sector other (bytes_of_words words) w (omega arith) (full words a.0) (omega arith)
 
 sectors_of-all_stored : (sectors : List (List ℕ)) (m : Medium) (sector : ℕ) →
     sectors_of (all_stored m sector sectors) ≡ sectors_of m
@@ -262,7 +232,9 @@ sectors_of-all_stored (words ∷ rest) m sector = sectors_of-all_stored rest (st
 
 pub write_moves_its_sectors : WriteMovesItsSectors
 write_moves_its_sectors m sector sectors q drive h w e more l few a =
-    let on = writes_on sectors m sector q drive h e more l few a in
+    let can : CanMove sector (length sectors) drive =
+    record { chosen = h; names = e; left = more; room = omega arith } in
+    let on = writes_on sectors m sector q drive can l a in
     let d = moved_on sector (length sectors) drive in
     let stands = moves_on drive sector (length sectors) h e more (omega arith) in
     let now = all_stored m sector sectors in

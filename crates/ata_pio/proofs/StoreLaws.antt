@@ -1,8 +1,10 @@
 -- A sector that is stored, and the other ones.
-use Rattle.std.proofs.Common.{◌≡◌, ◌≢◌, ℕ, ◌+◌, ◌-◌, ◌*◌, ◌<◌, ◌≤◌, List, ◌++◌, length, take, drop, get_or, ap, sym}
-use Rattle.std.proofs.Common.{◌∙◌, arith, length-set, get_or-take, get_or-drop}
-use Rattle.device_spec.proofs.Common.{cases_lt, drop-drop, Medium, sectors_of, sector_bytes, stored, word_at, nat_tests}
-use Rattle.std.proofs.lemmas.Slice.{take-put_mid_below, drop-put_mid, between-put_mid, between_is}
+use Rattle.std.proofs.Common.{refl, ◌≡◌, ◌≢◌, ℕ, ◌+◌, ◌*◌, ◌<◌, ◌≤◌, List, ◌++◌, length, take, drop, get_or, ap, sym}
+use Rattle.std.proofs.Common.{◌∙◌, arith, length-set, length-take-le, get_or-take, get_or-drop}
+use Rattle.device_spec.proofs.Common.{cases_lt, drop-drop, take_at, drop_at, Medium, sectors_of, sector_bytes, stored}
+use Rattle.device_spec.proofs.Common.{word_at, nat_tests}
+use Rattle.std.proofs.lemmas.Slice.{take-put_mid_below, drop-put_mid}
+use Rattle.std.proofs.lemmas.List.{drop-take}
 use borrow.Rule.Slice.PartMut.{put_mid}
 use Rattle.ata_pio.specs.Ata.Laws.{IsWhole}
 use Rattle.ata_pio.proofs.Stores.{length-store}
@@ -17,10 +19,8 @@ room m s w h = omega arith
 pub stored-same : (m : Medium) (s : ℕ) (ys : List ℕ) → IsWhole m → s < sectors_of m → length ys ≡ 512 →
     sector_bytes (stored m s ys) s ≡ ys
 stored-same m s ys w h e =
-    let width : 512 * s + 512 - 512 * s ≡ 512 = omega arith in
-    ap (λ xs. take 512 (drop (512 * s) xs)) (as_put m.bytes ys s)
-    ∙ ap (λ n. take n (drop (512 * s) (put_mid (512 * s) 512 m.bytes ys))) (sym width)
-    ∙ between-put_mid (512 * s) 512 m.bytes ys (512 * s + 512) (omega arith) (e ∙ sym width)
+    let front : length (take (512 * s) m.bytes) ≡ 512 * s = length-take-le (512 * s) m.bytes (omega arith) in
+    rw (drop_at (take (512 * s) m.bytes) _ (512 * s) front, take_at ys _ 512 e) refl
 
 above : (m : Medium) (s t : ℕ) (ys : List ℕ) → 512 * s + 512 ≤ length m.bytes → length ys ≡ 512 → s < t →
     sector_bytes (stored m s ys) t ≡ sector_bytes m t
@@ -28,19 +28,13 @@ above m s t ys h e l =
     ap (λ xs. take 512 (drop (512 * t) xs)) (as_put m.bytes ys s)
     ∙ ap (take 512) (drop-put_mid (512 * s) 512 m.bytes ys (512 * t) (omega arith) (omega arith) e)
 
--- the 512 elements from a place on, cut the other way round
-cut : (xs : List ℕ) (b : ℕ) → take 512 (drop b xs) ≡ drop b (take (b + 512) xs)
-cut xs b =
-    let width : b + 512 - b ≡ 512 = omega arith in
-    ap (λ n. take n (drop b xs)) (sym width) ∙ between_is xs b (b + 512)
-
 below : (m : Medium) (s t : ℕ) (ys : List ℕ) → 512 * s + 512 ≤ length m.bytes → t < s →
     sector_bytes (stored m s ys) t ≡ sector_bytes m t
 below m s t ys h l =
     ap (λ xs. take 512 (drop (512 * t) xs)) (as_put m.bytes ys s)
-    ∙ cut (put_mid (512 * s) 512 m.bytes ys) (512 * t)
+    ∙ sym (drop-take (512 * t) 512 (put_mid (512 * s) 512 m.bytes ys))
     ∙ ap (drop (512 * t)) (take-put_mid_below (512 * s) 512 m.bytes ys (512 * t + 512) (omega arith) (omega arith))
-    ∙ sym (cut m.bytes (512 * t))
+    ∙ drop-take (512 * t) 512 m.bytes
 
 pub stored-other : (m : Medium) (s t : ℕ) (ys : List ℕ) → IsWhole m → s < sectors_of m → length ys ≡ 512 → s ≢ t →
     sector_bytes (stored m s ys) t ≡ sector_bytes m t

@@ -1,11 +1,7 @@
 -- One turn of verify: it fails, it was the last sector, or it goes on.
-use Rattle.std.proofs.Common.{◌≡◌, ◌≢◌, ℕ, suc, ◌+◌, ◌%◌, Ok, Err, refl, ap, sym, ◌∙◌, arith}
+use Rattle.std.proofs.Common.{◌≡◌, ◌≢◌, ℕ, suc, ◌+◌, ◌%◌, Ok, Err, refl, arith}
 use Rattle.device_spec.proofs.Common.{Medium, Registers, Drive, named, naming, counted, left_of, readable, failed}
 use Rattle.device_spec.proofs.Common.{finished, counted_down, moved_to, verified, nat_tests}
-
--- the sectors that are left, but for the next
-more_left : (n : ℕ) → n % 256 ≢ 0 → n % 256 ≡ suc ((n % 256 + 255) % 256)
-more_left n h = omega arith
 
 -- a sector that is written back keeps the count
 pub naming-count : (r : Registers) (s : ℕ) → (naming r s).count ≡ r.count
@@ -30,7 +26,4 @@ pub verified-more : (m : Medium) (s : ℕ) (d : Drive) → readable m (named d.r
     → verified m (left_of d.registers) d ≡ verified m (left_of (naming (counted d.registers) (s + 1)))
     (moved_to (s + 1) (counted_down d))
 verified-more m s d h e =
-    ap (λ left. verified m left d) (more_left (d.registers.count + 255) e)
-    ∙ verified-next m s ((left_of d.registers + 255) % 256) d h
-    ∙ ap (λ count. verified m ((count + 255) % 256) (moved_to (s + 1) (counted_down d)))
-    (sym (naming-count (counted d.registers) (s + 1)))
+    grind (arith, nat_tests, naming-count, verified-next m s ((left_of d.registers + 255) % 256) d h)

@@ -1,7 +1,7 @@
 -- A sector moves as 256 words.
 use Rattle.std.proofs.Common.{rules, ◌≡◌, ◌≢◌, ℕ, zero, suc, ◌+◌, ◌*◌, ◌/◌, ◌%◌, ◌<◌, ◌≤◌, Bool, true, cond, eqb, List}
-use Rattle.std.proofs.Common.{[], ◌∷◌, ◌++◌, length, drop, get_or, Result, refl, ap, sym, subst, ◌∙◌, arith}
-use Rattle.std.proofs.Common.{length-append, get_or-drop, append_assoc}
+use Rattle.std.proofs.Common.{[], ◌∷◌, ◌++◌, length, drop, Result, refl, ap, sym, subst, ◌∙◌, arith, length-append}
+use Rattle.std.proofs.Common.{get_or-drop, append_assoc}
 use Rattle.device_spec.proofs.Common.{cond-true, cond-false, eq-eqb, ne_eqb, drop-drop, Medium, Activity, Reading}
 use Rattle.device_spec.proofs.Common.{Writing, Drive, Disk, sectors_of, sector_bytes, word_at, is_drq, named, left_of}
 use Rattle.device_spec.proofs.Common.{counted, naming, readable, reads_found, begin_read, sector_read, ended, word_of}
@@ -10,7 +10,7 @@ use Rattle.ata_pio.specs.Ata.Laws.{IsChosen, words_read, after_words_read, after
 use Rattle.ata_pio.specs.Ata.Laws.{bytes_of_words, AreWords, SectorIsRead, SectorIsWritten, written_disk, ReadsBack}
 use Rattle.ata_pio.specs.Ata.Laws.{IsSound, IsUnderWay, after_all}
 use Rattle.ata_pio.proofs.StoreLaws.{word_at-bytes, stored-same}
-use Rattle.ata_pio.proofs.SoundLaws.{run_keeps, word_written-keeps}
+use Rattle.ata_pio.proofs.SoundLaws.{run_same, word_written-keeps}
 
 -- the drive with another activity, and the disk with it
 abbrev acting : Drive → Activity → Drive
@@ -44,7 +44,7 @@ word_of-reading : (disk : Disk) (s w : ℕ) → IsChosen disk.drive →
 word_of-reading disk s w h = grind (arith, nat_tests, drq-reading)
 
 word_read-more : (disk : Disk) (s w : ℕ) → IsChosen disk.drive → w ≢ 255 →
-    word_read (disk_acting disk (Reading s w)) ≡ disk_acting disk (Reading s (w + 1))
+    word_read (disk_acting disk (Reading s w)) ≡ disk_acting disk (Reading s (suc w))
 unfolding after_word
 word_read-more disk s w h n = grind (arith, nat_tests)
 
@@ -62,8 +62,7 @@ unfolding words_read after_words_read sector_words
 rest_is_read zero disk s w h e =
     (ap (λ x. x ∷ []) (word_of-reading disk s w h), word_read-last disk s w h (omega arith))
 rest_is_read (suc n) disk s w h e =
-    let next : w + 1 ≡ suc w = omega arith in
-    let more = word_read-more disk s w h (omega arith) ∙ ap (λ v. disk_acting disk (Reading s v)) next in
+    let more = word_read-more disk s w h (omega arith) in
     let later = rest_is_read n disk s (suc w) h (omega arith) in (
       ap (λ x. x ∷ words_read (suc n) (word_read (disk_acting disk (Reading s w)))) (word_of-reading disk s w h)
           ∙ ap (λ (x : Disk). word_at disk.medium s w ∷ words_read (suc n) x) more
@@ -121,24 +120,19 @@ words_known : (words : List ℕ) (m : Medium) (s from : ℕ) → from + length w
 unfolding sector_words
 words_known [] m s from h a e = refl
 words_known (word ∷ words) m s from h a e =
-    let low : get_or (sector_bytes m s) (2 * from) 0 ≡ word % 256 =
-    ap (λ i. get_or (sector_bytes m s) i 0) (omega arith) ∙ sym (get_or-drop (2 * from) (sector_bytes m s) 0 0)
-    ∙ ap (λ xs. get_or xs 0 0) e in
-    let high : get_or (sector_bytes m s) (2 * from + 1) 0 ≡ word / 256 =
-    sym (get_or-drop (2 * from) (sector_bytes m s) 1 0) ∙ ap (λ xs. get_or xs 1 0) e in
+    let low = get_or-drop (2 * from) (sector_bytes m s) 0 0 in
+    let high = get_or-drop (2 * from) (sector_bytes m s) 1 0 in
     let first : word_at m s from ≡ word =
-    word_at-bytes m s from (omega arith) ∙ omega (arith, low, high) in
+    grind (arith, nat_tests, word_at-bytes m s from (omega arith), low, high) in
     let next : drop (2 * suc from) (sector_bytes m s) ≡ bytes_of_words words =
-    ap (λ n. drop n (sector_bytes m s)) (omega arith) ∙ sym (drop-drop 2 (2 * from) (sector_bytes m s))
-    ∙ ap (drop 2) e in
-    ap (λ w. w ∷ sector_words m s (suc from) (length words)) first
-    ∙ ap (λ ws. word ∷ ws) (words_known words m s (suc from) (omega arith) a.1 next)
+    grind (arith, nat_tests, drop-drop 2 (2 * from) (sector_bytes m s)) in
+    rw (first, words_known words m s (suc from) (omega arith) a.1 next) refl
 
 words_written-sound : (words : List ℕ) (disk : Disk) → IsSound disk → IsSound (after_words_written words disk)
 unfolding after_words_written
 words_written-sound [] disk h = h
-words_written-sound (word ∷ words) disk h = words_written-sound words (word_written word disk)
-    ((word_written-keeps word disk h).0)
+words_written-sound (word ∷ words) disk h =
+    words_written-sound words (word_written word disk) (word_written-keeps 0 word disk h).sound
 
 pub reads_back : ReadsBack
 reads_back disk s words accesses sound chosen writing l words_fit none later_chosen reading =
@@ -151,7 +145,7 @@ reads_back disk s words accesses sound chosen writing l words_fit none later_cho
     ap (λ (x : Disk). sector_bytes x.medium s) (sector_is_written disk s words chosen writing l)
     ∙ stored-same disk.medium s (bytes_of_words words) sound.whole there whole in
     let kept : sector_bytes later.medium s ≡ sector_bytes after.medium s =
-    (run_keeps accesses after s (words_written-sound words disk sound) none).1 in
+    run_same accesses after s (words_written-sound words disk sound) none in
     (sector_is_read later s later_chosen reading).words
     ∙ ap (sector_words later.medium s 0) (sym l)
     ∙ words_known words later.medium s 0 (omega arith) words_fit (kept ∙ stored_is)
