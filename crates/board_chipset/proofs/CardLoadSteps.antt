@@ -1,19 +1,20 @@
 -- The state after bytes were written to a card from outside.
-use Rattle.std.proofs.Common.{◌≡◌, ◌≢◌, ℕ, zero, suc, ◌+◌, ◌<◌, ◌≤◌, true, false, ◌&&◌, List, [], ◌∷◌, ◌++◌, length}
-use Rattle.std.proofs.Common.{take, drop, Option, Some, None, refl, sym, ◌∙◌, arith, ◌==◌, if◌then◌else◌, slice_index}
+use Rattle.std.proofs.Common.{◌≡◌, ◌≢◌, ℕ, zero, suc, ◌+◌, ◌<◌, ◌≤◌, false, ◌&&◌, List, [], ◌∷◌, ◌++◌, length, take}
+use Rattle.std.proofs.Common.{drop, Option, Some, None, refl, sym, ap, ◌∙◌, arith, ◌==◌, if◌then◌else◌, slice_index}
 use Rattle.std.proofs.Common.{unwrap_or}
 use Rattle.std.proofs.lemmas.Grind.{elements}
 use Rattle.std.proofs.lemmas.Option.{slice_get_past}
-use Rattle.board_prelude.proofs.Common.{eq-eqb, and_from, eqb-false, get_or-take, get_or-drop, nat_tests, Write, One}
-use Rattle.board_prelude.proofs.Common.{Card, Event, Memory, Bus, Entry, Setup, IsSetup, Cell, DramCell, CardCell, byte}
-use Rattle.board_prelude.proofs.Common.{byte_put, card_byte, Denial}
+use Rattle.board_prelude.proofs.Common.{eqb-false, get_or-take, get_or-drop, nat_tests, Write, One, Card, Event, Memory}
+use Rattle.board_prelude.proofs.Common.{Bus, Entry, Setup, IsSetup, Cell, DramCell, CardCell, byte, byte_put, card_byte}
+use Rattle.board_prelude.proofs.Common.{Denial}
+use Rattle.board_base.specs.declared.access.Access.{Access}
 use Rattle.pci_bars.specs.Contents.{HaveSizes, IsBaseNumber, held, IsContentsOf}
 use Rattle.pci_bars.proofs.ContentsLemmas.{card_within, stored_byte}
 use Rattle.board_chipset.specs.declared.state.State.{State}
 use Rattle.board_chipset.specs.Common.{IsSound, IsStateOf}
 use Rattle.board_chipset.specs.CardLoads.{card_size, WritesByte, WriteCardInTurn, WriteCard}
 use Rattle.board_chipset.proofs.OutsideSteps.{found_in}
-use Rattle.board_chipset.proofs.LoadSteps.{IsPut, all_put, InTurn, state_in_turn, made, made_length}
+use Rattle.board_chipset.proofs.LoadSteps.{IsPut, all_put, InTurn, state_in_turn}
 
 -- ---- which bases have bytes
 
@@ -63,25 +64,22 @@ module _ (dev base off : ℕ) (bytes : List ℕ) where
       )
 
   -- there are such entries
-  abbrev nth : ℕ → Entry
-  nth k = record {
-    actor = 0;
-    seq = 0;
-    event = Memory (record { kind = Write; addr = 0; width = One; smm = false; value = slice_index bytes k });
-    reply = Bus None (Card dev base (off + k)) None;
-  }
-
-  made_each : (n : ℕ) → WriteCardInTurn dev base off bytes (made nth n)
+  some_first : (n : ℕ) → (entries : List Entry) × (length entries ≡ n) × WriteCardInTurn dev base off bytes entries
   unfolding WriteCardInTurn
-  made_each zero = tt
-  made_each (suc n) =
-      (rw (made_length nth n) (record { denial = None; event = (refl, refl, refl); reply = refl }), made_each n)
+  some_first zero = ([], refl, tt)
+  some_first (suc n) =
+      let rest = some_first n in
+      let k : ℕ = length rest.0 in
+      let access : Access =
+      record { kind = Write; addr = 0; width = One; smm = false; value = slice_index bytes k } in (
+        record { actor = 0; seq = 0; event = Memory access; reply = Bus None (Card dev base (off + k)) None }
+            ∷ rest.0,
+        ap suc rest.1,
+        (record { denial = None; event = (refl, refl, refl); reply = refl }, rest.2),
+      )
 
   pub some_card_entries : (entries : List Entry) × WriteCard dev base off bytes entries
-  some_card_entries = (
-    made nth (length bytes),
-    record { all = made_length nth (length bytes); each = made_each (length bytes) },
-  )
+  some_card_entries = let some = some_first (length bytes) in (some.0, record { all = some.1; each = some.2 })
 
 -- ---- the contents after bytes were copied into a base
 
@@ -98,24 +96,17 @@ pub record IsCopied (old : List (List ℕ)) (dev base off : ℕ) (bytes : List �
   pub others : (d b : ℕ) → IsBaseNumber d b → (d ≡ dev → b ≡ base → ⊥) → held new d b ≡ held old d b
 
 module _ {old new : List (List ℕ)} {dev base off : ℕ} {bytes : List ℕ} (is : IsCopied old dev base off bytes new) where
-  copied_here : (d b : ℕ) → (dev == d && base == b) ≡ true →
-      (held new d b ≡ over (held old d b) bytes off) × (off + length bytes ≤ length (held old d b))
-  copied_here d b both = grind (arith, nat_tests)
-
-  copied_apart : (d b : ℕ) → IsBaseNumber d b → (dev == d && base == b) ≡ false → held new d b ≡ held old d b
-  copied_apart d b number apart =
-      is.others d b number (λ one two. let both = and_from _ _ (eq-eqb dev d (sym one)) (eq-eqb base b (sym two)) in cc)
+  copied : (d b : ℕ) → IsBaseNumber d b →
+      held new d b ≡ (if dev == d && base == b then over (held old d b) bytes off else held old d b)
+  copied d b number = grind (arith, nat_tests, is.others d b number)
 
   sizes_stay : (d b : ℕ) → IsBaseNumber d b → length (held new d b) ≡ length (held old d b)
-  sizes_stay d b number = grind (arith, elements, copied_here d b, copied_apart d b number)
+  sizes_stay d b number = grind (arith, nat_tests, elements, copied d b number)
 
   copied_byte : (d b at : ℕ) → IsBaseNumber d b →
       slice_index (held new d b) at ≡ unwrap_or (all_put (in_card dev base (CardCell d b at)) off bytes (length bytes))
       (slice_index (held old d b) at)
-  copied_byte d b at number =
-      let here = copied_here d b in
-      let apart = copied_apart d b number in
-      grind (arith, nat_tests, elements)
+  copied_byte d b at number = grind (arith, nat_tests, elements, copied d b number)
 
 -- ---- the state after all of them
 

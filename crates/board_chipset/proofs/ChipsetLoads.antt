@@ -1,7 +1,7 @@
 -- What was read is a chipset, and the one that was saved.
-use Rattle.std.proofs.Common.{◌≡◌, ℕ, ◌↔◌, inl, inr, false, List, [], ◌++◌, length, Option, Result, Ok, Err, IfOk, refl}
-use Rattle.std.proofs.Common.{sym, ap, ◌∙◌, append_assoc, arith, ◌+◌, ◌≤◌}
-use Rattle.board_prelude.proofs.Common.{nat_tests, w16, to_le_bytes, Entry, Setup, IsSetup, append-nil, Disk}
+use Rattle.std.proofs.Common.{◌≡◌, ℕ, inl, inr, false, List, [], ◌++◌, length, Option, Result, Ok, Err, IfOk, refl, sym}
+use Rattle.std.proofs.Common.{ap, ◌∙◌, append_assoc, arith, ◌+◌, ◌≤◌}
+use Rattle.board_prelude.proofs.Common.{nat_tests, w16, to_le_bytes, Setup, IsSetup, append-nil, Disk}
 use Rattle.byte_fields.specs.declared.fault.Fault.{Fault}
 use Rattle.byte_fields.specs.Fields.{AreBytes, Filled}
 use Rattle.byte_fields.proofs.Formats.{ok_is, not_err}
@@ -11,7 +11,7 @@ use Rattle.map_builder.specs.State.{IsMapped, SameMap}
 use Rattle.board_devices.specs.Common.{HasDisk}
 use Rattle.board_devices.specs.State.{IsFittedDisk}
 use Rattle.board_chipset.specs.declared.registers.Registers.{Registers}
-use Rattle.board_chipset.specs.Chipset.{Running, IsRunning, IsLeftBy}
+use Rattle.board_chipset.specs.Chipset.{Running, IsRunning}
 use Rattle.board_chipset.specs.Kept.{AreSound}
 use Rattle.board_chipset.specs.ChipsetState.{AreRegisters, IsChipset, bare_chipset, state_mark, state_version}
 use Rattle.board_chipset.specs.ChipsetState.{size_bytes, head_bytes, other_version_field, is_other_version}
@@ -28,15 +28,7 @@ use Rattle.byte_fields.specs.declared.fault.Fault.TheVariants as faults
 registers_sound : (setup : Setup) (registers : Registers) → AreRegisters setup.cards registers →
     AreSound setup registers
 registers_sound setup registers are =
-    let cards = are.map.saved.regs.cards in
-    let has = has_bytes setup registers.map.regs registers.south (record {
-      same = cards.same;
-      fitted = are.map.whole.fitted;
-      doublewords = λ k d within. let widths = (cards.each k d within).widths in
-          record { bases = widths.bases.each; rom = widths.rom };
-      no_rom = λ k d within. (cards.each k d within).no_rom;
-      routes = are.south.routes;
-    }) in
+    let has = has_bytes setup registers are in
     record { bytes = has.0; kept = has.1; address = are.address.kept; flat = are.map.whole.map }
 
 disk_fitted : (fitted : Option (List ℕ)) (disk : Option Disk) → IsFittedDisk fitted disk → HasDisk fitted disk
@@ -54,13 +46,9 @@ pub bare_spelled : (chipset : Running) → chipset_bytes (bare_chipset chipset) 
 unfolding chipset_bytes state_bytes registers_bytes
 bare_spelled chipset = refl
 
-with_map : Running → Mapped → Running
+abbrev with_map : Running → Mapped → Running
 with_map chipset map =
     record chipset { state = record chipset.state { registers = record chipset.state.registers { map = map } } }
-
-whole_is : (chipset : Running) → with_map (bare_chipset chipset) chipset.state.registers.map ≡ chipset
-unfolding with_map
-whole_is chipset = refl
 
 same_chipset : SameMap → (one other : Running) → IsChipset one → IsChipset other →
     bare_chipset one ≡ bare_chipset other → one ≡ other
@@ -68,7 +56,7 @@ same_chipset law one other is of told =
     let maps : one.state.registers.map ≡ other.state.registers.map =
     law one.state.registers.map other.state.registers.map is.whole.registers.map.whole of.whole.registers.map.whole
     (ap (λ (c : Running). c.state.registers.map) told) in
-    cc (whole_is one, whole_is other)
+    ap (λ (c : Running). with_map c one.state.registers.map) told ∙ ap (with_map (bare_chipset other)) maps
 
 -- ---- a call that reads a chipset
 
@@ -123,10 +111,6 @@ one_state law saved loaded is of same bytes =
     let told = ok_is _ _ (sym (read_back _ _ _ [] refl is refl)
     ∙ read_back _ _ _ [] (sym same) of (ap (λ (bytes : List ℕ). bytes ++ []) bytes)) in
     same_chipset law _ _ is of (ap (λ (read : Running × List ℕ). read.0) told)
-
-pub left_alike : (saved loaded : Running) (history : List Entry) → saved ≡ loaded →
-    IsLeftBy loaded history ↔ IsLeftBy saved history
-left_alike saved loaded history is = (λ left. rw is left, λ left. rw is at left)
 
 -- ---- the version
 

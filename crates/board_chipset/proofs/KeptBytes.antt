@@ -3,24 +3,18 @@ use Rattle.std.proofs.Common.{◌≡◌, ℕ, ◌-◌, false, ◌&&◌, List, []
 use Rattle.std.proofs.Common.{ap, arith, ◌==◌, if◌then◌else◌, All, is_some, slice_index, map}
 use Rattle.board_prelude.proofs.Common.{and-false, or_parts, option_map_or, cond-false, ne_eqb, Setup, IsCard, Bytes}
 use Rattle.board_prelude.proofs.Common.{is_within, reset_byte, ide, nat_tests}
-use Rattle.pci_bars.specs.Cards.{CardBytes, IsCardOf, AreFitted, cards_of}
+use Rattle.pci_bars.specs.Cards.{CardBytes, IsCardOf, cards_of}
 use Rattle.addr_decode.specs.MapRegs.{MapBytes}
 use Rattle.map_builder.specs.Map.{HoldsDoublewords}
 use Rattle.map_builder.proofs.BoardLemmas.{card_with, found, overlaid, other_stands, decodes, overlaid_stands}
 use Rattle.config_regs.specs.declared.south.South.{South}
 use Rattle.config_regs.specs.Config.{AreKeptOf, IsSouthOf}
+use Rattle.board_chipset.specs.declared.registers.Registers.{Registers}
+use Rattle.board_chipset.specs.ChipsetState.{AreRegisters}
 
 -- without an expansion ROM its register is 0
-abbrev pub HasNoRom : CardBytes → Type 0
+abbrev HasNoRom : CardBytes → Type 0
 HasNoRom card = card.card.rom ≡ None → card.rom ≡ 0
-
--- the cards are those of the setup, with doublewords in their registers, and there are four routes
-pub record AreKeepable (setup : Setup) (regs : MapBytes) (south : South) : Type 0 where
-  pub same : setup.cards ≡ cards_of regs.cards
-  pub fitted : AreFitted regs.cards
-  pub doublewords : All HoldsDoublewords regs.cards
-  pub no_rom : All HasNoRom regs.cards
-  pub routes : length south.routes ≡ 4
 
 -- ---- the bytes
 
@@ -90,19 +84,27 @@ module _ (setup : Setup) (regs : MapBytes) (south : South) where
             ∙ cond-false (off == 0x3C) _ _ last.1;
       }
 
-  -- a board of this setup has these registers
-  pub has_bytes : AreKeepable setup regs south → (bytes : Bytes) × AreKeptOf setup bytes regs south
-  unfolding kept_byte
-  has_bytes is = (
-    kept_byte setup regs south,
-    record {
-      map = overlaid_stands setup regs (beside_map setup regs south) is.same is.fitted is.doublewords;
-      cards = (
-        is.same,
-        λ k d within.
-            card_is (get_or regs.cards k d) (is.fitted.each k d within)
-            (found regs.cards is.fitted.rises k d within) is.same (is.doublewords k d within) (is.no_rom k d within),
-      );
-      south = south_stands setup regs south is.routes;
-    },
-  )
+-- a board of this setup has these registers
+pub has_bytes : (setup : Setup) (registers : Registers) → AreRegisters setup.cards registers →
+    (bytes : Bytes) × AreKeptOf setup bytes registers.map.regs registers.south
+unfolding kept_byte
+has_bytes setup registers are =
+    let regs = registers.map.regs in
+    let south = registers.south in
+    let cards = are.map.saved.regs.cards in
+    let fitted = are.map.whole.fitted in
+    let doublewords : All HoldsDoublewords regs.cards = λ k d within.
+    let widths = (cards.each k d within).widths in record { bases = widths.bases.each; rom = widths.rom } in (
+      kept_byte setup regs south,
+      record {
+        map = overlaid_stands setup regs (beside_map setup regs south) cards.same fitted doublewords;
+        cards = (
+          cards.same,
+          λ k d within.
+              card_is setup regs south (get_or regs.cards k d) (fitted.each k d within)
+              (found regs.cards fitted.rises k d within) cards.same (doublewords k d within)
+              (cards.each k d within).no_rom,
+        );
+        south = south_stands setup regs south are.south.routes;
+      },
+    )

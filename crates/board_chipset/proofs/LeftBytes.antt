@@ -1,8 +1,7 @@
 -- Bytes that a caller keeps itself: left out they are spelled as any others beside themselves, and they can be put in.
 use Rattle.std.proofs.Common.{◌≡◌, ℕ, suc, ◌≤◌, ◌<◌, true, false, Bool, List, [], ◌∷◌, ◌++◌, length, drop, replicate}
 use Rattle.std.proofs.Common.{bytes_eq, map, option_map, unwrap_or, is_some, Option, Some, None, refl, sym, ap, ◌∙◌}
-use Rattle.std.proofs.Common.{arith, ◌+◌, ◌-◌, nat_le, nat_lt, ◌&&◌, if◌then◌else◌, slice_index, Result, OnOk}
-use Rattle.std.proofs.Common.{append_assoc}
+use Rattle.std.proofs.Common.{arith, slice_index, All}
 use Rattle.board_prelude.proofs.Common.{bytes_eq-Decides, length-replicate, length-take, length-drop, nat_tests, Bytes}
 use Rattle.board_prelude.proofs.Common.{Disk, IsDisk, Setup, IsSetup, reset_byte}
 use Rattle.std.proofs.lemmas.List.{drop_min, take_min}
@@ -12,15 +11,13 @@ use Rattle.byte_fields.specs.Fields.{flag_byte}
 use Rattle.byte_fields.proofs.Numbers.{some_is}
 use Rattle.ata_pio.specs.DriveState.{drive_bytes}
 use Rattle.ata_pio.specs.State.{disk_bytes, sector_size}
-use Rattle.board_devices.specs.Common.{DevicesValue, HasDisk, holding, sectors_in}
-use Rattle.board_devices.specs.State.{devices_bytes, fitted_bytes, machines_bytes}
+use Rattle.board_devices.specs.Common.{HasDisk, holding, sectors_in}
+use Rattle.board_devices.specs.State.{fitted_bytes}
 use Rattle.board_chipset.specs.ChipsetState.{head_bytes, size_bytes, disk_size}
-use Rattle.board_chipset.specs.Given.{devices_left, fitted_with, unless_left, zeros}
-use Rattle.std.proofs.lemmas.Result.{on_ok_weaker}
+use Rattle.board_chipset.specs.Given.{fitted_with, unless_left, zeros}
 use Rattle.std.proofs.lemmas.Grind.{same_number_lists}
-use Rattle.std.proofs.lemmas.List.Elements.{All-weaker}
-use Rattle.dram_store.specs.Dram.{dram_at, IsWritten}
-use Rattle.pci_bars.specs.Cards.{CardBytes, DecodesAs, IsCardOf}
+use Rattle.dram_store.specs.Dram.{IsWritten}
+use Rattle.pci_bars.specs.Cards.{DecodesAs, IsCardOf}
 use Rattle.addr_decode.specs.MapRegs.{MapBytes}
 use Rattle.config_regs.specs.Config.{AreKeptOf}
 use Rattle.config_regs.specs.declared.south.South.{South}
@@ -81,7 +78,7 @@ left_over fitted disk same =
     (sym (ap (λ (n : ℕ). replicate {A = ℕ} n 0) same)) in
     ap (λ (spelled : List ℕ). drive_bytes disk.drive ++ (spelled ++ map flag_byte disk.medium.bad)) pages
 
-left_disk : (fitted : Option (List ℕ)) (disk : Option Disk) → HasDisk fitted disk → HasDisk (sectors_in disk) disk →
+pub left_disk : (fitted : Option (List ℕ)) (disk : Option Disk) → HasDisk fitted disk → HasDisk (sectors_in disk) disk →
     fitted_bytes (sectors_in disk) disk
     ≡ fitted_bytes (option_map {T = List ℕ} (λ _. zeros (unwrap_or fitted [])) fitted)
     (option_map (holding (zeros (unwrap_or (sectors_in disk) []))) disk)
@@ -106,35 +103,22 @@ left_head left setup =
 
 -- ---- all bytes of a DRAM were written
 
-byte_is : (old new : List ℕ) (count at byte : ℕ) → at < length new → count ≡ length new → length old ≡ length new →
-    dram_at new at ≡ (if nat_le 0 at && nat_lt at (0 + count) && nat_lt at (length old) then byte else dram_at old at) →
-    slice_index new at ≡ byte
-byte_is old new count at byte within whole same is = grind (arith, nat_tests)
-
 pub all_written : (old new bytes : List ℕ) → IsWritten old 0 (length bytes) (slice_index bytes) new →
     length new ≡ length old → length bytes ≡ length old → new ≡ bytes
 all_written old new bytes is size whole =
-    same_number_lists new bytes (size ∙ sym whole) (λ at below.
-    byte_is old new (length bytes) at (slice_index bytes (at - 0)) below (whole ∙ sym size) (sym size) (is at)
-    ∙ ap (λ (k : ℕ). slice_index bytes k) (omega arith))
+    same_number_lists new bytes (size ∙ sym whole) (λ at below. grind (arith, nat_tests, is at))
 
 -- ---- another disk was fitted, as large
 
 module _ (bytes : List ℕ) (setup : Setup) where
-  decodes_as : (registers : Bytes) (card : CardBytes) → DecodesAs setup registers card →
-      DecodesAs (fitted_with bytes setup) registers card
-  decodes_as registers card is = assumption
-
-  card_as : (registers : Bytes) (card : CardBytes) → IsCardOf setup registers card →
-      IsCardOf (fitted_with bytes setup) registers card
-  unfolding reset_byte
-  card_as registers card is = assumption
-
   kept_as : (registers : Bytes) (regs : MapBytes) (beside : South) → AreKeptOf setup registers regs beside →
       AreKeptOf (fitted_with bytes setup) registers regs beside
+  unfolding reset_byte
   kept_as registers regs beside is =
-      let decode = All-weaker _ _ (decodes_as registers) regs.cards is.map.cards.1 in
-      let are = All-weaker _ _ (card_as registers) regs.cards is.cards.1 in
+      let decode : All (DecodesAs (fitted_with bytes setup) registers) regs.cards = λ k d within.
+      assumption (is.map.cards.1 k d within) in
+      let are : All (IsCardOf (fitted_with bytes setup) registers) regs.cards = λ k d within.
+      assumption (is.cards.1 k d within) in
       assumption
 
   disk_as : (fitted : Option (List ℕ)) (disk : Option Disk) → length bytes ≡ length (unwrap_or fitted []) →
@@ -158,16 +142,3 @@ module _ (bytes : List ℕ) (setup : Setup) where
         flat = is.registers.flat;
       } in
       assumption (setup_as same is.fits, disk_as setup.disk state.devices.disk same is.disk)
-
--- ---- the state without the bytes of the disk
-
-pub left_added : {T E : Type 0} (result : Result T E) (fitted sectors : Option (List ℕ)) (devices : DevicesValue)
-    (old mid new contents : List ℕ) → HasDisk fitted devices.disk → HasDisk (sectors_in devices.disk) devices.disk →
-    sectors ≡ sectors_in devices.disk → mid ≡ old ++ contents →
-    OnOk result (new ≡ mid ++ devices_bytes sectors devices) →
-    OnOk result (new ≡ old ++ (contents ++ devices_left fitted devices))
-unfolding devices_bytes machines_bytes
-left_added result fitted sectors devices old mid new contents has own same first =
-    on_ok_weaker result (λ second. second
-    ∙ rw (same, first, ap (λ (disk : List ℕ). machines_bytes devices ++ disk) (left_disk fitted devices.disk has own))
-    (append_assoc old contents (devices_left fitted devices)))

@@ -6,6 +6,7 @@ use Rattle.std.proofs.Common.{false, ◌≤◌, Result, Ok, Err, OnOk, OnErr}
 use Rattle.board_prelude.proofs.Common.{nat_tests, Event, Reply, Entry, Setup, Cell, entry_put, stored_of}
 use Rattle.board_prelude.proofs.Common.{device_reached, Write, One, Dram, Device, clock_index_port, clock_data_port}
 use Rattle.board_prelude.proofs.Common.{Memory, Port, Bus, DramCell, CardCell, clock_of}
+use Rattle.board_base.specs.declared.access.Access.{Access}
 use Rattle.board_devices.specs.Common.{DevicesValue, AreDevicesOf, PassesBy, byte_out, WritesClock, PutsClockByte}
 use Rattle.board_devices.proofs.DeviceLemmas.{leaves_devices}
 use Rattle.board_stores.specs.declared.stores.Stores.{Stores}
@@ -81,16 +82,6 @@ module _ (place : Cell → Option ℕ) (from : ℕ) (bytes : List ℕ) where
             (λ cell. rw (← all) (stored history cell entries each)) are,
       )
 
--- ---- entries that were made
-
-abbrev pub made : (ℕ → Entry) → ℕ → List Entry
-made entry zero = []
-made entry (suc n) = entry n ∷ made entry n
-
-pub made_length : (entry : ℕ → Entry) (n : ℕ) → length (made entry n) ≡ n
-made_length entry zero = refl
-made_length entry (suc n) = ap suc (made_length entry n)
-
 -- ---- the entries that write to the DRAM
 
 abbrev in_dram : Cell → Option ℕ
@@ -106,28 +97,21 @@ module _ (addr : ℕ) (bytes : List ℕ) where
       let is = each.0 in (grind (arith, nat_tests, small (length earlier)), in_turn small earlier each.1)
 
   -- there are such entries
-  abbrev nth : ℕ → Entry
-  nth k = record {
-    actor = 0;
-    seq = 0;
-    event = Memory (record { kind = Write; addr = addr + k; width = One; smm = false; value = slice_index bytes k });
-    reply = Bus None (Dram 0) None;
-  }
-
-  made_each : (n : ℕ) → WriteInTurn addr bytes (made nth n)
+  some_first : (n : ℕ) → (entries : List Entry) × (length entries ≡ n) × WriteInTurn addr bytes entries
   unfolding WriteInTurn
-  made_each zero = tt
-  made_each (suc n) = (
-    rw (made_length nth n)
-        (record { smm = false; target = Dram 0; denial = None; event = refl; reply = refl; in_dram = refl }),
-    made_each n,
-  )
+  some_first zero = ([], refl, tt)
+  some_first (suc n) =
+      let rest = some_first n in
+      let k : ℕ = length rest.0 in
+      let access : Access =
+      record { kind = Write; addr = addr + k; width = One; smm = false; value = slice_index bytes k } in (
+        record { actor = 0; seq = 0; event = Memory access; reply = Bus None (Dram 0) None } ∷ rest.0,
+        ap suc rest.1,
+        (record { smm = false; target = Dram 0; denial = None; event = refl; reply = refl; in_dram = refl }, rest.2),
+      )
 
   pub some_entries : (entries : List Entry) × WriteAll addr bytes entries
-  some_entries = (
-    made nth (length bytes),
-    record { all = made_length nth (length bytes); each = made_each (length bytes) },
-  )
+  some_entries = let some = some_first (length bytes) in (some.0, record { all = some.1; each = some.2 })
 
 -- ---- what `load` tells
 

@@ -1,9 +1,9 @@
 -- Events for the devices alone: they write no register and store nothing.
-use Rattle.board_prelude.proofs.Common.{nat_tests, and_from, le-leb, IsAnswer, IsInRange, outside_answer, Applied}
-use Rattle.board_prelude.proofs.Common.{Stimulus, stimulus_form, applied_by, event_applied, All-head, All-tail, Event}
-use Rattle.board_prelude.proofs.Common.{Entry, Setup, FittedCard, IsCard, IsSetup, card_at}
-use Rattle.std.proofs.Common.{◌≡◌, ◌≤◌, true, List, [], ◌∷◌, None, refl, sym, ◌∙◌, subst, ℕ, ◌==◌, All, find, is_some}
-use Rattle.std.proofs.Common.{Bool, Option, Some, IfSome, arith}
+use Rattle.board_prelude.proofs.Common.{nat_tests, IsAnswer, IsInRange, outside_answer, Applied, Stimulus}
+use Rattle.board_prelude.proofs.Common.{stimulus_form, applied_by, event_applied, All-head, All-tail, Event, Entry}
+use Rattle.board_prelude.proofs.Common.{Setup, FittedCard, IsCard, IsSetup}
+use Rattle.std.proofs.Common.{◌≡◌, true, List, [], ◌∷◌, None, refl, sym, ◌∙◌, subst, ℕ, ◌==◌, All, find, Bool, Some}
+use Rattle.std.proofs.Common.{IfSome, arith}
 use Rattle.board_spec.specs.declared.stimulus.Stimulus.TheVariants as stimuli
 use Rattle.board_devices.specs.Common.{DevicesValue, AreDevicesOf, AreRoutesOf, Asks}
 use Rattle.board_chipset.specs.declared.state.State.{State}
@@ -32,10 +32,6 @@ found_in (first ∷ later) dev each =
     let rest = found_in later dev (All-tail IsCard first later each) in
     grind (arith, nat_tests, All-head IsCard first later each)
 
-fitted_device : (found : Option FittedCard) (dev : ℕ) → IfSome found (λ card. IsCard card × (card.dev ≡ dev)) →
-    is_some found ≡ true → (2 ≤ dev) × (dev ≤ 9)
-fitted_device found dev is some = grind (arith, nat_tests)
-
 -- ---- what a stimulus applies
 
 pub applied_is : (event : Event) (said : Applied) → applied_by event ≡ Some said →
@@ -54,6 +50,5 @@ pub level_number : (setup : Setup) (one : Stimulus) (number : ℕ) (on : Bool) �
     IsInRange setup (event_applied one number on) → (stimulus_form one).has_level ≡ true →
     (stimulus_form one).numbers number ≡ true
 level_number setup stimuli.Wire number on fits is level =
-    let dev = fitted_device (card_at setup number) number (found_in setup.cards number fits.cards.each) is in
-    and_from _ _ (le-leb 2 number dev.0) (le-leb number 9 dev.1)
+    grind (arith, nat_tests, found_in setup.cards number fits.cards.each)
 level_number setup _ number on fits is level = cc

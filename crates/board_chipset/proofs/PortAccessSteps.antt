@@ -2,7 +2,7 @@
 use Rattle.board_prelude.proofs.Common.{take_more, reverse-append, get_or-map, length-map, pow-le-pow_right}
 use Rattle.board_prelude.proofs.Common.{mod-eq_of_lt, PortAccess, bytes_of, some_bytes, Setup, IsBusAccess, drop_more}
 use Rattle.std.proofs.Common.{◌≡◌, ℕ, ◌+◌, ◌-◌, ◌*◌, ◌%◌, ◌^◌, ◌<◌, ◌≤◌, List, [], ◌∷◌, ◌++◌, length, get_or, take}
-use Rattle.std.proofs.Common.{drop, refl, ◌∙◌, ap, subst, arith, lit<, reverse, pow-add}
+use Rattle.std.proofs.Common.{drop, refl, ◌∙◌, ap, arith, lit<, reverse, pow-add}
 use Rattle.std.proofs.Math.Nat.{mul-le-mul_right}
 use Rattle.board_stores.specs.declared.ports.PortCycle.{PortCycle}
 use Rattle.board_stores.specs.PortCycles.{Follow, port_accesses, AreBusCycles}
@@ -32,10 +32,6 @@ next_done setup start mid now first sooner cycle value read reset made so_far st
     rw (each.0) refl in
     (rw (at_place, before.0, one.0) refl, rw (before.1, one.1) refl, one.2)
 
-pub reversed : {X : Type 0} (xs : List X) (i : ℕ) (x : X) → i < length xs →
-    reverse (take (i + 1) xs) ≡ get_or xs i x ∷ reverse (take i xs)
-reversed xs i x within = ap reverse (take_more xs i x within) ∙ reverse-append (take i xs) (get_or xs i x ∷ [])
-
 -- ---- places
 
 -- the cycles that are left begin at a port; the bytes below it were read
@@ -54,67 +50,68 @@ follow_ends from end (cycle ∷ later) is =
 
 -- ---- the next cycle, and its value
 
-module _ {first value : ℕ} {cycle : PortAccess} {later : List PortAccess}
-    (so_far : IsAt first value (cycle ∷ later)) where
+-- its bytes have a place in the value, where they are not cut off, and the others follow them
+pub record IsPlaced (first value : ℕ) (cycle : PortAccess) (later : List PortAccess) : Type 0 where
   pub from_first : first ≤ cycle.port
-  from_first = omega (arith, so_far.rest.0, so_far.from)
-
-  room : (cycle.port - first) + bytes_of cycle.width ≤ 4
-  room = omega (arith, so_far.rest.0, so_far.from, follow_ends _ _ _ so_far.rest.1, so_far.few)
-
-  pub shift_most : 8 * (cycle.port - first) ≤ 24
-  shift_most = omega (arith, room, some_bytes cycle.width)
-
-  -- its bytes at their place
-  placed : (read : ℕ) → read < 256 ^ bytes_of cycle.width →
-      value + read * 256 ^ (cycle.port - first) < 256 ^ ((cycle.port - first) + bytes_of cycle.width)
-  placed read fits =
-      let d = cycle.port - first in
-      let small : value < 256 ^ d = rw (so_far.rest.0) so_far.small in
-      omega (arith, pow-add 256 d (bytes_of cycle.width), mul-le-mul_right (256 ^ d) fits)
-
-  pub all_fit : (read : ℕ) → read < 256 ^ bytes_of cycle.width → value + read * 256 ^ (cycle.port - first) < 2 ^ 32
-  all_fit read fits = omega (arith, placed read fits, pow-le-pow_right {n = 256} (lit< tt) room)
-
-  -- and they are not cut off
+  pub shift : 8 * (cycle.port - first) ≤ 24
   pub shifted : (read : ℕ) → read < 256 ^ bytes_of cycle.width →
       read * 2 ^ (8 * (cycle.port - first)) % 2 ^ 32 ≡ read * 256 ^ (cycle.port - first)
-  shifted read fits =
-      ap (λ (n : ℕ). read * n % 2 ^ 32) (byte_power (cycle.port - first))
-      ∙ mod-eq_of_lt {n = read * 256 ^ (cycle.port - first)} {m = 2 ^ 32} (omega (arith, all_fit read fits))
+  pub fits : (read : ℕ) → read < 256 ^ bytes_of cycle.width → value + read * 256 ^ (cycle.port - first) < 2 ^ 32
+  pub next : (read : ℕ) → read < 256 ^ bytes_of cycle.width →
+      IsAt first (value + read * 256 ^ (cycle.port - first)) later
 
-  pub at_next : (read next : ℕ) → read < 256 ^ bytes_of cycle.width →
-      next ≡ value + read * 256 ^ (cycle.port - first) → IsAt first next later
-  at_next read next fits is =
-      let d : (cycle.port + bytes_of cycle.width) - first ≡ (cycle.port - first) + bytes_of cycle.width =
-      omega (arith, from_first) in
-      record {
+placed : {first value : ℕ} {cycle : PortAccess} {later : List PortAccess} → IsAt first value (cycle ∷ later) →
+    IsPlaced first value cycle later
+placed {first} {value} {cycle} so_far =
+    let d : ℕ = cycle.port - first in
+    let port = so_far.rest.0 in
+    let from_first : first ≤ cycle.port = omega (arith, port, so_far.from) in
+    let room : d + bytes_of cycle.width ≤ 4 = omega (arith, follow_ends _ _ _ so_far.rest.1, so_far.few) in
+    let small : value < 256 ^ d = rw port so_far.small in
+    let below : (read : ℕ) → read < 256 ^ bytes_of cycle.width →
+    value + read * 256 ^ d < 256 ^ (d + bytes_of cycle.width) = λ read fits.
+    omega (arith, pow-add 256 d (bytes_of cycle.width), mul-le-mul_right (256 ^ d) fits) in
+    let fit : (read : ℕ) → read < 256 ^ bytes_of cycle.width → value + read * 256 ^ d < 2 ^ 32 = λ read fits.
+    omega (arith, below read fits, pow-le-pow_right {n = 256} (lit< tt) room) in
+    let ends : cycle.port + bytes_of cycle.width - first ≡ d + bytes_of cycle.width = omega arith in
+    record {
+      from_first = from_first;
+      shift = omega (arith, room, some_bytes cycle.width);
+      shifted = λ read fits.
+          ap (λ (n : ℕ). read * n % 2 ^ 32) (byte_power d)
+          ∙ mod-eq_of_lt {n = read * 256 ^ d} {m = 2 ^ 32} (omega (arith, fit read fits));
+      fits = fit;
+      next = λ read fits. record {
         at = cycle.port + bytes_of cycle.width;
         end = so_far.end;
         few = so_far.few;
-        from = omega (arith, from_first);
-        rest = rw (so_far.rest.0) so_far.rest.1;
-        small = rw (d, is) (placed read fits);
-      }
+        from = omega arith;
+        rest = rw port so_far.rest.1;
+        small = rw ends (below read fits);
+      };
+    }
 
 -- ---- cycles as the code keeps them
 
 module _ (cycles : List PortCycle) (i : ℕ) (d : PortCycle) (within : i < length cycles) where
-  pub inside : i < length (port_accesses cycles)
+  inside : i < length (port_accesses cycles)
   inside = omega (arith, within, length-map cycles (λ (cycle : PortCycle). cycle.access))
 
-  pub item : get_or (port_accesses cycles) i (get_or cycles i d).access ≡ (get_or cycles i d).access
+  item : get_or (port_accesses cycles) i (get_or cycles i d).access ≡ (get_or cycles i d).access
   item = get_or-map (λ (cycle : PortCycle). cycle.access) cycles i d (get_or cycles i d).access within
 
-  pub at_item : {first value : ℕ} → IsAt first value (drop i (port_accesses cycles)) →
-      IsAt first value ((get_or cycles i d).access ∷ drop (i + 1) (port_accesses cycles))
-  at_item so_far =
-      let next = drop_more (port_accesses cycles) i (get_or cycles i d).access inside in
-      rw (rw item at next) at so_far
+  pub reversed : reverse (take (i + 1) (port_accesses cycles))
+      ≡ (get_or cycles i d).access ∷ reverse (take i (port_accesses cycles))
+  reversed =
+      rw (take_more (port_accesses cycles) i (get_or cycles i d).access inside, item)
+      (reverse-append (take i (port_accesses cycles)) ((get_or cycles i d).access ∷ []))
+
+  pub next_cycle : {first value : ℕ} → IsAt first value (drop i (port_accesses cycles)) →
+      IsPlaced first value (get_or cycles i d).access (drop (i + 1) (port_accesses cycles))
+  next_cycle so_far =
+      placed (rw (drop_more (port_accesses cycles) i (get_or cycles i d).access inside, item) at so_far)
 
   pub on_bus : AreBusCycles (port_accesses cycles) →
       IsBusAccess (get_or cycles i d).access.write (get_or cycles i d).access.port (get_or cycles i d).access.width
       (get_or cycles i d).access.value
-  on_bus all =
-      subst (λ (cycle : PortAccess). IsBusAccess cycle.write cycle.port cycle.width cycle.value) item
-      (all i (get_or cycles i d).access inside)
+  on_bus all = rw item at (all i (get_or cycles i d).access inside)

@@ -3,8 +3,7 @@ use Rattle.board_prelude.proofs.Common.{take_all, length-map, One, Setup, nat_te
 use Rattle.board_stores.specs.declared.ports.PortCycle.{PortCycle}
 use Rattle.board_stores.specs.PortCycles.{port_accesses}
 use Rattle.board_chipset.specs.PortAccesses.{IsCycleStep}
-use Rattle.board_chipset.proofs.PortAccessSteps.{none_done, next_done, reversed, shifted, shift_most, all_fit, at_next}
-use Rattle.board_chipset.proofs.PortAccessSteps.{inside, item, at_item, on_bus, from_first}
+use Rattle.board_chipset.proofs.PortAccessSteps.{none_done, next_done, reversed, next_cycle, on_bus}
 use Rattle.board_chipset.proofs.chipset.Chipset.cycles.Goals as goal
 
 none : PortCycle
@@ -19,58 +18,46 @@ loop-cycle-init c = record {
 
 pub cycle-read-requires : goal.cycle-read-requires
 unfolding none
-cycle-read-requires c = record {
-  bus = on_bus c.args.cycles.now c.loop-cycle.cycle-index none c.loop-cycle-test.true c.requires.bus;
-}
+cycle-read-requires c = record { bus = on_bus _ _ none c.loop-cycle-test.true c.requires.bus }
 
 pub overflow_sub-value : goal.overflow_sub-value
 unfolding none
-overflow_sub-value c =
-    from_first (at_item c.args.cycles.now c.loop-cycle.cycle-index none c.loop-cycle-test.true
-    c.loop-cycle.invariant.at)
+overflow_sub-value c = (next_cycle _ _ none c.loop-cycle-test.true c.loop-cycle.invariant.at).from_first
 
 pub overflow_mul-value : goal.overflow_mul-value
 unfolding none
 overflow_mul-value c =
-    let most = shift_most (at_item _ _ none c.loop-cycle-test.true c.loop-cycle.invariant.at) in
-    omega arith
+    let here = next_cycle _ _ none c.loop-cycle-test.true c.loop-cycle.invariant.at in
+    omega (arith, here.shift)
 
 pub overflow_shl-value : goal.overflow_shl-value
 unfolding none
 overflow_shl-value c =
-    let most = shift_most (at_item _ _ none c.loop-cycle-test.true c.loop-cycle.invariant.at) in
-    omega arith
+    let here = next_cycle _ _ none c.loop-cycle-test.true c.loop-cycle.invariant.at in
+    omega (arith, here.shift)
 
 pub overflow_add-value : goal.overflow_add-value
 unfolding none
 overflow_add-value c =
-    let here = at_item c.args.cycles.now c.loop-cycle.cycle-index none c.loop-cycle-test.true
-    c.loop-cycle.invariant.at in
-    let fits = all_fit here c.cycle-read.result.0 c.cycle-read.ensures.small in
-    rw (shifted here c.cycle-read.result.0 c.cycle-read.ensures.small) (omega (arith, fits))
+    let here = next_cycle _ _ none c.loop-cycle-test.true c.loop-cycle.invariant.at in
+    rw (here.shifted _ c.cycle-read.ensures.small) (omega (arith, here.fits _ c.cycle-read.ensures.small))
 
 pub loop-cycle-preserved : goal.loop-cycle-preserved
 unfolding none
 loop-cycle-preserved c =
     let cycles = c.args.cycles.now in
     let i = c.loop-cycle.cycle-index in
-    let within = c.loop-cycle-test.true in
-    let here = at_item _ i none within c.loop-cycle.invariant.at in
-    let read = c.cycle-read.result.0 in
-    let is = ap (λ (n : ℕ). c.loop-cycle.value + n) (shifted here _ c.cycle-read.ensures.small) in
+    let here = next_cycle cycles i none c.loop-cycle-test.true c.loop-cycle.invariant.at in
+    let is = ap (λ (n : ℕ). c.loop-cycle.value + n) (here.shifted _ c.cycle-read.ensures.small) in
     record {
       setup = rw (c.cycle-read.ensures.setup) c.loop-cycle.invariant.setup;
       done =
-          rw (
-            reversed _ i (get_or cycles i none).access (inside _ i none within),
-            item _ i none within,
-            is,
-            c.or-reset.ensures.stronger,
-          )
+          rw (reversed cycles i none c.loop-cycle-test.true, is, c.or-reset.ensures.stronger)
           (next_done _ _ _ _ _ _ _ _ _ _ _ c.loop-cycle.invariant.done
           (subst (λ (setup : Setup). IsCycleStep setup c.loop-cycle.self (get_or cycles i none).access
-          c.cycle-read.new.self read c.cycle-read.result.1) c.loop-cycle.invariant.setup c.cycle-read.ensures.step));
-      at = at_next here _ _ c.cycle-read.ensures.small is;
+          c.cycle-read.new.self c.cycle-read.result.0 c.cycle-read.result.1) c.loop-cycle.invariant.setup
+          c.cycle-read.ensures.step));
+      at = rw is (here.next _ c.cycle-read.ensures.small);
     }
 
 pub returns-clause-done : goal.returns-clause-done
