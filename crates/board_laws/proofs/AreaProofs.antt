@@ -1,14 +1,15 @@
 -- Who answers at an address of memory: each line of the map, and what follows where the lines before it do not hold.
 use Rattle.std.proofs.Common.{◌≡◌, ℕ, zero, suc, ◌+◌, ◌≤◌, ◌<◌, true, Some, is_some, refl, inl, inr, arith, below_more}
-use Rattle.std.proofs.Common.{Bool, false, List, [], ◌∷◌, ◌++◌, None, option_map, ◌∙◌, ap, find, All, ◌&&◌, not}
-use Rattle.board_prelude.proofs.Common.{cases_lt, nat_tests, Bytes, boundary, top_of, row_of, All-head, All-tail, Kind}
-use Rattle.board_prelude.proofs.Common.{Setup, Window, memory_claim, area_of, first_of, line_where, card_area}
-use Rattle.board_prelude.proofs.Common.{is_bios_selected, is_smram_range, upper_memory, is_smram_open, is_shadowed}
-use Rattle.board_prelude.proofs.Common.{lies_in, is_in_hole, find-append}
+use Rattle.std.proofs.Common.{Bool, false, List, [], ◌∷◌, ◌++◌, option_map, ◌∙◌, ap, find, ◌&&◌, not}
+use Rattle.board_prelude.proofs.Common.{cases_lt, nat_tests, Bytes, boundary, top_of, row_of, Kind, Setup, Window}
+use Rattle.board_prelude.proofs.Common.{memory_claim, area_of, first_of, line_where, card_area, is_bios_selected}
+use Rattle.board_prelude.proofs.Common.{is_smram_range, upper_memory, is_smram_open, is_shadowed, lies_in, is_in_hole}
+use Rattle.board_prelude.proofs.Common.{find-append}
 use Rattle.board_laws.specs.AreaLaws.{IsRow, HasRow, RowBelowTop, IsInSmram, IsInShadow, IsInDram, IsPastDram, claims}
 use Rattle.board_laws.specs.AreaLaws.{memory_windows_of, NoneClaims, WhoAnswers}
 use Rattle.board_base.specs.declared.target.Area.TheVariants.{Rom, Abort}
 use Rattle.std.proofs.lemmas.Bool.{false_from_ne_true}
+use Rattle.board_laws.proofs.Searches.{find-none}
 
 -- ---- the row of an address
 
@@ -73,13 +74,6 @@ module _ (bytes : Bytes) (addr : ℕ) where
   no_dram_line never = grind (arith, nat_tests, false_from_ne_true, is_some-row)
 
 -- ---- the cards
-
-find-none : (test : Window → Bool) (windows : List Window) → All (λ it. test it ≡ false) windows →
-    find test windows ≡ None
-find-none test [] fail = refl
-find-none test (other ∷ later) fail =
-    rw (All-head (λ it. test it ≡ false) other later fail)
-    (find-none test later (All-tail (λ it. test it ≡ false) other later fail))
 
 claim-first : (setup : Setup) (bytes : Bytes) (addr : ℕ) (earlier later : List Window) (window : Window) →
     memory_windows_of setup bytes ≡ earlier ++ window ∷ later → NoneClaims bytes addr earlier →

@@ -2,11 +2,11 @@
 use Rattle.std.proofs.Common.{◌≡◌, ℕ, ◌%◌, ◌<◌, false, ◌&&◌, List, nat_le, ◌==◌, if◌then◌else◌, suc, length, get_or}
 use Rattle.std.proofs.Common.{set, refl, ◌∙◌, arith, get_or-set_other, get_or-set_same}
 use Rattle.board_prelude.proofs.Common.{cases_eq, nat_tests, get_or-set_at, length-set, CivilTime, Clock, number_byte}
-use Rattle.board_prelude.proofs.Common.{hour_byte, control_of, time_bytes, put, tell, alarm_fits, alarm_rings}
-use Rattle.board_prelude.proofs.Common.{control_reset, written, is_bit}
+use Rattle.board_prelude.proofs.Common.{hour_byte, control_of, time_bytes, put, alarm_fits, alarm_rings, control_reset}
+use Rattle.board_prelude.proofs.Common.{written, is_bit}
 use Rattle.device_spec.specs.Clock.{power_on}
-use Rattle.board_laws.specs.ClockLaws.{number_read, hour_read, Shows, IsShowable, HasAlarm, same_time_of_day}
-use Rattle.board_laws.specs.ClockLaws.{RingsAtItsTime, ReadingQuiets, ResetKeepsTheTime, MemoryKeeps, StaysSound}
+use Rattle.board_laws.specs.ClockLaws.{number_read, hour_read, IsShowable, HasAlarm, same_time_of_day, ReadingQuiets}
+use Rattle.board_laws.specs.ClockLaws.{ResetKeepsTheTime, MemoryKeeps, StaysSound, ShowsTheMoment}
 
 -- bytes with others at the seven places of the time and the calendar, and what stays
 record Timed (bytes after : List ℕ) (second minute hour weekday day month year : ℕ) : Type 0 where
@@ -41,12 +41,11 @@ read_as control byte c n e f h = grind (arith, nat_tests)
 hour_read_as : (control byte c n : ℕ) → control ≡ c → byte ≡ hour_byte c n → n < 24 → hour_read control byte ≡ n
 hour_read_as control byte c n e f h = grind (arith, nat_tests)
 
-pub shows : (clock : Clock) (time : CivilTime) → length clock.bytes ≡ 128 → IsShowable time →
-    Shows (tell clock (put (time_bytes (control_of clock) time) clock.bytes)) time
-shows clock time size showable =
+pub shows : ShowsTheMoment
+shows clock time size let_in showable =
     let c = control_of clock in
     let is = told clock time size in
-    record {
+    rw let_in (record {
       seconds = read_as _ _ c time.second is.control is.seconds (omega (arith, showable.seconds));
       minutes = read_as _ _ c time.minute is.control is.minutes (omega (arith, showable.minutes));
       hours = hour_read_as _ _ c time.hour is.control is.hours showable.hours;
@@ -54,7 +53,7 @@ shows clock time size showable =
       days = read_as _ _ c time.day is.control is.days showable.days;
       months = read_as _ _ c time.month is.control is.months showable.months;
       years = read_as _ _ c (time.year % 100) is.control is.years (omega arith);
-    }
+    })
 
 -- an alarm byte fits the bytes of its own time
 module _ (c a n alarm time : ℕ) where
@@ -72,7 +71,7 @@ module _ (c a n alarm time : ℕ) where
       let low : alarm < 192 = grind (arith, nat_tests) in
       grind (arith, nat_tests)
 
-rings : (clock : Clock) (time alarm : CivilTime) → length clock.bytes ≡ 128 → IsShowable time → IsShowable alarm →
+pub rings : (clock : Clock) (time alarm : CivilTime) → length clock.bytes ≡ 128 → IsShowable time → IsShowable alarm →
     HasAlarm clock alarm → alarm_rings (put (time_bytes (control_of clock) time) clock.bytes)
     ≡ same_time_of_day alarm time
 rings clock time alarm size now due set_to =
@@ -85,9 +84,6 @@ rings clock time alarm size now due set_to =
           (is.minute_alarm ∙ set_to.minutes) is.minutes,
       hour_fits c alarm.hour time.hour _ _ due.hours now.hours (is.hour_alarm ∙ set_to.hours) is.hours,
     ) refl
-
-pub rings_at_its_time : RingsAtItsTime
-rings_at_its_time clock time alarm size let_in now due set_to = grind (arith, nat_tests, rings)
 
 reset_bit : (b k : ℕ) → k < 8 → is_bit (control_reset b) k ≡ (if nat_le 3 k && nat_le k 6 then false else is_bit b k)
 reset_bit b (suc (suc (suc (suc (suc (suc (suc (suc k)))))))) h = absurd (omega arith)

@@ -1,5 +1,5 @@
+mod Searches
 mod StoredLaws
-mod RegisterBits
 mod MapLawProofs
 mod DenialProofs
 mod RegisterProofs

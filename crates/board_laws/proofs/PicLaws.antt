@@ -1,34 +1,31 @@
 -- The laws of the interrupt controllers.
-use Rattle.std.proofs.Common.{lit<, ◌≡◌, ℕ, ◌+◌, ◌/◌, ◌%◌, ◌<◌, Bool, true, false, not, eqb, ◌&&◌, Option, Some, None}
-use Rattle.std.proofs.Common.{List, [], ◌∷◌, get_or, refl, ap, ◌∙◌, inl, inr, arith, is_some, zero, suc, ◌≤◌, cond}
-use Rattle.std.proofs.Common.{length, drop, sym, length-append, ◌++◌}
+use Rattle.std.proofs.Common.{lit<, ◌≡◌, ℕ, ◌+◌, ◌/◌, ◌%◌, ◌<◌, true, false, not, eqb, ◌&&◌, Option, Some, None, List}
+use Rattle.std.proofs.Common.{[], ◌∷◌, get_or, refl, ap, ◌∙◌, inl, inr, arith, is_some, suc, cond, length, drop, sym}
+use Rattle.std.proofs.Common.{length-append, ◌++◌, take, All, ◌≢◌}
 use Rattle.board_prelude.proofs.Common.{cases_Bool, agree_below_at, eqb-true, eq-eqb, and_parts, nat_tests, not-true}
 use Rattle.board_prelude.proofs.Common.{false≢true, Levels, has, levels_where, with_level, without_level, Chip, pending}
 use Rattle.board_prelude.proofs.Common.{priority_order, is_blocking, blocks_itself, is_requested, request, interrupt}
-use Rattle.board_prelude.proofs.Common.{acknowledged_if, chip_after_write, Pair, answer_of, pair_after_acknowledge}
+use Rattle.board_prelude.proofs.Common.{acknowledged_if, chip_after_write, Pair, pair_after_acknowledge}
 use Rattle.board_prelude.proofs.Common.{pair_acknowledged, settled, pair_written, pair_read, has-levels_where, scan}
-use Rattle.board_prelude.proofs.Common.{request-is, is_bit, find, list_all, cases_lt, drop_of_length-le}
-use Rattle.board_prelude.proofs.Common.{get_or-append_seam, get_or_append_left, first_blocking, scan-found, scan-past}
-use Rattle.board_prelude.proofs.Common.{find-past, find-here, first_blocking-is, priority_order-small, first_selectable}
-use Rattle.board_prelude.proofs.Common.{chip_after_read}
-use Rattle.std.proofs.lemmas.Bool.{agree_below}
-use Rattle.board_laws.specs.PicLaws.{IsFirstInOrder, EndsOne, IsSpuriousAt, SlaveIsLatched, StaysLatched, place_of}
-use Rattle.board_laws.specs.PicLaws.{CanBeSelected, InterruptIsSelected, SelectedInterrupts, IsServedFirst}
-use Rattle.board_laws.specs.PicLaws.{NonSpecificEndEndsFirst, NonSpecificEndOfNone, ReadsLeaveTheOther}
+use Rattle.board_prelude.proofs.Common.{request-is, is_bit, cases_lt, get_or-append_seam, get_or_append_left}
+use Rattle.board_prelude.proofs.Common.{first_blocking, first_blocking-is, priority_order-small, first_selectable}
+use Rattle.board_prelude.proofs.Common.{chip_after_read, All-head, All-tail, get_or-take, get_or_default}
+use Rattle.board_prelude.proofs.Common.{take-append-drop, drop-cons, length-take, find-append}
+use Rattle.std.proofs.lemmas.Bool.{agree_below, false_from_ne_true}
+use Rattle.board_laws.specs.PicLaws.{IsFirstInOrder, EndsOne, SlaveIsLatched, StaysLatched, place_of}
+use Rattle.board_laws.specs.PicLaws.{InterruptIsSelected, SelectedInterrupts, NonSpecificEndEndsFirst}
+use Rattle.board_laws.specs.PicLaws.{NonSpecificEndOfNone, ReadsLeaveTheOther, SpecificEndEndsOne}
 use Rattle.device_spec.specs.Pic.{ended}
+use Rattle.std.proofs.lemmas.List.Sums.{AllPass-from_list_all}
+use Rattle.board_laws.proofs.Searches.{find-none}
 
 -- ---- the order
 
-goes_round_at : ℕ → ℕ → Bool
-goes_round_at lowest place = eqb (get_or (priority_order lowest) place 0) ((lowest + 1 + place) % 8)
-
-goes_round : ℕ → Bool
-goes_round lowest = agree_below (goes_round_at lowest) (λ _. true) 8
-
 pub priorities : (lowest place : ℕ) → lowest < 8 → place < 8 →
     get_or (priority_order lowest) place 0 ≡ (lowest + 1 + place) % 8
-unfolding goes_round_at goes_round
 priorities lowest place hl hp =
+    let goes_round_at = λ (lowest place : ℕ). eqb (get_or (priority_order lowest) place 0) ((lowest + 1 + place) % 8) in
+    let goes_round = λ (lowest : ℕ). agree_below (goes_round_at lowest) (λ _. true) 8 in
     let here = agree_below_at goes_round (λ _. true) 8 lowest refl hl in
     eqb-true _ _ (agree_below_at (goes_round_at lowest) (λ _. true) 8 place here hp)
 
@@ -77,52 +74,38 @@ pub interrupt_unmasked : (chip : Chip) (level : ℕ) → interrupt chip ≡ Some
 interrupt_unmasked chip level e =
     not-true (has chip.masked level) (and_parts (has (pending chip) level) _ (interrupt_first chip level e).asks).1
 
-pub interrupt-small : (chip : Chip) (level : ℕ) → interrupt chip ≡ Some level → level < 8
+pub interrupt_small : (chip : Chip) (level : ℕ) → interrupt chip ≡ Some level → level < 8
 unfolding pending levels_where
-interrupt-small chip level e = let first = interrupt_first chip level e in grind (arith, nat_tests, first.asks)
-
--- ---- acknowledge
+interrupt_small chip level e = let first = interrupt_first chip level e in grind (arith, nat_tests, first.asks)
 
 -- a level joins the set that it is put into
-with_level-has : (set : Levels) (level : ℕ) → level < 8 → has (with_level set level) level ≡ true
-with_level-has set level small = grind (arith, nat_tests, has-levels_where, eqb, has, eq-eqb)
+pub with_level_has : (set : Levels) (level : ℕ) → level < 8 → has (with_level set level) level ≡ true
+with_level_has set level small = grind (arith, nat_tests, has-levels_where, eqb, has, eq-eqb)
 
-pub settled-slave : (pair : Pair) → (settled pair).slave ≡ pair.slave
-settled-slave pair = grind (arith, nat_tests)
-
-pub acknowledged_in_service : (pair : Pair) (level : ℕ) → interrupt pair.master ≡ Some level →
-    pair.master.auto_eoi ≡ false → has (pair_after_acknowledge pair).master.in_service level ≡ true
-unfolding pair_after_acknowledge
-acknowledged_in_service pair level e manual = grind (arith, nat_tests, with_level-has, interrupt-small)
-
-pub slave_in_service : (pair : Pair) (level : ℕ) → interrupt pair.master ≡ Some 2 → interrupt pair.slave ≡ Some level →
-    pair.slave.auto_eoi ≡ false → has (pair_after_acknowledge pair).slave.in_service level ≡ true
-unfolding pair_after_acknowledge
-slave_in_service pair level e s manual = grind (arith, nat_tests, settled-slave, with_level-has, interrupt-small)
-
--- ---- spurious answers
-
-pub spurious_leaves : (pair : Pair) → (answer_of pair).is_spurious ≡ true → IsSpuriousAt pair
-unfolding answer_of pair_after_acknowledge
-spurious_leaves pair spurious = grind (arith, nat_tests, settled-slave)
+pub settled_slave : (pair : Pair) → (settled pair).slave ≡ pair.slave
+settled_slave pair = grind (arith, nat_tests)
 
 -- ---- a specific end of interrupt
 
-pub specific-end : (chip : Chip) (byte : ℕ) → is_bit byte 4 ≡ false → is_bit byte 3 ≡ false → byte / 32 ≡ 3 →
+-- a set without a level, in the place of the set in service
+without-one : (chip : Chip) (level : ℕ) → level < 8 →
+    EndsOne chip (record chip { in_service = without_level chip.in_service level }) level
+without-one chip level small = grind (arith, nat_tests, has-levels_where)
+
+specific-end : (chip : Chip) (byte : ℕ) → is_bit byte 4 ≡ false → is_bit byte 3 ≡ false → byte / 32 ≡ 3 →
     chip_after_write chip false byte ≡ record chip { in_service = without_level chip.in_service (byte % 8) }
 unfolding chip_after_write
 specific-end chip byte b4 b3 command = rw (b4, b3, command) refl
 
--- a set without a level, in the place of the set in service
-pub without-one : (chip : Chip) (level : ℕ) → level < 8 →
-    EndsOne chip (record chip { in_service = without_level chip.in_service level }) level
-without-one chip level small = grind (arith, nat_tests, has-levels_where)
+pub specific_ends_one : SpecificEndEndsOne
+specific_ends_one chip byte b4 b3 command =
+    rw (specific-end chip byte b4 b3 command) (without-one chip (byte % 8) (omega arith))
 
 -- ---- the slave's request
 
 slave-latched : (pair : Pair) → SlaveIsLatched (settled pair)
 slave-latched pair asks =
-    grind (arith, nat_tests, cases_Bool, is_some, interrupt, with_level-has, lit<, false≢true, settled-slave)
+    grind (arith, nat_tests, cases_Bool, is_some, interrupt, with_level_has, lit<, false≢true, settled_slave)
 
 acknowledged-latched : (pair : Pair) (o : Option ℕ) → interrupt pair.master ≡ o → SlaveIsLatched pair →
     SlaveIsLatched (pair_after_acknowledge pair)
@@ -141,141 +124,119 @@ stays_latched = record {
 
 -- ---- the order by places
 
-has_eight : ℕ → Bool
-has_eight lowest = eqb (length (priority_order lowest)) 8
-
 eight : (lowest : ℕ) → lowest < 8 → length (priority_order lowest) ≡ 8
-unfolding has_eight
-eight lowest h = eqb-true _ 8 (agree_below_at has_eight (λ _. true) 8 lowest refl h)
-
-place-small : (lowest level : ℕ) → place_of lowest level < 8
-place-small lowest level = omega arith
+eight lowest h =
+    let has_eight = λ (lowest : ℕ). eqb (length (priority_order lowest)) 8 in
+    eqb-true _ 8 (agree_below_at has_eight (λ _. true) 8 lowest refl h)
 
 level_at : (lowest level : ℕ) → lowest < 8 → level < 8 →
     get_or (priority_order lowest) (place_of lowest level) 0 ≡ level
-level_at lowest level h g = priorities lowest (place_of lowest level) h (place-small lowest level) ∙ omega arith
+level_at lowest level h g = priorities lowest (place_of lowest level) h (omega arith) ∙ omega arith
 
 place_at : (lowest place : ℕ) → lowest < 8 → place < 8 →
     place_of lowest (get_or (priority_order lowest) place 0) ≡ place
 place_at lowest place h g = ap (place_of lowest) (priorities lowest place h g) ∙ omega arith
 
+-- the order is cut at a level. Where every other level that blocks stands after it, none before it blocks
+record CutAt (chip : Chip) (level : ℕ) : Type 0 where
+  higher : List ℕ
+  lower : List ℕ
+  order : higher ++ level ∷ lower ≡ priority_order chip.lowest
+  idle : All (λ other. is_blocking chip other ≡ false) higher
+
+cut_at : (chip : Chip) (level : ℕ) → chip.lowest < 8 → level < 8 →
+    ((other : ℕ) → other < 8 → other ≢ level → is_blocking chip other ≡ true →
+    place_of chip.lowest level < place_of chip.lowest other) → CutAt chip level
+cut_at chip level h inside first =
+    let order : List ℕ = priority_order chip.lowest in
+    let place : ℕ = place_of chip.lowest level in
+    let long : length order ≡ 8 = eight chip.lowest h in
+    record {
+      higher = take place order;
+      lower = drop (suc place) order;
+      order =
+          ap (λ other. take place order ++ other ∷ drop (suc place) order) (sym (level_at chip.lowest level h inside))
+          ∙ ap (λ rest. take place order ++ rest) (sym (drop-cons order place 0 (omega arith)))
+          ∙ take-append-drop place order;
+      idle = λ k d below.
+          let early : k < place = omega (arith, below, length-take place order) in
+          let other : ℕ = get_or order k 0 in
+          let is = get_or-take place order k d early ∙ get_or_default order k d 0 (omega arith) in
+          rw is (false_from_ne_true (is_blocking chip other) (λ blocks.
+          let there = place_at chip.lowest k h (omega arith) in
+          let apart : other ≢ level = λ same. omega (arith, ap (place_of chip.lowest) same, there, early) in
+          omega (arith, first other (priority_order-small chip.lowest k h (omega arith)) apart blocks, there, early)));
+    }
+
 -- ---- what INT stands for
 
--- the search from a place on finds a level, where one that can be selected is still to come
-found : (d i : ℕ) (chip : Chip) (level : ℕ) → chip.lowest < 8 → CanBeSelected chip level →
-    i + d ≡ place_of chip.lowest level → is_some (scan chip (drop i (priority_order chip.lowest))) ≡ true
-found zero i chip level h can at_place =
-    let here : i ≡ place_of chip.lowest level = omega arith in
-    let is : get_or (priority_order chip.lowest) i 0 ≡ level = rw here (level_at chip.lowest level h can.inside) in
-    let inside : i < length (priority_order chip.lowest) =
-    rw (eight chip.lowest h) (omega (arith, place-small chip.lowest level)) in
-    rw (scan-found chip (priority_order chip.lowest) i inside
-    (rw is (grind (arith, nat_tests, can.asks, can.unmasked, can.free)))) refl
-found (suc d) i chip level h can at_place =
-    let order = priority_order chip.lowest in
-    let other = get_or order i 0 in
-    let before : i < 8 = omega (arith, place-small chip.lowest level) in
-    let inside : i < length order = rw (eight chip.lowest h) before in
-    let place : place_of chip.lowest other ≡ i = place_at chip.lowest i h before in
-    let small : other < 8 = priority_order-small chip.lowest i h before in
-    elim (cases_Bool (is_requested chip other && not (blocks_itself chip other))) [
-      | inl here ↦ rw (scan-found chip order i inside here) refl
-      | inr none ↦ elim (cases_Bool (is_blocking chip other)) [
-        | inl blocks ↦
-            let late = can.first other small (λ e. omega (arith, ap (place_of chip.lowest) e, place)) blocks in
-            absurd (omega (arith, late, place))
-        | inr idle ↦ rw (scan-past chip order i inside none idle) (found d (i + 1) chip level h can (omega arith))
-      ]
+-- the search ends at a level that can be selected, or at one before it
+some_selected : (chip : Chip) (higher : List ℕ) (level : ℕ) (lower : List ℕ) →
+    All (λ other. is_blocking chip other ≡ false) higher →
+    (is_requested chip level && not (blocks_itself chip level)) ≡ true →
+    is_some (scan chip (higher ++ level ∷ lower)) ≡ true
+unfolding scan
+some_selected chip [] level lower idle asks = rw asks refl
+some_selected chip (x ∷ xs) level lower idle asks =
+    elim (cases_Bool (is_requested chip x && not (blocks_itself chip x))) [
+      | inl found ↦ rw found refl
+      | inr other ↦
+          rw (other, All-head (λ other. is_blocking chip other ≡ false) x xs idle)
+          (some_selected chip xs level lower (All-tail (λ other. is_blocking chip other ≡ false) x xs idle) asks)
     ]
 
 pub selected_interrupts : SelectedInterrupts
 selected_interrupts chip level h ready can =
-    ap (λ b. is_some (cond b (request chip) None)) ready
-    ∙ (ap is_some (request-is chip (priority_order chip.lowest) refl)
-    ∙ found (place_of chip.lowest level) 0 chip level h can (omega arith))
+    let cut = cut_at chip level h can.inside can.first in
+    ap (λ b. is_some (cond b (request chip) None)) ready ∙ ap is_some (request-is chip _ cut.order)
+    ∙ some_selected chip cut.higher level cut.lower cut.idle
+    (grind (arith, nat_tests, can.asks, can.unmasked, can.free))
 
--- a level at an earlier place of the order neither asks nor blocks
-pub record IsQuiet (chip : Chip) (level : ℕ) : Type 0 where
-  pub silent : is_requested chip level ≡ false
-  pub idle : is_blocking chip level ≡ false
-
-quiet-before : (chip : Chip) (higher : List ℕ) (i : ℕ) →
-    list_all (λ other. not (is_requested chip other) && not (is_blocking chip other)) higher ≡ true →
-    i < length higher → IsQuiet chip (get_or higher i 0)
-quiet-before chip [] i all h = absurd (omega arith)
-quiet-before chip (x ∷ xs) zero all h = grind (arith, nat_tests)
-quiet-before chip (x ∷ xs) (suc i) all h =
-    quiet-before chip xs i (and_parts (not (is_requested chip x) && not (is_blocking chip x)) _ all).1 (omega arith)
-
--- a level before the one that INT stands for is quiet
-earlier-quiet : (chip : Chip) (level other : ℕ) (first : IsFirstInOrder chip (priority_order chip.lowest) level) →
-    chip.lowest < 8 → other < 8 → place_of chip.lowest other < length first.higher → IsQuiet chip other
-earlier-quiet chip level other first h inside early =
-    let at_place : get_or first.higher (place_of chip.lowest other) 0 ≡ other =
-    rw (← get_or_append_left first.higher (level ∷ first.lower) 0 (place_of chip.lowest other) early, ← first.place)
-    (level_at chip.lowest other h inside) in
-    rw at_place at (quiet-before chip first.higher (place_of chip.lowest other) first.first early)
-
-first-place : (chip : Chip) (level : ℕ) (first : IsFirstInOrder chip (priority_order chip.lowest) level) →
-    chip.lowest < 8 → place_of chip.lowest level ≡ length first.higher
-first-place chip level first h =
-    let here : length first.higher < length (priority_order chip.lowest) =
-    rw (first.place, length-append first.higher (level ∷ first.lower)) (omega arith) in
-    let is : get_or (priority_order chip.lowest) (length first.higher) 0 ≡ level =
+-- a level before the one that INT stands for neither asks nor blocks
+quiet-before : (chip : Chip) (level other : ℕ) → IsFirstInOrder chip (priority_order chip.lowest) level →
+    chip.lowest < 8 → other < 8 → place_of chip.lowest other < place_of chip.lowest level →
+    (is_requested chip other ≡ false) × (is_blocking chip other ≡ false)
+quiet-before chip level other first h inside early =
+    let long = eight chip.lowest h in
+    let sum = ap length first.place ∙ length-append first.higher (level ∷ first.lower) in
+    let here : get_or (priority_order chip.lowest) (length first.higher) 0 ≡ level =
     rw first.place (get_or-append_seam first.higher level first.lower 0) in
-    rw is at (place_at chip.lowest (length first.higher) h (omega (arith, eight chip.lowest h, here)))
+    let place : place_of chip.lowest level ≡ length first.higher =
+    rw here at (place_at chip.lowest (length first.higher) h (omega arith)) in
+    let there : get_or first.higher (place_of chip.lowest other) 0 ≡ other =
+    rw (
+      ← get_or_append_left first.higher (level ∷ first.lower) 0 (place_of chip.lowest other) (omega arith),
+      ← first.place,
+    ) (level_at chip.lowest other h inside) in
+    let quiet : (not (is_requested chip other) && not (is_blocking chip other)) ≡ true =
+    rw there at (AllPass-from_list_all (λ it. not (is_requested chip it) && not (is_blocking chip it)) first.higher
+    first.first (place_of chip.lowest other) 0 (omega arith)) in
+    grind (arith, nat_tests)
 
 pub interrupt_selected : InterruptIsSelected
 interrupt_selected chip level h e =
     let first = interrupt_first chip level e in
-    let place = first-place chip level first h in
-    let small = interrupt-small chip level e in
-    let quiet : (other : ℕ) → other < 8 → place_of chip.lowest other < place_of chip.lowest level → IsQuiet chip other =
-    λ other inside early. earlier-quiet chip level other first h inside (rw (← place) early) in
     record {
       ready = grind (arith, nat_tests);
       can = record {
-        inside = small;
+        inside = interrupt_small chip level e;
         asks = grind (arith, nat_tests, first.asks);
         unmasked = interrupt_unmasked chip level e;
         free = first.free;
         first = λ other inside apart blocks.
             elim (cases_lt (place_of chip.lowest other) (place_of chip.lowest level)) [
-              | inl early ↦ absurd (false≢true (sym (quiet other inside early).idle ∙ blocks))
-              | inr late ↦ omega arith
+              | inl early ↦ absurd (false≢true (sym (quiet-before chip level other first h inside early).1 ∙ blocks))
+              | inr late ↦ omega (arith, interrupt_small chip level e)
             ];
       };
       first = λ other can. elim (cases_lt (place_of chip.lowest other) (place_of chip.lowest level)) [
-        | inl early ↦ absurd (let q = (quiet other can.inside early).silent in
+        | inl early ↦ absurd (let q = (quiet-before chip level other first h can.inside early).0 in
             grind (arith, nat_tests, q, can.asks, can.unmasked))
         | inr late ↦ late
       ];
     }
 
 -- ---- what a non-specific end of interrupt ends
-
--- the search from a place on finds the level that is served first
-served : (d i : ℕ) (chip : Chip) (level : ℕ) → chip.lowest < 8 → IsServedFirst chip level →
-    i + d ≡ place_of chip.lowest level → find (is_blocking chip) (drop i (priority_order chip.lowest)) ≡ Some level
-served zero i chip level h first at_place =
-    let order = priority_order chip.lowest in
-    let here : i ≡ place_of chip.lowest level = omega arith in
-    let is : get_or order i 0 ≡ level = ap (λ k. get_or order k 0) here ∙ level_at chip.lowest level h first.inside in
-    let inside : i < length order = rw (eight chip.lowest h) (omega (arith, place-small chip.lowest level)) in
-    find-here (is_blocking chip) order i inside (ap (is_blocking chip) is ∙ first.served) ∙ ap Some is
-served (suc d) i chip level h first at_place =
-    let order = priority_order chip.lowest in
-    let other = get_or order i 0 in
-    let before : i < 8 = omega (arith, place-small chip.lowest level) in
-    let inside : i < length order = rw (eight chip.lowest h) before in
-    let place : place_of chip.lowest other ≡ i = place_at chip.lowest i h before in
-    elim (cases_Bool (is_blocking chip other)) [
-      | inl blocks ↦
-          let small = priority_order-small chip.lowest i h before in
-          let late = first.first other small (λ e. omega (arith, ap (place_of chip.lowest) e, place)) blocks in
-          absurd (omega (arith, late, place))
-      | inr idle ↦ find-past (is_blocking chip) order i inside idle ∙ served d (i + 1) chip level h first (omega arith)
-    ]
 
 non-specific : (chip : Chip) (byte : ℕ) → is_bit byte 4 ≡ false → is_bit byte 3 ≡ false → byte / 32 ≡ 1 →
     chip_after_write chip false byte ≡ ended false chip (first_blocking chip)
@@ -284,26 +245,24 @@ non-specific chip byte b4 b3 command = rw (b4, b3, command) refl
 
 pub non_specific_first : NonSpecificEndEndsFirst
 non_specific_first chip byte level h b4 b3 command first =
-    let is : first_blocking chip ≡ Some level = first_blocking-is chip (priority_order chip.lowest) refl
-    ∙ served (place_of chip.lowest level) 0 chip level h first (omega arith) in
+    let cut = cut_at chip level h first.inside first.first in
+    let is : first_blocking chip ≡ Some level =
+    first_blocking-is chip _ cut.order
+    ∙ rw (
+      find-append (is_blocking chip) cut.higher (level ∷ cut.lower),
+      find-none (is_blocking chip) cut.higher cut.idle,
+      first.served,
+    ) refl in
     rw (non-specific chip byte b4 b3 command, is) (without-one chip level first.inside)
-
-none-served : (d i : ℕ) (chip : Chip) → chip.lowest < 8 → ((level : ℕ) → level < 8 → is_blocking chip level ≡ false) →
-    i + d ≡ 8 → find (is_blocking chip) (drop i (priority_order chip.lowest)) ≡ None
-none-served zero i chip h none at_place =
-    let past : length (priority_order chip.lowest) ≤ i = rw (eight chip.lowest h) (omega arith) in
-    ap (find (is_blocking chip)) (drop_of_length-le (priority_order chip.lowest) past)
-none-served (suc d) i chip h none at_place =
-    let inside : i < length (priority_order chip.lowest) = rw (eight chip.lowest h) (omega arith) in
-    find-past (is_blocking chip) (priority_order chip.lowest) i inside
-    (none _ (priority_order-small chip.lowest i h (omega arith)))
-    ∙ none-served d (i + 1) chip h none (omega arith)
 
 pub non_specific_none : NonSpecificEndOfNone
 non_specific_none chip byte h b4 b3 command none =
+    let order : List ℕ = priority_order chip.lowest in
+    let idle : All (λ level. is_blocking chip level ≡ false) order = λ k d below.
+    rw (get_or_default order k d 0 below)
+    (none _ (priority_order-small chip.lowest k h (omega (arith, eight chip.lowest h, below)))) in
     non-specific chip byte b4 b3 command
-    ∙ ap (ended false chip) (first_blocking-is chip (priority_order chip.lowest) refl
-    ∙ none-served 8 0 chip h none refl)
+    ∙ ap (ended false chip) (first_blocking-is chip order refl ∙ find-none (is_blocking chip) order idle)
 
 -- ---- a read of one chip
 
@@ -330,4 +289,4 @@ other-slave : (pair : Pair) (slave : Chip) → settled pair ≡ pair →
 other-slave pair slave is quiet = grind (arith, nat_tests)
 
 pub reads_leave : ReadsLeaveTheOther
-reads_leave pair port = grind (arith, nat_tests, settled-slave, chip_after_read, other-slave, interrupt, still-quiet)
+reads_leave pair port = grind (arith, nat_tests, settled_slave, chip_after_read, other-slave, interrupt, still-quiet)

@@ -31,7 +31,7 @@ pub fn law_wires()
 {}
 
 /// What a read of port 61h gives, bit by bit.
-#[tactic(auto, using(crate::proofs::RegisterBits::system_port_by_bits))]
+#[tactic(auto, using(std::proofs::lemmas::Bool::Decides::nat_tests))]
 pub fn law_system_port()
     ensures bits { SystemPortByBits }
 {}

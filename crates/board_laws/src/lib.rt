@@ -65,7 +65,7 @@ pub fn law_outside_bases()
 {}
 
 /// The SMRAM register after a write, bit by bit.
-#[tactic(auto, using(crate::proofs::RegisterBits::smram_by_bits))]
+#[tactic(auto, using(std::proofs::lemmas::Bool::Decides::nat_tests))]
 pub fn law_smram()
     ensures bits { SmramByBits }
 {}

@@ -45,7 +45,7 @@ pub fn masked_levels_wait()
 {}
 
 /// A level that is acknowledged without automatic end of interrupt is in service.
-#[tactic(auto, using(crate::proofs::PicLaws::acknowledged_in_service, crate::proofs::PicLaws::slave_in_service))]
+#[tactic(auto, using(std::proofs::lemmas::Bool::Decides::nat_tests, crate::proofs::PicLaws::settled_slave, crate::proofs::PicLaws::with_level_has, crate::proofs::PicLaws::interrupt_small), unfolding(device_spec::specs::Pair::pair_after_acknowledge))]
 pub fn acknowledged_is_in_service()
     ensures master { AcknowledgedIsInService }
     ensures slave { AcknowledgedSlaveIsInService }
@@ -63,7 +63,7 @@ pub fn non_specific_end_ends_first()
 {}
 
 /// A spurious answer leaves the chip that gives it alone.
-#[tactic(auto, using(crate::proofs::PicLaws::spurious_leaves))]
+#[tactic(auto, using(std::proofs::lemmas::Bool::Decides::nat_tests, crate::proofs::PicLaws::settled_slave), unfolding(device_spec::specs::Pair::answer_of, device_spec::specs::Pair::pair_after_acknowledge))]
 pub fn spurious_leaves_alone()
     ensures { SpuriousLeavesAlone }
 {}
@@ -104,12 +104,14 @@ pub fn counters_are_apart()
 {}
 
 /// A count that is written low byte and high byte is read as these bytes.
+#[tactic(auto, using(std::proofs::lemmas::Bool::Decides::nat_tests), unfolding(device_spec::specs::Pit::low_byte, device_spec::specs::Pit::high_byte, device_spec::specs::Pit::count_of_number))]
 pub fn count_reads_as_written()
     ensures bytes { CountReadsAsWritten }
 {}
 
 /// The pulse that follows the write of a count, or a rise of the gate, loads the count. The mode says which of the
 /// two, and the level of the gate does not matter.
+#[tactic(auto, using(std::proofs::lemmas::Bool::Decides::nat_tests), unfolding(device_spec::specs::Pit::pulse, device_spec::specs::Pit::pulse_by_mode, device_spec::specs::Pit::load))]
 pub fn pulse_loads()
     ensures { PulseLoads }
 {}
@@ -148,7 +150,7 @@ pub fn shows_the_moment()
 {}
 
 /// An alarm that is set to a time of day rings at this time and at no other.
-#[tactic(auto, using(crate::proofs::ClockLaws::rings_at_its_time))]
+#[tactic(auto, using(std::proofs::lemmas::Bool::Decides::nat_tests, crate::proofs::ClockLaws::rings))]
 pub fn rings_at_its_time()
     ensures law { RingsAtItsTime }
 {}
