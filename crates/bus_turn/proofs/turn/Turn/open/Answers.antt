@@ -3,5 +3,5 @@ use Rattle.bus_turn.proofs.Steps.{begins}
 use Rattle.bus_turn.proofs.turn.Turn.open.Goals as goal
 
 pub new-requires : goal.new-requires
-new-requires g c = begins g.T.Kept.entries g.T.Kept.actor g.T.Kept.fixed _ c.args.value _ _ _ (search rules)
-    (search rules) (search rules) refl (search rules)
+new-requires g c = begins _ _ _ _ _ c.args.value _ _ _ (search rules) (search rules) (search rules) (search rules) refl
+    (search rules)
