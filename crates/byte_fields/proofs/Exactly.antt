@@ -1,6 +1,6 @@
 -- Fixed bytes, and that nothing follows.
-use Rattle.std.proofs.Common.{◌≡◌, ℕ, inl, inr, List, [], length, take, Err, refl, ap, arith, bytes_eq, nat_lt}
-use Rattle.board_base.proofs.Common.{cases_Bool, cond_both, length-take, le-ltb, bytes_eq-Decides}
+use Rattle.std.proofs.Common.{◌≡◌, ℕ, true, min, List, [], length, take, Err, refl, ap, arith, bytes_eq}
+use Rattle.board_base.proofs.Common.{nat_tests, length-take, bytes_eq-Decides}
 use Rattle.byte_fields.specs.Fields.{exactly, ended, where_true}
 use Rattle.byte_fields.proofs.Formats.{IsFormat, read_as, cut_field, cut_format}
 use Rattle.byte_fields.proofs.Numbers.{Any, where_ok}
@@ -9,15 +9,11 @@ use Rattle.byte_fields.proofs.Numbers.{Any, where_ok}
 exactly_cut : (text bytes : List ℕ) →
     exactly text bytes ≡ cut_field (length text) (λ front. where_true (bytes_eq front text) tt) bytes
 exactly_cut text bytes =
-    elim (cases_Bool (bytes_eq (take (length text) bytes) text)) [
-      | inl same ↦
-          let is = ap length ((bytes_eq-Decides (take (length text) bytes) text).0 same) in
-          rw (same, le-ltb (length bytes) (length text) (omega (arith, is, length-take (length text) bytes))) refl
-      | inr other ↦
-          rw other
-          (cond_both (nat_lt (length bytes) (length text)) (Err (length bytes)) (Err (length bytes))
-          (λ read. Err (length bytes) ≡ read) (λ short. refl) (λ long. refl))
-    ]
+    let front : List ℕ = take (length text) bytes in
+    let same : bytes_eq front text ≡ true → length front ≡ length text =
+    λ is. ap length ((bytes_eq-Decides front text).0 is) in
+    let long : length front ≡ min (length text) (length bytes) = length-take (length text) bytes in
+    grind (arith, nat_tests)
 
 pub exactly_format : (text : List ℕ) → IsFormat (length text) (exactly text) (λ done. text) Any
 exactly_format text =

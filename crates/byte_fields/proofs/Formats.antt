@@ -3,7 +3,8 @@ use Rattle.std.proofs.Common.{◌≡◌, ℕ, zero, suc, ◌+◌, ◌*◌, ◌�
 use Rattle.std.proofs.Common.{take, drop, Result, Ok, Err, refl, sym, ap, subst, ◌∙◌, append_assoc, arith, nat_lt}
 use Rattle.std.proofs.Common.{flat_map, Option, Some}
 use Rattle.board_base.proofs.Common.{flat_map-cons, ltb-false, le-ltb, take_at, drop_at, length-append, length-take}
-use Rattle.board_base.proofs.Common.{take-append-drop, get_or-take, get_or_past, cases_lt, nil_from_length}
+use Rattle.board_base.proofs.Common.{take-append-drop, get_or-take, get_or_past, cases_lt, nil_from_length, get_or-drop}
+use Rattle.board_base.proofs.Common.{drop-append_seam}
 use Rattle.std.proofs.Math.Nat.{mul-suc}
 use Rattle.byte_fields.specs.Fields.{AreBytes, Reading, then_read, gives, said, plain, ◌>>=◌}
 use Rattle.byte_fields.proofs.Loops.{IsLoop}
@@ -21,12 +22,9 @@ pub record IsFormat {A : Type 0} (most : ℕ) (reads : Reading A) (spelled : A �
 
 -- ---- one after another
 
-AreBytes-rest : (front rest : List ℕ) → AreBytes (front ++ rest) → AreBytes rest
-AreBytes-rest [] rest are k = are k
-AreBytes-rest (byte ∷ later) rest are k = AreBytes-rest later rest (λ i. are (suc i)) k
-
-pub rest_of : (bytes front rest : List ℕ) → AreBytes bytes → bytes ≡ front ++ rest → AreBytes rest
-rest_of bytes front rest are is = AreBytes-rest front rest (subst AreBytes is are)
+rest_of : (bytes front rest : List ℕ) → AreBytes bytes → bytes ≡ front ++ rest → AreBytes rest
+rest_of bytes front rest are is k =
+    rw (← drop-append_seam front rest, ← is, get_or-drop (length front) bytes k 0) (are (length front + k))
 
 -- a result is one alone
 pub ok_is : {X : Type 0} (x y : X) → ◌≡◌ {A = Result X ℕ} (Ok x) (Ok y) → x ≡ y
@@ -161,17 +159,6 @@ pub ◌then◌ : {A C : Type 0} {n m : ℕ} {first : Reading A} {next : A → Re
           omega (arith, whole, a, c);
     }
 
--- a field, and then those that its value calls for: the value of the whole tells that of the field
-pub then_format : {A C : Type 0} {n m : ℕ} {first : Reading A} {next : A → Reading C} {a_spelled : A → List ℕ}
-    {IsGoodA : A → Type 0} {c_spelled : A → C → List ℕ} {IsGoodC : A → C → Type 0} (part : C → A) →
-    IsFormat n first a_spelled IsGoodA → ((a : A) → IsGoodA a → IsFormat m (next a) (c_spelled a) (IsGoodC a)) →
-    ((a : A) (c : C) → IsGoodA a → IsGoodC a c → part c ≡ a) → IsFormat (n + m) (first >>= next)
-    (λ c. a_spelled (part c) ++ c_spelled (part c) c) (λ c. IsGoodA (part c) × IsGoodC (part c) c)
-then_format part one other same =
-    fields_format (one then λ a good. whole_field (other a good))
-    (λ c good. ((part c, good.0, (c, good.1)), refl))
-    (λ t. rw (same t.0 t.2.0 t.1 t.2.1) ((t.1, t.2.1), refl))
-
 -- no field
 pub done_format : {C : Type 0} (c : C) → IsFormat 0 (gives c) (λ value. []) (λ value. value ≡ c)
 done_format {C} c = record {
@@ -212,14 +199,6 @@ read_as {spelled = spelled} same is = record {
   bad = λ bytes left are read. is.bad bytes left are (sym (same bytes) ∙ read);
   size = is.size;
 }
-
--- the last field of a value
-pub last_format : {A C : Type 0} {n : ℕ} {first : Reading A} {a_spelled : A → List ℕ} {IsGood : A → Type 0}
-    (part : C → A) (make : A → C) → IsFormat n first a_spelled IsGood → ((a : A) → IsGood a → part (make a) ≡ a) →
-    IsFormat n (first >>= λ a. gives (make a)) (λ c. a_spelled (part c)) (λ c. IsGood (part c) × (c ≡ make (part c)))
-last_format part make one same =
-    fields_format (last_field make one) (λ c good. ((part c, good.0), good.1))
-    (λ t. rw (same t.0 t.1) ((t.1, refl), refl))
 
 -- a value made of the one that is read
 pub made_format : {A C : Type 0} {n : ℕ} {first : Reading A} {a_spelled : A → List ℕ} {IsGood : A → Type 0}

@@ -1,10 +1,9 @@
 -- Numbers as fields.
-use Rattle.std.proofs.Common.{◌≡◌, ℕ, ◌+◌, ◌-◌, ◌^◌, ◌<◌, ◌≤◌, inl, inr, Bool, true, false, List, [], ◌∷◌, length}
-use Rattle.std.proofs.Common.{Option, Some, None, refl, sym, ap, ◌∙◌, arith, nat_le, is_some, unwrap_or, ◌==◌, ◌&&◌}
-use Rattle.std.proofs.Common.{if◌then◌else◌}
+use Rattle.std.proofs.Common.{◌≡◌, ℕ, ◌+◌, ◌-◌, ◌^◌, ◌<◌, ◌≤◌, Bool, true, List, [], ◌∷◌, length, Option, Some, None}
+use Rattle.std.proofs.Common.{refl, sym, ap, ◌∙◌, arith, nat_le, is_some, unwrap_or, ◌==◌, ◌&&◌, if◌then◌else◌}
 use Rattle.std.specs.Int.{Width as Size, byte_len}
 use Rattle.board_base.specs.Common.{w8, w16, w32, w64, to_le_bytes, from_le_bytes}
-use Rattle.board_base.proofs.Common.{nat_tests, cases_eq, eq-eqb, ne_eqb}
+use Rattle.board_base.proofs.Common.{nat_tests}
 use Rattle.std.proofs.lemmas.Nat.{le_bytes_2, le_bytes_4, le_bytes_8, from_le_bytes-to_le_bytes_2}
 use Rattle.std.proofs.lemmas.Nat.{from_le_bytes-to_le_bytes_4, from_le_bytes-to_le_bytes_8}
 use Rattle.byte_fields.specs.Fields.{AreBytes, Reading, number, number_where, within, where_true, flag_byte, flag_of}
@@ -92,15 +91,7 @@ some_is x y is = cc
 
 pub row : {A : Type 0} {later : ℕ → Option A} (code : A → ℕ) (k : ℕ) (x : A) → code x ≡ k → Tells later code →
     Tells (λ n. if n == k then Some x else later n) code
-row {A} {later} code k x is others n a told =
-    elim (cases_eq n k) [
-      | inl same ↦
-          let here : Some x ≡ Some a = rw (eq-eqb n k same) at told in
-          same ∙ (sym is ∙ ap code (some_is x a here))
-      | inr other ↦
-          let there : later n ≡ Some a = rw (ne_eqb n k other) at told in
-          others n a there
-    ]
+row code k x is others n a told = let later = others n a in grind (arith, nat_tests)
 
 -- ---- flags
 
@@ -108,11 +99,9 @@ row {A} {later} code k x is others n a told =
 abbrev pub Any : {A : Type 0} → A → Type 0
 Any a = Unit {0}
 
-flag_tells : Tells flag_of flag_byte
-flag_tells = row flag_byte 0 false refl (row flag_byte 1 true refl (no_row flag_byte))
-
 pub flag_format : IsFormat 1 flag_field (λ flag. flag_byte flag ∷ []) Any
-flag_format = byte_format flag_byte Any (λ flag any. grind arith) (λ n flag below is. (flag_tells n flag is, tt))
+flag_format =
+    byte_format {says = flag_of} flag_byte Any (λ flag any. grind arith) (λ n flag below is. grind (arith, nat_tests))
 
 -- ---- numbers that are good
 
@@ -126,9 +115,7 @@ pub where_format : {size : Size} {limit : ℕ} → IsWide size limit → (is_goo
     (number_where size is_good) (to_le_bytes size) (IsGoodNumber limit is_good)
 where_format {limit = limit} wide is_good =
     number_format wide (λ n. n) (IsGoodNumber limit is_good) (λ n good. (good.0, rw good.1 refl))
-    (λ n a below is.
-    let told = where_ok (is_good n) n a is in
-    (told.1, rw (← told.1) (below, told.0)))
+    (λ n a below is. let told = where_ok (is_good n) n a is in (told.1, rw (← told.1) (below, told.0)))
 
 pub byte_where : (is_good : ℕ → Bool) →
     IsFormat 1 (number_where w8 is_good) (λ n. n ∷ []) (IsGoodNumber (2 ^ 8) is_good)
@@ -168,27 +155,17 @@ any_byte = as_byte (any_number wide8 (omega arith)) (λ n small. small)
 
 -- ---- flags that are 1 only where that is allowed
 
-flag_again : (allowed : Bool) (n : ℕ) → n ≤ flag_byte allowed → flag_byte (n == 1) ≡ n
-flag_again allowed n few = grind (arith, nat_tests)
-
 pub bound_where-small : (there : Bool) → bound_where there 255 < 2 ^ 8
 bound_where-small there = grind arith
-
-flag_is : (flag : Bool) → flag ≡ (flag_byte flag == 1)
-flag_is flag = grind arith
 
 pub flag_where_format : (allowed : Bool) →
     IsFormat 1 (flag_where allowed) (λ flag. flag_byte flag ∷ []) (λ flag. flag_byte flag ≤ flag_byte allowed)
 unfolding flag_where
 flag_where_format allowed =
-    fields_format (last_field _ (byte_within 0 _ (grind arith)))
-    (λ flag few. ((flag_byte flag, (omega arith, few)), flag_is flag)) (λ t. rw (flag_again _ _ t.1.1) (t.1.1, refl))
+    fields_format (last_field (λ n. n == 1) (byte_within 0 (flag_byte allowed) (grind arith)))
+    (λ flag few. ((flag_byte flag, (omega arith, few)), grind arith)) (λ t. let few = t.1.1 in grind (arith, nat_tests))
 
 -- ---- numbers that may be absent
-
-optional_to : (low high : ℕ) (o : Option ℕ) → IsWithin low high o → Ranges (bound_where (is_some o) low)
-    (bound_where (is_some o) high) (unwrap_or o 0) × (o ≡ some_where (is_some o) (unwrap_or o 0))
-optional_to low high o is = grind arith
 
 some_from :
     (spelled : ℕ → List ℕ) (low high : ℕ) (there : Bool) (n : ℕ) →
@@ -196,8 +173,7 @@ some_from :
     IsWithin low high (some_where there n)
     × (flag_byte (is_some (some_where there n)) ∷ spelled (unwrap_or (some_where there n) 0)
     ≡ flag_byte there ∷ spelled n)
-some_from spelled low high false n is = (tt, ap (λ n. 0 ∷ spelled n) (omega (arith, is.1)))
-some_from spelled low high true n is = (is, refl)
+some_from spelled low high there n is = grind arith
 
 pub optional_format : {n limit : ℕ} {number_from : (low high : ℕ) → Reading ℕ} {spelled : ℕ → List ℕ} →
     ((low high : ℕ) → high < limit → IsFormat n (number_from low high) spelled (Ranges low high)) → (low high : ℕ) →
@@ -207,5 +183,5 @@ unfolding optional
 optional_format {limit = limit} {spelled = spelled} format low high few =
     fields_format
     (flag_format then λ there any.
-    last_field _ (format (bound_where there low) (bound_where there high) (grind arith))) (λ o is. let told =
-    optional_to _ _ o is in ((is_some o, tt) & (unwrap_or o 0, told.0), told.1)) (λ t. some_from spelled _ _ _ _ t.2.1)
+    last_field (some_where there) (format (bound_where there low) (bound_where there high) (grind arith)))
+    (λ o is. ((is_some o, tt) & (unwrap_or o 0, grind arith), grind arith)) (λ t. some_from spelled _ _ _ _ t.2.1)

@@ -1,12 +1,11 @@
 -- Bytes beside plain ones are spelled page by page, and read back.
-use Rattle.std.proofs.Common.{◌≡◌, ℕ, zero, suc, ◌+◌, ◌-◌, ◌*◌, ◌≤◌, ◌<◌, inl, inr, min, Bool, true, false, not, cond}
-use Rattle.std.proofs.Common.{List, [], ◌∷◌, ◌++◌, length, take, drop, replicate, Some, None, Result, Ok, Err, refl}
-use Rattle.std.proofs.Common.{sym, ap, ◌∙◌, append_assoc, arith, bytes_eq}
-use Rattle.std.specs.List.{concat}
+use Rattle.std.proofs.Common.{◌≡◌, ℕ, zero, suc, ◌+◌, ◌-◌, ◌*◌, ◌≤◌, ◌<◌, min, Bool, true, false, not, cond, List, []}
+use Rattle.std.proofs.Common.{◌∷◌, ◌++◌, length, take, drop, replicate, Some, None, Result, Ok, Err, refl, sym, ap, ◌∙◌}
+use Rattle.std.proofs.Common.{append_assoc, arith, bytes_eq}
 use Rattle.board_base.proofs.Common.{take_at, drop_at, length-append, length-take, length-drop, take-append-drop}
-use Rattle.board_base.proofs.Common.{nil_from_length, bytes_eq-Decides, cases_lt, drop-drop, drop_all, take_all}
-use Rattle.board_base.proofs.Common.{append-nil, take-append-le, drop-append-le, length-replicate}
-use Rattle.std.proofs.lemmas.List.{take_min, take-replicate, drop-replicate, replicate-append-replicate}
+use Rattle.board_base.proofs.Common.{nil_from_length, bytes_eq-Decides, drop-drop, drop_all, take_all, append-nil}
+use Rattle.board_base.proofs.Common.{take-append-le, drop-append-le, length-replicate}
+use Rattle.std.proofs.lemmas.List.{take_min, drop_min, take-replicate, drop-replicate}
 use Rattle.std.proofs.Math.Nat.{suc-mul, zero-mul}
 use Rattle.byte_fields.specs.Fields.{Reading, then_read, gives, ◌>>=◌, flag_byte}
 use Rattle.byte_fields.specs.Pages.{page_bytes, page_where, page_field, each_page_bytes, each_page_field, cut, pages_of}
@@ -58,63 +57,15 @@ page_format plain =
     (λ page long.
     ((not (bytes_eq page plain), tt) & (page, where_to _ _ _ refl long), refl)) (λ t. where_from _ _ _ t.2.1)
 
--- ---- page after page
-
--- how many bytes spell these pages at most
-most_of : List (List ℕ) → ℕ
-most_of [] = 0
-most_of (plain ∷ later) = (1 + length plain) + most_of later
-
-each_format : (plain : List (List ℕ)) → IsFormat (most_of plain) (each_page_field plain) (each_page_bytes plain)
-    (λ bytes. length bytes ≡ length (concat plain))
-unfolding each_page_field each_page_bytes most_of
-each_format [] =
-    let none : List (List ℕ) = [] in
-    format_as 0 (each_page_bytes none) (λ bytes. length bytes ≡ length (concat none)) (done_format []) (omega arith)
-    (λ bytes long. nil_from_length bytes long) (λ bytes good. ap length good) (λ bytes good. refl)
-each_format (plain ∷ later) =
-    let n = length plain in
-    let both : length (concat (plain ∷ later)) ≡ n + length (concat later) = length-append plain (concat later) in
-    fields_format (page_format plain then λ page long. last_field (λ rest. page ++ rest) (each_format later))
-    (λ bytes long. (
-      (take n bytes, omega (arith, length-take n bytes, long, both))
-          & (drop n bytes, omega (arith, length-drop n bytes, long, both)),
-      sym (take-append-drop n bytes),
-    ))
-    (λ t. (
-      omega (arith, length-append t.0 t.2.0, t.1, t.2.1, both),
-      rw (take_at t.0 t.2.0 n t.1, drop_at t.0 t.2.0 n t.1) refl,
-    ))
-
--- ---- bytes cut into pages
-
-no_cut : (size most : ℕ) → cut size most [] ≡ []
-unfolding cut
-no_cut size zero = refl
-no_cut size (suc most) = refl
-
-concat_cut : (size most : ℕ) (bytes : List ℕ) → 0 < size → length bytes ≤ most → concat (cut size most bytes) ≡ bytes
-unfolding cut
-concat_cut size most [] some few = rw (no_cut size most) refl
-concat_cut size zero (byte ∷ later) some few = absurd (omega (arith, few))
-concat_cut size (suc most) (byte ∷ later) some few =
-    let bytes = byte ∷ later in
-    rw (concat_cut size most (drop size bytes) some (omega (arith, length-drop size bytes)))
-    (take-append-drop size bytes)
-
-most_cut : (size most : ℕ) (bytes : List ℕ) → 0 < size → most_of (cut size most bytes) ≤ 2 * length bytes
-unfolding cut most_of
-most_cut size zero bytes some = omega arith
-most_cut size (suc most) [] some = omega arith
-most_cut size (suc most) (byte ∷ later) some =
-    let bytes = byte ∷ later in
-    let rest = most_cut size most (drop size bytes) some in
-    omega (arith, length-take size bytes, length-drop size bytes)
+-- ---- the first page, and the rest
 
 same_cut : (size m n : ℕ) (bytes : List ℕ) → 0 < size → length bytes ≤ m → length bytes ≤ n →
     cut size m bytes ≡ cut size n bytes
 unfolding cut
-same_cut size m n [] some to_m to_n = no_cut size m ∙ sym (no_cut size n)
+same_cut size zero zero [] some to_m to_n = refl
+same_cut size zero (suc n) [] some to_m to_n = refl
+same_cut size (suc m) zero [] some to_m to_n = refl
+same_cut size (suc m) (suc n) [] some to_m to_n = refl
 same_cut size zero n (byte ∷ later) some to_m to_n = absurd (omega (arith, to_m))
 same_cut size (suc m) zero (byte ∷ later) some to_m to_n = absurd (omega (arith, to_n))
 same_cut size (suc m) (suc n) (byte ∷ later) some to_m to_n =
@@ -126,36 +77,15 @@ first_page : (size : ℕ) (bytes : List ℕ) → 0 < size → 0 < length bytes �
 unfolding cut
 first_page size [] some there = absurd (omega (arith, there))
 first_page size (byte ∷ later) some there =
-    let rest = drop size (byte ∷ later) in
-    rw (same_cut size (length later) (length rest) rest some (omega (arith, length-drop size (byte ∷ later)))
+    let fewer = length-drop size (byte ∷ later) in
+    rw (same_cut size (length later) (length (drop size (byte ∷ later))) (drop size (byte ∷ later)) some (omega arith)
     (omega arith)) refl
-
-pub pages_format : (size : ℕ) (plain : List ℕ) → 0 < size → IsFormat (2 * length plain) (pages_fields size plain)
-    (pages_bytes size plain) (λ bytes. length bytes ≡ length plain)
-unfolding pages_fields pages_bytes
-pages_format size plain some =
-    let whole : length (concat (pages_of size plain)) ≡ length plain =
-    ap length (concat_cut size (length plain) plain some (omega arith)) in
-    format_as (2 * length plain) (pages_bytes size plain) (λ bytes. length bytes ≡ length plain)
-    (each_format (pages_of size plain)) (most_cut size (length plain) plain some)
-    (λ bytes long. long ∙ sym whole) (λ bytes good. good ∙ whole) (λ bytes good. refl)
-
-pub memory_format : (count : ℕ) →
-    IsFormat (2 * count) (memory_fields count) memory_bytes (λ bytes. length bytes ≡ count)
-memory_format count =
-    let zeros = length-replicate {A = ℕ} count 0 in
-    format_as (2 * count) memory_bytes (λ bytes. length bytes ≡ count)
-    (pages_format memory_page (replicate count 0) (omega arith)) (omega (arith, zeros))
-    (λ bytes long. long ∙ sym zeros) (λ bytes good. good ∙ zeros)
-    (λ bytes good. ap (λ (n : ℕ). pages_bytes memory_page (replicate n 0) bytes) (sym (good ∙ zeros)))
-
--- ---- the first page, and the rest
 
 pub no_pages : (size : ℕ) (bytes : List ℕ) → pages_bytes size [] bytes ≡ []
 unfolding pages_bytes each_page_bytes cut
 no_pages size bytes = refl
 
-pub no_fields : (size : ℕ) (bytes : List ℕ) → pages_fields size [] bytes ≡ Ok ([], bytes)
+no_fields : (size : ℕ) (bytes : List ℕ) → pages_fields size [] bytes ≡ Ok ([], bytes)
 unfolding pages_fields each_page_field cut
 no_fields size bytes = refl
 
@@ -166,180 +96,221 @@ pub bytes_first : (size : ℕ) (plain bytes : List ℕ) → 0 < size → 0 < len
 unfolding pages_bytes each_page_bytes
 bytes_first size plain bytes some there = rw (first_page size plain some there) refl
 
-pub fields_first : (size : ℕ) (plain bytes : List ℕ) → 0 < size → 0 < length plain →
+fields_first : (size : ℕ) (plain bytes : List ℕ) → 0 < size → 0 < length plain →
     pages_fields size plain bytes ≡ then_read (page_field (take size plain) bytes)
     (λ page. pages_fields size (drop size plain) >>= λ rest. gives (page ++ rest))
 unfolding pages_fields each_page_field
 fields_first size plain bytes some there = rw (first_page size plain some there) refl
 
--- ---- loops over pages: the page from a place on has so many bytes
+-- ---- all pages
 
+few_format : (size most : ℕ) (plain : List ℕ) → 0 < size → length plain ≤ most → IsFormat (2 * length plain)
+    (pages_fields size plain) (pages_bytes size plain) (λ bytes. length bytes ≡ length plain)
+few_format size most [] some few =
+    format_as 0 (pages_bytes size []) (λ bytes. length bytes ≡ 0) (read_as (no_fields size) (done_format []))
+    (omega arith) (λ bytes long. nil_from_length bytes long) (λ bytes none. ap length none)
+    (λ bytes none. sym (no_pages size bytes))
+few_format size zero (byte ∷ later) some few = absurd (omega (arith, few))
+few_format size (suc most) (byte ∷ later) some few =
+    let plain : List ℕ = byte ∷ later in
+    let first : List ℕ = take size plain in
+    let n = length first in
+    let size_first = length-take size plain in
+    let size_rest = length-drop size plain in
+    format_as (2 * length plain) (pages_bytes size plain) (λ bytes. length bytes ≡ length plain)
+    (read_as (λ bytes. fields_first size plain bytes some (omega arith))
+    (fields_format {other = pages_bytes size plain}
+    (page_format first then λ page long. last_field (λ rest. page ++ rest)
+    (few_format size most (drop size plain) some (omega arith)))
+    (λ bytes long. (
+      (take n bytes, omega (arith, length-take n bytes)) & (drop n bytes, omega (arith, length-drop n bytes)),
+      sym (take-append-drop n bytes),
+    ))
+    (λ t. (
+      omega (arith, length-append t.0 t.2.0, t.1, t.2.1),
+      rw (bytes_first size plain (t.0 ++ t.2.0) some (omega arith), take_at t.0 t.2.0 n t.1, drop_at t.0 t.2.0 n t.1)
+          refl,
+    )))) (omega arith) (λ bytes good. good) (λ bytes good. good) (λ bytes good. refl)
+
+pub pages_format : (size : ℕ) (plain : List ℕ) → 0 < size → IsFormat (2 * length plain) (pages_fields size plain)
+    (pages_bytes size plain) (λ bytes. length bytes ≡ length plain)
+pages_format size plain some = few_format size (length plain) plain some (omega arith)
+
+pub memory_format : (count : ℕ) →
+    IsFormat (2 * count) (memory_fields count) memory_bytes (λ bytes. length bytes ≡ count)
+memory_format count =
+    let zeros = length-replicate {A = ℕ} count 0 in
+    format_as (2 * count) memory_bytes (λ bytes. length bytes ≡ count)
+    (pages_format memory_page (replicate count 0) (omega arith)) (omega (arith, zeros))
+    (λ bytes long. long ∙ sym zeros) (λ bytes good. good ∙ zeros)
+    (λ bytes good. ap (λ (n : ℕ). pages_bytes memory_page (replicate n 0) bytes) (sym (good ∙ zeros)))
+
+-- ---- loops over pages
+
+-- the page from a place on has so many bytes
 module _ (size done count : ℕ) (bytes : List ℕ) (is : count ≡ min size (length bytes - done)) where
-  page_at : take size (drop done bytes) ≡ take count (drop done bytes)
+  page_at : take (done + count - done) (drop done bytes) ≡ take size (drop done bytes)
   page_at =
-      sym (take_min size (drop done bytes))
-      ∙ ap (λ (n : ℕ). take n (drop done bytes)) (omega (arith, is, length-drop done bytes))
+      ap (λ (n : ℕ). take n (drop done bytes)) (omega (arith, is, length-drop done bytes))
+      ∙ take_min size (drop done bytes)
 
-  after_page : drop size (drop done bytes) ≡ drop (done + count) bytes
+  after_page : drop (done + count) bytes ≡ drop size (drop done bytes)
   after_page =
-      elim (cases_lt (length bytes - done) size) [
-        | inl last ↦
-            rw (drop_all size (drop done bytes) (omega (arith, length-drop done bytes)))
-            (sym (drop_all (done + count) bytes (omega arith)))
-        | inr whole ↦ let same : count ≡ size = omega arith in rw same (drop-drop size done bytes)
-      ]
+      sym (drop-drop count done bytes)
+      ∙ ap (λ (n : ℕ). drop n (drop done bytes)) (omega (arith, is, length-drop done bytes))
+      ∙ drop_min size (drop done bytes)
 
--- a part of a slice from a place on
-pub page_is : (done count : ℕ) (now old : List ℕ) → drop done now ≡ drop done old →
-    take (done + count - done) (drop done now) ≡ take count (drop done old)
-page_is done count now old same =
-    let long : done + count - done ≡ count = omega arith in
-    rw (long, same) refl
-
-pub zeros_page : (done count n : ℕ) (zeros : List ℕ) → count ≤ n - done → zeros ≡ replicate count 0 →
-    zeros ≡ take count (drop done (replicate n 0))
-zeros_page done count n zeros fits is =
-    is ∙ sym (ap (take count) (drop-replicate {X = ℕ} done n 0) ∙ take-replicate {X = ℕ} count (n - done) 0 fits)
-
-pub push_goes_on : (size done count : ℕ) (into now plain bytes total before page : List ℕ) → 0 < size →
+pub push_goes_on : (size done count : ℕ) (into now plain bytes total before : List ℕ) → 0 < size →
     length plain ≡ length bytes → done < length bytes → count ≡ min size (length bytes - done) →
-    into ++ pages_bytes size (drop done plain) (drop done bytes) ≡ total → before ≡ take count (drop done plain) →
-    page ≡ take count (drop done bytes) → now ≡ into ++ page_bytes before page →
+    into ++ pages_bytes size (drop done plain) (drop done bytes) ≡ total →
+    before ≡ take (done + count - done) (drop done plain) →
+    now ≡ into ++ page_bytes before (take (done + count - done) (drop done bytes)) →
     now ++ pages_bytes size (drop (done + count) plain) (drop (done + count) bytes) ≡ total
-push_goes_on size done count into now plain bytes total before page some same below is so_far old new added =
+push_goes_on size done count into now plain bytes total before some same below is so_far old added =
     let of_plain : count ≡ min size (length plain - done) = omega (arith, is, same) in
     let long : length (take size (drop done plain)) ≡ count =
     omega (arith, is, same, length-take size (drop done plain), length-drop done plain) in
+    let as_page : done + count - done ≡ count = omega arith in
     let first = rw (
       bytes_first size (drop done plain) (drop done bytes) some (omega (arith, below, same, length-drop done plain)),
       long,
-      page_at size done count plain of_plain,
-      after_page size done count plain of_plain,
+      ← page_at size done count plain of_plain,
+      ← after_page size done count plain of_plain,
       drop-drop count done bytes,
     ) at so_far in
     rw (
       added,
       old,
-      new,
+      as_page,
       append_assoc into (page_bytes (take count (drop done plain)) (take count (drop done bytes)))
           (pages_bytes size (drop (done + count) plain) (drop (done + count) bytes)),
-    ) first
+    ) (rw as_page at first)
+
+pub zeros_page : (done count n most : ℕ) → count ≤ most → count ≤ n - done →
+    take count (replicate {A = ℕ} most 0) ≡ take (done + count - done) (drop done (replicate {A = ℕ} n 0))
+zeros_page done count n most few fits =
+    let long : done + count - done ≡ count = omega arith in
+    rw (long, drop-replicate {X = ℕ} done n 0, take-replicate {X = ℕ} count (n - done) 0 fits)
+    (take-replicate {X = ℕ} count most 0 few)
 
 pub push_ends : (size done : ℕ) (into plain bytes total : List ℕ) → length plain ≡ length bytes → length bytes ≤ done →
     into ++ pages_bytes size (drop done plain) (drop done bytes) ≡ total → into ≡ total
 push_ends size done into plain bytes total same over so_far =
-    let none : drop done plain ≡ [] = drop_all done plain (omega (arith, over, same)) in
-    sym (append-nil into) ∙ rw (none, no_pages size (drop done bytes)) at so_far
+    sym (append-nil into)
+    ∙ rw (drop_all done plain (omega (arith, over, same)), no_pages size (drop done bytes)) at so_far
 
 -- what is still read, after these bytes
-
 pub joined : (front page : List ℕ) (read : Result (List ℕ × List ℕ) ℕ) →
     with_front front (then_read read (λ rest. gives (page ++ rest))) ≡ with_front (front ++ page) read
 joined front page read = grind (arith, append_assoc)
 
-module _ (size done count : ℕ) (plain front bytes : List ℕ) (total : Result (List ℕ × List ℕ) ℕ) (some : 0 < size)
-    (below : done < length plain) (is : count ≡ min size (length plain - done))
-    (so_far : with_front front (pages_fields size (drop done plain) bytes) ≡ total) where
-  first_read :
-      with_front front
-      (then_read (page_field (take count (drop done plain)) bytes)
-      (λ page. pages_fields size (drop (done + count) plain) >>= λ rest. gives (page ++ rest)))
-      ≡ total
+module _ (size done count : ℕ) (now bytes : List ℕ) (total : Result (List ℕ × List ℕ) ℕ) (some : 0 < size)
+    (below : done < length now) (is : count ≡ min size (length now - done))
+    (so_far : with_front (take done now) (pages_fields size (drop done now) bytes) ≡ total) where
+  first_read : with_front (take done now) (then_read (page_field (take (done + count - done) (drop done now)) bytes)
+      (λ page. pages_fields size (drop (done + count) now) >>= λ rest. gives (page ++ rest))) ≡ total
   first_read =
-      rw (
-        fields_first size (drop done plain) bytes some (omega (arith, below, length-drop done plain)),
-        page_at size done count plain is,
-        after_page size done count plain is,
-      ) at so_far
+      rw (page_at size done count now is, after_page size done count now is)
+      (rw (fields_first size (drop done now) bytes some (omega (arith, below, length-drop done now))) at so_far)
 
-  pub pages_go_on : (page after : List ℕ) → page_field (take count (drop done plain)) bytes ≡ Ok (page, after) →
-      with_front (front ++ page) (pages_fields size (drop (done + count) plain) after) ≡ total
-  pages_go_on page after read =
-      sym (joined front page (pages_fields size (drop (done + count) plain) after)) ∙ rw read at first_read
+  -- a page that is read replaces its place
+  pub pages_go_on : (page after : List ℕ) →
+      page_field (take (done + count - done) (drop done now)) bytes ≡ Ok (page, after) →
+      length page ≡ length (take (done + count - done) (drop done now)) →
+      (put : List ℕ) → put ≡ take done now ++ (page ++ drop (done + count - done) (drop done now)) →
+      (with_front (take (done + count) put) (pages_fields size (drop (done + count) put) after) ≡ total)
+      × (length put ≡ length now)
+  pages_go_on page after read same put is_put =
+      let front : List ℕ = take done now ++ page in
+      let rest : List ℕ = drop (done + count - done) (drop done now) in
+      let split : put ≡ front ++ rest = is_put ∙ sym (append_assoc (take done now) page rest) in
+      let long : length front ≡ done + count = omega (
+        arith,
+        same,
+        below,
+        is,
+        length-append (take done now) page,
+        length-take done now,
+        length-take (done + count - done) (drop done now),
+        length-drop done now,
+      ) in
+      let later : rest ≡ drop (done + count) now =
+      ap (λ (n : ℕ). drop n (drop done now)) (omega arith) ∙ drop-drop count done now in (
+        rw (split, take_at front rest (done + count) long, drop_at front rest (done + count) long, later)
+            (sym (joined (take done now) page (pages_fields size (drop (done + count) now) after))
+            ∙ rw read at first_read),
+        omega (arith, ap length split, length-append front rest, long, ap length later, length-drop (done + count) now),
+      )
 
-  pub pages_stop : (left : ℕ) → page_field (take count (drop done plain)) bytes ≡ Err left → total ≡ Err left
+  pub pages_stop : (left : ℕ) → page_field (take (done + count - done) (drop done now)) bytes ≡ Err left →
+      total ≡ Err left
   pages_stop left read = sym (rw read at first_read)
 
-pub pages_end :
-    (size done : ℕ) (plain front bytes : List ℕ) (total : Result (List ℕ × List ℕ) ℕ) → length plain ≤ done →
-    with_front front (pages_fields size (drop done plain) bytes) ≡ total → total ≡ Ok (front, bytes)
-pages_end size done plain front bytes total over so_far =
-    sym (rw (drop_all done plain over, no_fields size bytes, append-nil front) at so_far)
+pub pages_end : (size done : ℕ) (now bytes : List ℕ) (total : Result (List ℕ × List ℕ) ℕ) → length now ≤ done →
+    with_front (take done now) (pages_fields size (drop done now) bytes) ≡ total → total ≡ Ok (now, bytes)
+pages_end size done now bytes total over so_far =
+    sym (rw (drop_all done now over, take_all done now over, no_fields size bytes, append-nil now) at so_far)
 
--- a page that replaces its place
+-- ---- zeros
 
-module _ (done count : ℕ) (now page : List ℕ) (within : done ≤ length now) (same : length page ≡ count) where
-  front_long : length (take done now ++ page) ≡ done + count
-  front_long = omega (arith, length-append (take done now) page, length-take done now)
+module _ (size n : ℕ) (some : 0 < size) (fits : size ≤ n) where
+  zeros_first : (bytes : List ℕ) → pages_bytes size (replicate n 0) bytes
+      ≡ page_bytes (replicate size 0) (take size bytes) ++ pages_bytes size (replicate (n - size) 0) (drop size bytes)
+  zeros_first bytes =
+      let here = bytes_first size (replicate n 0) bytes some (omega (arith, length-replicate {A = ℕ} n 0)) in
+      rw (take-replicate {X = ℕ} size n 0 fits, drop-replicate {X = ℕ} size n 0, length-replicate {A = ℕ} size 0) at
+      here
 
-  pub front_put : (rest : List ℕ) → take (done + count) (take done now ++ (page ++ rest)) ≡ take done now ++ page
-  front_put rest =
-      rw (← append_assoc (take done now) page rest)
-      (take_at (take done now ++ page) rest (done + count) front_long)
-
-  pub rest_put : (old : List ℕ) → drop done now ≡ drop done old → drop (done + count)
-      (take done now ++ (page ++ drop (done + count - done) (drop done now))) ≡ drop (done + count) old
-  rest_put old is =
-      let rest : List ℕ = drop (done + count - done) (drop done now) in
-      let long : done + count - done ≡ count = omega arith in
-      rw (← append_assoc (take done now) page rest)
-      (drop_at (take done now ++ page) rest (done + count) front_long ∙ rw (long, is) (drop-drop count done old))
-
-  pub length_put : done + count ≤ length now →
-      length (take done now ++ (page ++ drop (done + count - done) (drop done now))) ≡ length now
-  length_put fits = simp (length-append, length-take, length-drop) (omega arith)
-
--- the same over zeros
+  zeros_read : (bytes : List ℕ) → pages_fields size (replicate n 0) bytes ≡ then_read
+      (page_field (replicate size 0) bytes)
+      (λ page. pages_fields size (replicate (n - size) 0) >>= λ rest. gives (page ++ rest))
+  zeros_read bytes =
+      let here = fields_first size (replicate n 0) bytes some (omega (arith, length-replicate {A = ℕ} n 0)) in
+      rw (take-replicate {X = ℕ} size n 0 fits, drop-replicate {X = ℕ} size n 0) at here
 
 pub zeros_go_on : (size n : ℕ) (front page bytes after : List ℕ) (total : Result (List ℕ × List ℕ) ℕ) → 0 < size →
     size ≤ n → with_front front (pages_fields size (replicate n 0) bytes) ≡ total →
     page_field (replicate size 0) bytes ≡ Ok (page, after) → with_front (front ++ page)
     (pages_fields size (replicate (n - size) 0) after) ≡ total
 zeros_go_on size n front page bytes after total some fits so_far read =
-    let zeros = length-replicate {A = ℕ} n 0 in
-    let rest : 0 + size ≡ size = omega arith in
-    rw (rest, drop-replicate {X = ℕ} size n 0) at
-    (pages_go_on size 0 size (replicate n 0) front bytes total some (omega arith) (omega arith) so_far page after
-    (rw (take-replicate {X = ℕ} size n 0 fits) read))
+    sym (joined front page (pages_fields size (replicate (n - size) 0) after))
+    ∙ rw (zeros_read size n some fits bytes, read) at so_far
 
 pub zeros_stop : (size n : ℕ) (front bytes : List ℕ) (left : ℕ) (total : Result (List ℕ × List ℕ) ℕ) → 0 < size →
     size ≤ n → with_front front (pages_fields size (replicate n 0) bytes) ≡ total →
     page_field (replicate size 0) bytes ≡ Err left → total ≡ Err left
 zeros_stop size n front bytes left total some fits so_far read =
-    let zeros = length-replicate {A = ℕ} n 0 in
-    pages_stop size 0 size (replicate n 0) front bytes total some (omega arith) (omega arith) so_far left
-    (rw (take-replicate {X = ℕ} size n 0 fits) read)
+    sym (rw (zeros_read size n some fits bytes, read) at so_far)
 
 pub zeros_end : (size n : ℕ) (front bytes : List ℕ) (total : Result (List ℕ × List ℕ) ℕ) → n ≡ 0 →
     with_front front (pages_fields size (replicate n 0) bytes) ≡ total → total ≡ Ok (front, bytes)
 zeros_end size n front bytes total none so_far =
-    pages_end size 0 (replicate n 0) front bytes total (omega (arith, none, length-replicate {A = ℕ} n 0)) so_far
+    sym (rw (none, no_fields size bytes, append-nil front) at so_far)
 
--- ---- whole pages, and what follows them
+-- a whole number of pages of zeros, and what follows them
 
-pub bytes_append : (size count : ℕ) (plain more bytes later : List ℕ) → 0 < size → length plain ≡ count * size →
-    length bytes ≡ length plain → pages_bytes size (plain ++ more)
-    (bytes ++ later) ≡ pages_bytes size plain bytes ++ pages_bytes size more later
-bytes_append size zero plain more bytes later some whole same =
-    rw (nil_from_length plain (omega arith), nil_from_length bytes (omega arith), no_pages size []) refl
-bytes_append size (suc count) plain more bytes later some whole same =
-    let fits : size ≤ length plain = omega (arith, suc-mul count size) in
-    let one : length (take size plain) ≡ size = omega (arith, length-take size plain) in
-    let rest = bytes_append size count (drop size plain) more (drop size bytes) later some
-    (omega (arith, suc-mul count size, length-drop size plain))
-    (omega (arith, length-drop size plain, length-drop size bytes)) in
+pages_append : (size count n : ℕ) (bytes later : List ℕ) → 0 < size → length bytes ≡ count * size →
+    pages_bytes size (replicate (length bytes + n) 0) (bytes ++ later)
+    ≡ pages_bytes size (replicate (length bytes) 0) bytes ++ pages_bytes size (replicate n 0) later
+pages_append size zero n bytes later some whole =
+    let none : length bytes + n ≡ n = omega (arith, zero-mul size) in
+    rw (none, nil_from_length bytes (omega (arith, zero-mul size)), no_pages size []) refl
+pages_append size (suc count) n bytes later some whole =
+    let much = suc-mul count size in
+    let fits : size ≤ length bytes = omega arith in
+    let rest = pages_append size count n (drop size bytes) later some (omega (arith, length-drop size bytes)) in
+    let long : length bytes + n - size ≡ length (drop size bytes) + n = omega (arith, length-drop size bytes) in
     rw (
-      bytes_first size (plain ++ more) (bytes ++ later) some (omega (arith, length-append plain more)),
-      bytes_first size plain bytes some (omega arith),
-      take-append-le size plain more fits,
-      drop-append-le size plain more fits,
-      one,
-      take-append-le size bytes later (omega arith),
-      drop-append-le size bytes later (omega arith),
+      zeros_first size (length bytes + n) some (omega arith) (bytes ++ later),
+      zeros_first size (length bytes) some fits bytes,
+      long,
+      take-append-le size bytes later fits,
+      drop-append-le size bytes later fits,
       rest,
+      length-drop size bytes,
     )
-    (sym (append_assoc (page_bytes (take size plain) (take size bytes))
-    (pages_bytes size (drop size plain) (drop size bytes)) (pages_bytes size more later)))
+    (sym (append_assoc (page_bytes (replicate size 0) (take size bytes))
+    (pages_bytes size (replicate (length bytes - size) 0) (drop size bytes)) (pages_bytes size (replicate n 0) later)))
 
 -- one reading after another, whose bytes are joined
 abbrev pub then_more : Result (List ℕ × List ℕ) ℕ → Reading (List ℕ) → Result (List ℕ × List ℕ) ℕ
@@ -355,70 +326,54 @@ regroup_first : (first : Result (List ℕ × List ℕ) ℕ) (whole part more : R
     ((bytes : List ℕ) → whole bytes ≡ then_more (part bytes) more) →
     then_read first (λ page. whole >>= λ rest. gives (page ++ rest))
     ≡ then_more (then_read first (λ page. part >>= λ rest. gives (page ++ rest))) more
-regroup_first (Ok got) whole part more is =
-    ap (λ (read : Result (List ℕ × List ℕ) ℕ). then_read read (λ rest. gives (got.0 ++ rest))) (is got.1)
-    ∙ regroup got.0 (part got.1) more
+regroup_first (Ok got) whole part more is = rw (is got.1) (regroup got.0 (part got.1) more)
 regroup_first (Err left) whole part more is = refl
 
-pub fields_append : (size count : ℕ) (plain more bytes : List ℕ) → 0 < size → length plain ≡ count * size →
-    pages_fields size (plain ++ more) bytes ≡ then_more (pages_fields size plain bytes) (pages_fields size more)
-fields_append size zero plain more bytes some whole =
-    let none : plain ≡ [] = nil_from_length plain (omega (arith, whole)) in
-    rw (none, no_fields size bytes) (sym (no_front (pages_fields size more bytes)))
+fields_append : (size count n : ℕ) (bytes : List ℕ) → 0 < size →
+    pages_fields size (replicate (count * size + n) 0) bytes
+    ≡ then_more (pages_fields size (replicate (count * size) 0) bytes) (pages_fields size (replicate n 0))
+fields_append size zero n bytes some =
+    let none : zero * size + n ≡ n = omega (arith, zero-mul size) in
+    rw (none, zero-mul size, no_fields size bytes) (sym (no_front (pages_fields size (replicate n 0) bytes)))
   where
     no_front : (read : Result (List ℕ × List ℕ) ℕ) → then_read read (λ rest. gives ([] ++ rest)) ≡ read
     no_front read = grind arith
-fields_append size (suc count) plain more bytes some whole =
-    let fits : size ≤ length plain = omega (arith, suc-mul count size) in
+fields_append size (suc count) n bytes some =
+    let much = suc-mul count size in
+    let long : suc count * size + n - size ≡ count * size + n = omega arith in
+    let less : suc count * size - size ≡ count * size = omega arith in
     rw (
-      fields_first size (plain ++ more) bytes some (omega (arith, length-append plain more)),
-      fields_first size plain bytes some (omega arith),
-      take-append-le size plain more fits,
-      drop-append-le size plain more fits,
+      zeros_read size (suc count * size + n) some (omega arith) bytes,
+      zeros_read size (suc count * size) some (omega arith) bytes,
+      long,
+      less,
     )
-    (regroup_first (page_field (take size plain) bytes) (pages_fields size (drop size plain ++ more))
-    (pages_fields size (drop size plain)) (pages_fields size more)
-    (λ bytes. fields_append size count (drop size plain) more bytes some
-    (omega (arith, suc-mul count size, length-drop size plain))))
-
--- pages of zeros
+    (regroup_first (page_field (replicate size 0) bytes) (pages_fields size (replicate (count * size + n) 0))
+    (pages_fields size (replicate (count * size) 0)) (pages_fields size (replicate n 0))
+    (λ after. fields_append size count n after some))
 
 zero_pages : (size count : ℕ) → 0 < size →
     pages_bytes size (replicate (count * size) 0) (replicate (count * size) 0) ≡ replicate count 0
 zero_pages size zero some = rw (zero-mul size) (no_pages size [])
 zero_pages size (suc count) some =
-    let split : replicate {A = ℕ} (suc count * size) 0 ≡ replicate size 0 ++ replicate (count * size) 0 =
-    ap (λ (n : ℕ). replicate {A = ℕ} n 0) (omega (arith, suc-mul count size))
-    ∙ sym (replicate-append-replicate {A = ℕ} size (count * size) 0) in
-    let zeros : List ℕ = replicate size 0 in
-    let long : length zeros ≡ 1 * size = omega (arith, length-replicate {A = ℕ} size 0) in
-    let one : pages_bytes size zeros zeros ≡ 0 ∷ [] = one_page size zeros some (length-replicate {A = ℕ} size 0) in
-    rw split
-    (bytes_append size 1 zeros (replicate (count * size) 0) zeros (replicate (count * size) 0) some long refl
-    ∙ rw (one, zero_pages size count some) refl)
-  where
-    one_page : (size : ℕ) (zeros : List ℕ) → 0 < size → length zeros ≡ size → pages_bytes size zeros zeros ≡ 0 ∷ []
-    one_page size zeros some long =
-        let all : take size zeros ≡ zeros = take_all size zeros (omega (arith, long)) in
-        let same : bytes_eq zeros zeros ≡ true = (bytes_eq-Decides zeros zeros).1 refl in
-        bytes_first size zeros zeros some (omega (arith, some, long))
-        ∙ rw (
-          all,
-          take_all (length zeros) zeros (omega arith),
-          same,
-          drop_all size zeros (omega (arith, long)),
-          no_pages size (drop (length zeros) zeros),
-        ) refl
+    let n : ℕ = suc count * size in
+    let fits : size ≤ n = omega (arith, suc-mul count size) in
+    let less : n - size ≡ count * size = omega (arith, suc-mul count size) in
+    rw (
+      zeros_first size n some fits (replicate n 0),
+      take-replicate {X = ℕ} size n 0 fits,
+      drop-replicate {X = ℕ} size n 0,
+      (bytes_eq-Decides (replicate size 0) (replicate size 0)).1 refl,
+      less,
+      zero_pages size count some,
+    ) refl
 
 -- ---- memory
 
 pub memory_append : (count : ℕ) (bytes later : List ℕ) → length bytes ≡ count * memory_page →
     memory_bytes (bytes ++ later) ≡ memory_bytes bytes ++ memory_bytes later
 memory_append count bytes later whole =
-    let zeros = length-replicate {A = ℕ} (length bytes) 0 in
-    rw (length-append bytes later, ← replicate-append-replicate {A = ℕ} (length bytes) (length later) 0)
-    (bytes_append memory_page count (replicate (length bytes) 0) (replicate (length later) 0) bytes later
-    (omega arith) (zeros ∙ whole) (sym zeros))
+    rw (length-append bytes later) (pages_append memory_page count (length later) bytes later (omega arith) whole)
 
 pub memory_zeros : (count : ℕ) → memory_bytes (replicate (count * memory_page) 0) ≡ replicate count 0
 memory_zeros count = rw (length-replicate {A = ℕ} (count * memory_page) 0) (zero_pages memory_page count (omega arith))
@@ -426,7 +381,4 @@ memory_zeros count = rw (length-replicate {A = ℕ} (count * memory_page) 0) (ze
 pub memory_then : (count more : ℕ) (bytes : List ℕ) →
     memory_fields (count * memory_page + more) bytes
     ≡ then_more (memory_fields (count * memory_page) bytes) (memory_fields more)
-memory_then count more bytes =
-    rw (← replicate-append-replicate {A = ℕ} (count * memory_page) more 0)
-    (fields_append memory_page count (replicate (count * memory_page) 0) (replicate more 0) bytes (omega arith)
-    (length-replicate {A = ℕ} (count * memory_page) 0))
+memory_then count more bytes = fields_append memory_page count more bytes (omega arith)

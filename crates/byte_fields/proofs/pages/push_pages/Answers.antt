@@ -1,14 +1,13 @@
 use Rattle.std.proofs.Common.{refl, arith}
-use Rattle.byte_fields.proofs.PageFormats.{page_is, push_goes_on, push_ends}
+use Rattle.byte_fields.proofs.PageFormats.{push_goes_on, push_ends}
 use Rattle.byte_fields.proofs.pages.push_pages.Goals as goal
 
 pub loop-done-preserved : goal.loop-done-preserved
 loop-done-preserved c = record {
   added =
-      push_goes_on c.args.size c.loop-done.done c.min.result _ _ c.args.plain.now c.args.bytes.now _ _ _ c.requires.some
-      c.requires.same c.loop-done-test.true (omega (arith, c.min.ensures)) c.loop-done.invariant.added
-      (page_is c.loop-done.done c.min.result c.args.plain.now _ refl)
-      (page_is c.loop-done.done c.min.result c.args.bytes.now _ refl) c.in_ok-push_page.ensures.added;
+      push_goes_on c.args.size c.loop-done.done c.min.result _ _ c.args.plain.now c.args.bytes.now _ _ c.requires.some
+      c.requires.same c.loop-done-test.true (omega (arith, c.min.ensures)) c.loop-done.invariant.added refl
+      c.in_ok-push_page.ensures.added;
   within = omega (arith, c.min.ensures, c.loop-done.invariant.within);
 }
 

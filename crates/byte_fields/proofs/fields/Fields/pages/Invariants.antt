@@ -6,8 +6,7 @@ use Rattle.byte_fields.proofs.fields.Fields.pages.Given as goal
 abbrev pub invariant-loop-done : goal.invariant-loop-done
 invariant-loop-done l = record {
   read : with_front (take l.done l.into)
-      (pages_fields l.size (drop l.done l.fn.into) l.self) ≡ pages_fields l.size l.fn.into l.fn.self;
-  rest : drop l.done l.into ≡ drop l.done l.fn.into;
+      (pages_fields l.size (drop l.done l.into) l.self) ≡ pages_fields l.size l.fn.into l.fn.self;
   long : length l.into ≡ length l.fn.into;
   within : l.done ≤ length l.into;
 }
