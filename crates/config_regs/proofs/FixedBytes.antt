@@ -1,12 +1,11 @@
 -- A register that nothing changes holds after every history what a reset leaves.
-use Rattle.std.proofs.Common.{◌≡◌, ◌≢◌, ◌<◌, ℕ, lit<, List, [], ◌∷◌, false, Option, Some, None, refl, arith}
-use Rattle.board_prelude.proofs.Common.{nat_tests, ne_eqb, Reg, Entry, MapChange, Store, Reset, Setup, bridge, smram}
-use Rattle.board_prelude.proofs.Common.{is_same, reset_byte, byte_with, register_change, byte_of}
+use Rattle.std.proofs.Common.{◌≡◌, ◌<◌, ℕ, lit<, List, [], ◌∷◌, false, Option, Some, None, refl, arith}
+use Rattle.board_prelude.proofs.Common.{nat_tests, ne_eqb, Reg, Entry, MapChange, Store, Reset, Setup, smram, is_same}
+use Rattle.board_prelude.proofs.Common.{reset_byte, byte_with, register_change, byte_of}
 use Rattle.pmc_regs.specs.Pmc.{IsFixedOffset}
 use Rattle.pmc_regs.proofs.Common.{writable_bits-fixed, reset_byte-small}
 use Rattle.xbus_select.proofs.Common.{IsFixedAt, kept_byte, fixed_at}
 use Rattle.addr_decode.proofs.StandsLemmas.{IsBeside}
-use Rattle.addr_decode.proofs.StoreLemmas.{Differs}
 use Rattle.config_regs.specs.Config.{HasFixed}
 
 -- a register that cannot be written has its byte of a reset at all times
@@ -39,13 +38,5 @@ has_fixed setup history = record {
       always _ history _ refl (record { reset = refl; read_only = it.read_only; fits = rw (← it.reset) it.fits });
 }
 
-other_offset : (off at : ℕ) → Differs (bridge off) (bridge at) → off ≢ at
-other_offset off at apart same = grind (arith, nat_tests)
-
 pub fixed_beside : (off : ℕ) → off < 256 → IsBeside off → IsFixedOffset off
-fixed_beside off small beside =
-    let not_hole = other_offset off 0x68 (beside.singles 0 (lit< tt)) in
-    let not_smram = other_offset off 0x72 (beside.singles 1 (lit< tt)) in
-    let windows = beside.windows in
-    let rows = beside.rows in
-    grind arith
+fixed_beside off small beside = grind (arith, nat_tests, beside.singles 0 (lit< tt), beside.singles 1 (lit< tt))

@@ -1,8 +1,6 @@
 -- What a store leaves of the registers of the 82371SB.
-use Rattle.std.proofs.Common.{◌≡◌, ◌≢◌, ℕ, sym, ◌∙◌}
-use Rattle.board_prelude.proofs.Common.{cond-false, ne_eqb, and_left, Width, Reg, bytes_of, Store, Setup, covers}
-use Rattle.board_prelude.proofs.Common.{changed_byte, Bytes}
-use Rattle.addr_decode.proofs.StandsLemmas.{stored_so_far, whole}
+use Rattle.std.proofs.Common.{◌≡◌, ℕ, sym, ◌∙◌}
+use Rattle.board_prelude.proofs.Common.{Bytes}
 use Rattle.xbus_select.specs.Piix.{piix_register}
 use Rattle.config_regs.specs.declared.south.South.{South}
 use Rattle.config_regs.specs.Config.{IsSouthOf}
@@ -22,21 +20,3 @@ south_agrees bytes bytes' south same is = record {
     fixed = λ setup off fixed. same 1 off ∙ is.ide.fixed setup off fixed;
   };
 }
-
--- a store to another device leaves them
-pub other_device : (setup : Setup) (bytes : Bytes) (at : Reg) (width : Width) (value : ℕ) (south : South) → at.dev ≢ 1 →
-    IsSouthOf bytes south → IsSouthOf (λ r. changed_byte setup (Store at width value) r (bytes r)) south
-other_device setup bytes at width value south apart =
-    south_agrees bytes (λ r. changed_byte setup (Store at width value) r (bytes r)) south
-    (λ fun off.
-    cond-false (covers at width (piix_register fun off)) _ _
-    (and_left _ _ (and_left _ _ (and_left _ _ (ne_eqb at.dev 1 apart)))))
-
--- after all bytes of a value they are as after the store of it
-pub all_so_far : (setup : Setup) (bytes : Bytes) (at : Reg) (width : Width) (value count : ℕ) (south : South) →
-    count ≡ bytes_of width → IsSouthOf (stored_so_far setup bytes at value count) south →
-    IsSouthOf (λ r. changed_byte setup (Store at width value) r (bytes r)) south
-all_so_far setup bytes at width value count south all =
-    south_agrees (stored_so_far setup bytes at value count)
-    (λ r. changed_byte setup (Store at width value) r (bytes r)) south
-    (λ fun off. whole setup bytes at width value count all (piix_register fun off))

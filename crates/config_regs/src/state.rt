@@ -43,6 +43,7 @@ impl South {
 }
 
 /// One state has one spelling, and one spelling is of one state.
+#[tactic(auto, using(byte_fields::proofs::Loaded::one_spelling, crate::proofs::StateFormat::south_format))]
 pub fn law_one_south()
     ensures one { OneSpelling south_bytes IsSouth }
 {}

@@ -1,20 +1,10 @@
-use Rattle.std.proofs.Common.{◌≡◌, ℕ, ◌+◌, ◌<◌, ◌∙◌, ap, inl, inr, length-set, get_or-set_same, get_or-set_other, refl}
-use Rattle.std.proofs.Common.{arith}
-use Rattle.board_prelude.proofs.Common.{cases_eq, bytes_few, Width, One, bytes_of, wide}
-use Rattle.board_base.specs.declared.access.Width.TheVariants.{Two, Four}
+use Rattle.board_prelude.proofs.Common.{nat_tests, cases_eq, bytes_few, Width, bytes_of, wide}
+use Rattle.std.proofs.Common.{◌≡◌, ℕ, ◌+◌, ◌<◌, ◌∙◌, inl, inr, length-set, get_or-set_same, get_or-set_other, arith}
 use Rattle.config_regs.proofs.reading.read_from.Goals as goal
 
 wide_shifted : (f g : ℕ → ℕ) (at : ℕ) (width : Width) → ((k : ℕ) → k < bytes_of width → f k ≡ g (at + k)) →
     wide f 0 width ≡ wide g at width
-wide_shifted f g at One same = same 0 (omega arith) ∙ ap g (omega arith)
-wide_shifted f g at Two same =
-    let none : at + 0 ≡ at = omega arith in rw (same 0 (omega arith), same 1 (omega arith), none) refl
-wide_shifted f g at Four same =
-    let none : at + 0 ≡ at = omega arith in
-    rw (same 0 (omega arith), same 1 (omega arith), same 2 (omega arith), same 3 (omega arith), none) refl
-
-pub loop-index-init : goal.loop-index-init
-loop-index-init c = record { four = refl; read = λ setup bytes is has k below. absurd (omega arith) }
+wide_shifted f g at width same = grind (arith, nat_tests, same)
 
 pub loop-index-preserved : goal.loop-index-preserved
 loop-index-preserved c =

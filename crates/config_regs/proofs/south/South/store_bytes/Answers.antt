@@ -1,10 +1,10 @@
 use Rattle.std.proofs.Common.{arith}
 use Rattle.board_prelude.proofs.Common.{Bytes, bytes_few}
-use Rattle.addr_decode.proofs.StandsLemmas.{none_stored, one_more_stored}
+use Rattle.addr_decode.proofs.StandsLemmas.{none_stored, one_more_stored, whole}
 use Rattle.addr_decode.proofs.StoreLemmas.{byte_in_list}
 use Rattle.xbus_select.specs.Piix.{piix_register}
 use Rattle.config_regs.specs.Config.{IsSouthOf}
-use Rattle.config_regs.proofs.SouthStores.{all_so_far}
+use Rattle.config_regs.proofs.SouthStores.{south_agrees}
 use Rattle.config_regs.proofs.south.South.store_bytes.Goals as goal
 
 pub loop-index-init : goal.loop-index-init
@@ -27,5 +27,6 @@ loop-index-preserved c =
 pub returns : goal.returns
 returns c = record {
   stored = λ setup bytes is.
-      all_so_far _ _ _ _ _ _ _ (omega arith) (c.loop-index.invariant.stored setup bytes is);
+      south_agrees _ _ _ (λ fun off. whole setup bytes _ c.args.width c.args.value _ (omega arith)
+      (piix_register fun off)) (c.loop-index.invariant.stored setup bytes is);
 }
