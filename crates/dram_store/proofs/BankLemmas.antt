@@ -1,6 +1,5 @@
 -- The bytes of a bank that are kept, and the zeros above them.
-use Rattle.std.proofs.Common.{◌≡◌, ℕ, ◌+◌, ◌-◌, ◌&&◌, List, ◌++◌, length, replicate, ◌∙◌, ap, arith, slice_index}
-use Rattle.std.proofs.Common.{nat_le, nat_lt, if◌then◌else◌}
+use Rattle.std.proofs.Common.{◌≡◌, ℕ, ◌-◌, List, ◌++◌, length, replicate, arith, slice_index}
 use Rattle.board_base.proofs.ZeroLemmas.{zero_at}
 use Rattle.board_prelude.proofs.Common.{get_or_past, nat_tests}
 use Rattle.std.proofs.Math.Seq.{of_parts}
@@ -14,7 +13,6 @@ same_byte kept count at = grind (arith, nat_tests, of_parts, zero_at, get_or_pas
 pub put_in_kept : (kept grown new : List ℕ) (count from size : ℕ) (put : ℕ → ℕ) → grown ≡ kept ++ replicate count 0 →
     IsPut grown from size put new → IsPut (bank_of kept) from size put (bank_of new)
 put_in_kept kept grown new count from size put more is at =
-    rw (same_byte new (bank_size - length new) at, same_byte kept (bank_size - length kept) at)
-    (rw more at (is at)
-    ∙ ap (λ b. if nat_le from at && nat_lt at (from + size) then put (at - from) else b)
-    (same_byte kept count at))
+    let same = same_byte new (bank_size - length new) at in
+    let before = same_byte kept (bank_size - length kept) at in
+    grind (arith, nat_tests, same_byte kept count at, is at)

@@ -1,21 +1,16 @@
 -- The DRAM after a history, and after one entry more.
-use Rattle.std.proofs.Common.{◌≡◌, ℕ, ◌+◌, ◌<◌, List, [], ◌∷◌, length, Option, Some, None, ◌∙◌, refl, ap, arith}
+use Rattle.std.proofs.Common.{◌≡◌, ℕ, ◌+◌, ◌<◌, List, [], ◌∷◌, length, Option, Some, None, ◌∙◌, refl, arith}
 use Rattle.std.proofs.Common.{slice_index, replicate, unwrap_or}
 use Rattle.board_prelude.proofs.Common.{option_or, length-replicate, get_or-replicate, nat_tests, Width, Dram, bytes_of}
 use Rattle.board_prelude.proofs.Common.{Entry, Setup, installed, byte, wide, DramCell, stored_of, byte_put, entry_put}
 use Rattle.board_prelude.proofs.Common.{dram_byte}
+use Rattle.std.proofs.Math.Seq.{of_parts}
 use Rattle.dram_store.specs.Dram.{dram_at, IsDramOf, IsWritten}
 
 pub fresh : (setup : Setup) (dram : List ℕ) → dram ≡ replicate (installed setup) 0 → IsDramOf setup [] dram
 unfolding stored_of
-fresh setup dram is = record {
-  size = rw is (length-replicate {A = ℕ} (installed setup) 0);
-  each =
-      λ addr within.
-      rw is
-      (get_or-replicate (installed setup) addr 0 0
-      (omega (arith, length-replicate {A = ℕ} (installed setup) 0, ap (λ (d : List ℕ). length d) is)));
-}
+fresh setup dram is =
+    grind (arith, nat_tests, of_parts, length-replicate {A = ℕ} (installed setup) 0, get_or-replicate)
 
 -- ---- bytes put into the DRAM
 
@@ -32,12 +27,7 @@ later_first (Some byte) first old = refl
 -- bytes put after others stand over them
 pub put_then : (first later : ℕ → Option ℕ) (old mid new : List ℕ) → HasPut first old mid → HasPut later mid new →
     HasPut (λ at. option_or (later at) (first at)) old new
-put_then first later old mid new before after = record {
-  size = after.size ∙ before.size;
-  each = λ at within.
-      after.each at (omega (arith, before.size))
-      ∙ rw (before.each at within) (later_first (later at) (first at) (slice_index old at));
-}
+put_then first later old mid new before after = grind (arith, nat_tests)
 
 -- ---- one entry more
 
@@ -56,17 +46,13 @@ stored setup history entry old addr width value new is_written same kept put = r
 
 -- ---- values that are read
 
-at_stored : (setup : Setup) (history : List Entry) (dram : List ℕ) (at : ℕ) → IsDramOf setup history dram →
-    dram_at dram at ≡ dram_byte setup history at
-at_stored setup history dram at is =
-    let size = is.size in
-    let here = is.each at in
-    grind (arith, nat_tests)
-
 -- the bytes of a DRAM are those of its history
 pub read_stored :
     (setup : Setup) (history : List Entry) (dram : List ℕ) (addr : ℕ) (width : Width) → IsDramOf setup history dram →
     wide (λ at. dram_at dram at) addr width ≡ wide (λ at. dram_byte setup history at) addr width
 read_stored setup history dram addr width is =
-    let each = λ (at : ℕ). at_stored setup history dram at is in
+    let size = is.size in
+    let each : (at : ℕ) → dram_at dram at ≡ dram_byte setup history at = λ at.
+    let here = is.each at in
+    grind (arith, nat_tests) in
     grind (arith, each addr, each (addr + 1), each (addr + 2), each (addr + 3))

@@ -1,13 +1,14 @@
 -- Stretches of bytes that are copied out of the DRAM and into it.
-use Rattle.std.proofs.Common.{◌≡◌, ℕ, ◌+◌, ◌-◌, ◌*◌, ◌/◌, ◌%◌, ◌<◌, ◌≤◌, List, ◌++◌, length, take, drop, replicate, ◌∙◌}
-use Rattle.std.proofs.Common.{refl, ap, arith, length-append, length-take-le, length-drop, slice_index, min, All}
+use Rattle.std.proofs.Common.{◌≡◌, ℕ, ◌+◌, ◌-◌, ◌*◌, ◌/◌, ◌%◌, ◌<◌, ◌≤◌, List, [], ◌++◌, length, take, drop, replicate}
+use Rattle.std.proofs.Common.{ap, arith, length-append, length-take-le, length-drop, slice_index, min, All}
 use Rattle.board_base.proofs.ZeroLemmas.{zero_at}
-use Rattle.board_prelude.proofs.Common.{concat, length-replicate, get_or_append_left, get_or_past, get_or-take}
+use Rattle.board_prelude.proofs.Common.{concat, length-replicate, get_or_past, get_or-take}
 use Rattle.board_prelude.proofs.Common.{get_or-drop, get_or-replicate, nat_tests}
+use Rattle.std.proofs.Math.ListN.{get_or}
 use Rattle.std.proofs.Math.Seq.{of_parts}
 use Rattle.dram_store.specs.Common.{bank_size, bank_of, page_end, IsBank, IsPut, dram_at}
 use Rattle.dram_store.proofs.BankLemmas.{same_byte}
-use Rattle.dram_store.proofs.ConcatLemmas.{bank_at, bank_byte, byte_at}
+use Rattle.dram_store.proofs.ConcatLemmas.{bank_at, banks_length, bank_byte}
 
 -- ---- in a bank
 
@@ -15,66 +16,52 @@ use Rattle.dram_store.proofs.ConcatLemmas.{bank_at, bank_byte, byte_at}
 pub stretch_put : (old bytes copied : List ℕ) (from : ℕ) → from + length bytes ≤ length old → copied ≡ bytes →
     IsPut old from (length bytes) (slice_index bytes)
     (take from old ++ (copied ++ drop (from + length bytes - from) (drop from old)))
-stretch_put old bytes copied from fits is =
-    let size : from + length bytes - from ≡ length bytes = omega arith in
-    rw (size, is) (λ at. grind (arith, nat_tests, of_parts, get_or-drop, length-take-le))
+stretch_put old bytes copied from fits is at = grind (arith, nat_tests, of_parts, get_or-drop, length-take-le)
 
 pub length_same : (old bytes copied : List ℕ) (from : ℕ) → from + length bytes ≤ length old → copied ≡ bytes →
     length (take from old ++ (copied ++ drop (from + length bytes - from) (drop from old))) ≡ length old
 length_same old bytes copied from fits is =
-    let size : from + length bytes - from ≡ length bytes = omega arith in
-    rw (size, is) (simp (length-append, length-drop) (omega (arith, length-take-le from old (omega arith))))
+    rw is (simp (length-append, length-drop) (omega (arith, length-take-le from old (omega arith))))
 
 -- pages that are kept up to the last place of a stretch have room for it
 pub length_put : (kept grown : List ℕ) (at size : ℕ) → 0 < size →
     grown ≡ kept ++ replicate (page_end (at + (size - 1)) - length kept) 0 → at + size ≤ length grown
 length_put kept grown at size some is = rw is (simp (length-append, length-replicate {A = ℕ}) (omega arith))
 
--- a part of a list that is another
-pub part : (kept now : List ℕ) (from count : ℕ) → now ≡ kept →
-    take (from + count - from) (drop from now) ≡ take count (drop from kept)
-part kept now from count is =
-    let size : from + count - from ≡ count = omega arith in
-    rw (size, is) refl
-
 -- the front of a list replaced by kept bytes, and its rest by zeros
-pub bytes_read : (kept into front rest post : List ℕ) (at from count zeros k : ℕ) → from ≡ min at (length kept) →
-    count ≡ min (length kept - from) (length into) → front ≡ take count (drop from kept) → rest ≡ replicate zeros 0 →
-    length rest ≡ length into - count → k < length into →
+pub bytes_read : (kept now into front rest post : List ℕ) (at from count none k : ℕ) → from ≡ min at (length kept) →
+    count ≡ min (length kept - from) (length into) → now ≡ kept → front ≡ take (from + count - from) (drop from now) →
+    rest ≡ replicate none 0 → length rest ≡ length into - count → k < length into →
     slice_index (take count (front ++ drop count into) ++ (rest ++ post)) k ≡ slice_index (bank_of kept) (at + k)
-bytes_read kept into front rest post at from count zeros k from_is count_is front_is rest_is fills within =
-    rw (same_byte kept (bank_size - length kept) (at + k), front_is, rest_is)
-    (grind (
+bytes_read kept now into front rest post at from count none k from_is count_is same front_is rest_is fills within =
+    grind (
       arith,
       of_parts,
       get_or-drop,
       length-drop {A = ℕ},
       length-take-le,
       zero_at,
+      same_byte kept (bank_size - length kept) (at + k),
       get_or_past kept (at + k) 0,
       ap length rest_is,
       length-replicate {A = ℕ},
-    ))
+    )
 
 -- the front of a list was put
 pub front_put : (old new bytes : List ℕ) (from count : ℕ) → count ≤ length bytes →
     IsPut old from (length (take count bytes)) (slice_index (take count bytes)) new →
     IsPut old from count (slice_index bytes) new
 front_put old new bytes from count fits put at =
-    let here = rw (length-take-le count bytes fits) at (put at) in
-    grind (arith, nat_tests, get_or-take)
+    grind (arith, nat_tests, get_or-take, length-take-le count bytes fits, put at)
 
 -- ---- over the banks
 
 -- the bytes of a MiB, of which the front is kept
 pub kept_bytes : (banks : List (List ℕ)) (bank kept : List ℕ) (mib at : ℕ) → All IsBank banks →
-    ((addr : ℕ) → addr / bank_size ≡ mib → bank ≡ bank_at banks addr) → bank_of kept ≡ bank → at < bank_size →
+    bank ≡ get_or banks mib [] → bank_of kept ≡ bank → at < bank_size →
     slice_index (concat banks) (mib * bank_size + at) ≡ slice_index kept at
 kept_bytes banks bank kept mib at each found is within =
-    let here : (mib * bank_size + at) / bank_size ≡ mib = omega arith in
-    let place : (mib * bank_size + at) % bank_size ≡ at = omega arith in
-    bank_byte banks (mib * bank_size + at) each
-    ∙ rw (← found (mib * bank_size + at) here, place, ← is) (same_byte kept (bank_size - length kept) at)
+    grind (arith, nat_tests, bank_byte banks (mib * bank_size + at) each, same_byte kept (bank_size - length kept) at)
 
 -- bytes that were copied from the bank of an address
 pub front_read : (banks : List (List ℕ)) (bank front rest : List ℕ) (at count k : ℕ) → All IsBank banks →
@@ -82,11 +69,10 @@ pub front_read : (banks : List (List ℕ)) (bank front rest : List ℕ) (at coun
     length front ≡ count → slice_index front k ≡ slice_index bank (at % bank_size + k) →
     slice_index (front ++ rest) k ≡ dram_at (concat banks) (at + k)
 front_read banks bank front rest at count k each inside found fits within long is =
-    get_or_append_left front rest 0 k (omega (arith, long))
-    ∙ is ∙ rw found (byte_at banks at (at + k) (at % bank_size + k) each inside (omega arith) (omega arith))
+    grind (arith, nat_tests, of_parts, banks_length banks each, bank_byte banks (at + k) each)
 
 -- past the banks
 pub past_read : (dram front rest : List ℕ) (at count k : ℕ) → length dram ≤ at → front ≡ replicate count 0xFF →
     k < count → slice_index (front ++ rest) k ≡ dram_at dram (at + k)
 past_read dram front rest at count k past front_is within =
-    rw front_is (grind (arith, nat_tests, of_parts, get_or-replicate, length-replicate {A = ℕ}))
+    grind (arith, nat_tests, of_parts, get_or-replicate, length-replicate {A = ℕ})

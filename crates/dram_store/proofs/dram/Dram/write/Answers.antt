@@ -12,14 +12,12 @@ written c =
     elim c.match-get_mut.branch [
       | in-Some w ↦
           rw (w.self-inside-is, ← c.self.view_is)
-          (bank_written c.self.inside.banks.items w.in-Some.bank.now w.write.new.self c.args.addr
-          (bytes_of c.args.width) (byte c.args.value) c.self.invariant.each
+          (bank_written _ _ _ _ _ (byte c.args.value) c.self.invariant.each
           (omega (arith, w.in-Some.ensures.variant.0 refl)) w.in-Some.ensures.value w.write.ensures.length
           (aligned_fits c.args.addr c.args.width c.requires.aligned) w.write.ensures.bytes)
       | in_default w ↦
           rw (w.self-inside-is, ← c.self.view_is)
-          (lost c.self.inside.banks.items c.args.addr (bytes_of c.args.width) (byte c.args.value) c.self.invariant.each
-          w.in_default.ensures.item.3)
+          (lost _ _ _ (byte c.args.value) c.self.invariant.each w.in_default.ensures.item.3)
     ]
 
 pub returns-clause-bytes : goal.returns-clause-bytes

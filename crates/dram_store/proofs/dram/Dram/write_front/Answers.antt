@@ -13,16 +13,13 @@ written c =
     elim c.match-get_mut.branch [
       | in-Some w ↦
           rw (w.self-inside-is, ← c.self.view_is)
-          (bank_written c.self.inside.banks.items w.in-Some.bank.now w.write_bytes.new.self c.args.at c.min-count.result
-          (slice_index c.args.bytes.now) c.self.invariant.each (omega (arith, w.in-Some.ensures.variant.0 refl))
-          w.in-Some.ensures.value
-          w.write_bytes.ensures.length (omega (arith, c.min-count.ensures))
-          (front_put w.in-Some.bank.now w.write_bytes.new.self c.args.bytes.now _ c.min-count.result
-          (omega (arith, c.min-count.ensures)) w.write_bytes.ensures.bytes))
+          (bank_written _ _ _ _ _ (slice_index c.args.bytes.now) c.self.invariant.each
+          (omega (arith, w.in-Some.ensures.variant.0 refl)) w.in-Some.ensures.value w.write_bytes.ensures.length
+          (omega (arith, c.min-count.ensures))
+          (front_put _ _ _ _ _ (omega (arith, c.min-count.ensures)) w.write_bytes.ensures.bytes))
       | in_default w ↦
           rw (w.self-inside-is, ← c.self.view_is)
-          (lost c.self.inside.banks.items c.args.at c.min-count.result (slice_index c.args.bytes.now)
-          c.self.invariant.each w.in_default.ensures.item.3)
+          (lost _ _ _ (slice_index c.args.bytes.now) c.self.invariant.each w.in_default.ensures.item.3)
     ]
 
 pub returns-clause-bytes : goal.returns-clause-bytes
