@@ -41,6 +41,7 @@ impl Roms {
     }
 
     /// Whether the ROM of the card at a device was given bytes.
+    #[tactic(auto, using(std::proofs::lemmas::List::get_or_past, std::proofs::lemmas::Bool::Decides::nat_tests))]
     pub fn is_given(&self, dev: u8) -> bool
         ensures given { result ≡ not (length (given self.now dev) == 0) }
     {
@@ -53,6 +54,7 @@ impl Roms {
     }
 
     /// The byte that the ROM of the card at a device was given at an offset, and `old` where it was given none.
+    #[tactic(auto, using(std::proofs::lemmas::List::get_or_past, std::proofs::lemmas::Bool::Decides::nat_tests))]
     pub fn byte(&self, dev: u8, off: usize, old: u8) -> u8
         ensures byte { result ≡ byte_over self.now dev off old }
     {

@@ -1,8 +1,0 @@
-use Rattle.std.proofs.Common.{◌≤◌, length, refl, arith}
-use Rattle.expansion_roms.proofs.RomBytes.{none_past}
-use Rattle.expansion_roms.proofs.roms.Roms.is_given.Goals as goal
-
-pub returns-then-at-count : goal.returns-then-at-count
-returns-then-at-count c =
-    let past : length c.self.inside.all.items ≤ c.args.dev = omega arith in
-    record { given = rw (← c.self.view_is, none_past c.self.inside.all.items c.args.dev past) refl }
