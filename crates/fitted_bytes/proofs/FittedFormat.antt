@@ -1,7 +1,7 @@
 -- Setups and the identities of cards are spelled and read back, and so is what stands in front of the state of a
 -- running board.
 use Rattle.std.proofs.Common.{◌≡◌, ℕ, ◌^◌, ◌<◌, ◌≤◌, inl, inr, true, List, length, Option, Some, None, refl, sym, ◌∙◌}
-use Rattle.std.proofs.Common.{arith, ◌==◌, [], ◌∷◌, flat_map, All}
+use Rattle.std.proofs.Common.{arith, ◌==◌, [], ◌∷◌, flat_map, All, ◌↔◌}
 use Rattle.board_prelude.proofs.Common.{cases_Bool, eqb-true, nat_tests, nil_from_length, AllByRecursion}
 use Rattle.board_prelude.proofs.Common.{recursion_from_All}
 use Rattle.board_prelude.specs.Common.{IsSetup, IsRomSize, is_rom_size, IsDisk, most_card_memory, most_mib}
@@ -149,23 +149,18 @@ pub identities_loop : IsLoop one_identity past_identity some_identities
 unfolding some_identities
 identities_loop = record { none = λ before bytes. refl; more = λ before n bytes. refl }
 
-all_to : (cards : List FittedIdentity) (before : Unit {0}) → AllByRecursion IsIdentity cards →
-    AreGood past_identity IsAfter before cards
-all_to [] before all = tt
-all_to (card ∷ later) before all = (all.0, all_to later before all.1)
-
-all_from : (cards : List FittedIdentity) (before : Unit {0}) → AreGood past_identity IsAfter before cards →
-    AllByRecursion IsIdentity cards
-all_from [] before good = tt
-all_from (card ∷ later) before good = (good.0, all_from later before good.1)
+good_cards : (cards : List FittedIdentity) → AllByRecursion IsIdentity cards ↔ AreGood past_identity IsAfter tt cards
+good_cards [] = ((λ all. tt), (λ good. tt))
+good_cards (card ∷ later) =
+    let rest = good_cards later in ((λ all. (all.0, rest.0 all.1)), (λ good. (good.0, rest.1 good.1)))
 
 some_format : (count : ℕ) → count ≤ 8 → IsFormat 120 (some_identities tt count) (flat_map identity_bytes)
     (λ cards. (length cards ≡ count) × All IsIdentity cards)
 some_format count few =
     format_as 120 (flat_map identity_bytes) (λ cards. (length cards ≡ count) × All IsIdentity cards)
     (many_format identities_loop (λ before. identity_format) tt count) (omega (arith, few))
-    (λ cards are. (are.0, all_to cards tt (recursion_from_All IsIdentity cards are.1)))
-    (λ cards good. (good.0, All-from_recursion IsIdentity cards (all_from cards tt good.1)))
+    (λ cards are. (are.0, (good_cards cards).0 (recursion_from_All IsIdentity cards are.1)))
+    (λ cards good. (good.0, All-from_recursion IsIdentity cards ((good_cards cards).1 good.1)))
     (λ cards good. refl)
 
 pub identities_format : IsFormat 121 identities_fields identities_bytes AreIdentities

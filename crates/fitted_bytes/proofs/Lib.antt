@@ -1,2 +1,1 @@
 pub mod FittedFormat
-pub mod Pushed

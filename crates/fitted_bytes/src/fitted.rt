@@ -102,6 +102,7 @@ fn read_version(fields: &mut Fields) -> Result<u16, Bad>
 }
 
 /// One spelling is of one setup and its identities.
+#[tactic(auto, using(byte_fields::proofs::Loaded::one_spelling, crate::proofs::FittedFormat::fitting_format))]
 pub fn law_one_fitting()
     ensures one { OneSpelling fitting_bytes IsFitting }
 {}

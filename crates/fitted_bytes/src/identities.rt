@@ -53,6 +53,7 @@ pub(crate) fn push_identities(into: &mut Vec<u8>, cards: &[FittedIdentity]) -> R
 }
 
 /// Adds what each of some cards says.
+#[tactic(auto, using(std::proofs::lemmas::List::flat_map_more, std::proofs::lemmas::List::take_more))]
 fn push_each(into: &mut Vec<u8>, cards: &[FittedIdentity]) -> Result<(), NoMemory>
     ensures added { OnOk result (into.new.items ≡ into.old.items ++ flat_map identity_bytes cards.now) }
 {
