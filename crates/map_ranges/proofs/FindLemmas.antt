@@ -62,12 +62,7 @@ module _ (ranges : List Range) (tiles : Tiles 0 (map range_of ranges)) where
   rises : (gap k n : ℕ) → k + gap ≡ n → n < length ranges →
       ((range_at ranges k).lo ≤ (range_at ranges n).lo) × ((range_at ranges k).hi ≤ (range_at ranges n).hi)
   rises zero k n distance within = let same : k ≡ n = omega arith in rw same (omega arith, omega arith)
-  rises (suc gap) k n distance within =
-      let here = is.whole k (omega arith) in
-      let next = is.next k (omega arith) in
-      let there = is.whole (k + 1) (omega arith) in
-      let rest = rises gap (k + 1) n (omega arith) within in
-      (omega (arith, rest.0), omega (arith, rest.1))
+  rises (suc gap) k n distance within = grind (arith, nat_tests, is.whole, is.next, rises gap (k + 1) n)
 
   -- each address from the first of one range up to the last of another lies in one of the ranges between them
   held_between : (addr gap first last : ℕ) → first + gap ≡ last → last < length ranges →
@@ -89,23 +84,17 @@ module _ (ranges : List Range) (tiles : Tiles 0 (map range_of ranges)) where
   module _ (addr index left : ℕ) where
     pub search_taken : (half : ℕ) → half < left → IsSearched ranges addr index left →
         (range_at ranges (index + half)).lo ≤ addr → IsSearched ranges addr (index + half) (left - half)
-    search_taken half fewer searched above =
-        let same : index + half + (left - half) - 1 ≡ index + left - 1 = omega arith in
-        let high = rw (← same) at searched.below in
-        omega arith
+    search_taken half fewer searched above = grind (arith, nat_tests)
 
     pub search_left : (half : ℕ) → 1 ≤ half → half + half ≤ left → left ≤ half + half + 1 →
         IsSearched ranges addr index left → addr < (range_at ranges (index + half)).lo →
         IsSearched ranges addr index (left - half)
     search_left half some at_least at_most searched below =
         let within = searched.within in
-        let inside = is.whole (index + half) (omega arith) in
         let place : index + half - 1 + 1 ≡ index + half = omega arith in
         let next = rw place at (is.next (index + half - 1) (omega arith)) in
-        let upper : addr ≤ (range_at ranges (index + (left - half) - 1)).hi = elim (cases_lt half (left - half)) [
-          | inl more ↦ let last : index + (left - half) - 1 ≡ index + half = omega arith in rw last (omega arith)
-          | inr not ↦ let last : index + (left - half) - 1 ≡ index + half - 1 = omega arith in rw last (omega arith)
-        ] in
+        let higher = rises (left - half - half) (index + half - 1) (index + (left - half) - 1) (omega arith) in
+        let high = (higher (omega arith)).1 in
         omega arith
 
   pub search_begins : (addr : ℕ) → addr < address_count → IsSearched ranges addr 0 (length ranges)
@@ -130,29 +119,17 @@ module _ (setup : Setup) (bytes : Bytes) (ranges : List Range) (column : ℕ) (k
     begins_at : (k : ℕ) → (k ≡ 0) ⊎ (area_at ranges column (k - 1) ≢ area_at ranges column index) → k < length ranges →
         ((range_at ranges k).lo ≡ 0)
         ⊎ (area_of setup bytes ((range_at ranges k).lo - 1) kind smm ≢ area_at ranges column index)
-    begins_at k (inl none) within = inl (rw none at.first)
-    begins_at k (inr other) within = elim (cases_lt 0 k) [
-      | inr none ↦ let first : k ≡ 0 = omega arith in inl (rw first at.first)
-      | inl some ↦
-          let place : k - 1 + 1 ≡ k = omega arith in
-          let next = rw place at (at.next (k - 1) (omega arith)) in
-          let order = at.whole (k - 1) (omega arith) in
-          inr (λ same. other (sym (area_held (k - 1) ((range_at ranges k).lo - 1) (omega arith)) ∙ same))
-    ]
+    begins_at k begins within =
+        let next : 0 < k → (range_at ranges k).lo ≡ (range_at ranges (k - 1)).hi + 1 =
+        λ some. let place : k - 1 + 1 ≡ k = omega arith in rw place at (at.next (k - 1) (omega arith)) in
+        grind (arith, next, at.first, at.whole (k - 1), area_held (k - 1) ((range_at ranges k).lo - 1))
 
     ends_at : (last + 1 ≡ length ranges) ⊎ (area_at ranges column (last + 1) ≢ area_at ranges column index) →
         ((range_at ranges last).hi + 1 ≡ address_count)
         ⊎ (area_of setup bytes ((range_at ranges last).hi + 1) kind smm ≢ area_at ranges column index)
-    ends_at ends = elim (cases_lt (last + 1) (length ranges)) [
-      | inr at_end ↦ inl (at.last last (omega (arith, is_last.within)))
-      | inl inside ↦ elim ends [
-        | inl at_end ↦ absurd (omega arith)
-        | inr other ↦
-            let next = at.next last inside in
-            let order = at.whole (last + 1) inside in
-            inr (λ same. other (sym (area_held (last + 1) ((range_at ranges last).hi + 1) (omega arith)) ∙ same))
-      ]
-    ]
+    ends_at ends =
+        let beyond = area_held (last + 1) ((range_at ranges last).hi + 1) in
+        grind (arith, nat_tests, at.last last, at.next last, at.whole (last + 1), beyond)
 
     pub is_span : IsSpan setup bytes addr kind smm (range_at ranges first).lo (range_at ranges last).hi
         (area_at ranges column index)

@@ -31,6 +31,7 @@ pub fn range_at(ranges: &mut Ranges, last: Range, addr: u32, row: SixAreas) -> R
 }
 
 /// Whether two rows have the same areas.
+#[tactic(auto, using(crate::proofs::AreaLemmas::rows_eq))]
 fn are_alike(row: SixAreas, other: SixAreas) -> bool
     ensures alike { result ≡ true → row.areas ≡ other.areas }
     ensures different { result ≡ false → row.areas ≢ other.areas }

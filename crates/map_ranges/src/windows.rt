@@ -79,6 +79,7 @@ fn add_window(rising: &mut Windows, window: Changed)
 }
 
 /// The lower and the higher of two windows. None where they overlap.
+#[tactic(auto, unfolding(crate::specs::Sorted::with_window), using(std::proofs::lemmas::Bool::Decides::nat_tests, std::proofs::Common::append_assoc))]
 fn in_order(window: Changed, other: Changed) -> Option<(Changed, Changed)>
     ensures apart { IfSome result (λ pair. (below later : List Changed)
         → (below ++ pair.0 ∷ []) ++ with_one pair.1 later ≡ below ++ with_one window (other ∷ later)) }
