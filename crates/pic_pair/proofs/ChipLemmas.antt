@@ -1,12 +1,12 @@
 -- One chip: its inputs, and that it has no request where no level is requested.
-use Rattle.std.proofs.Common.{◌≡◌, ℕ, suc, ◌+◌, ◌≤◌, ◌<◌, Bool, true, false, not, cond, ◌||◌, ◌&&◌, List, [], ◌∷◌, ◌++◌}
-use Rattle.std.proofs.Common.{length, get_or, drop, Some, None, refl, arith, sym, ap, ◌∙◌, inl, inr}
+use Rattle.std.proofs.Common.{◌≡◌, ℕ, suc, ◌+◌, ◌≤◌, ◌<◌, Bool, false, not, cond, ◌||◌, ◌&&◌, List, [], ◌∷◌, ◌++◌}
+use Rattle.std.proofs.Common.{add-one, drop-cons, length, get_or, drop, Some, None, refl, arith, ap, ◌∙◌}
 use Rattle.device_spec.proofs.Common.{cases_lt, levels_where-same, has-levels_where, priority_order-small, nat_tests}
 use Rattle.std.proofs.lemmas.List.{get_or_past}
 use Rattle.device_spec.specs.Common.{find, Levels, has, levels_where, no_levels, Chip, pending, latches_after}
 use Rattle.device_spec.specs.Common.{is_requested, first_selectable, first_blocking, blocks_itself, is_blocking}
 use Rattle.device_spec.specs.Common.{request, priority_order}
-use Rattle.device_spec.proofs.Priorities.{scan, scan-found, scan-blocked, scan-past, scan-end}
+use Rattle.device_spec.proofs.Priorities.{scan, scan-end, request-is}
 use Rattle.pic_levels.proofs.Orders.{order-length}
 
 -- ---- the pending levels
@@ -24,17 +24,16 @@ latches_are latches before now = grind (arith, nat_tests, levels_where-same, has
 
 -- ---- no request
 
+has-past : (p : ℕ → Bool) (l : ℕ) → 8 ≤ l → has (levels_where p) l ≡ false
+unfolding levels_where
+has-past p l past = get_or_past (levels_where p) l false past
+
 requested-none : (chip : Chip) → levels_where (is_requested chip) ≡ no_levels → (l : ℕ) → is_requested chip l ≡ false
-unfolding pending levels_where
+unfolding pending
 requested-none chip none l =
-    elim (cases_lt l 8) [
-      | inl small ↦
-          sym (has-levels_where (is_requested chip) l small)
-          ∙ (ap (λ (set : Levels). has set l) none ∙ has-levels_where (λ _. false) l small)
-      | inr past ↦ ap (λ (b : Bool). b && not (has chip.masked l))
-          (get_or_past (levels_where (λ l. cond (has chip.triggers l) (has chip.inputs l) (has chip.latches l))) l false
-          past)
-    ]
+    let one = has-levels_where (is_requested chip) l in
+    let other = has-levels_where (λ _. false) l in
+    grind (arith, nat_tests, cases_lt l 8, one, other, has-past)
 
 none_selectable : (chip : Chip) (higher order : List ℕ) → ((l : ℕ) → is_requested chip l ≡ false) →
     first_selectable chip higher order ≡ None
@@ -72,29 +71,15 @@ first_is chip set small is = grind (arith, nat_tests, find-same, order-length, h
 
 -- ---- the search for a level, which a chip finds at a place of its order
 
-module _ (chip : Chip) (place level : ℕ) (here : level ≡ get_or (priority_order chip.lowest) place 0) where
-  abbrev rest : List ℕ
-  rest = drop place (priority_order chip.lowest)
+pub request-scan : (chip : Chip) → request chip ≡ scan chip (drop 0 (priority_order chip.lowest))
+request-scan chip = request-is chip _ refl
 
-  abbrev asks : ℕ → Bool
-  asks l = is_requested chip l && not (blocks_itself chip l)
+-- the search ends at a level that asks, gives up behind one that blocks, and else goes on
+pub scan-step : (chip : Chip) (order : List ℕ) (place : ℕ) → place < length order → scan chip (drop place order)
+    ≡ (let level = get_or order place 0 in
+    cond (is_requested chip level && not (blocks_itself chip level)) (Some level)
+    (cond (is_blocking chip level) None (scan chip (drop (place + 1) order))))
+unfolding scan
+scan-step chip order place within = rw (add-one, drop-cons order place 0) refl
 
-  within : place < 8 → place < length (priority_order chip.lowest)
-  within small = omega (arith, order-length chip.lowest)
-
-  pub found-here : place < 8 → asks level ≡ true → scan chip rest ≡ Some level
-  found-here small found =
-      scan-found chip (priority_order chip.lowest) place (within small) (sym (ap asks here) ∙ found)
-      ∙ ap (λ (l : ℕ). Some l) (sym here)
-
-  pub blocked-here : place < 8 → asks level ≡ false → is_blocking chip level ≡ true → scan chip rest ≡ None
-  blocked-here small passes blocks =
-      scan-blocked _ _ _ (within small) (sym (ap asks here) ∙ passes) (sym (ap (is_blocking chip) here) ∙ blocks)
-
-  pub past-here : place < 8 → asks level ≡ false → is_blocking chip level ≡ false →
-      scan chip rest ≡ scan chip (drop (place + 1) (priority_order chip.lowest))
-  past-here small passes none =
-      scan-past _ _ _ (within small) (sym (ap asks here) ∙ passes) (sym (ap (is_blocking chip) here) ∙ none)
-
-pub none-left : (chip : Chip) (place : ℕ) → 8 ≤ place → scan chip (drop place (priority_order chip.lowest)) ≡ None
-none-left chip place past = scan-end chip (priority_order chip.lowest) place (omega (arith, order-length chip.lowest))
+pub ruleset search_laws = (request-scan, scan-step, scan-end, order-length, nat_tests)

@@ -1,9 +1,9 @@
 -- The levels of the sixteen lines, and the bits of their mask.
-use Rattle.std.proofs.Common.{rules, ◌≡◌, ℕ, ◌+◌, ◌-◌, ◌*◌, ◌/◌, ◌%◌, ◌^◌, ◌<◌, Bool, true, false, cond, not, eqb, ◌||◌}
-use Rattle.std.proofs.Common.{◌&&◌, List, ◌++◌, length, take, drop, replicate, get_or, set, refl, sym, ap, subst, ◌∙◌}
-use Rattle.std.proofs.Common.{inl, inr, arith, length-set, get_or-set_same, get_or-set_other, bit_or, bit_and, w16}
-use Rattle.device_spec.proofs.Common.{take-append-drop, cases_eq, eq-eqb, ne_eqb, get_or-map, ext_get_or, is_bit}
-use Rattle.device_spec.proofs.Common.{levels_where, levels_where-same, levels_of_byte, nat_tests}
+use Rattle.std.proofs.Common.{◌≡◌, ℕ, ◌+◌, ◌-◌, ◌*◌, ◌/◌, ◌%◌, ◌^◌, ◌<◌, Bool, true, false, cond, eqb, ◌||◌, List, ◌++◌}
+use Rattle.std.proofs.Common.{length, take, drop, replicate, get_or, set, refl, sym, ap, subst, ◌∙◌, arith, length-set}
+use Rattle.std.proofs.Common.{get_or-set_same, get_or-set_other, bit_or, bit_and, w16}
+use Rattle.device_spec.proofs.Common.{take-append-drop, cases_eq, get_or-map, ext_get_or, is_bit, levels_where}
+use Rattle.device_spec.proofs.Common.{levels_where-same, levels_of_byte, nat_tests}
 use Rattle.std.proofs.lemmas.Nat.Bits.{bit_at_cat_low, bit_at_cat_high}
 use Rattle.pic_pair.specs.Lines.{sixteen, lines_where, lines_of}
 use Rattle.pic_levels.proofs.LevelLemmas.{is_bit-or, is_bit-set, is_bit-clear}
@@ -32,43 +32,24 @@ lines_where-is p levels size each =
     let small : l < 16 = subst (λ (n : ℕ). l < n) size h in
     each l small ∙ sym (has_lines_where p l small))
 
--- tests that agree on the lines give one list
-pub lines_where-same : (p q : ℕ → Bool) → ((l : ℕ) → l < 16 → p l ≡ q l) → lines_where p ≡ lines_where q
-lines_where-same p q same = search (rules, lines_where-is, lines_where_length, has_lines_where)
-
--- one line set among those of a test
-set-lines_where : (p : ℕ → Bool) (k : ℕ) (on : Bool) → k < 16 →
-    set (lines_where p) k on ≡ lines_where (λ l. cond (eqb l k) on (p l))
-set-lines_where p k on within =
-    let size = lines_where_length p in
-    lines_where-is (λ l. cond (eqb l k) on (p l)) _ (length-set (lines_where p) k on ∙ size) (λ l small.
-    elim (cases_eq l k) [
-      | inl same ↦
-          rw (same, eq-eqb k k refl) (get_or-set_same (lines_where p) k on false
-          (subst (λ (n : ℕ). k < n) (sym size) within))
-      | inr other ↦
-          rw (ne_eqb l k other) (get_or-set_other (lines_where p) k l on false other ∙ has_lines_where p l small)
-    ])
-
 -- ---- what the operations on masks do to the lines
 
-or-cond : (a b : Bool) → (a || b) ≡ cond a true b
-or-cond a b = grind (arith, nat_tests)
+module _ (n k : ℕ) (small : k < 16) where
+  one_line : (p : ℕ → Bool) (on : Bool) → ((l : ℕ) → l < 16 → p l ≡ cond (eqb l k) on (is_bit n l)) →
+      lines_where p ≡ set (lines_of n) k on
+  one_line p on told =
+      let size = lines_where_length (is_bit n) in
+      sym (lines_where-is p (set (lines_of n) k on) (length-set (lines_of n) k on ∙ size)
+      (λ l below.
+      let here = get_or-set_same (lines_of n) k on false in
+      let other = get_or-set_other (lines_of n) k l on false in
+      grind (arith, nat_tests, told l below, size, cases_eq l k, here, other, has_lines_where)))
 
-and-cond : (a b : Bool) → (not a && b) ≡ cond a false b
-and-cond a b = grind (arith, nat_tests)
+  pub lines_raised : lines_of (bit_or n (1 * 2 ^ k % 65536)) ≡ set (lines_of n) k true
+  lines_raised = one_line _ true (λ l h. grind (arith, nat_tests, is_bit-set w16 n k l small))
 
-pub lines_raised : (n k : ℕ) → k < 16 → lines_of (bit_or n (1 * 2 ^ k % 65536)) ≡ set (lines_of n) k true
-lines_raised n k small =
-    lines_where-same _ (λ l. cond (eqb l k) true (is_bit n l)) (λ l h. is_bit-set w16 n k l small
-    ∙ or-cond (eqb l k) (is_bit n l))
-    ∙ sym (set-lines_where (is_bit n) k true small)
-
-pub lines_lowered : (n k : ℕ) → k < 16 → lines_of (bit_and n (65535 - 1 * 2 ^ k % 65536)) ≡ set (lines_of n) k false
-lines_lowered n k small =
-    lines_where-same _ (λ l. cond (eqb l k) false (is_bit n l)) (λ l h. is_bit-clear w16 n k l small h
-    ∙ and-cond (eqb l k) (is_bit n l))
-    ∙ sym (set-lines_where (is_bit n) k false small)
+  pub lines_lowered : lines_of (bit_and n (65535 - 1 * 2 ^ k % 65536)) ≡ set (lines_of n) k false
+  lines_lowered = one_line _ false (λ l h. grind (arith, nat_tests, is_bit-clear w16 n k l small h))
 
 pub lines_either : (a b l : ℕ) → l < 16 → get_or (lines_of (bit_or a b)) l false
     ≡ (get_or (lines_of a) l false || get_or (lines_of b) l false)
@@ -108,10 +89,5 @@ lines_of_bytes low high below =
     let n = low + 256 * high in
     let first : n % 256 ≡ low = omega (arith, below) in
     let second : n / 256 ≡ high = omega (arith, below) in
-    let one : take 8 (lines_of n) ≡ levels_of_byte low =
-    sym (low_lines n) ∙ ap (λ (byte : ℕ). levels_of_byte byte) first in
-    let two : drop 8 (lines_of n) ≡ levels_of_byte high =
-    sym (high_lines n) ∙ ap (λ (byte : ℕ). levels_of_byte byte) second in
     sym (take-append-drop 8 (lines_of n))
-    ∙ (ap (λ (front : List Bool). front ++ drop 8 (lines_of n)) one
-    ∙ ap (λ (back : List Bool). levels_of_byte low ++ back) two)
+    ∙ cc (low_lines n, high_lines n, ap levels_of_byte first, ap levels_of_byte second)

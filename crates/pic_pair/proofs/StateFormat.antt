@@ -63,30 +63,9 @@ sets_format =
     (λ s is. (
       set_field s.masked is.masked & set_field s.in_service is.in_service & set_field s.latches is.latches
           & set_field s.inputs is.inputs & set_field s.triggers is.triggers,
-      rw (
-        ← set_again s.masked is.masked,
-        ← set_again s.in_service is.in_service,
-        ← set_again s.latches is.latches,
-        ← set_again s.inputs is.inputs,
-        ← set_again s.triggers is.triggers,
-      ) refl,
+      grind (arith, nat_tests, set_again, is),
     ))
-    (λ t. (
-      record {
-        masked = eight t.0;
-        in_service = eight t.2.0;
-        latches = eight t.2.2.0;
-        inputs = eight t.2.2.2.0;
-        triggers = eight t.2.2.2.2.0;
-      },
-      rw (
-        byte_again t.0 t.1,
-        byte_again t.2.0 t.2.1,
-        byte_again t.2.2.0 t.2.2.1,
-        byte_again t.2.2.2.0 t.2.2.2.1,
-        byte_again t.2.2.2.2.0 t.2.2.2.2.1,
-      ) refl,
-    ))
+    (λ t. grind (arith, nat_tests, eight, byte_again, t.1, t.2.1, t.2.2.1, t.2.2.2.1, t.2.2.2.2.1))
 
 modes_format : IsFormat 7 modes_fields modes_bytes Any
 unfolding modes_fields
@@ -170,10 +149,6 @@ lines_format =
     let low = levels_of_byte t.0 in
     let high = levels_of_byte t.2.0 in (
       omega (arith, length-append low high, eight t.0, eight t.2.0),
-      rw (
-        take_at low high 8 (eight t.0),
-        drop_at low high 8 (eight t.0),
-        byte_again t.0 t.1,
-        byte_again t.2.0 t.2.1,
-      ) refl,
+      rw (take_at low high 8 (eight t.0), drop_at low high 8 (eight t.0), byte_again t.0 t.1, byte_again t.2.0 t.2.1)
+          refl,
     ))

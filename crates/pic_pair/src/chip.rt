@@ -328,6 +328,7 @@ impl Pic {
     }
 
     /// The first level that can be selected, of those requested.
+    #[tactic(auto, using(crate::proofs::ChipLemmas::search_laws))]
     fn first_selectable(&self, requested: &LevelSet) -> Option<u8>
         requires requested { requested.now ≡ levels_where (is_requested self.now) }
         ensures request { result ≡ request self.now }
