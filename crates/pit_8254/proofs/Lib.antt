@@ -1,6 +1,5 @@
 pub mod StateFormat
 pub mod Saved
-mod Arrivals
 mod Edges
 mod Periods
 mod Quiet

@@ -15,6 +15,6 @@ settle SquareWave gate c m kept = grind (arith, nat_tests)
 settle SoftwareStrobe gate c m kept = grind (arith, nat_tests)
 settle HardwareStrobe gate c m kept = grind (arith, nat_tests)
 
-pub pulse_settles : (gate : Bool) (c d : CounterState) → HasCount c.mode c.count c.load_asked c.started →
-    d ≡ pulse gate c → IsSettled d.mode gate d
-pulse_settles gate c d kept is = grind (arith, nat_tests, settle c.mode gate c refl kept)
+pub pulse_settles : (gate : Bool) (c : CounterState) → HasCount c.mode c.count c.load_asked c.started →
+    IsSettled (pulse gate c).mode gate (pulse gate c)
+pulse_settles gate c kept = grind (arith, nat_tests, settle c.mode gate c refl kept)

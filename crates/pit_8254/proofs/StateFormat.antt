@@ -1,63 +1,32 @@
 -- The state of the timer is spelled and read back.
 use Rattle.board_base.proofs.Common.{nat_tests}
-use Rattle.std.proofs.Common.{◌≡◌, ℕ, ◌≤◌, Bool, List, [], ◌∷◌, length, take, get_or, Option, is_some, refl, arith}
-use Rattle.std.proofs.Common.{nat_lt}
-use Rattle.device_spec.specs.Pit.{Mode, Access, Notation, mode_number, mode_numbered, access_number, notation_number}
-use Rattle.device_spec.specs.Pit.{notation_of_bit, bcd_bit}
-use Rattle.byte_fields.specs.Fields.{bound_where, flag_byte, IsWithin}
+use Rattle.std.proofs.Common.{◌≡◌, ℕ, ◌≤◌, Bool, List, [], ◌∷◌, length, take, get_or, is_some, refl, arith, nat_lt}
+use Rattle.device_spec.specs.Pit.{Mode, mode_number, mode_numbered, access_number, notation_number}
+use Rattle.byte_fields.specs.Fields.{bound_where}
 use Rattle.byte_fields.proofs.Formats.{IsFormat, fields_format, ◌then◌, ◌&◌, last_field}
-use Rattle.byte_fields.proofs.Numbers.{Any, Ranges, byte_to, number_to, byte_within, within_format, wide32, flag_format}
+use Rattle.byte_fields.proofs.Numbers.{Any, byte_to, number_to, byte_within, within_format, wide32, flag_format}
 use Rattle.byte_fields.proofs.Numbers.{flag_where_format, optional_format, bound_where-small}
-use Rattle.pit_8254.specs.Quiet.{HasCount, IsFew, least_count, most_count}
-use Rattle.pit_8254.specs.State.{access_of, word_bytes, word_fields, counts_bytes, counts_fields, AreCounts, IsLatch}
-use Rattle.pit_8254.specs.State.{latch_bytes, latch_fields, AreLatches, latches_bytes, latches_fields, AreFlags}
-use Rattle.pit_8254.specs.State.{flags_bytes, flags_fields, word_of, counts_of, latches_of, flags_of, IsCounter}
-use Rattle.pit_8254.specs.State.{counter_bytes, counter_fields, IsPit, pit_bytes, pit_fields}
+use Rattle.pit_8254.specs.Quiet.{least_count, most_count}
+use Rattle.pit_8254.specs.State.{word_bytes, word_fields, counts_bytes, counts_fields, AreCounts, IsLatch, latch_bytes}
+use Rattle.pit_8254.specs.State.{latch_fields, AreLatches, latches_bytes, latches_fields, AreFlags, flags_bytes}
+use Rattle.pit_8254.specs.State.{flags_fields, word_of, counts_of, latches_of, flags_of, IsCounter, counter_bytes}
+use Rattle.pit_8254.specs.State.{counter_fields, IsPit, pit_bytes, pit_fields}
 
 -- ---- the word
 
-mode_again : (n : ℕ) → n ≤ 5 → mode_number (mode_numbered n) ≡ n
-unfolding mode_numbered
-mode_again n few = grind (arith, nat_tests)
-
-mode_few : (mode : Mode) → mode_number mode ≤ 5
-mode_few mode = grind (arith, nat_tests)
-
-mode_is : (mode : Mode) → mode ≡ mode_numbered (mode_number mode)
-unfolding mode_numbered
-mode_is mode = grind (arith, nat_tests)
-
-access_again : (n : ℕ) → Ranges 1 3 n → access_number (access_of n) ≡ n
-access_again n good = grind (arith, nat_tests)
-
-access_ranges : (access : Access) → Ranges 1 3 (access_number access)
-access_ranges access = grind (arith, nat_tests)
-
-access_is : (access : Access) → access ≡ access_of (access_number access)
-access_is access = grind (arith, nat_tests)
-
-notation_again : (n : ℕ) → n ≤ 1 → notation_number (notation_of_bit (bcd_bit n)) ≡ n
-notation_again n few = grind (arith, nat_tests)
-
-notation_few : (notation : Notation) → notation_number notation ≤ 1
-notation_few notation = grind (arith, nat_tests)
-
-notation_is : (notation : Notation) → notation ≡ notation_of_bit (bcd_bit (notation_number notation))
-notation_is notation = grind (arith, nat_tests)
-
 word_format : IsFormat 3 word_fields word_bytes Any
-unfolding word_fields
+unfolding word_fields mode_numbered
 word_format =
     fields_format
     (byte_to 5 (omega arith) then λ mode good.
     byte_within 1 3 (omega arith) then λ access good.
     last_field _ (byte_to 1 (omega arith)))
     (λ w any. (
-      (mode_number w.mode, mode_few w.mode) & (access_number w.access, access_ranges w.access)
-          & (notation_number w.notation, notation_few w.notation),
-      rw (← mode_is w.mode, ← access_is w.access, ← notation_is w.notation) refl,
+      (mode_number w.mode, (grind (arith, nat_tests))) & (access_number w.access, (grind (arith, nat_tests)))
+          & (notation_number w.notation, (grind (arith, nat_tests))),
+      grind (arith, nat_tests),
     ))
-    (λ t. (tt, rw (mode_again t.0 t.1, access_again t.2.0 t.2.1, notation_again t.2.2.0 t.2.2.1) refl))
+    (λ t. (tt, grind (arith, nat_tests, t.1, t.2.1, t.2.2.1)))
 
 -- ---- the counts
 
@@ -73,13 +42,10 @@ counts_format mode =
 
 -- ---- what is latched
 
-abbrev latch_with : (size first second : ℕ) → List ℕ
-latch_with size first second = take size (first ∷ second ∷ [])
-
 latch_to : (bytes : List ℕ) → IsLatch bytes →
     (get_or bytes 0 0 ≤ bound_where (nat_lt 0 (length bytes)) 255)
     × (get_or bytes 1 0 ≤ bound_where (nat_lt 1 (length bytes)) 255)
-    × (bytes ≡ latch_with (length bytes) (get_or bytes 0 0) (get_or bytes 1 0))
+    × (bytes ≡ take (length bytes) (get_or bytes 0 0 ∷ get_or bytes 1 0 ∷ []))
 latch_to [] is = (omega arith, omega arith, refl)
 latch_to (first ∷ []) is = (omega (arith, is.first), omega arith, refl)
 latch_to (first ∷ second ∷ []) is = (omega (arith, is.first), omega (arith, is.second), refl)
@@ -134,17 +100,6 @@ flags_format has_count =
 
 -- ---- a counter
 
-counted_to :
-    (mode : Mode) (count : Option ℕ) (asked started : Bool) → HasCount mode count asked started → IsFew count →
-    IsWithin (least_count mode) most_count count × (flag_byte asked ≤ flag_byte (is_some count))
-    × (flag_byte started ≤ flag_byte (is_some count))
-counted_to mode count asked started has few = grind (arith, nat_tests)
-
-counted_from : (mode : Mode) (count : Option ℕ) (asked started : Bool) → IsWithin (least_count mode) most_count count →
-    flag_byte asked ≤ flag_byte (is_some count) → flag_byte started ≤ flag_byte (is_some count) →
-    HasCount mode count asked started × IsFew count
-counted_from mode count asked started is one two = grind (arith, nat_tests)
-
 counter_format : IsFormat 31 counter_fields counter_bytes IsCounter
 unfolding counter_fields
 counter_format =
@@ -153,22 +108,12 @@ counter_format =
     counts_format word.mode then λ counts good.
     latches_format then λ latches good.
     last_field _ (flags_format (is_some counts.count)))
-    (λ c is.
-    let has = counted_to c.mode c.count c.load_asked c.started is.counted is.bounded.of_count in (
-      (word_of c, tt)
-          & (counts_of c, record { element = is.bounded.of_element; in_use = is.bounded.of_use; count = has.0 })
-          & (latches_of c, is.latches) & (flags_of c, record { load_asked = has.1; started = has.2 }),
+    (λ c is. (
+      (word_of c, tt) & (counts_of c, (grind (arith, nat_tests, is.counted, is.bounded))) & (latches_of c, is.latches)
+          & (flags_of c, (grind (arith, nat_tests, is.counted))),
       refl,
     ))
-    (λ t.
-    let has = counted_from t.0.mode t.2.0.count _ _ t.2.1.count t.2.2.2.1.load_asked t.2.2.2.1.started in (
-      record {
-        counted = has.0;
-        bounded = record { of_element = t.2.1.element; of_use = t.2.1.in_use; of_count = has.1 };
-        latches = t.2.2.1;
-      },
-      refl,
-    ))
+    (λ t. (grind (arith, nat_tests, t.2.1, t.2.2.1, t.2.2.2.1), refl))
 
 pub pit_format : IsFormat 94 pit_fields pit_bytes IsPit
 unfolding pit_fields

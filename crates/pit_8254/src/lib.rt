@@ -185,7 +185,7 @@ impl Pit {
     }
 
     /// Runs the clock for `n` pulses as `pulses` does, in at most four steps a counter whatever `n` is.
-    #[tactic(auto, using(crate::proofs::Runs::rises_are))]
+    #[tactic(auto, using(crate::proofs::Runs::rises_are, crate::proofs::Runs::apart))]
     pub fn pulses_counted<L: Ledger>(&mut self, n: u32, steps: &mut Steps<L>) -> Rises
         ensures state { self.new ≡ pulses n self.old }
         ensures rose { result.rose ≡ rises n self.old }

@@ -57,7 +57,7 @@ impl Counter {
     }
 
     /// Goes on past the quiet pulses to the next edge. None where all pulses that come are quiet.
-    #[tactic(auto, using(crate::proofs::Rising::never, crate::proofs::Rising::few_quiet, crate::proofs::Rising::edge_state))]
+    #[tactic(auto, using(crate::proofs::Rising::never, crate::proofs::Rising::few_quiet, crate::proofs::Edges::edge_is))]
     fn next_edge<L: Ledger>(&mut self, gate: bool, steps: &mut Steps<L>) -> Option<Edge>
         ensures edge { IsNextPulseEdge gate self.old self.new result }
         ensures bound { IfSome result (λ edge. edge.pulses ≤ most_count) }

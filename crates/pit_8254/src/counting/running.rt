@@ -138,6 +138,7 @@ impl Counter {
     }
 
     /// Makes one pulse of those that are left.
+    #[tactic(auto, using(crate::proofs::Settled::pulse_settles, std::proofs::lemmas::Bool::Decides::nat_tests))]
     pub(super) fn step<L: Ledger>(&mut self, gate: bool, run: Run, steps: &mut Steps<L>) -> Run
         requires some { 0 < run.left }
         requires room { HasRoom run }
@@ -155,6 +156,7 @@ impl Counter {
     }
 
     /// Passes the quiet pulses that come next and makes one more, while pulses are left.
+    #[tactic(auto, using(crate::proofs::Runs::parts))]
     fn advance<L: Ledger>(&mut self, gate: bool, run: Run, steps: &mut Steps<L>) -> Run
         requires room { HasRoom run }
         ensures part { IsPart gate self.old self.new run result }
@@ -169,6 +171,7 @@ impl Counter {
     }
 
     /// The rest of a run in modes 0 and 1: to the end of the count, and on with OUT at 1.
+    #[tactic(auto, using(crate::proofs::Runs::parts, crate::proofs::Edges::edge_is, crate::proofs::Edges::ends))]
     fn run_to_end<L: Ledger>(&mut self, gate: bool, run: Run, steps: &mut Steps<L>) -> Run
         requires settled { IsSettled self.old.mode gate self.old }
         requires mode { (self.old.mode ≡ TerminalCount) ⊎ (self.old.mode ≡ OneShot) }
@@ -182,6 +185,7 @@ impl Counter {
     }
 
     /// The rest of a run in modes 4 and 5: to the strobe, past it, and on with OUT at 1.
+    #[tactic(auto, using(crate::proofs::Runs::parts, crate::proofs::Edges::edge_is, crate::proofs::Edges::strobes))]
     fn run_past_strobe<L: Ledger>(&mut self, gate: bool, run: Run, steps: &mut Steps<L>) -> Run
         requires settled { IsSettled self.old.mode gate self.old }
         requires mode { (self.old.mode ≡ SoftwareStrobe) ⊎ (self.old.mode ≡ HardwareStrobe) }
@@ -196,6 +200,7 @@ impl Counter {
     }
 
     /// The rest of a run in modes 2 and 3: to the next period, whole periods, and the part of one that is left.
+    #[tactic(auto, using(crate::proofs::Runs::parts))]
     fn run_periods<L: Ledger>(&mut self, gate: bool, run: Run, steps: &mut Steps<L>) -> Run
         requires settled { IsSettled self.old.mode gate self.old }
         requires mode { is_periodic self.old.mode ≡ true }
@@ -213,6 +218,7 @@ impl Counter {
     }
 
     /// Goes on to the load that begins the next period, while pulses are left.
+    #[tactic(auto, using(crate::proofs::Runs::parts, crate::proofs::Edges::edge_is, crate::proofs::Edges::comes))]
     fn run_to_period<L: Ledger>(&mut self, gate: bool, run: Run, steps: &mut Steps<L>) -> Run
         requires settled { IsSettled self.old.mode gate self.old }
         requires mode { is_periodic self.old.mode ≡ true }
@@ -243,7 +249,7 @@ impl Counter {
     }
 
     /// Part of a period, from its first pulse on.
-    #[tactic(auto, using(crate::proofs::Arrivals::period_ends))]
+    #[tactic(auto, using(crate::proofs::Runs::parts, crate::proofs::Edges::edge_is, crate::proofs::Edges::period_ends))]
     fn run_in_period<L: Ledger>(&mut self, gate: bool, run: Run, steps: &mut Steps<L>) -> Run
         requires at_period { IsAtPeriod gate self.old }
         requires less { run.left < self.old.in_use }
@@ -257,7 +263,7 @@ impl Counter {
     }
 
     /// Runs this many pulses with the gate at this level, in at most four steps, and returns how often OUT rose.
-    #[tactic(auto, using(crate::proofs::Runs::no_pulses, crate::proofs::Runs::no_rises))]
+    #[tactic(auto, using(crate::proofs::Runs::no_pulses, crate::proofs::Runs::parts))]
     pub(crate) fn pulses<L: Ledger>(&mut self, gate: bool, pulses: u32, steps: &mut Steps<L>) -> u32
         ensures state { self.new ≡ pulses_of gate pulses self.old }
         ensures rose { result ≡ rises_of gate pulses self.old }

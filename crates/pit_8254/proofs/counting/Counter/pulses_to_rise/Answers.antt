@@ -1,26 +1,23 @@
-use Rattle.std.proofs.Common.{rules, ◌≡◌, ◌+◌, ℕ, Option, Some, None, refl, sym, subst, arith}
+use Rattle.std.proofs.Common.{rules, ◌≡◌, ◌+◌, Some, None, refl, subst, arith}
 use Rattle.device_spec.specs.Pit.{CounterState}
 use Rattle.pit_8254.specs.NextRise.{IsFirstRise}
-use Rattle.pit_8254.proofs.Rising.{rises_first, passes_first, never_later, rises_after}
+use Rattle.pit_8254.proofs.Rising.{first_pulse, never_later, rises_after}
 use Rattle.pit_8254.proofs.counting.Counter.pulses_to_rise.Goals as goal
 
 pub returns-then-run-gt0-clause-rise : goal.returns-then-run-gt0-clause-rise
 returns-then-run-gt0-clause-rise g c =
     subst (λ (d : CounterState). IsFirstRise c.args.gate d (Some 1)) c.copy-counter.ensures.copy
-    (rises_first _ _ _ _ _ c.step-run.ensures.part refl refl c.step-run.ensures.left c.if-run-gt0.true)
+    ((first_pulse c.step-run.ensures.part refl refl c.step-run.ensures.left).0 c.if-run-gt0.true)
 
 pub returns-in_err-more-clause-rise : goal.returns-in_err-more-clause-rise
 returns-in_err-more-clause-rise g c =
     let none : c.from_residual.result ≡ None = search rules in
-    subst (λ (answer : Option ℕ). IsFirstRise c.args.gate c.args.self.now answer) (sym none)
-    (subst (λ (d : CounterState). IsFirstRise c.args.gate d None) c.copy-counter.ensures.copy
-    (never_later _ 1 _ _ (passes_first _ _ _ _ _ c.step-run.ensures.part refl refl c.step-run.ensures.left
-    (omega (arith, c.if-run-gt0.false)))
-    c.in_err-more.ensures.rise))
+    let first = first_pulse c.step-run.ensures.part refl refl c.step-run.ensures.left in
+    rw none (subst (λ (d : CounterState). IsFirstRise c.args.gate d None) c.copy-counter.ensures.copy
+    (never_later (first.1 (omega (arith, c.if-run-gt0.false))) c.in_err-more.ensures.rise))
 
 pub returns-clause-rise : goal.returns-clause-rise
 returns-clause-rise g c =
+    let first = first_pulse c.step-run.ensures.part refl refl c.step-run.ensures.left in
     subst (λ (d : CounterState). IsFirstRise c.args.gate d (Some (1 + c.in_ok-more.more))) c.copy-counter.ensures.copy
-    (rises_after _ 1 _ _ _ (passes_first _ _ _ _ _ c.step-run.ensures.part refl refl c.step-run.ensures.left
-    (omega (arith, c.if-run-gt0.false)))
-    c.in_ok-more.ensures.rise)
+    (rises_after (first.1 (omega (arith, c.if-run-gt0.false))) c.in_ok-more.ensures.rise)

@@ -1,12 +1,8 @@
 use Rattle.std.proofs.Common.{refl}
 use Rattle.pit_8254.proofs.Runs.{part_pulse}
-use Rattle.pit_8254.proofs.Settled.{pulse_settles}
 use Rattle.pit_8254.proofs.counting.Counter.step.Goals as goal
 
 pub returns-clause-part : goal.returns-clause-part
 returns-clause-part g c =
     part_pulse c.args.gate c.args.self.now c.pulse.new.self c.args.run _ c.requires.some c.pulse.ensures.state refl
     (rw (c.rise.ensures.rise, ← c.self.view_is, ← c.self-2.view_is) refl)
-
-pub returns-clause-settled : goal.returns-clause-settled
-returns-clause-settled g c = pulse_settles _ _ _ (rw (← c.self.view_is) c.self.invariant.0) c.pulse.ensures.state

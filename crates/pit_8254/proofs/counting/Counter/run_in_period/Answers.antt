@@ -1,5 +1,0 @@
-use Rattle.pit_8254.proofs.Runs.{part_join}
-use Rattle.pit_8254.proofs.counting.Counter.run_in_period.Goals as goal
-
-pub returns-clause-part : goal.returns-clause-part
-returns-clause-part g c = part_join _ _ _ _ _ _ _ c.advance-run.ensures.part c.skip.ensures.part
