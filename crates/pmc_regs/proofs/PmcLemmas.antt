@@ -1,6 +1,6 @@
 -- Stores of one byte to the registers of the host bridge.
-use Rattle.std.proofs.Common.{◌≡◌, ◌≢◌, ℕ, ◌+◌, ◌<◌, ◌⊎◌, List, [], length, set, None, ◌∙◌, refl, sym, ap, subst, arith}
-use Rattle.std.proofs.Common.{inl, inr, get_or-set_other, get_or-set_same}
+use Rattle.std.proofs.Common.{◌≡◌, ◌≢◌, ℕ, ◌+◌, ◌<◌, ◌⊎◌, List, [], length, set, None, ◌∙◌, refl, sym, ap, arith, inl}
+use Rattle.std.proofs.Common.{inr, get_or-set_other, get_or-set_same}
 use Rattle.board_prelude.proofs.Common.{cases_lt, cases_eq, ne_eqb, One, Store, Setup, merged, reset_byte}
 use Rattle.board_prelude.proofs.Common.{writable_bits, changed_byte, Bytes, bridge, fdhc, merged-all, merged-none}
 use Rattle.board_prelude.proofs.Common.{changed_byte-one_same, changed_byte-one_other}
@@ -40,8 +40,8 @@ module _ (setup : Setup) (bytes : Bytes) (off written : ℕ) where
 pub reset_byte-small : (setup : Setup) (off : ℕ) → IsFixedOffset off → reset_byte setup (bridge off) < 256
 reset_byte-small setup off fixed =
     elim (cases_lt off 12) [
-      | inl below ↦ subst (λ n. n < 256) (reset_byte-header setup off below) (header_byte off below)
-      | inr from ↦ subst (λ n. n < 256) (sym (reset_byte-blank setup off fixed from)) (omega arith)
+      | inl below ↦ rw (← reset_byte-header setup off below) (header_byte off below)
+      | inr from ↦ omega (arith, reset_byte-blank setup off fixed from)
     ]
 
 abbrev IsFixedIn : Bytes → Type 0
@@ -74,17 +74,17 @@ module _ (setup : Setup) (bytes : Bytes) (drb : List ℕ) where
         | inr apart ↦
             get_or-set_other drb row at written 0 apart
             ∙ is_rows at at_within
-            ∙ sym (elsewhere setup bytes (0x60 + row) written (0x60 + at) (λ e. apart (omega arith)))
+            ∙ sym (elsewhere setup bytes (0x60 + row) written (0x60 + at) (omega arith))
       ]
 
-  pub stored_row : (hole row written : ℕ) → length drb ≡ 8 → row < 8 → written < 256 →
+  pub stored_row : (hole row off written : ℕ) → 0x60 + row ≡ off → length drb ≡ 8 → row < 8 → written < 256 →
       IsPmcOf bytes (record { drb = drb; fdhc = hole }) →
-      IsPmcOf (after_store setup bytes (0x60 + row) written) (record { drb = set drb row written; fdhc = hole })
-  stored_row hole row written eight within below is_pmc = record {
+      IsPmcOf (after_store setup bytes off written) (record { drb = set drb row written; fdhc = hole })
+  stored_row hole row off written is eight within below is_pmc = rw (← is) (record {
     rows = rows_after_store row written eight within below is_pmc.rows;
     hole = is_pmc.hole ∙ sym (elsewhere setup bytes (0x60 + row) written 0x68 (omega arith));
     fixed = fixed_stay setup bytes (0x60 + row) written below is_pmc.fixed;
-  }
+  })
 
   pub stored_hole : (old written : ℕ) → written < 256 → IsPmcOf bytes (record { drb = drb; fdhc = old }) →
       IsPmcOf (after_store setup bytes fdhc.off written)
@@ -100,8 +100,8 @@ module _ (setup : Setup) (bytes : Bytes) (drb : List ℕ) where
 pub stored_nowhere : (setup : Setup) (bytes : Bytes) (pmc : PmcBytes) (off written : ℕ) → written < 256 →
     ((off < 0x60) ⊎ (0x68 < off)) → IsPmcOf bytes pmc → IsPmcOf (after_store setup bytes off written) pmc
 stored_nowhere setup bytes pmc off written below outside is_pmc = record {
-  rows = λ at low. is_pmc.rows at low ∙ sym (elsewhere setup bytes off written (0x60 + at) (λ e. grind arith));
-  hole = is_pmc.hole ∙ sym (elsewhere setup bytes off written 0x68 (λ e. grind arith));
+  rows = λ at low. is_pmc.rows at low ∙ sym (elsewhere setup bytes off written (0x60 + at) (omega arith));
+  hole = is_pmc.hole ∙ sym (elsewhere setup bytes off written 0x68 (omega arith));
   fixed = fixed_stay setup bytes off written below is_pmc.fixed;
 }
 

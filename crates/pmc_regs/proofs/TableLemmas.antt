@@ -1,8 +1,8 @@
 -- The registers of the host bridge in the table of registers.
-use Rattle.std.proofs.Common.{◌≡◌, ℕ, ◌+◌, ◌<◌, ◌≤◌, List, [], ◌∷◌, length, ◌∙◌, refl, arith, inl, inr, map}
-use Rattle.std.proofs.Common.{slice_index, Bool, true, nat_lt, nat_le, ◌&&◌, ◌||◌, rules}
+use Rattle.std.proofs.Common.{◌≡◌, ℕ, ◌+◌, ◌<◌, ◌≤◌, List, [], ◌∷◌, length, refl, arith, inl, inr, map, slice_index}
+use Rattle.std.proofs.Common.{Bool, true, nat_lt, nat_le, ◌&&◌, ◌||◌, rules}
 use Rattle.board_prelude.proofs.Common.{cases_lt, Setup, host_bridge, listed, reset_byte, writable_bits, Bytes, bridge}
-use Rattle.board_prelude.proofs.Common.{drb, listed-past, listed-before, each_below, and_parts, or_cases, nat_tests}
+use Rattle.board_prelude.proofs.Common.{drb, listed-past, listed-before, each_below, nat_tests}
 use Rattle.board_spec.specs.RegisterTable.{Line}
 use Rattle.pmc_regs.specs.Pmc.{IsFixedOffset, IsRowsOf}
 
@@ -42,17 +42,11 @@ is_outside off [] = true
 is_outside off (entry ∷ later) =
     (nat_lt off entry.first || nat_le (entry.first + length entry.reset) off) && is_outside off later
 
-unlisted :
-    (column : Line → List ℕ) (lines : List Line) (off : ℕ) → is_outside off lines ≡ true → listed column lines off ≡ 0
+unlisted : (column : Line → List ℕ) (lines : List Line) (off : ℕ) → is_outside off lines ≡ true →
+    listed column lines off ≡ 0
 unlisted column [] off outside = refl
 unlisted column (entry ∷ later) off outside =
-    let end : ℕ = entry.first + length entry.reset in
-    let both = and_parts (nat_lt off entry.first || nat_le end off) (is_outside off later) outside in
-    let rest = unlisted column later off both.1 in
-    elim (or_cases (nat_lt off entry.first) (nat_le end off) both.0) [
-      | inl below ↦ listed-before column entry later off (grind (arith, nat_tests)) ∙ rest
-      | inr above ↦ listed-past column entry later off (grind (arith, nat_tests)) ∙ rest
-    ]
+    grind (arith, nat_tests, listed-before, listed-past, unlisted column later off)
 
 -- a fixed offset past the header lies outside all lines
 outside : (off : ℕ) → IsFixedOffset off → 12 ≤ off → is_outside off host_bridge ≡ true

@@ -1,11 +1,9 @@
-use Rattle.std.proofs.Common.{rules, ◌≡◌, ◌≤◌, ◌∙◌, sym, subst, IsNone, ◌↔◌}
-use Rattle.board_spec.specs.Decode.{top_of as top_by}
+use Rattle.std.proofs.Common.{rules, ◌≡◌, ◌∙◌, sym}
 use Rattle.pmc_regs.proofs.RowLemmas.{row_below_top, row_above_top, none_above_top}
 use Rattle.pmc_regs.proofs.rows.row_of.Goals as goal
 
 pub returns-then-addr-top_of-clause-row : goal.returns-then-addr-top_of-clause-row
-returns-then-addr-top_of-clause-row c =
-    λ bytes is_rows.
+returns-then-addr-top_of-clause-row c = λ bytes is_rows.
     sym (row_above_top bytes c.args.addr (rw (← c.top_of.ensures.top bytes is_rows) c.if-addr-top_of.true))
 
 pub returns-clause-row : goal.returns-clause-row
@@ -17,7 +15,4 @@ returns-clause-row c =
     ∙ row_below_top _ _ _ c.told-drb is_rows (rw (← c.top_of.ensures.top bytes is_rows) c.if-addr-top_of.false)
 
 pub returns-clause-none : goal.returns-clause-none
-returns-clause-none c =
-    λ bytes is_rows.
-    subst (λ row. IsNone row ↔ (top_by bytes ≤ c.args.addr)) (sym (returns-clause-row c bytes is_rows))
-    (none_above_top bytes c.args.addr)
+returns-clause-none c = λ bytes is_rows. rw (returns-clause-row c bytes is_rows) (none_above_top bytes c.args.addr)
