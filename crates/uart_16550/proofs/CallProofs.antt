@@ -1,19 +1,17 @@
 -- No byte that was received is lost, and all are read in their order.
 use Rattle.std.proofs.Common.{◌≡◌, ℕ, Bool, true, List, [], ◌∷◌, ◌++◌, length, refl, sym, ap, ◌∙◌, append_assoc, Option}
-use Rattle.std.proofs.Common.{Some, arith, ne_eqb, append-nil}
-use Rattle.board_prelude.proofs.Common.{nat_tests, Event, Memory, Port, Line, control_written, resets_hard, not-true}
+use Rattle.std.proofs.Common.{arith, ne_eqb, append-nil}
+use Rattle.board_prelude.proofs.Common.{nat_tests, Event, control_written, resets_hard}
 use Rattle.uart_16550.specs.declared.interrupt.Interrupt.{Interrupt}
-use Rattle.uart_16550.specs.declared.interrupt.Interrupt.TheVariants.{LineStatus}
 use Rattle.uart_16550.specs.declared.register.ReadRegister.{ReadRegister}
 use Rattle.uart_16550.specs.declared.register.WriteRegister.{WriteRegister}
 use Rattle.uart_16550.specs.declared.com1.Com1.{Com1}
 use Rattle.uart_16550.specs.declared.com1.Happening.{Happening}
 use Rattle.uart_16550.specs.declared.com1.Happening.TheVariants.{Comes, Happens}
-use Rattle.uart_16550.specs.Common.{Uart, is_dlab, is_loopback, pending, register_read, front_of, rest_of, value_of}
-use Rattle.uart_16550.specs.Common.{after_identity, after_value, is_emptying, with_value, com1_after, Call, Renews}
-use Rattle.uart_16550.specs.Common.{Receives, Reads, Writes, after_call, brought, front_taken, taken, is_kept}
-use Rattle.uart_16550.specs.Common.{is_keeping, after_calls, all_brought, all_taken, ReadInOrder, calls_of, Sending}
-use Rattle.uart_16550.specs.Common.{sending_after, calls_for, all_calls, after_all, bytes_come, SerialReadsInOrder}
+use Rattle.uart_16550.specs.Common.{Uart, front_of, rest_of, value_of, after_identity, after_value, with_value}
+use Rattle.uart_16550.specs.Common.{com1_after, Call, after_call, brought, front_taken, taken, is_kept, is_keeping}
+use Rattle.uart_16550.specs.Common.{after_calls, all_brought, all_taken, ReadInOrder, calls_of, Sending, sending_after}
+use Rattle.uart_16550.specs.Common.{calls_for, all_calls, after_all, bytes_come, SerialReadsInOrder}
 use Rattle.uart_16550.specs.declared.register.ReadRegister.TheVariants as read
 use Rattle.uart_16550.specs.declared.register.WriteRegister.TheVariants as write
 
@@ -22,31 +20,22 @@ front_and_rest [] = refl
 front_and_rest (byte ∷ later) = rw (ne_eqb (length (byte ∷ later)) 0 (λ is. cc)) refl
 
 identity_keeps : (told : Option Interrupt) (uart : Uart) → (after_identity told uart).queue ≡ uart.queue
-identity_keeps (Some LineStatus) uart = refl
-identity_keeps _ uart = refl
+identity_keeps told uart = grind (arith, nat_tests)
 
 -- what a read takes, and what it leaves, is what was there
 pub read_in_order : (uart : Uart) (register : ReadRegister) →
     front_taken uart.queue register (value_of uart register) ++ (after_value uart register).queue ≡ uart.queue
 unfolding value_of after_value
-read_in_order uart read.Rbr = front_and_rest uart.queue
-read_in_order uart read.Iir = identity_keeps (pending uart) uart
-read_in_order uart _ = refl
+read_in_order uart register = grind (arith, nat_tests, front_and_rest, identity_keeps)
 
 pub write_keeps : (uart : Uart) (register : WriteRegister) (byte : ℕ) → is_kept uart register byte ≡ true →
     (with_value uart register byte).queue ≡ uart.queue
 unfolding with_value
-write_keeps uart write.Thr byte kept = rw (not-true (is_loopback uart) kept) refl
-write_keeps uart write.Fcr byte kept = rw (not-true (is_emptying uart byte) kept) refl
-write_keeps uart _ byte kept = refl
+write_keeps uart register byte kept = grind (arith, nat_tests)
 
 call_in_order : (uart : Uart) (call : Call) → is_keeping uart call ≡ true →
     taken uart call ++ (after_call uart call).queue ≡ uart.queue ++ brought call
-call_in_order uart Renews kept = absurd (cc kept)
-call_in_order uart (Receives byte) kept = refl
-call_in_order uart (Reads off) kept =
-    read_in_order uart (register_read (is_dlab uart) off) ∙ sym (append-nil uart.queue)
-call_in_order uart (Writes off byte) kept = write_keeps _ _ _ kept ∙ sym (append-nil uart.queue)
+call_in_order uart call kept = grind (arith, nat_tests, append-nil, read_in_order, write_keeps)
 
 pub calls_in_order : ReadInOrder
 calls_in_order uart [] kept = sym (append-nil uart.queue)
@@ -63,15 +52,10 @@ calls_in_order uart (call ∷ later) kept =
 
 event_is_calls : (resets : Bool) (event : Event) (com1 : Com1) →
     (com1_after resets event com1).uart ≡ after_calls com1.uart (calls_of resets event)
-event_is_calls resets (Port access) com1 = grind (arith, nat_tests)
-event_is_calls resets (Line irq on) com1 = grind (arith, nat_tests)
-event_is_calls resets (Memory access) com1 = refl
-event_is_calls resets _ com1 = refl
+event_is_calls resets event com1 = grind (arith, nat_tests)
 
 event_brings_nothing : (resets : Bool) (event : Event) → all_brought (calls_of resets event) ≡ []
-event_brings_nothing resets (Port access) = grind (arith, nat_tests)
-event_brings_nothing resets (Line irq on) = refl
-event_brings_nothing resets _ = refl
+event_brings_nothing resets event = grind (arith, nat_tests)
 
 calls_in_turn : (uart : Uart) (first later : List Call) →
     after_calls uart (first ++ later) ≡ after_calls (after_calls uart first) later

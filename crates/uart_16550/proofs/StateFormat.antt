@@ -1,8 +1,7 @@
 -- The states of the UART and of the serial port are spelled and read back.
-use Rattle.std.proofs.Common.{◌≡◌, ◌≤◌, Bool, true, false, length, ℕ, refl, arith}
+use Rattle.std.proofs.Common.{◌≡◌, ◌≤◌, Bool, length, refl, arith}
 use Rattle.byte_fields.proofs.Formats.{IsFormat, format_as, fields_format, ◌then◌, ◌&◌, last_field, plain_format}
 use Rattle.byte_fields.proofs.Numbers.{Any, byte_to, any_byte, flag_format}
-use Rattle.byte_fields.specs.Fields.{plain}
 use Rattle.uart_16550.specs.Uart.{size_with}
 use Rattle.uart_16550.specs.State.{registers_in, registers_bytes, registers_fields, AreRegisters, causes_of}
 use Rattle.uart_16550.specs.State.{causes_bytes, causes_fields, receiver_of, receiver_bytes, receiver_fields}
@@ -23,17 +22,7 @@ registers_format =
           & (r.dll, is.dll) & (r.dlm, is.dlm),
       refl,
     ))
-    (λ t. (
-      record {
-        ier = omega (arith, t.1);
-        lcr = t.2.1;
-        mcr = omega (arith, t.2.2.1);
-        scr = t.2.2.2.1;
-        dll = t.2.2.2.2.1;
-        dlm = t.2.2.2.2.2.1;
-      },
-      refl,
-    ))
+    (λ t. (omega (arith, t.1, t.2.1, t.2.2.1, t.2.2.2.1, t.2.2.2.2.1, t.2.2.2.2.2.1), refl))
 
 causes_format : IsFormat 6 causes_fields causes_bytes Any
 unfolding causes_fields
@@ -50,16 +39,8 @@ causes_format =
 
 -- ---- the receiver
 
-pub size_small : (fifos : Bool) → size_with fifos ≤ 16
-size_small true = omega arith
-size_small false = omega arith
-
--- as many bytes as were said, at most 16
-queue_format : (fifos : Bool) (count : ℕ) → count ≤ size_with fifos →
-    IsFormat 16 (plain count) (λ bytes. bytes) (λ bytes. length bytes ≡ count)
-queue_format fifos count few =
-    format_as _ _ _ (plain_format count) (omega (arith, few, size_small fifos)) (λ bytes is. is) (λ bytes is. is)
-    (λ bytes is. refl)
+size_small : (fifos : Bool) → size_with fifos ≤ 16
+size_small fifos = grind arith
 
 receiver_format : IsFormat 18 receiver_fields receiver_bytes IsReceiver
 unfolding receiver_fields
@@ -67,7 +48,8 @@ receiver_format =
     fields_format
     (flag_format then λ fifos any.
     byte_to (size_with fifos) (omega (arith, size_small fifos)) then λ count few.
-    last_field _ (queue_format fifos count few))
+    last_field _ (format_as 16 (λ bytes. bytes) (λ bytes. length bytes ≡ count) (plain_format count)
+    (omega (arith, few, size_small fifos)) (λ bytes is. is) (λ bytes is. is) (λ bytes is. refl)))
     (λ r is. ((r.fifos, tt) & (length r.queue, is) & (r.queue, refl), refl))
     (λ t. rw (t.2.2.1) (t.2.1, refl))
 
