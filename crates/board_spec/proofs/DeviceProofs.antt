@@ -8,7 +8,7 @@ use Rattle.board_spec.specs.Common.{pair_after, IsAnswer, NamesDevice, ActsOnPai
 use Rattle.board_spec.specs.Common.{pair_after_lines, levels_at_power_on, levels_where, SameLevelsAgain, is_hard_reset}
 use Rattle.board_spec.specs.Common.{byte_of, triggers_of, timer_of, levels_of, elcr_of, pair_pulsed, pair_stepped}
 use Rattle.board_spec.specs.Common.{pair_reset_or_after, pair_of, PairHasSeen, PairStays, Reg, pirq, plain_of}
-use Rattle.board_spec.specs.Common.{IsOfMemory, MemoryLeavesDevices}
+use Rattle.board_spec.specs.Common.{MemoryLeavesDevices}
 use Rattle.board_spec.specs.declared.event.Event.{Event}
 use Rattle.board_spec.specs.declared.event.Reply.{Reply}
 use Rattle.board_spec.specs.declared.event.Entry.{Entry}
@@ -156,40 +156,29 @@ pair_stays again setup before entry soft apart lines =
 
 -- ---- memory accesses and looks
 
-timer-same :
-    (before : List Entry) (entry : Entry) → IsOfMemory entry.event → timer_of (entry ∷ before) ≡ timer_of before
-unfolding timer_of
-timer-same before entry is = grind arith
-
-byte-same : (setup : Setup) (before : List Entry) (entry : Entry) (reg : Reg) → IsOfMemory entry.event →
-    byte_of setup (entry ∷ before) reg ≡ byte_of setup before reg
-unfolding byte_of
-byte-same setup before entry reg is = grind arith
-
-lines-same : (setup : Setup) (before : List Entry) (entry : Entry) → IsOfMemory entry.event →
-    levels_of setup (entry ∷ before) ≡ levels_of setup before
-unfolding clock_of disk_with wire_of irq_of
-lines-same setup before entry is =
-    levels-same setup (entry ∷ before) before (timer_of (entry ∷ before)) (timer_of before) (record {
-      out = rw (timer-same before entry is) refl;
+pub memory_leaves_devices : SameLevelsAgain → MemoryLeavesDevices
+unfolding byte_of timer_of plain_of triggers_of clock_of disk_with wire_of irq_of
+memory_leaves_devices again setup before entry is =
+    let timer : timer_of (entry ∷ before) ≡ timer_of before = grind arith in
+    let registers : (reg : Reg) → byte_of setup (entry ∷ before) reg ≡ byte_of setup before reg = λ reg. grind arith in
+    let drivers : SameDrivers setup (entry ∷ before) before (timer_of (entry ∷ before)) (timer_of before) = record {
+      out = ap (out_of 0) timer;
       clock = grind arith;
       disk = λ bytes. grind arith;
       wires = λ dev. grind arith;
       lines = λ line. grind arith;
-      routes = map-same _ _ pirqs (λ k. byte-same setup before entry (pirq k) is);
-    })
-
-pub memory_leaves_devices : SameLevelsAgain → MemoryLeavesDevices
-unfolding plain_of triggers_of clock_of disk_with wire_of irq_of
-memory_leaves_devices again setup before entry is = record {
-  registers = λ reg. byte-same setup before entry reg is;
-  timer = timer-same before entry is;
-  plain = grind arith;
-  triggers = grind arith;
-  clock = grind arith;
-  disk = λ bytes. grind arith;
-  wires = λ dev. grind arith;
-  lines = λ line. grind arith;
-  levels = lines-same setup before entry is;
-  pair = pair_stays again setup before entry (grind arith) (grind arith) (lines-same setup before entry is);
-}
+      routes = map-same _ _ pirqs (λ k. registers (pirq k));
+    } in
+    let levels = levels-same setup (entry ∷ before) before (timer_of (entry ∷ before)) (timer_of before) drivers in
+    record {
+      registers = registers;
+      timer = timer;
+      plain = grind arith;
+      triggers = grind arith;
+      clock = drivers.clock;
+      disk = drivers.disk;
+      wires = drivers.wires;
+      lines = drivers.lines;
+      levels = levels;
+      pair = pair_stays again setup before entry (grind arith) (grind arith) levels;
+    }

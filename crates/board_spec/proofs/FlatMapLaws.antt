@@ -1,5 +1,5 @@
 -- Two flat maps of the same registers are one list, and every address has one span.
-use Rattle.std.proofs.Common.{◌≡◌, ℕ, ◌+◌, ◌<◌, ◌≤◌, inl, inr, List, [], ◌∷◌, refl, sym, ◌∙◌, subst, arith}
+use Rattle.std.proofs.Common.{◌≡◌, ℕ, ◌+◌, ◌≤◌, inl, inr, List, [], ◌∷◌, refl, sym, ◌∙◌, subst, arith}
 use Rattle.board_spec.specs.Common.{AllByRecursion, Setup, Bytes, address_count, six_areas, MapRange, Tiles, Differs}
 use Rattle.board_spec.specs.Common.{NeighboursDiffer, IsRight, OneFlatMap}
 use Rattle.device_spec.proofs.Common.{recursion_from_All, cases_lt}
@@ -18,23 +18,16 @@ module _ (setup : Setup) (bytes : Bytes) where
   first_areas from x xs tiles right = right.at_each from (omega (arith, tiles.0)) (omega (arith, tiles.0, tiles.1))
 
   -- a range that ends before another that begins at the same address has a next one with the other's areas
-  ends_no_sooner : (from : ℕ) (x y : MapRange) (xs ys : List MapRange) → Tiles from (x ∷ xs) → Tiles from (y ∷ ys) →
-      AreRight (x ∷ xs) → IsRight setup bytes y → Differs x xs → x.hi < y.hi → ⊥
-  ends_no_sooner from x y [] ys tx ty rx ry dx lt = omega (arith, tx.2, tiles_below (y.hi + 1) ys ty.2)
-  ends_no_sooner from x y (x' ∷ xs) ys tx ty rx ry dx lt =
-      let there = ry.at_each (x.hi + 1) (omega (arith, tx.0, tx.1, ty.0)) (omega arith) in
-      dx (sym (first_areas from x (x' ∷ xs) tx rx.0) ∙ first_areas from y ys ty ry ∙ sym there
-      ∙ first_areas (x.hi + 1) x' xs tx.2 rx.1.0)
-
-  same_end : (from : ℕ) (x y : MapRange) (xs ys : List MapRange) → Tiles from (x ∷ xs) → Tiles from (y ∷ ys) →
-      AreRight (x ∷ xs) → AreRight (y ∷ ys) → Differs x xs → Differs y ys → x.hi ≡ y.hi
-  same_end from x y xs ys tx ty rx ry dx dy =
+  ends_no_later : (from : ℕ) (x y : MapRange) (xs ys : List MapRange) → Tiles from (x ∷ xs) → Tiles from (y ∷ ys) →
+      AreRight (x ∷ xs) → IsRight setup bytes y → Differs x xs → y.hi ≤ x.hi
+  ends_no_later from x y [] ys tx ty rx ry dx = omega (arith, tx.2, tiles_below (y.hi + 1) ys ty.2)
+  ends_no_later from x y (x' ∷ xs) ys tx ty rx ry dx =
       elim (cases_lt x.hi y.hi) [
-        | inl sooner ↦ absurd (ends_no_sooner from x y xs ys tx ty rx ry.0 dx sooner)
-        | inr not_sooner ↦ elim (cases_lt y.hi x.hi) [
-          | inl later ↦ absurd (ends_no_sooner from y x ys xs ty tx ry rx.0 dy later)
-          | inr not_later ↦ omega arith
-        ]
+        | inr not_sooner ↦ not_sooner
+        | inl sooner ↦
+            let there = ry.at_each (x.hi + 1) (omega (arith, tx.0, tx.1, ty.0)) (omega arith) in
+            absurd (dx (sym (first_areas from x (x' ∷ xs) tx rx.0) ∙ first_areas from y ys ty ry ∙ sym there
+            ∙ first_areas (x.hi + 1) x' xs tx.2 rx.1.0))
       ]
 
   one_tiling : (from : ℕ) (xs ys : List MapRange) → Tiles from xs → Tiles from ys → AreRight xs → AreRight ys →
@@ -43,7 +36,9 @@ module _ (setup : Setup) (bytes : Bytes) where
   one_tiling from [] (y ∷ ys) tx ty rx ry dx dy = absurd (omega (arith, ty.0, ty.1, tiles_below (y.hi + 1) ys ty.2))
   one_tiling from (x ∷ xs) [] tx ty rx ry dx dy = absurd (omega (arith, tx.0, tx.1, tiles_below (x.hi + 1) xs tx.2))
   one_tiling from (x ∷ xs) (y ∷ ys) tx ty rx ry dx dy =
-      let ends : x.hi ≡ y.hi = same_end from x y xs ys tx ty rx ry dx.0 dy.0 in
+      let sooner = ends_no_later from x y xs ys tx ty rx ry.0 dx.0 in
+      let later = ends_no_later from y x ys xs ty tx ry rx.0 dy.0 in
+      let ends : x.hi ≡ y.hi = omega arith in
       let areas = sym (first_areas from x xs tx rx.0) ∙ first_areas from y ys ty ry.0 in
       let head : x ≡ y = grind (arith, tx.0 ∙ sym ty.0) in
       let there : Tiles (x.hi + 1) ys = subst (λ (hi : ℕ). Tiles (hi + 1) ys) (sym ends) ty.2 in

@@ -1,5 +1,5 @@
 -- The orders in which a script may run: complete, begun, and how a begun history goes on.
-use Rattle.std.proofs.Common.{◌≡◌, ℕ, ◌+◌, inl, inr, List, [], ◌∷◌, ◌++◌, length, take, drop, refl, sym, ◌∙◌, ap, subst}
+use Rattle.std.proofs.Common.{◌≡◌, ℕ, inl, inr, List, [], ◌∷◌, ◌++◌, length, take, drop, refl, sym, ◌∙◌, ap, subst}
 use Rattle.std.proofs.Common.{arith, append_assoc}
 use Rattle.device_spec.proofs.Common.{take-append_seam, drop-append_seam, take-append-le, drop-append-le, length-append}
 use Rattle.device_spec.proofs.Common.{take_all, map-append, append-nil, reverse-append, filter-append, cases_lt}
@@ -12,15 +12,11 @@ use Rattle.board_spec.specs.Common.{FrontIsBegun}
 
 -- ---- complete
 
-same_whole : (phase part : List Statement) → part ≡ phase → IsWholePhase phase part
-same_whole phase part same = record { size = ap length same; each = λ actor. ap (events_by actor) same }
-
 file_order : (phases : List (List Statement)) → HasPhases phases (in_file_order phases)
 file_order [] = refl
-file_order (phase ∷ later) = (
-  same_whole phase (take (length phase) (phase ++ in_file_order later)) (take-append_seam phase (in_file_order later)),
-  subst (HasPhases later) (sym (drop-append_seam phase (in_file_order later))) (file_order later),
-)
+file_order (phase ∷ later) =
+    rw (take-append_seam phase (in_file_order later), drop-append_seam phase (in_file_order later))
+    (record { size = refl; each = λ actor. refl }, file_order later)
 
 pub replay_is_complete : ReplayIsComplete
 replay_is_complete setup phases history replay = subst (HasPhases phases) (sym replay.same) (file_order phases)

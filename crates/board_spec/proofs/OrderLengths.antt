@@ -13,27 +13,25 @@ cut_length : (phase statements : List Statement) → IsWholePhase phase (take (l
 cut_length phase statements whole =
     omega (arith, whole.size, length-take (length phase) statements, length-drop (length phase) statements)
 
-bounded : (phases : List (List Statement)) (statements : List Statement) → HasPhasesSoFar phases statements →
-    length statements ≤ length (in_file_order phases)
-bounded [] statements nothing = omega (arith, ap length nothing)
-bounded (phase ∷ later) statements (inl front) = simp length-append (omega (arith, front.size))
-bounded (phase ∷ later) statements (inr whole) =
-    simp length-append (omega (arith, cut_length _ _ whole.0, bounded later (drop (length phase) statements) whole.1))
-
-complete_when_full : (phases : List (List Statement)) (statements : List Statement) → HasPhasesSoFar phases statements →
-    length statements ≡ length (in_file_order phases) → HasPhases phases statements
-complete_when_full [] statements nothing full = nothing
-complete_when_full (phase ∷ later) statements (inl front) full =
-    let sizes = simp length-append at full in
-    let long : length phase ≤ length statements = omega (arith, front.size) in (
-      whole_front phase statements front long,
-      rw (nothing_left phase statements front long)
-          (complete_when_full later [] (none_so_far later) (omega (arith, front.size))),
+-- statements so far are at most those of the phases, and where they are as many, they are the phases
+counted : (phases : List (List Statement)) (statements : List Statement) → HasPhasesSoFar phases statements →
+    (length statements ≤ length (in_file_order phases))
+    × (length statements ≡ length (in_file_order phases) → HasPhases phases statements)
+counted [] statements nothing = (omega (arith, ap length nothing), λ full. nothing)
+counted (phase ∷ later) statements (inl front) =
+    simp length-append (
+      omega (arith, front.size),
+      λ full.
+          let long : length phase ≤ length statements = omega (arith, front.size) in (
+            whole_front phase statements front long,
+            rw (nothing_left phase statements front long)
+                ((counted later [] (none_so_far later)).1 (omega (arith, front.size))),
+          ),
     )
-complete_when_full (phase ∷ later) statements (inr whole) full =
-    let sizes = simp length-append at full in
-    let rest = complete_when_full later (drop (length phase) statements) whole.1 in
-    (whole.0, rest (omega (arith, cut_length phase statements whole.0)))
+counted (phase ∷ later) statements (inr whole) =
+    let rest = counted later (drop (length phase) statements) whole.1 in
+    let cut = cut_length phase statements whole.0 in
+    simp length-append (omega (arith, cut, rest.0), λ full. (whole.0, rest.1 (omega (arith, cut))))
 
 full_when_complete : (phases : List (List Statement)) (statements : List Statement) → HasPhases phases statements →
     length statements ≡ length (in_file_order phases)
@@ -47,10 +45,10 @@ stated : (history : List Entry) → length (statements_of history) ≡ length hi
 stated history = simp (length-map, length-reverse)
 
 pub begun_is_bounded : BegunIsBounded
-begun_is_bounded phases history begun = rw (← (stated history)) (bounded phases (statements_of history) begun)
+begun_is_bounded phases history begun = rw (← (stated history)) (counted phases (statements_of history) begun).0
 
 pub whole_is_complete : WholeIsComplete
-whole_is_complete phases history begun full = complete_when_full _ _ begun (stated history ∙ full)
+whole_is_complete phases history begun full = (counted phases (statements_of history) begun).1 (stated history ∙ full)
 
 pub complete_is_whole : CompleteIsWhole
 complete_is_whole phases history complete = sym (stated history) ∙ full_when_complete _ _ complete

@@ -65,10 +65,17 @@ pub record IsCut (access : WideAccess) : Type 0 where
   pub aligned : Aligned access.addr widths
 
 cut_by : (access : WideAccess) (widths : List Width) → AreLongest access.addr access.bytes widths →
-    2 ≤ length widths → length widths ≤ 4 → IsCut access
-cut_by access widths longest least most =
-    let is = cut access 4 access.addr access.bytes widths longest most in
-    record { widths = widths; least = least; most = most; parts = is.parts; total_is = is.total; aligned = is.aligned }
+    (2 ≤ length widths) × (length widths ≤ 4) → IsCut access
+cut_by access widths longest count =
+    let is = cut access 4 access.addr access.bytes widths longest count.1 in
+    record {
+      widths = widths;
+      least = count.0;
+      most = count.1;
+      parts = is.parts;
+      total_is = is.total;
+      aligned = is.aligned;
+    }
 
 quarters : (n : ℕ) → (n % 4 ≡ 0) ⊎ (n % 4 ≡ 1) ⊎ (n % 4 ≡ 2) ⊎ (n % 4 ≡ 3)
 quarters n = grind arith
@@ -76,25 +83,20 @@ quarters n = grind arith
 pub is_cut : (access : WideAccess) → IsWideAccess access → IsCut access
 is_cut access legal =
     elim legal.bytes [
-      | inl two ↦ cut_by access (One ∷ One ∷ []) (grind (arith, nat_tests)) (omega arith) (omega arith)
+      | inl two ↦ cut_by access (One ∷ One ∷ []) (grind (arith, nat_tests)) (omega arith)
       | inr (inl four) ↦ elim (cases_eq (access.addr % 2) 1) [
-        | inl odd ↦ cut_by access (One ∷ Two ∷ One ∷ []) (grind (arith, nat_tests)) (omega arith) (omega arith)
-        | inr even ↦ cut_by access (Two ∷ Two ∷ []) (grind (arith, nat_tests)) (omega arith) (omega arith)
+        | inl odd ↦ cut_by access (One ∷ Two ∷ One ∷ []) (grind (arith, nat_tests)) (omega arith)
+        | inr even ↦ cut_by access (Two ∷ Two ∷ []) (grind (arith, nat_tests)) (omega arith)
       ]
       | inr (inr eight) ↦ elim (quarters access.addr) [
-        | inl none ↦ cut_by access (Four ∷ Four ∷ []) (grind (arith, nat_tests)) (omega arith) (omega arith)
-        | inr (inl one) ↦
-            cut_by access (One ∷ Two ∷ Four ∷ One ∷ []) (grind (arith, nat_tests)) (omega arith) (omega arith)
-        | inr (inr (inl two)) ↦
-            cut_by access (Two ∷ Four ∷ Two ∷ []) (grind (arith, nat_tests)) (omega arith) (omega arith)
-        | inr (inr (inr three)) ↦
-            cut_by access (One ∷ Four ∷ Two ∷ One ∷ []) (grind (arith, nat_tests)) (omega arith) (omega arith)
+        | inl none ↦ cut_by access (Four ∷ Four ∷ []) (grind (arith, nat_tests)) (omega arith)
+        | inr (inl one) ↦ cut_by access (One ∷ Two ∷ Four ∷ One ∷ []) (grind (arith, nat_tests)) (omega arith)
+        | inr (inr (inl two)) ↦ cut_by access (Two ∷ Four ∷ Two ∷ []) (grind (arith, nat_tests)) (omega arith)
+        | inr (inr (inr three)) ↦ cut_by access (One ∷ Four ∷ Two ∷ One ∷ []) (grind (arith, nat_tests)) (omega arith)
       ]
     ]
 
 -- ---- the parts cover the access
-
--- ---- places
 
 covers-made : (access : WideAccess) (from end : ℕ) (widths : List Width) → from + total widths ≡ end →
     Covers from end (made access from widths)
@@ -108,15 +110,8 @@ covers-made access from end (width ∷ later) sum =
 is_part :
     (access : WideAccess) (from : ℕ) (width : Width) → FitsBytes (is_write access.kind) access.bytes access.value →
     from % bytes_of width ≡ 0 → IsPart access (part_at access from width)
-is_part access from width fits aligned = record {
-  kind = refl;
-  smm = refl;
-  legal =
-      record {
-        aligned = aligned;
-        fits = grind arith;
-      };
-}
+is_part access from width fits aligned =
+    record { kind = refl; smm = refl; legal = record { aligned = aligned; fits = grind arith } }
 
 each-made : (access : WideAccess) (from : ℕ) (widths : List Width) →
     FitsBytes (is_write access.kind) access.bytes access.value → Aligned from widths → All (IsPart access)

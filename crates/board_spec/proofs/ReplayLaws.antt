@@ -1,15 +1,13 @@
 -- Every event has one answer, and every list of statements one replay.
-use Rattle.std.proofs.Common.{◌≡◌, ℕ, ◌+◌, Bool, List, [], ◌∷◌, ◌++◌, refl, sym, ◌∙◌, ap, length, append_assoc, ◌≤◌}
-use Rattle.std.proofs.Common.{map, reverse, arith}
-use Rattle.device_spec.proofs.Common.{length-map, append-nil, reverse-reverse, reverse-append, recursion_from_All}
+use Rattle.std.proofs.Common.{◌≡◌, ℕ, Bool, List, [], ◌∷◌, ◌++◌, refl, sym, ◌∙◌, ap, length, append_assoc, ◌≤◌, map}
+use Rattle.std.proofs.Common.{reverse, arith}
+use Rattle.device_spec.proofs.Common.{length-map, append-nil, reverse-append, recursion_from_All}
 use Rattle.board_spec.specs.Common.{AllByRecursion, Kind, WideAccess, Setup, byte_of, version_of, parts_of, parts_list}
-use Rattle.board_spec.specs.Common.{IsWideAccess, part_answer, wide_value, IsLookAnswer, entries_by, IsNext, IsLegal}
+use Rattle.board_spec.specs.Common.{IsWideAccess, part_answer, wide_value, IsLookAnswer, next_entry, IsNext, IsLegal}
 use Rattle.board_spec.specs.Common.{statement_of, statements_of, IsAddressed, SomeAnswer, OneAnswer, SomeReplay}
 use Rattle.board_spec.specs.Common.{OneReplay}
-use Rattle.board_spec.specs.declared.event.Event.{Event}
 use Rattle.board_spec.specs.declared.event.Event.TheVariants.{Wide, Look as LookAt}
 use Rattle.board_spec.specs.declared.event.Look.{Look}
-use Rattle.board_spec.specs.declared.event.Reply.{Reply}
 use Rattle.board_spec.specs.declared.event.Part.{Part}
 use Rattle.board_spec.specs.declared.event.Parts.{Parts}
 use Rattle.board_spec.specs.declared.event.Parts.TheVariants.{Two as TwoParts, Three as ThreeParts, Four as FourParts}
@@ -79,9 +77,6 @@ one_answer setup before _ left right l r = l ∙ sym r
 
 -- ---- replays
 
-unfoldable pub entry_made : ℕ → ℕ → Event → Reply → Entry
-entry_made actor seq event reply = record { actor = actor; seq = seq; event = event; reply = reply }
-
 pub legal_before : (setup : Setup) (more before : List Entry) → IsLegal setup (more ++ before) → IsLegal setup before
 legal_before setup [] before legal = legal
 legal_before setup (entry ∷ more) before legal = legal_before setup more before legal.1
@@ -93,7 +88,6 @@ record Extended (setup : Setup) (before : List Entry) (statements : List Stateme
 
 extended : (setup : Setup) (before : List Entry) (statements : List Statement) → IsLegal setup before →
     AllByRecursion (λ statement. IsAddressed statement.event) statements → Extended setup before statements
-unfolding entry_made
 extended setup before [] legal addressed = record {
   history = before;
   legal = legal;
@@ -101,8 +95,7 @@ extended setup before [] legal addressed = record {
 }
 extended setup before (statement ∷ later) legal addressed =
     let answered = some_answer setup before statement.event addressed.0 in
-    let entry : Entry =
-    entry_made statement.actor (length (entries_by statement.actor before) + 1) statement.event answered.reply in
+    let entry = next_entry before statement.actor statement.event answered.reply in
     let next : IsNext setup before entry = record { number = refl; answer = answered.answer } in
     let more = extended setup (entry ∷ before) later (next, legal) addressed.1 in
     record {
@@ -120,29 +113,26 @@ some_replay setup statements addressed =
     statements addressed) in
     record { history = more.history; replay = record { legal = more.legal; same = more.same } }
 
+newest : (entry : Entry) (before : List Entry) →
+    reverse (statements_of (entry ∷ before)) ≡ statement_of entry ∷ reverse (statements_of before)
+newest entry before =
+    ap reverse (statements-newest entry before) ∙ reverse-append (statements_of before) (statement_of entry ∷ [])
+
 same_history : (setup : Setup) (left right : List Entry) → IsLegal setup left → IsLegal setup right →
-    map statement_of left ≡ map statement_of right → left ≡ right
+    reverse (statements_of left) ≡ reverse (statements_of right) → left ≡ right
 same_history setup [] [] l r same = refl
-same_history setup [] (entry ∷ right) l r same = cc
-same_history setup (entry ∷ left) [] l r same = cc
+same_history setup [] (entry ∷ right) l r same = let first = newest entry right in cc
+same_history setup (entry ∷ left) [] l r same = let first = newest entry left in cc
 same_history setup (entry ∷ left) (entry' ∷ right) l r same =
+    let of_left = newest entry left in
+    let of_right = newest entry' right in
     let head : statement_of entry ≡ statement_of entry' = cc in
-    let rest : map statement_of left ≡ map statement_of right = cc in
+    let rest : reverse (statements_of left) ≡ reverse (statements_of right) = cc in
     let tail : left ≡ right = same_history setup left right l.1 r.1 rest in
     let next : IsNext setup left entry' = rw tail r.0 in
     let first : entry ≡ entry' = grind (arith, one_answer, l.0) in
     cc
 
-map-reverse : (history : List Entry) → map statement_of (reverse history) ≡ reverse (map statement_of history)
-map-reverse [] = refl
-map-reverse (entry ∷ before) =
-    statements-newest entry before
-    ∙ ap (λ (said : List Statement). said ++ statement_of entry ∷ []) (map-reverse before)
-    ∙ sym (reverse-append (statement_of entry ∷ []) (map statement_of before))
-
-newest_first : (history : List Entry) → map statement_of history ≡ reverse (statements_of history)
-newest_first history = sym (ap reverse (map-reverse history) ∙ reverse-reverse (map statement_of history))
-
 pub one_replay : OneReplay
 one_replay setup statements left right l r =
-    same_history _ _ _ l.legal r.legal (newest_first left ∙ ap reverse (l.same ∙ sym r.same) ∙ sym (newest_first right))
+    same_history _ _ _ l.legal r.legal (ap reverse (l.same ∙ sym r.same))

@@ -1,101 +1,65 @@
 -- Every address lies in exactly one span of a column.
-use Rattle.std.proofs.Common.{◌≡◌, ◌≢◌, ℕ, zero, suc, ◌+◌, ◌-◌, ◌≤◌, ◌⊎◌, inl, inr, Bool, refl, sym, ◌∙◌, subst, arith}
+use Rattle.std.proofs.Common.{◌≡◌, ◌≢◌, ℕ, zero, suc, ◌+◌, ◌-◌, ◌≤◌, ◌⊎◌, inl, inr, Bool, refl, sym, ◌∙◌, ap, arith}
 use Rattle.std.proofs.lemmas.Bool.{cases_lt}
 use Rattle.board_spec.specs.Common.{Kind, Area, Setup, Bytes, area_of, address_count, IsSpan, SomeSpan, OneSpan}
 
 cases_area : (a b : Area) → (a ≡ b) ⊎ (a ≢ b)
 cases_area a b = grind arith
 
--- ---- the ends of the interval round a place in which a function keeps its value
+-- ---- the interval round a place in which a function keeps its value
 
-record LowEnd (f : ℕ → Area) (place : ℕ) : Type 0 where
-  pub lo : ℕ
-  pub above : lo ≤ place
-  pub same : (x : ℕ) → lo ≤ x → x ≤ place → f x ≡ f place
-  pub begins : (lo ≡ 0) ⊎ (f (lo - 1) ≢ f place)
+-- how far a function keeps its first value, of so many steps
+record Run (f : ℕ → Area) (first : Area) (count : ℕ) : Type 0 where
+  pub far : ℕ
+  pub within : far ≤ count
+  pub same : (k : ℕ) → k ≤ far → f k ≡ first
+  pub ends : (far ≡ count) ⊎ (f (far + 1) ≢ first)
 
-only_here : (f : ℕ → Area) (place : ℕ) (x : ℕ) → place ≤ x → x ≤ place → f x ≡ f place
-only_here f place x h k = grind arith
-
-low_end : (f : ℕ → Area) (place : ℕ) → LowEnd f place
-low_end f zero = record { lo = 0; above = omega arith; same = only_here f 0; begins = inl refl }
-low_end f (suc n) =
-    elim (cases_area (f n) (f (suc n))) [
-      | inr other ↦ record {
-        lo = suc n;
-        above = omega arith;
-        same = only_here f (suc n);
-        begins = inr (let e : suc n - 1 ≡ n = omega arith in rw e other);
-      }
-      | inl equal ↦
-          let below = low_end f n in
-          record {
-            lo = below.lo;
-            above = omega (arith, below.above);
-            same = λ x h k.
-                elim (cases_lt x (suc n)) [
-                  | inl less ↦ below.same x h (omega arith) ∙ equal
-                  | inr not_less ↦ only_here f (suc n) x not_less k
-                ];
-            begins = elim below.begins [
-              | inl at_zero ↦ inl at_zero
-              | inr other ↦ inr (subst (λ (area : Area). f (below.lo - 1) ≢ area) equal other)
-            ];
-          }
-    ]
-
-record HighEnd (f : ℕ → Area) (place last : ℕ) : Type 0 where
-  pub hi : ℕ
-  pub below : place ≤ hi
-  pub within : hi ≤ last
-  pub same : (x : ℕ) → place ≤ x → x ≤ hi → f x ≡ f place
-  pub ends : (hi ≡ last) ⊎ (f (hi + 1) ≢ f place)
-
-high_end : (f : ℕ → Area) (gap place last : ℕ) → place + gap ≡ last → HighEnd f place last
-high_end f zero place last e =
-    record { hi = place; below = omega arith; within = omega arith; same = only_here f place; ends = inl (omega arith) }
-high_end f (suc gap) place last e =
-    elim (cases_area (f (place + 1)) (f place)) [
+run : (f : ℕ → Area) (first : Area) (count : ℕ) → f 0 ≡ first → Run f first count
+run f first zero is =
+    record { far = 0; within = omega arith; same = λ k few. grind (arith, is); ends = inl refl }
+run f first (suc count) is =
+    let before = run f first count is in
+    elim (cases_area (f (before.far + 1)) first) [
       | inr other ↦
-          record { hi = place; below = omega arith; within = omega arith; same = only_here f place; ends = inr other }
+          record { far = before.far; within = omega (arith, before.within); same = before.same; ends = inr other }
       | inl equal ↦
-          let above = high_end f gap (place + 1) last (omega arith) in
+          let all : before.far ≡ count = grind (arith, before.ends) in
           record {
-            hi = above.hi;
-            below = omega (arith, above.below);
-            within = above.within;
-            same = λ x h k.
-                elim (cases_lt place x) [
-                  | inl more ↦ above.same x (omega arith) k ∙ equal
-                  | inr not_more ↦ only_here f place x h not_more
-                ];
-            ends = elim above.ends [
-              | inl at_last ↦ inl at_last
-              | inr other ↦ inr (subst (λ (area : Area). f (above.hi + 1) ≢ area) equal other)
-            ];
+            far = before.far + 1;
+            within = omega arith;
+            same = λ k few. grind (arith, before.same k);
+            ends = inl (omega arith);
           }
     ]
 
 pub some_span : SomeSpan
 some_span setup bytes addr kind smm within =
     let f : ℕ → Area = λ x. area_of setup bytes x kind smm in
-    let low = low_end f addr in
-    let high = high_end f (address_count - 1 - addr) addr (address_count - 1) (omega arith) in
+    let move : (a b : ℕ) → a ≡ b → f a ≡ f b = λ a b is. ap f is in
+    let low = run (λ k. f (addr - k)) (f addr) addr (move (addr - 0) addr (omega arith)) in
+    let high = run (λ k. f (addr + k)) (f addr) (address_count - 1 - addr) (move (addr + 0) addr (omega arith)) in
     record {
-      lo = low.lo;
-      hi = high.hi;
+      lo = addr - low.far;
+      hi = addr + high.far;
       area = f addr;
       span = record {
-        above = low.above;
-        below = high.below;
+        above = omega arith;
+        below = omega arith;
         last = omega (arith, high.within);
         same = λ x h k.
             elim (cases_lt x addr) [
-              | inl less ↦ low.same x h (omega arith)
-              | inr not_less ↦ high.same x not_less k
+              | inl less ↦ move x (addr - (addr - x)) (omega arith) ∙ low.same (addr - x) (omega (arith, low.within))
+              | inr not_less ↦ move x (addr + (x - addr)) (omega arith) ∙ high.same (x - addr) (omega arith)
             ];
-        begins = low.begins;
-        ends = elim high.ends [ inl at_last ↦ inl (omega (arith, at_last)) | inr other ↦ inr other ];
+        begins = elim low.ends [
+          | inl all ↦ inl (omega (arith, all))
+          | inr other ↦ inr (λ same. other (move (addr - (low.far + 1)) (addr - low.far - 1) (omega arith) ∙ same))
+        ];
+        ends = elim high.ends [
+          | inl all ↦ inl (omega (arith, all))
+          | inr other ↦ inr (λ same. other (move (addr + (high.far + 1)) (addr + high.far + 1) (omega arith) ∙ same))
+        ];
       };
     }
 

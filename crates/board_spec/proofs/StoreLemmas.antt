@@ -1,7 +1,7 @@
 -- A store of one byte changes the register at its offset, and no other. A store of several is one of each byte.
-use Rattle.std.proofs.Common.{◌≡◌, ◌≢◌, ℕ, zero, suc, ◌+◌, ◌-◌, ◌<◌, Bool, false, ◌&&◌, sym, arith, inl, inr, ◌==◌}
+use Rattle.std.proofs.Common.{◌≡◌, ◌≢◌, ℕ, zero, suc, ◌+◌, ◌-◌, ◌<◌, Bool, false, ◌&&◌, sym, arith, ◌==◌}
 use Rattle.std.proofs.Common.{nat_le, nat_lt, if◌then◌else◌}
-use Rattle.device_spec.proofs.Common.{cases_eq, nat_tests}
+use Rattle.device_spec.proofs.Common.{nat_tests}
 use Rattle.board_spec.specs.Common.{One, Reg, bytes_of, Setup, byte, merged, smram, is_same, writable_bits, byte_after}
 use Rattle.board_spec.specs.Common.{changed_byte, after_stores, ByteByByte}
 use Rattle.board_spec.specs.declared.map_change.MapChange.TheVariants.{Store}
@@ -25,31 +25,15 @@ at_once setup at value count reg old =
     if same_function at reg && nat_le at.off reg.off && nat_lt reg.off (at.off + count)
     then byte_after setup reg old (byte value (reg.off - at.off)) else old
 
-abbrev one_more : Setup → (at : Reg) → (value k : ℕ) → Reg → ℕ → ℕ
-one_more setup at value k reg old =
-    if same_function at reg && nat_le (at.off + k) reg.off && nat_lt reg.off (at.off + k + 1)
-    then byte_after setup reg old (byte (byte value k) (reg.off - (at.off + k))) else old
-
-lowest_of : (value k : ℕ) → byte (byte value k) 0 ≡ byte value k
-lowest_of value k = let small : byte value k < 256 = omega arith in omega arith
-
-last_byte : (setup : Setup) (at : Reg) (value k : ℕ) (reg : Reg) (old : ℕ) → reg.off ≡ at.off + k →
-    one_more setup at value k reg (at_once setup at value k reg old) ≡ at_once setup at value (suc k) reg old
-last_byte setup at value k reg old here =
-    let none : reg.off - (at.off + k) ≡ 0 = omega arith in
-    let far : reg.off - at.off ≡ k = omega arith in
-    rw (none, far, lowest_of value k) (grind (arith, nat_tests))
-
 byte_stores : (setup : Setup) (at : Reg) (value count : ℕ) (reg : Reg) (old : ℕ) →
     after_stores setup at value count reg old ≡ at_once setup at value count reg old
 unfolding after_stores
 byte_stores setup at value zero reg old = grind (arith, nat_tests)
 byte_stores setup at value (suc k) reg old =
-    rw (byte_stores setup at value k reg old)
-    (elim (cases_eq reg.off (at.off + k)) [
-      | inl here ↦ last_byte setup at value k reg old here
-      | inr apart ↦ grind (arith, nat_tests)
-    ])
+    let none : reg.off ≡ at.off + k → reg.off - (at.off + k) ≡ 0 = λ here. omega arith in
+    let far : reg.off ≡ at.off + k → reg.off - at.off ≡ k = λ here. omega arith in
+    let lowest : byte (byte value k) 0 ≡ byte value k = let small : byte value k < 256 = omega arith in omega arith in
+    rw (byte_stores setup at value k reg old) (grind (arith, nat_tests))
 
 pub byte_by_byte : ByteByByte
 byte_by_byte setup at width value reg old = sym (byte_stores setup at value (bytes_of width) reg old)
