@@ -1,9 +1,8 @@
 -- What the numbers of a transfer say, and what a piece changes of it.
 use Rattle.board_prelude.proofs.Common.{nat_tests, Medium, Setup, Bytes}
-use Rattle.std.proofs.Common.{◌≡◌, ℕ, zero, suc, ◌+◌, ◌-◌, ◌*◌, nat_lt, refl, ◌∙◌, arith}
+use Rattle.std.proofs.Common.{◌≡◌, ℕ, zero, suc, ◌+◌, ◌-◌, ◌*◌, nat_lt, arith}
 use Rattle.ata_pio.specs.Words.{is_readable}
 use Rattle.bus_master.specs.declared.direction.Direction.{Direction}
-use Rattle.bus_master.specs.declared.direction.Direction.TheVariants.{ToMemory, ToDisk}
 use Rattle.bus_master.specs.Pieces.{IsSaid, copied}
 use Rattle.bus_master.specs.Transfer.{Moving, next_sector, word_moved}
 use Rattle.piece_records.specs.declared.transfer.TransferRecord.{TransferRecord}
@@ -18,18 +17,11 @@ pub said_by_count : (transfer : TransferRecord) (medium : Medium) → IsTransfer
 said_by_count transfer medium is readable some = grind (arith, nat_tests)
 
 module _ (setup : Setup) (bytes : Bytes) (lba sector : ℕ) where
-  word_readable : (direction : Direction) (moving : Moving) →
-      is_readable (word_moved setup bytes direction lba moving).medium sector ≡ is_readable moving.medium sector
-  unfolding word_moved
-  word_readable ToMemory moving = refl
-  word_readable ToDisk moving = refl
-
   pub copied_readable : (direction : Direction) (words : ℕ) (moving : Moving) →
       is_readable (copied setup bytes direction lba words moving).medium sector ≡ is_readable moving.medium sector
-  unfolding copied
-  copied_readable direction zero moving = refl
-  copied_readable direction (suc words) moving =
-      word_readable direction (copied setup bytes direction lba words moving) ∙ copied_readable direction words moving
+  unfolding copied word_moved
+  copied_readable direction zero moving = grind (arith, nat_tests)
+  copied_readable direction (suc words) moving = grind (arith, nat_tests, copied_readable direction words moving)
 
 pub still_readable : (old new : TransferRecord) (medium later : Medium) → new.lba ≡ old.lba →
     new.readable ≡ old.readable → new.moved + 2 * new.words ≡ old.moved + 2 * old.words →

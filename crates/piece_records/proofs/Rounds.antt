@@ -4,14 +4,13 @@ use Rattle.std.proofs.Common.{◌≡◌, ℕ, ◌+◌, ◌-◌, ◌*◌, ◌≤�
 use Rattle.board_chipset.specs.Common.{Running, master_part}
 use Rattle.board_chipset.specs.Held.{HoldsBytes}
 use Rattle.bus_master.specs.declared.done.End.{End}
-use Rattle.bus_master.specs.declared.done.End.TheVariants.{Exact, Longer, Shorter, Abort, Sector}
 use Rattle.bus_master.specs.declared.piece.Piece.{Piece}
 use Rattle.bus_master.specs.declared.piece.Piece.TheVariants.{Descriptor, Move, Ended}
 use Rattle.bus_master.specs.Cells.{Cells}
 use Rattle.bus_master.specs.Pieces.{Going, IfMove, IsEnd, IsNext, IsStretch, Point, going_at_start, gone_on, standing}
 use Rattle.bus_master.specs.Pieces.{AreNext, all_done, copied, once_done}
 use Rattle.bus_master.specs.Registers.{Master, is_to_memory}
-use Rattle.bus_master.specs.Transfer.{Moving, TransferPlace, transferred}
+use Rattle.bus_master.specs.Transfer.{Moving, transferred}
 use Rattle.bus_master.proofs.PieceLemmas.{comes_to_the_transfer}
 use Rattle.piece_records.specs.declared.piece.PieceRecord.{PieceRecord}
 use Rattle.piece_records.specs.declared.transfer.TransferRecord.{TransferRecord}
@@ -40,11 +39,7 @@ module _ (chipset : Running) (bytes : Bytes) (held : HoldsBytes chipset bytes) w
       done_as_told chipset.setup bytes (ended_said (record { end = end; moved = moved })) after old
       ≡ record old { transfer = after }
   unfolding done_as_told
-  ended_done Exact moved after old = refl
-  ended_done Longer moved after old = refl
-  ended_done Shorter moved after old = refl
-  ended_done (Abort addr denial) moved after old = refl
-  ended_done (Sector lba) moved after old = refl
+  ended_done end moved after old = grind (arith, nat_tests)
 
   -- what is told is done to the point too, whatever the piece
   done_so : (piece : Piece) (old : Stage) →
@@ -55,8 +50,7 @@ module _ (chipset : Running) (bytes : Bytes) (held : HoldsBytes chipset bytes) w
       (recorded (going_past piece (going_in old.transfer)) old.transfer.readable) old)
   unfolding once_done done_as_told
   done_so (Descriptor addr) old next = let here = next.here in grind (arith, nat_tests)
-  done_so (Move stretch) old _ = grind (arith, nat_tests)
-  done_so (Ended end) old _ = grind (arith, nat_tests)
+  done_so _ old _ = grind (arith, nat_tests)
 
   -- the disk stays as readable
   readable_so : (piece : Piece) (old : Stage) → IfMove piece (IsStretch (going_in old.transfer)) →
@@ -120,15 +114,7 @@ module _ (chipset : Running) (bytes : Bytes) (held : HoldsBytes chipset bytes) w
       said ≡ piece_said (master_part chipset.setup bytes) (going_in last.transfer) piece → said.what ≡ ended_piece →
       ((end : End) → piece ≡ Ended end → IsEnd moving (going_in last.transfer) last.cells last.medium end) →
       HasCome moving last said
-  end_so moving last (Ended end) after said is ended ends =
-      let how = ends end refl in
-      record {
-        cells = sym how.kept;
-        disk = sym how.disk;
-        table = ap (λ (p : TransferPlace). p.table) (sym how.place);
-        end = is ∙ rw (how.ends, how.place) refl;
-      }
-  end_so moving last _ after said is ended ends = absurd (omega (arith, ap (λ (p : PieceRecord). p.what) is, ended))
+  end_so moving last piece after said h6 h7 h8 = grind (arith, nat_tests, common_steps)
 
 -- ---- the law
 

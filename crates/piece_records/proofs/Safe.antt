@@ -1,17 +1,15 @@
 -- No part of a piece is SMRAM, nor memory at A0000h to BFFFFh.
-use Rattle.board_prelude.proofs.Common.{common_steps, nat_tests, Area, Denial, Kind, Read, Setup, Bytes, target_at}
-use Rattle.std.proofs.Common.{◌≡◌, ℕ, ◌*◌, ◌%◌, ◌<◌, ◌^◌, Option, sym, ap, ◌∙◌, arith}
-use Rattle.board_base.specs.declared.target.Area.TheVariants.{Dram as DramArea, Shadow as ShadowArea}
+use Rattle.board_prelude.proofs.Common.{common_steps, nat_tests, Kind, Read, Setup, Bytes}
+use Rattle.std.proofs.Common.{◌≡◌, ℕ, ◌*◌, ◌%◌, ◌<◌, ◌^◌, ap, ◌∙◌, arith}
 use Rattle.addr_decode.specs.Common.{master_area}
 use Rattle.board_chipset.specs.Common.{master_part}
-use Rattle.board_records.specs.Replies.{of_part, part_said}
-use Rattle.board_records.proofs.Masters.{IsMemory as IsMemoryTarget, no_memory, no_smram_said, outside_said}
-use Rattle.board_records.proofs.Masters.{said_target}
+use Rattle.board_records.specs.Replies.{of_part}
+use Rattle.board_records.proofs.Masters.{no_memory, no_smram_said, outside_said, said_target}
 use Rattle.board_chipset.proofs.MasterSteps.{no_smram, outside_smram}
 use Rattle.bus_master.specs.declared.piece.Piece.{Piece}
 use Rattle.bus_master.specs.declared.piece.Piece.TheVariants.{Descriptor, Move, Ended}
 use Rattle.bus_master.specs.declared.piece.Stretch.{Stretch}
-use Rattle.bus_master.specs.Pieces.{Going, IfMove, IsInArea, IsMemory, IsOutsideSmramRange, IsStretch}
+use Rattle.bus_master.specs.Pieces.{Going, IfMove, IsInArea, IsOutsideSmramRange, IsStretch}
 use Rattle.bus_master.specs.Transfer.{address_after, kind_of}
 use Rattle.piece_records.specs.Pieces.{AreSafe, IsSafe, piece_said}
 
@@ -21,38 +19,24 @@ doubleword_safe : (setup : Setup) (bytes : Bytes) (addr : ℕ) → addr < 2 ^ 32
     IsSafe (of_part (master_part setup bytes Read addr)) addr 4
 doubleword_safe setup bytes addr fits aligned =
     let part = master_part setup bytes Read addr in
+    let outside = outside_said part.target part.denial addr (outside_smram setup bytes Read addr) in
     record {
       no_smram = no_smram_said part.target part.denial (no_smram setup bytes Read addr);
-      outside = λ memory i below.
-          grind (
-            arith,
-            nat_tests,
-            outside_said part.target part.denial addr (outside_smram setup bytes Read addr)
-                memory,
-          );
+      outside = λ memory i below. grind (arith, nat_tests, outside memory);
     }
 
 -- ---- words in one area
-
-memory_area : (setup : Setup) (area : Area) (addr : ℕ) (denial : Option Denial) →
-    IsMemoryTarget (part_said (target_at setup area addr) denial).target → IsMemory area
-memory_area setup (DramArea row) addr denial is = tt
-memory_area setup (ShadowArea row) addr denial is = tt
-memory_area setup _ addr denial is = absurd (no_memory _ (omega arith) (rw (said_target _ denial) at is))
 
 words_safe : (setup : Setup) (bytes : Bytes) (kind : Kind) (stretch : Stretch) →
     master_area setup bytes stretch.addr kind ≡ stretch.area → IsOutsideSmramRange stretch →
     IsSafe (of_part (master_part setup bytes kind stretch.addr)) stretch.addr (2 * stretch.words)
 words_safe setup bytes kind stretch area outside =
-    grind (arith, nat_tests, common_steps, no_smram, no_smram_said, memory_area)
+    grind (arith, nat_tests, common_steps, no_smram, no_smram_said, no_memory, said_target)
 
 -- ---- a piece
 
 next_doubleword : (addr : ℕ) → addr % 4 ≡ 0 → address_after addr 4 % 4 ≡ 0
 next_doubleword addr aligned = omega (arith, aligned)
-
-first_word : (addr : ℕ) → addr < 2 ^ 32 → address_after addr (2 * 0) ≡ addr
-first_word addr fits = omega (arith, fits)
 
 pub safe_so : (setup : Setup) (bytes : Bytes) (going : Going) (piece : Piece) → going.place.table < 2 ^ 32 →
     going.place.table % 4 ≡ 0 → IfMove piece (λ stretch. stretch.addr < 2 ^ 32) →
@@ -61,8 +45,7 @@ pub safe_so : (setup : Setup) (bytes : Bytes) (going : Going) (piece : Piece) �
 safe_so setup bytes going (Descriptor addr) low aligned fits area is outside =
     grind (arith, nat_tests, common_steps, doubleword_safe, next_doubleword)
 safe_so setup bytes going (Move stretch) low aligned fits area is outside =
+    let first : stretch.addr ≡ address_after stretch.addr (2 * 0) = omega (arith, fits) in
     words_safe setup bytes (kind_of going.direction) stretch
-    (ap (λ (at : ℕ). master_area setup bytes at (kind_of going.direction)) (sym (first_word stretch.addr fits))
-    ∙ area 0 is.some)
-    outside
+    (ap (λ (at : ℕ). master_area setup bytes at (kind_of going.direction)) first ∙ area 0 is.some) outside
 safe_so setup bytes going (Ended end) low aligned fits area is outside = tt
