@@ -1,15 +1,12 @@
 -- What was read is a chipset, and the one that was saved.
-use Rattle.std.proofs.Common.{◌≡◌, ℕ, inl, inr, false, List, [], ◌++◌, length, Option, Result, Ok, Err, IfOk, refl, sym}
-use Rattle.std.proofs.Common.{ap, ◌∙◌, append_assoc, arith, ◌+◌, ◌≤◌}
-use Rattle.board_prelude.proofs.Common.{nat_tests, w16, to_le_bytes, Setup, IsSetup, append-nil, Disk}
+use Rattle.std.proofs.Common.{◌≡◌, ℕ, inl, inr, false, List, [], ◌++◌, length, Result, Ok, Err, IfOk, refl, sym, ap}
+use Rattle.std.proofs.Common.{◌∙◌, append_assoc, arith, ◌+◌, ◌≤◌}
+use Rattle.board_prelude.proofs.Common.{nat_tests, w16, to_le_bytes, Setup, IsSetup, append-nil}
 use Rattle.byte_fields.specs.declared.fault.Fault.{Fault}
 use Rattle.byte_fields.specs.Fields.{AreBytes, Filled}
 use Rattle.byte_fields.proofs.Formats.{ok_is, not_err}
 use Rattle.byte_fields.proofs.Numbers.{wide16, within_format}
-use Rattle.map_builder.specs.Map.{Mapped}
 use Rattle.map_builder.specs.State.{IsMapped, SameMap}
-use Rattle.board_devices.specs.Common.{HasDisk}
-use Rattle.board_devices.specs.State.{IsFittedDisk}
 use Rattle.board_chipset.specs.declared.registers.Registers.{Registers}
 use Rattle.board_chipset.specs.Chipset.{Running, IsRunning}
 use Rattle.board_chipset.specs.Kept.{AreSound}
@@ -31,14 +28,10 @@ registers_sound setup registers are =
     let has = has_bytes setup registers are in
     record { bytes = has.0; kept = has.1; address = are.address.kept; flat = are.map.whole.map }
 
-disk_fitted : (fitted : Option (List ℕ)) (disk : Option Disk) → IsFittedDisk fitted disk → HasDisk fitted disk
-disk_fitted fitted disk is = grind (arith, nat_tests)
-
 pub running : (chipset : Running) → IsChipset chipset → IsRunning chipset
-running chipset is = assumption (
-  registers_sound chipset.setup chipset.state.registers is.whole.registers,
-  disk_fitted chipset.setup.disk chipset.state.devices.disk is.whole.devices.disk,
-)
+running chipset is =
+    let sound = registers_sound chipset.setup chipset.state.registers is.whole.registers in
+    grind (arith, nat_tests)
 
 -- ---- with ranges and without
 
@@ -46,17 +39,13 @@ pub bare_spelled : (chipset : Running) → chipset_bytes (bare_chipset chipset) 
 unfolding chipset_bytes state_bytes registers_bytes
 bare_spelled chipset = refl
 
-abbrev with_map : Running → Mapped → Running
-with_map chipset map =
-    record chipset { state = record chipset.state { registers = record chipset.state.registers { map = map } } }
-
 same_chipset : SameMap → (one other : Running) → IsChipset one → IsChipset other →
     bare_chipset one ≡ bare_chipset other → one ≡ other
 same_chipset law one other is of told =
     let maps : one.state.registers.map ≡ other.state.registers.map =
     law one.state.registers.map other.state.registers.map is.whole.registers.map.whole of.whole.registers.map.whole
     (ap (λ (c : Running). c.state.registers.map) told) in
-    ap (λ (c : Running). with_map c one.state.registers.map) told ∙ ap (with_map (bare_chipset other)) maps
+    grind (arith, nat_tests)
 
 -- ---- a call that reads a chipset
 

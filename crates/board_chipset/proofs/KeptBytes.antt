@@ -1,8 +1,7 @@
 -- Registers of the right number and widths are those of a board of their setup: each stands for a byte of its own.
-use Rattle.std.proofs.Common.{◌≡◌, ℕ, ◌-◌, false, ◌&&◌, List, [], ◌∷◌, length, get_or, Option, Some, None, refl, ◌∙◌}
-use Rattle.std.proofs.Common.{ap, arith, ◌==◌, if◌then◌else◌, All, is_some, slice_index, map}
-use Rattle.board_prelude.proofs.Common.{and-false, or_parts, option_map_or, cond-false, ne_eqb, Setup, IsCard, Bytes}
-use Rattle.board_prelude.proofs.Common.{is_within, reset_byte, ide, nat_tests}
+use Rattle.std.proofs.Common.{◌≡◌, ℕ, ◌-◌, List, [], ◌∷◌, length, get_or, Some, None, refl, ◌∙◌, arith, ◌==◌}
+use Rattle.std.proofs.Common.{if◌then◌else◌, All, is_some, slice_index, map}
+use Rattle.board_prelude.proofs.Common.{and-false, option_map_or, Setup, IsCard, Bytes, reset_byte, ide, nat_tests}
 use Rattle.pci_bars.specs.Cards.{CardBytes, IsCardOf, cards_of}
 use Rattle.addr_decode.specs.MapRegs.{MapBytes}
 use Rattle.map_builder.specs.Map.{HoldsDoublewords}
@@ -67,21 +66,12 @@ module _ (setup : Setup) (regs : MapBytes) (south : South) where
   unfolding kept_byte beside_map line_kept
   card_is card fit at same doublewords no_rom =
       let stands = other_stands regs (beside_map setup regs south) card fit at in
-      let no_bridge : (card.card.dev == 1) ≡ false = ne_eqb _ _ (omega (arith, fit.first)) in
+      let above = fit.first in
       record {
         decodes = decodes regs (beside_map setup regs south) card fit at setup same doublewords;
-        line =
-            stands 0x3C refl refl (and-false (is_some card.card.rom))
-            ∙ cond-false (card.card.dev == 1) _ _ no_bridge
-            ∙ ap (λ (it : Option CardBytes). option_map_or (λ (card : CardBytes). card.line) it 0) at;
+        line = stands 0x3C refl refl (and-false (is_some card.card.rom)) ∙ (grind (arith, nat_tests, at));
         no_rom = no_rom;
-        fixed = λ off not_kept.
-            let last = or_parts _ (off == 0x3C) not_kept in
-            let three = or_parts _ (is_some card.card.rom && is_within 0x30 0x33 off) last.0 in
-            let two = or_parts (off == 0x04) (is_within 0x10 0x27 off) three.0 in
-            stands off two.0 two.1 three.1
-            ∙ cond-false (card.card.dev == 1) _ _ no_bridge
-            ∙ cond-false (off == 0x3C) _ _ last.1;
+        fixed = λ off not_kept. grind (arith, nat_tests, stands off);
       }
 
 -- a board of this setup has these registers

@@ -1,15 +1,11 @@
 -- Bytes that a caller keeps itself: left out they are spelled as any others beside themselves, and they can be put in.
-use Rattle.std.proofs.Common.{◌≡◌, ℕ, suc, ◌≤◌, ◌<◌, true, false, Bool, List, [], ◌∷◌, ◌++◌, length, drop, replicate}
-use Rattle.std.proofs.Common.{bytes_eq, map, option_map, unwrap_or, is_some, Option, Some, None, refl, sym, ap, ◌∙◌}
-use Rattle.std.proofs.Common.{arith, slice_index, All}
+use Rattle.std.proofs.Common.{◌≡◌, ℕ, suc, ◌≤◌, ◌<◌, true, Bool, List, [], ◌∷◌, length, drop, replicate, bytes_eq, map}
+use Rattle.std.proofs.Common.{option_map, unwrap_or, Option, refl, sym, ap, ◌∙◌, arith, slice_index, All}
 use Rattle.board_prelude.proofs.Common.{bytes_eq-Decides, length-replicate, length-take, length-drop, nat_tests, Bytes}
 use Rattle.board_prelude.proofs.Common.{Disk, IsDisk, Setup, IsSetup, reset_byte}
 use Rattle.std.proofs.lemmas.List.{drop_min, take_min}
 use Rattle.byte_fields.specs.Pages.{memory_bytes, memory_page, page_bytes, pages_bytes}
 use Rattle.byte_fields.proofs.PageFormats.{bytes_first}
-use Rattle.byte_fields.specs.Fields.{flag_byte}
-use Rattle.byte_fields.proofs.Numbers.{some_is}
-use Rattle.ata_pio.specs.DriveState.{drive_bytes}
 use Rattle.ata_pio.specs.State.{disk_bytes, sector_size}
 use Rattle.board_devices.specs.Common.{HasDisk, holding, sectors_in}
 use Rattle.board_devices.specs.State.{fitted_bytes}
@@ -56,8 +52,7 @@ blank_pages bytes =
     ∙ ap (λ (n : ℕ). pages_bytes memory_page (replicate n 0) (zeros bytes)) (sym (zeros_length bytes))
 
 pub left_length : (left : Bool) (bytes : List ℕ) → length (unless_left left bytes) ≡ length bytes
-left_length true bytes = zeros_length bytes
-left_length false bytes = refl
+left_length left bytes = grind (arith, nat_tests, zeros_length bytes)
 
 -- those of a disk, where there is one
 pub left_on : (left : Bool) (disk : Option (List ℕ)) →
@@ -71,21 +66,15 @@ left_over : (fitted : List ℕ) (disk : Disk) → length fitted ≡ length disk.
     disk_bytes disk.medium.bytes disk ≡ disk_bytes (zeros fitted) (holding (zeros disk.medium.bytes) disk)
 left_over fitted disk same =
     let sectors : List ℕ = disk.medium.bytes in
-    let pages : pages_bytes sector_size sectors sectors ≡ pages_bytes sector_size (zeros fitted) (zeros sectors) =
-    own_pages (length sectors) sector_size sectors (zeros sectors) (omega arith) (omega arith)
-    (sym (zeros_length sectors))
-    ∙ ap (λ (plain : List ℕ). pages_bytes sector_size plain (zeros sectors))
-    (sym (ap (λ (n : ℕ). replicate {A = ℕ} n 0) same)) in
-    ap (λ (spelled : List ℕ). drive_bytes disk.drive ++ (spelled ++ map flag_byte disk.medium.bad)) pages
+    let size = sym (zeros_length sectors) in
+    rw (same, own_pages (length sectors) sector_size sectors (zeros sectors) (omega arith) (omega arith) size) refl
 
 pub left_disk : (fitted : Option (List ℕ)) (disk : Option Disk) → HasDisk fitted disk → HasDisk (sectors_in disk) disk →
     fitted_bytes (sectors_in disk) disk
     ≡ fitted_bytes (option_map {T = List ℕ} (λ _. zeros (unwrap_or fitted [])) fitted)
     (option_map (holding (zeros (unwrap_or (sectors_in disk) []))) disk)
 unfolding fitted_bytes
-left_disk None None has own = refl
-left_disk (Some bytes) (Some disk) has own = left_over bytes disk (some_is _ _ has ∙ sym (some_is _ _ own))
-left_disk _ _ has own = absurd (let never = has in cc)
+left_disk fitted disk has own = grind (arith, nat_tests, left_over)
 
 -- ---- the head has the sizes alone
 
@@ -93,13 +82,7 @@ pub left_head : (left : Bool) (setup : Setup) →
     head_bytes (fitted_with (unless_left left (unwrap_or setup.disk [])) setup) ≡ head_bytes setup
 unfolding head_bytes size_bytes
 left_head left setup =
-    let bytes : List ℕ = unless_left left (unwrap_or setup.disk []) in
-    let size : length (unwrap_or (option_map {T = List ℕ} (λ _. bytes) setup.disk) [])
-    ≡ length (unwrap_or setup.disk []) =
-    ap length (left_on left setup.disk) ∙ left_length left (unwrap_or setup.disk []) in
-    let there : is_some (option_map {T = List ℕ} (λ _. bytes) setup.disk) ≡ is_some setup.disk =
-    grind (arith, nat_tests) in
-    rw (size, there) refl
+    grind (arith, nat_tests, left_on left setup.disk, left_length left (unwrap_or setup.disk []))
 
 -- ---- all bytes of a DRAM were written
 

@@ -1,6 +1,6 @@
 -- Which entries are map writes, the version of the map, and the windows of its last change.
 use Rattle.std.proofs.Common.{◌≡◌, ℕ, Bool, true, false, ◌+◌, ◌%◌, ◌≤◌, List, [], ◌∷◌, ◌++◌, length, Option, Some, None}
-use Rattle.std.proofs.Common.{refl, arith, if◌then◌else◌, option_and_then}
+use Rattle.std.proofs.Common.{arith, if◌then◌else◌, option_and_then}
 use Rattle.board_prelude.proofs.Common.{option_to_list, nat_tests, Entry, MapChange, Store, Width, Reg, Setup}
 use Rattle.board_prelude.proofs.Common.{register_change, byte_of, touches_map, map_change_of, map_writes_of, version_of}
 use Rattle.board_prelude.proofs.Common.{cond_both}
@@ -69,7 +69,4 @@ store_follows setup history reg width value {old} {new} written beside =
 pub few_writes : (setup : Setup) (history : List Entry) → version_of setup history ≤ length history
 unfolding map_writes_of
 few_writes setup [] = omega arith
-few_writes setup (entry ∷ before) =
-    let told = version_after setup before entry _ refl in
-    let few = few_writes setup before in
-    grind (arith, nat_tests)
+few_writes setup (entry ∷ before) = grind (arith, nat_tests, few_writes setup before)

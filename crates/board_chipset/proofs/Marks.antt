@@ -1,14 +1,10 @@
 -- Fixed bytes, and that nothing follows.
-use Rattle.std.proofs.Common.{◌≡◌, ℕ, ◌≤◌, inl, inr, List, [], ◌∷◌, length, Err, ap, ◌∙◌, arith, length-append}
+use Rattle.std.proofs.Common.{◌≡◌, ℕ, ◌≤◌, inl, inr, List, length, Err, ap, ◌∙◌, arith, length-append}
+use Rattle.board_prelude.proofs.Common.{nat_tests}
 use Rattle.byte_fields.specs.Fields.{AreBytes, Reading, then_read, gives, ended}
 use Rattle.board_chipset.specs.Alone.{alone}
-use Rattle.byte_fields.proofs.Formats.{IsFormat, err_is, then_err}
+use Rattle.byte_fields.proofs.Formats.{IsFormat, then_err}
 pub use Rattle.byte_fields.proofs.Exactly.{exactly_format}
-
-end_bad : {A : Type 0} (value : A) (left : List ℕ) (bad : ℕ) →
-    then_read (ended left) (λ done. gives value) ≡ Err bad → length left ≡ bad
-end_bad value [] bad is = absurd cc
-end_bad {A} value (byte ∷ later) bad is = err_is {X = A × List ℕ} (length (byte ∷ later)) bad is
 
 -- a bad field begins within the bytes
 pub alone_bad : {A : Type 0} {n : ℕ} {reads : Reading A} {spelled : A → List ℕ} {IsGood : A → Type 0} →
@@ -20,6 +16,6 @@ alone_bad {A} {reads = reads} {spelled = spelled} format bytes left are is =
       | inl early ↦ (format.bad bytes left are early).0
       | inr late ↦
           let told = format.taken bytes late.0.0 late.0.1 are late.1 in
-          let same = end_bad late.0.0 late.0.1 left late.2 in
+          let same : length late.0.1 ≡ left = let end = late.2 in grind (arith, nat_tests) in
           omega (arith, same, ap length told.0 ∙ length-append (spelled late.0.0) late.0.1)
     ]

@@ -2,8 +2,7 @@
 use Rattle.std.proofs.Common.{◌≡◌, ℕ, true, false, List, None, refl, Bool, IsTrue, ◌↔◌, arith, [], ◌∷◌, ◌∙◌, ap, map}
 use Rattle.std.proofs.Common.{All}
 use Rattle.board_prelude.proofs.Common.{Kind, Write, Part, Setup, is_write, nat_tests, Bytes, IsBusAccess, get_or-map}
-use Rattle.board_prelude.proofs.Common.{length-map, All-head, All-tail, All-cons, WideAccess, parts_of, Cell, parts_put}
-use Rattle.board_prelude.proofs.Common.{IsPart, AreParts}
+use Rattle.board_prelude.proofs.Common.{length-map, All-head, All-tail, All-cons, WideAccess, Cell, parts_put, IsPart}
 use Rattle.addr_decode.specs.MapRegs.{StandsFor}
 use Rattle.board_stores.specs.Common.{IsReady, part_in, accesses, answers, AreReady}
 use Rattle.board_chipset.specs.declared.state.State.{State}
@@ -31,7 +30,7 @@ ready_in kept bus decoded =
 module _
     {setup : Setup} {state : State} {rom : List ℕ} (kept : IsSound setup state)
     (image : setup.rom ≡ rom) (access : WideAccess) where
-  all_ready : (cycles : List Cycle) → All (IsPart access) (accesses cycles) →
+  pub all_ready : (cycles : List Cycle) → All (IsPart access) (accesses cycles) →
       answers cycles ≡ map (part_in setup kept.registers.bytes) (accesses cycles) →
       AreReady rom state.stores.contents cycles
   all_ready [] each is = λ k d within. absurd (omega arith)
@@ -42,11 +41,6 @@ module _
       All-cons (λ (it : Cycle). IsReady rom state.stores.contents it.access it.answer) cycle later
       (ready kept image first.legal here)
       (all_ready later (All-tail (IsPart access) cycle.access (accesses later) each) rest)
-
-  pub cycles_ready : (cycles : List Cycle) → AreParts access (parts_of access) → accesses cycles ≡ parts_of access →
-      answers cycles ≡ map (part_in setup kept.registers.bytes) (parts_of access) →
-      AreReady rom state.stores.contents cycles
-  cycles_ready cycles parts is decoded = all_ready cycles (rw is parts.each) (rw is decoded)
 
 pub all_write : (access : WideAccess) (cycles : List Cycle) → is_write access.kind ≡ true → All (IsPart access)
     (accesses cycles) → All (λ cycle. is_write cycle.access.kind ≡ true) cycles

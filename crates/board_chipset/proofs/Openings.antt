@@ -1,7 +1,7 @@
--- A disk that was opened has whole sectors, and a card is found by its device number.
+-- A disk that was opened has whole sectors, a card is found by its device number, and a size is tested.
 use Rattle.std.proofs.Common.{◌≡◌, ℕ, ◌/◌, Option, Some, None, List, [], ◌∷◌, length, refl, inl, inr, subst, arith, ◌↔◌}
-use Rattle.std.proofs.Common.{Result, Ok, Err, ◌==◌, is_some, find}
-use Rattle.board_prelude.proofs.Common.{list_any, cases_Bool, nat_tests, FittedCard, IsDisk, is_disk_length}
+use Rattle.std.proofs.Common.{Result, Ok, Err, ◌==◌, is_some, find, ◌≢◌, ◌%◌, IsTrue, nat_le}
+use Rattle.board_prelude.proofs.Common.{list_any, cases_Bool, nat_tests, FittedCard, IsDisk, is_disk_length, IsDiskSize}
 use Rattle.ata_pio.specs.declared.ata.AtaOpen.{AtaOpen}
 use Rattle.board_devices.proofs.DeviceLemmas.{refused_length}
 
@@ -23,4 +23,12 @@ disk_opened bytes shown result devices bad opened same =
 pub any_found : (dev : ℕ) (cards : List FittedCard) →
     list_any (λ card. card.dev == dev) cards ≡ is_some (find (λ card. card.dev == dev) cards)
 any_found dev [] = refl
-any_found dev (card ∷ later) = let rest = any_found dev later in grind (arith, nat_tests)
+any_found dev (card ∷ later) = grind (arith, nat_tests, any_found dev later)
+
+-- ---- whole sectors
+
+pub decided : (size : ℕ) → size ≢ 0 → size % 512 ≡ 0 → IsTrue (nat_le (size / 512) 65536) ↔ IsDiskSize size
+decided size some whole = (
+  λ few. (size / 512, omega (arith, some, whole), grind (arith, nat_tests), omega (arith, whole)),
+  λ is. let sectors = is.0 in let most = is.2 in let e = is.3 in grind (arith, nat_tests),
+)

@@ -2,8 +2,8 @@
 use Rattle.board_prelude.proofs.Common.{nat_tests, IsAnswer, IsInRange, outside_answer, Applied, Stimulus}
 use Rattle.board_prelude.proofs.Common.{stimulus_form, applied_by, event_applied, All-head, All-tail, Event, Entry}
 use Rattle.board_prelude.proofs.Common.{Setup, FittedCard, IsCard, IsSetup}
-use Rattle.std.proofs.Common.{◌≡◌, true, List, [], ◌∷◌, None, refl, sym, ◌∙◌, subst, ℕ, ◌==◌, All, find, Bool, Some}
-use Rattle.std.proofs.Common.{IfSome, arith}
+use Rattle.std.proofs.Common.{◌≡◌, true, List, [], ◌∷◌, None, sym, ◌∙◌, subst, ℕ, ◌==◌, All, find, Bool, Some, IfSome}
+use Rattle.std.proofs.Common.{arith}
 use Rattle.board_spec.specs.declared.stimulus.Stimulus.TheVariants as stimuli
 use Rattle.board_devices.specs.Common.{DevicesValue, AreDevicesOf, AreRoutesOf, Asks}
 use Rattle.board_chipset.specs.declared.state.State.{State}
@@ -42,13 +42,11 @@ applied_is event said is = grind (arith, nat_tests)
 pub applied_answer : (setup : Setup) (history : List Entry) (one : Stimulus) (number : ℕ) (on : Bool) →
     IsForDevices (event_applied one number on)
     × IsAnswer setup history (event_applied one number on) (outside_answer (stimulus_form one).answers)
-applied_answer setup history stimuli.Wire number on = (tt, refl)
-applied_answer setup history _ number on = (tt, refl)
+applied_answer setup history one number on = grind (arith, nat_tests)
 
 -- the number that a level follows is one that a script can give
 pub level_number : (setup : Setup) (one : Stimulus) (number : ℕ) (on : Bool) → IsSetup setup →
     IsInRange setup (event_applied one number on) → (stimulus_form one).has_level ≡ true →
     (stimulus_form one).numbers number ≡ true
-level_number setup stimuli.Wire number on fits is level =
+level_number setup one number on fits is level =
     grind (arith, nat_tests, found_in setup.cards number fits.cards.each)
-level_number setup _ number on fits is level = cc

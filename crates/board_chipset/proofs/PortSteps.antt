@@ -1,16 +1,14 @@
 -- What an access at a port reaches, what it writes, and the state after it, and the change of the map that it makes.
 use Rattle.std.proofs.Common.{◌≡◌, ℕ, ◌%◌, ◌^◌, Bool, true, false, ◌&&◌, List, [], ◌∷◌, drop, Option, Some, None, refl}
-use Rattle.std.proofs.Common.{arith, ◌==◌, unwrap_or, option_map, ◌+◌, ◌≤◌, is_some, ap, ◌∙◌, if◌then◌else◌, ◌≢◌, sym}
-use Rattle.board_prelude.proofs.Common.{false≢true, cond_both, nat_tests, Width, Reg, Dev, Wires, Vector, Spurious}
-use Rattle.board_prelude.proofs.Common.{Keyboard, Ata, Target, Card, Device, Config, Abort, Denial, bytes_of}
-use Rattle.board_prelude.proofs.Common.{is_port_of, device_at, Setup, is_bit, config_address_port, reset_control_port}
-use Rattle.board_prelude.proofs.Common.{xbcs, is_config_port, config_register, Bytes, Window, io_claim, Decoded, nobody}
-use Rattle.board_prelude.proofs.Common.{card_port, config_port, unselected, by_channel, device_port, port_target_of}
-use Rattle.board_prelude.proofs.Common.{PortAccess, Port, Entry, MapChange, Store, kept_address, config_address}
-use Rattle.board_prelude.proofs.Common.{register_of, byte_of, is_hard_reset, Cell, entry_put, byte_put, Event}
-use Rattle.board_prelude.proofs.Common.{Reset as HardReset, reset_control, is_hard_value, map_change_of, port_put}
-use Rattle.board_prelude.proofs.Common.{device_in, device_reached, device_value, port_value, value_at, bus_reply}
-use Rattle.board_prelude.proofs.Common.{port_answer, Bus}
+use Rattle.std.proofs.Common.{arith, ◌==◌, ◌+◌, ◌≤◌, is_some, ap, ◌∙◌, if◌then◌else◌, ◌≢◌, sym}
+use Rattle.board_prelude.proofs.Common.{cond_both, nat_tests, Width, Reg, Dev, Keyboard, Ata, Target, Card, Device}
+use Rattle.board_prelude.proofs.Common.{Config, Abort, Denial, bytes_of, is_port_of, device_at, Setup}
+use Rattle.board_prelude.proofs.Common.{config_address_port, reset_control_port, is_config_port, config_register, Bytes}
+use Rattle.board_prelude.proofs.Common.{Window, io_claim, Decoded, unselected, device_port, port_target_of, PortAccess}
+use Rattle.board_prelude.proofs.Common.{Port, Entry, MapChange, Store, config_address, byte_of, is_hard_reset, Cell}
+use Rattle.board_prelude.proofs.Common.{entry_put, byte_put, Event, Reset as HardReset, reset_control, is_hard_value}
+use Rattle.board_prelude.proofs.Common.{map_change_of, port_put, device_in, device_reached, device_value, port_value}
+use Rattle.board_prelude.proofs.Common.{Bus}
 use Rattle.board_base.specs.declared.target.Dev.TheVariants.{Confadd as AddressPort, Reset, Clock}
 use Rattle.device_spec.specs.PortTable.{first_with, port_devices}
 use Rattle.board_devices.specs.Events.{is_chip_port}
@@ -59,25 +57,8 @@ module _ (setup : Setup) (bytes : Bytes) (address : ℕ) (disk : Bool) (port : �
   abbrev Lands : Decoded → Type 0
   Lands decoded = IsReached setup bytes address port width decoded.target
 
-  at_config : (found : Option Reg) → is_config_port port ≡ true →
-      config_register setup address port ≡ found → Lands (config_port address found)
-  at_config (Some reg) config is = (config, is)
-  at_config None config is = grind (arith, nat_tests)
-
-  -- ---- what a card can claim
-
-  claimed_or : (denial : Denial) (claim : Option Window) → IsBeside setup address port width →
-      io_claim setup bytes port ≡ claim → Lands (unwrap_or (option_map (card_port port) claim) (nobody denial))
-  claimed_or denial None by is = by
-  claimed_or denial (Some window) by is = (by, (window, is, refl, refl, refl))
-
   others : (denial : Denial) → IsBeside setup address port width → Lands (unselected setup bytes port denial)
-  others denial by = claimed_or denial (io_claim setup bytes port) by refl
-
-  at_disk : (fitted : Bool) → IsBeside setup address port width → is_port_of Ata port (bytes_of width) ≡ true →
-      Lands (by_channel fitted Ata setup bytes port)
-  at_disk false by is = others _ by
-  at_disk true by is = grind (arith, nat_tests)
+  others denial by = grind (arith, nat_tests)
 
   -- ---- the devices in the order of the table
 
@@ -86,15 +67,10 @@ module _ (setup : Setup) (bytes : Bytes) (address : ℕ) (disk : Bool) (port : �
 
   at_device : (dev : Dev) → IsBeside setup address port width → is_port_of dev port (bytes_of width) ≡ true →
       Finds (Some dev)
-  at_device AddressPort by is = (grind (arith, nat_tests), grind (arith, nat_tests))
-  at_device Reset by is = (grind (arith, nat_tests), grind (arith, nat_tests))
-  at_device Keyboard by is = cond_both (is_bit (bytes xbcs) 1) _ _ Lands (λ _. (by, is)) (λ _. others _ by)
-  at_device Clock by is = cond_both (is_bit (bytes xbcs) 0) _ _ Lands (λ _. (by, is)) (λ _. others _ by)
-  at_device Ata by is = at_disk disk by is
-  at_device Wires by is = absurd (false≢true is)
-  at_device (Vector chip) by is = absurd (false≢true is)
-  at_device (Spurious chip) by is = absurd (false≢true is)
-  at_device _ by is = (by, is)
+  at_device Keyboard by is = grind (arith, nat_tests, others)
+  at_device Clock by is = grind (arith, nat_tests, others)
+  at_device Ata by is = grind (arith, nat_tests, others)
+  at_device _ by is = grind (arith, nat_tests)
 
   in_table : (devices : List Dev) → IsBeside setup address port width → Finds (first_with devices port (bytes_of width))
   in_table [] by = others _ by
@@ -112,7 +88,7 @@ module _ (setup : Setup) (bytes : Bytes) (address : ℕ) (disk : Bool) (port : �
 
   pub reaches : Lands (port_target_of setup bytes address disk port width)
   unfolding port_target_of
-  reaches = cond_both (is_config_port port) _ _ Lands (λ config. at_config _ config refl) past_config
+  reaches = cond_both (is_config_port port) _ _ Lands (λ config. grind (arith, nat_tests)) past_config
 
 -- ---- what an access writes
 
@@ -145,9 +121,6 @@ module _ (setup : Setup) (history : List Entry) (access : PortAccess) where
       rw is
       (reaches setup (byte_of setup history) (config_address history) (is_some setup.disk) access.port access.width)
 
-  pub reads_only : access.write ≡ false → Writes setup history (Port access) None None None
-  reads_only reads = record { control_is = rw reads refl; address_is = rw reads refl; store_is = rw reads refl }
-
   pub writes_beside : IsBeside setup (config_address history) access.port access.width →
       Writes setup history (Port access) None None None
   writes_beside by = grind (arith, nat_tests)
@@ -156,25 +129,11 @@ module _ (setup : Setup) (history : List Entry) (access : PortAccess) where
       Writes setup history (Port access) (control_at target access) (address_at target access) (store_at target access)
   writes_at target writes at = grind (arith, nat_tests)
 
-  pub writes_stored : (target : Target) → IsNoDevice target → IsNoRegister target →
-      Reached setup history access target → Writes setup history (Port access) None None None
-  writes_stored target device config is = writes_beside (grind (arith, nat_tests))
-
-  -- the same by what was found
+  -- by what was found
   pub writes_found : (found : Found) → ((dev : Dev) → found ≡ FoundDevice dev → ⊥) →
       ((register : ConfigRegister) → found ≡ FoundRegister register → ⊥) →
       Reached setup history access (decoded_as found).target → Writes setup history (Port access) None None None
   writes_found found device register is = writes_beside (grind (arith, nat_tests))
-
--- ---- the configuration address, and the register that it names
-
--- an access to a register that an address names stays within its function
-within_function : (setup : Setup) (address port : ℕ) (width : Width) (reg : Reg) → kept_address address ≡ address →
-    port % bytes_of width ≡ 0 → config_register setup address port ≡ Some reg → reg.off + bytes_of width ≤ 0x100
-within_function setup address port width reg kept aligned is =
-    let named = (cond_some _ _ reg is).1 in
-    rw (← named) (within_space address port (register_of address) (port % 4) width
-    (kept_address-low_bits address kept) refl refl aligned)
 
 -- ---- what an entry tells
 
@@ -188,9 +147,10 @@ reached_in {state} {access} reaching =
 
 pub register_within : {state : State} {access : PortAccess} {reg : Reg} → Reaching state access (Config reg) →
     reg.off + bytes_of access.width ≤ 0x100
-register_within {access = access} reaching =
-    within_function reaching.kept.setup _ access.port access.width _ reaching.kept.sound.registers.address
-    reaching.bus.aligned (reached_in reaching).1
+register_within {access = access} {reg} reaching =
+    let at = reached_in reaching in
+    rw (← (cond_some _ _ reg at.1).1) (within_space _ access.port _ (access.port % 4) access.width
+    (kept_address-low_bits _ reaching.kept.sound.registers.address) refl refl reaching.bus.aligned)
 
 pub entry_reached : {setup : Setup} {history : List Entry} {access : PortAccess} {target shown : Target}
     {entry : Entry} → target ≡ shown → IsEntryOf setup history access target entry → Reached setup history access shown
@@ -239,7 +199,7 @@ module _ {setup : Setup} {history : List Entry} {access : PortAccess} {target : 
       IsStateOf setup history state → IsEntryOf setup history access target entry →
       IsStateOf setup (entry ∷ history) state
   read_stays reads none kept is =
-      state_stays kept (rw (is.event) (reads_only setup history access reads)) (passes is none)
+      state_stays kept (rw (is.event) (grind (arith, nat_tests))) (passes is none)
       (λ cell. puts is cell ∙ rw reads refl)
 
   -- a write behind a base of a card, or to nobody
@@ -247,7 +207,8 @@ module _ {setup : Setup} {history : List Entry} {access : PortAccess} {target : 
       ArePut (byte_put target access.port access.width access.value) old.stores stores → IsStateOf setup history old →
       IsEntryOf setup history access target entry → IsStateOf setup (entry ∷ history) (record old { stores = stores })
   write_stored writes device config put kept is =
-      state_put kept (rw (is.event) (writes_stored setup history access target device config (entry_reached refl is)))
+      let at : Reached setup history access target = entry_reached refl is in
+      state_put kept (rw (is.event) (writes_beside setup history access (grind (arith, nat_tests))))
       (passes is (no_chip target device)) (λ cell. puts is cell ∙ rw writes refl) put
 
   -- a write of registers that moves no route
@@ -276,35 +237,18 @@ chip_changed {setup} {history} {access} {dev} {entry} named control kept is afte
     devices_move kept none (puts_none is (λ cell. refl))
     (after (record { event = is.event; device = rw (is.reply) refl; soft = soft none }))
 
--- ---- the entry, and the reply
+-- ---- the entry of an access that reached this
 
--- by what an access that reached this target gives, and leaves
-pub replied :
-    {old new : State} {access : PortAccess} {target : Target} {value : Option ℕ} (denial : Option Denial) →
-    ((setup : Setup) (history : List Entry) → IsStateOf setup history old →
-    target ≡ (reached setup history access).target →
-    value ≡ (if access.write then None else Some (value_at setup history target access.port access.width))) →
-    ((setup : Setup) (history : List Entry) (entry : Entry) → IsStateOf setup history old →
-    IsEntryOf setup history access target entry → IsStateOf setup (entry ∷ history) new) →
-    ((setup : Setup) (history : List Entry) → IsStateOf setup history old →
-    record { target = target; denial = denial } ≡ reached setup history access →
-    Bus value target denial ≡ port_answer setup history access)
-    × ((setup : Setup) (history : List Entry) (entry : Entry) → IsStateOf setup history old →
-    record { target = target; denial = denial } ≡ reached setup history access → entry.event ≡ Port access →
-    entry.reply ≡ Bus value target denial → IsStateOf setup (entry ∷ history) new)
-unfolding port_answer
-replied {access = access} {value = value} denial gives leaves = (
-  λ setup history kept is.
-      rw (gives setup history kept (ap (λ (d : Decoded). d.target) is))
-      (ap (λ (d : Decoded). bus_reply setup history access.write d.target d.denial access.port access.width) is),
-  λ setup history entry kept is event said. leaves setup history entry kept (record {
-    value = value;
-    denial = denial;
-    target_is = ap (λ (d : Decoded). d.target) is;
-    event = event;
-    reply = said;
-  }),
-)
+pub entry_is : {setup : Setup} {history : List Entry} {access : PortAccess} {target : Target} {denial : Option Denial}
+    {value : Option ℕ} {entry : Entry} → record { target = target; denial = denial } ≡ reached setup history access →
+    entry.event ≡ Port access → entry.reply ≡ Bus value target denial → IsEntryOf setup history access target entry
+entry_is {denial = denial} {value} is event said = record {
+  value = value;
+  denial = denial;
+  target_is = ap (λ (d : Decoded). d.target) is;
+  event = event;
+  reply = said;
+}
 
 -- ---- the change of the map that an event makes
 
@@ -318,8 +262,5 @@ pub by_device : (setup : Setup) (history : List Entry) (access : PortAccess) (de
     access.write ≡ true → Reached setup history access (Device dev) →
     (dev ≡ Reset → change ≡ (if is_hard_value (reset_control history) access.value then Some HardReset else None)) →
     ((dev ≡ Reset → ⊥) → change ≡ None) → change ≡ map_change_of setup history (Port access)
-by_device setup history access Reset change writes at control other =
-    control refl ∙ (grind (arith, nat_tests))
-    ∙ changes (writes_at setup history access (Device Reset) writes at)
-by_device setup history access dev change writes at control other =
-    other (λ same. absurd (cc)) ∙ changes (writes_at setup history access (Device dev) writes at)
+unfolding map_change_of
+by_device setup history access dev change writes at control other = grind (arith, nat_tests)

@@ -3,8 +3,8 @@ use Rattle.std.proofs.Common.{arith, ◌≡◌, ◌≢◌, ◌<◌, ℕ, false, 
 use Rattle.std.proofs.Common.{if◌then◌else◌, unwrap_or, option_map, length, slice_index, subst}
 use Rattle.board_prelude.proofs.Common.{nat_tests, Event, Entry, MapChange, Setup, config_address, byte_of, PortAccess}
 use Rattle.board_prelude.proofs.Common.{is_hard_reset, Cell, DramCell, CardCell, entry_put, stored_of, device_reached}
-use Rattle.board_prelude.proofs.Common.{Port, Reset, reset_byte, control_after, resets_hard, kept_address}
-use Rattle.board_prelude.proofs.Common.{reset_control, register_change, byte_with, map_writes_of}
+use Rattle.board_prelude.proofs.Common.{Port, Reset, control_after, resets_hard, kept_address, reset_control}
+use Rattle.board_prelude.proofs.Common.{register_change, byte_with}
 use Rattle.config_regs.specs.Config.{AreKeptOf}
 use Rattle.config_regs.specs.declared.south.South.{South}
 use Rattle.pci_bars.specs.Contents.{IsBaseNumber, held}
@@ -15,7 +15,7 @@ use Rattle.board_stores.specs.declared.stores.Stores.{Stores}
 use Rattle.board_stores.specs.Puts.{HasStores, ArePut}
 use Rattle.board_chipset.specs.declared.registers.Registers.{Registers}
 use Rattle.board_chipset.specs.declared.state.State.{State}
-use Rattle.board_chipset.specs.Common.{AreSound, HasRegisters, IsFlat, IsSound, IsStateOf, Writes, AreLastChanged}
+use Rattle.board_chipset.specs.Common.{AreSound, HasRegisters, IsFlat, IsSound, IsStateOf, Writes}
 use Rattle.board_chipset.proofs.MapVersions.{version_by, modulo_after, Follow, changed_after}
 
 -- ---- the registers
@@ -63,20 +63,13 @@ follows {setup} {history} {entry} {old} {new} {written} {store = store} writes h
 -- an event that is no access at a port writes no register
 pub writes_none : (setup : Setup) (history : List Entry) (event : Event) →
     ((access : PortAccess) → event ≡ Port access → ⊥) → Writes setup history event None None None
-writes_none setup history (Port access) not = absurd (not access refl)
-writes_none setup history event not = record { control_is = refl; address_is = refl; store_is = refl }
+writes_none setup history event not = grind (arith, nat_tests)
 
 -- an event that writes no register leaves them all
 pub quiet : {setup : Setup} {history : List Entry} {entry : Entry} {old : Registers} →
     Writes setup history entry.event None None None → HasRegisters setup history old →
     HasRegisters setup (entry ∷ history) old
 quiet none has = follows none has refl refl has.kept refl refl has.flat
-
-pub registers_at_reset : (setup : Setup) (registers : Registers) → registers.address ≡ 0 → registers.control ≡ 0 →
-    AreKeptOf setup (reset_byte setup) registers.map.regs registers.south → registers.map.version ≡ 0 →
-    registers.map.changed ≡ [] → IsFlat registers.map → HasRegisters setup [] registers
-unfolding byte_of config_address reset_control map_writes_of AreLastChanged
-registers_at_reset setup registers address control kept version windows flat = assumption
 
 -- ---- the bytes behind the addresses
 
@@ -175,10 +168,4 @@ module _ {setup : Setup} {old : State} (sound : IsSound setup old) where
 pub fresh_sound : {setup : Setup} {state : State} → IsStateOf setup [] state → IsSound setup state
 unfolding config_address
 fresh_sound {setup} {state} is =
-    let registers : AreSound setup state.registers = record {
-      bytes = byte_of setup [];
-      kept = is.registers.kept;
-      address = rw (is.registers.address) refl;
-      flat = is.registers.flat;
-    } in
-    assumption (opened_has setup state.devices is.fits.disk is.devices.others.disk)
+    grind (arith, nat_tests, opened_has setup state.devices is.fits.disk is.devices.others.disk)

@@ -36,6 +36,7 @@ pub fn access(state: &mut State, access: &PortAccess) -> BusReply
 }
 
 /// Does an access at a port that reaches a device.
+#[tactic(auto, unfolding(board_spec::specs::Answer::port_answer))]
 fn at_device(state: &mut State, dev: Dev, access: &PortAccess) -> BusReply
     requires reaching { Reaching state.old access.now (Device dev) }
     ensures sound { StaysSound state.old state.new }
@@ -72,6 +73,7 @@ fn device_value(state: &mut State, dev: Dev, access: &PortAccess) -> Option<u32>
 }
 
 /// Does an access at a port that reaches a register in configuration space, which its function has.
+#[tactic(auto, unfolding(board_spec::specs::Answer::port_answer))]
 fn at_register(state: &mut State, register: &ConfigRegister, access: &PortAccess) -> BusReply
     requires reaching { Reaching state.old access.now (Config register.now.reg) }
     requires function { HasRegister state.old.registers.map.regs.cards register.now.function register.now.reg }
@@ -111,6 +113,7 @@ fn register_value(state: &mut State, register: &ConfigRegister, access: &PortAcc
 }
 
 /// Does an access at a port that reaches a base of a card.
+#[tactic(auto, unfolding(board_spec::specs::Answer::port_answer))]
 fn at_card(state: &mut State, target: Target, access: &PortAccess) -> BusReply
     requires reaching { Reaching state.old access.now (target) }
     requires device { (dev : Dev) → target ≡ Device dev → ⊥ }
@@ -131,6 +134,7 @@ fn at_card(state: &mut State, target: Target, access: &PortAccess) -> BusReply
 }
 
 /// Does an access at a port that reaches nobody.
+#[tactic(auto, unfolding(board_spec::specs::Answer::port_answer))]
 fn at_nobody(state: &mut State, denial: Denial, access: &PortAccess) -> BusReply
     requires reaching { Reaching state.old access.now (Abort) }
     ensures sound { StaysSound state.old state.new }

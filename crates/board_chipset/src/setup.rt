@@ -81,6 +81,7 @@ pub fn is_rom_size(size: usize) -> bool
 }
 
 /// Whether a disk can have this many bytes: 1 to 65,536 whole sectors of 512.
+#[tactic(auto, using(crate::proofs::Openings::decided, std::proofs::lemmas::Bool::Decides::nat_tests))]
 pub fn is_disk_size(size: usize) -> bool
     ensures size { IsTrue result ↔ IsDiskSize size }
 {

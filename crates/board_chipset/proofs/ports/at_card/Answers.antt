@@ -1,6 +1,6 @@
-use Rattle.std.proofs.Common.{None}
-use Rattle.board_chipset.proofs.PortSteps.{replied}
+use Rattle.board_chipset.proofs.PortSteps.{entry_is}
 use Rattle.board_chipset.proofs.ports.at_card.Goals as goal
 
-pub returns : goal.returns
-returns c = assumption (replied None c.stored_value.ensures.value c.stored_value.ensures.board)
+pub returns-clause-board : goal.returns-clause-board
+returns-clause-board c setup history entry kept is event said =
+    c.stored_value.ensures.board setup history entry kept (entry_is is event said)

@@ -4,7 +4,7 @@ use Rattle.board_stores.specs.Common.{AreReady}
 use Rattle.board_stores.proofs.MemoryLemmas.{parts_answered}
 use Rattle.board_chipset.proofs.StateSteps.{writes_none, state_put, state_stays}
 use Rattle.board_chipset.proofs.HeldTargets.{stands}
-use Rattle.board_chipset.proofs.MemorySteps.{writes_when, cycles_ready, all_write, parts_none}
+use Rattle.board_chipset.proofs.MemorySteps.{writes_when, all_ready, all_write, parts_none}
 use Rattle.board_chipset.proofs.wide.access.Goals.{After-is_write}
 use Rattle.board_chipset.proofs.wide.access.Goals as goal
 
@@ -13,11 +13,12 @@ ready : (c : After-is_write) →
     AreReady c.args.rom.now c.args.state.now.stores.contents c.as_slice-cycles.result.now
 ready c =
     let kept = c.requires.kept in
+    let parts = c.cycles_of-cut.ensures.parts in
     rw (c.as_slice-cycles.ensures.value)
-    (cycles_ready kept.sound kept.image c.args.access.now _
-    (c.law_parts.ensures.cut c.args.access.now c.requires.wide) c.cycles_of-cut.ensures.parts
-    (c.cycles_of-cut.ensures.decoded kept.setup kept.sound.registers.bytes
-    (stands kept.sound c.regs.ensures.same) kept.image))
+    (all_ready kept.sound kept.image c.args.access.now _
+    (rw parts (c.law_parts.ensures.cut c.args.access.now c.requires.wide).each)
+    (rw parts (c.cycles_of-cut.ensures.decoded kept.setup kept.sound.registers.bytes
+    (stands kept.sound c.regs.ensures.same) kept.image)))
 
 pub write_cycles-requires-clause-ready : goal.write_cycles-requires-clause-ready
 write_cycles-requires-clause-ready c =

@@ -1,19 +1,22 @@
-use Rattle.board_chipset.proofs.StateSteps.{registers_at_reset}
+use Rattle.board_prelude.proofs.Common.{reset_byte, byte_of, config_address, reset_control, map_writes_of}
+use Rattle.config_regs.specs.Config.{AreKeptOf}
+use Rattle.board_chipset.specs.Versions.{AreLastChanged}
 use Rattle.board_chipset.proofs.registers.Registers.new.Goals as goal
 
 pub returns : goal.returns
+unfolding byte_of config_address reset_control map_writes_of AreLastChanged
 returns c = record {
   reset = λ setup same.
-      registers_at_reset _ (record {
-        address = c.new.result;
-        control = c.new-2.result;
-        map = c.from_scratch.result;
-        south = c.new-3.result;
-      }) c.new.ensures.zero c.new-2.ensures.zero
-      (record {
+      let kept : AreKeptOf setup (reset_byte setup) c.from_scratch.result.regs c.new-3.result = record {
         map = rw c.from_scratch.ensures.regs (c.reset_of.ensures.stands setup same);
         cards = rw c.from_scratch.ensures.regs (c.reset_of.ensures.reset setup same);
         south = c.new-3.ensures.reset setup;
-      })
-      c.from_scratch.ensures.version c.from_scratch.ensures.changed c.from_scratch.ensures.map;
+      } in
+      assumption (
+        c.new.ensures.zero,
+        c.new-2.ensures.zero,
+        c.from_scratch.ensures.version,
+        c.from_scratch.ensures.changed,
+        c.from_scratch.ensures.map,
+      );
 }
