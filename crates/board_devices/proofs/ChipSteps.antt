@@ -1,21 +1,18 @@
--- What a chip of the pair does by itself leaves its inputs, and latches nothing.
-use Rattle.std.proofs.Common.{arith, ◌≡◌, ℕ, ◌/◌, ◌%◌, ◌<◌, ◌==◌, ◌&&◌, not, Bool, true, false, cond, List, [], ◌∷◌}
-use Rattle.std.proofs.Common.{Option, Some, None, length, refl, ap, ◌∙◌}
-use Rattle.board_prelude.proofs.Common.{common_steps, nat_tests, Levels, has, levels_where, Chip, Word, interrupt}
-use Rattle.board_prelude.proofs.Common.{acknowledged, acknowledged_if, chip_after_word}
-use Rattle.board_prelude.proofs.Common.{chip_after_odd_write, is_complete, chip_after_ocw2, chip_after_even_write}
-use Rattle.board_prelude.proofs.Common.{chip_after_write, chip_after_read, has-levels_where, Pair, settled}
-use Rattle.board_prelude.proofs.Common.{pair_after_write, pair_after_read, pair_acknowledged, pair_acknowledged_at}
-use Rattle.board_prelude.proofs.Common.{pair_after_acknowledge, is_slave_port, is_odd_port, PortAccess, Event, Port}
-use Rattle.board_prelude.proofs.Common.{Ack, Reply, pair_after, is_bit}
+-- What a chip of the pair does by itself leaves its inputs, and does not latch line 0.
+use Rattle.std.proofs.Common.{refl, Some, None, arith, ◌≡◌, ℕ, ◌/◌, ◌%◌, Bool, true, false, cond, List, Option, length}
+use Rattle.board_prelude.proofs.Common.{nat_tests, has, levels_where, Chip, Word, interrupt, acknowledged}
+use Rattle.board_prelude.proofs.Common.{acknowledged_if, chip_after_word, chip_after_odd_write, is_complete}
+use Rattle.board_prelude.proofs.Common.{chip_after_ocw2, chip_after_even_write, chip_after_write, chip_after_read}
+use Rattle.board_prelude.proofs.Common.{has-levels_where, Pair, settled, pair_after_write, pair_after_read}
+use Rattle.board_prelude.proofs.Common.{pair_acknowledged, pair_acknowledged_at, pair_after_acknowledge, is_slave_port}
+use Rattle.board_prelude.proofs.Common.{is_odd_port, PortAccess, Event, Port, Ack, Reply, pair_after}
 use Rattle.device_spec.specs.Pic.{ended}
 
--- a chip before and after a step: of its latches the step keeps these
+-- a chip before and after a step
 pub record Keeps (old new : Chip) : Type 0 where
   pub inputs : new.inputs ≡ old.inputs
   pub triggers : new.triggers ≡ old.triggers
-  pub kept : ℕ → Bool
-  pub latches : (level : ℕ) → level < 8 → has new.latches level ≡ (kept level && has old.latches level)
+  pub low : has old.latches 0 ≡ false → has new.latches 0 ≡ false
   pub whole : length old.latches ≡ 8 → length new.latches ≡ 8
 
 -- a set of levels is a list of eight
@@ -23,74 +20,44 @@ pub eight : (test : ℕ → Bool) → length (levels_where test) ≡ 8
 unfolding levels_where
 eight test = refl
 
--- ---- steps that keep all latches, and those that clear some
-
-all_kept : (old new : Chip) → new.inputs ≡ old.inputs → new.triggers ≡ old.triggers →
-    new.latches ≡ old.latches → Keeps old new
-all_kept old new inputs triggers latches = record {
-  inputs = inputs;
-  triggers = triggers;
-  kept = λ _. true;
-  latches = λ level small. ap (λ (set : Levels). has set level) latches;
-  whole = λ whole. ap (λ (set : Levels). length set) latches ∙ whole;
-}
+ruleset sets = (nat_tests, has-levels_where, eight)
 
 pub unmoved : (chip : Chip) → Keeps chip chip
-unmoved chip = all_kept chip chip refl refl refl
-
-cleared : (old new : Chip) (kept : ℕ → Bool) → new.inputs ≡ old.inputs → new.triggers ≡ old.triggers →
-    new.latches ≡ levels_where (λ level. kept level && has old.latches level) → Keeps old new
-cleared old new kept inputs triggers latches = record {
-  inputs = inputs;
-  triggers = triggers;
-  kept = kept;
-  latches = λ level small.
-      ap (λ (set : Levels). has set level) latches
-      ∙ has-levels_where (λ level. kept level && has old.latches level) level small;
-  whole = λ whole. ap (λ (set : Levels). length set) latches ∙ eight (λ level. kept level && has old.latches level);
-}
-
-pub by_cond : {A : Type 0} (P : A → Type 0) (b : Bool) (x y : A) → P x → P y → P (cond b x y)
-by_cond P true x y p q = p
-by_cond P false x y p q = q
+unmoved chip = grind (arith, nat_tests)
 
 -- ---- writes
 
 ended_keeps : (rotates : Bool) (chip : Chip) (level : Option ℕ) → Keeps chip (ended rotates chip level)
-ended_keeps rotates chip level = grind (arith, nat_tests, unmoved, all_kept)
+ended_keeps rotates chip level = grind (arith, nat_tests)
 
-word_keeps : (old chip : Chip) (word : Word) (byte : ℕ) → Keeps old chip → Keeps old (chip_after_word chip word byte)
-word_keeps old chip word byte is = grind (arith, nat_tests)
+word_keeps : (chip : Chip) (word : Word) (byte : ℕ) → Keeps chip (chip_after_word chip word byte)
+word_keeps chip word byte = grind (arith, nat_tests)
 
 odd_keeps : (chip : Chip) (words : List Word) (byte : ℕ) → Keeps chip (chip_after_odd_write chip words byte)
-odd_keeps chip [] byte = all_kept chip (chip_after_odd_write chip [] byte) refl refl refl
-odd_keeps chip (word ∷ later) byte = grind (arith, nat_tests, common_steps, is_complete, word_keeps, all_kept)
+odd_keeps chip words byte = grind (arith, nat_tests, is_complete, word_keeps)
 
 ocw2_keeps : (chip : Chip) (command level : ℕ) → Keeps chip (chip_after_ocw2 chip command level)
-ocw2_keeps chip command level = grind (arith, nat_tests, ended_keeps, all_kept, unmoved)
+ocw2_keeps chip command level = grind (arith, nat_tests, ended_keeps)
 
 even_keeps : (chip : Chip) (byte : ℕ) → Keeps chip (chip_after_even_write chip byte)
-even_keeps chip byte =
-    by_cond (Keeps chip) (is_bit byte 4) _ _ (cleared chip _ (λ _. false) refl refl refl)
-    (by_cond (Keeps chip) (is_bit byte 3) _ _ (all_kept chip _ refl refl refl) (ocw2_keeps chip (byte / 32) (byte % 8)))
+even_keeps chip byte = grind (arith, sets, ocw2_keeps chip (byte / 32) (byte % 8))
 
 pub write_keeps : (chip : Chip) (is_odd : Bool) (byte : ℕ) → Keeps chip (chip_after_write chip is_odd byte)
 unfolding chip_after_write
-write_keeps chip is_odd byte = by_cond (Keeps chip) is_odd _ _ (odd_keeps chip chip.awaited byte) (even_keeps chip byte)
+write_keeps chip is_odd byte = grind (arith, nat_tests, odd_keeps chip chip.awaited byte, even_keeps chip byte)
 
 -- ---- acknowledges, and reads, which may poll
 
 pub acknowledged_keeps : (chip : Chip) (level : ℕ) → Keeps chip (acknowledged chip level)
-acknowledged_keeps chip level = cleared chip (acknowledged chip level) (λ l. not (l == level)) refl refl refl
+acknowledged_keeps chip level = grind (arith, sets)
 
 pub acknowledged_if_keeps : (chip : Chip) (level : Option ℕ) → Keeps chip (acknowledged_if chip level)
-acknowledged_if_keeps chip level = grind (arith, nat_tests, unmoved, acknowledged_keeps)
+acknowledged_if_keeps chip None = unmoved chip
+acknowledged_if_keeps chip (Some level) = acknowledged_keeps chip level
 
 pub read_keeps : (chip : Chip) → Keeps chip (chip_after_read chip)
 unfolding chip_after_read
-read_keeps chip =
-    by_cond (Keeps chip) chip.polls _ _ (grind (arith, nat_tests, acknowledged_if_keeps chip (interrupt chip)))
-    (unmoved chip)
+read_keeps chip = grind (arith, nat_tests, acknowledged_if_keeps chip (interrupt chip))
 
 -- ---- what an event makes of the pair
 
@@ -119,8 +86,7 @@ module _ (P : Pair → Type 0)
   acknowledged_at pair None is = is
   acknowledged_at pair (Some level) is =
       settles pair (pair_acknowledged pair level) (acknowledged_keeps pair.master level)
-      (by_cond (Keeps pair.slave) (level == 2) _ _ (acknowledged_if_keeps pair.slave (interrupt pair.slave))
-      (unmoved pair.slave)) is
+      (grind (arith, nat_tests, acknowledged_if_keeps pair.slave (interrupt pair.slave))) is
 
   pub event_keeps : (event : Event) (reply : Reply) (pair : Pair) → P pair → P (pair_after event reply pair)
   unfolding pair_after_acknowledge

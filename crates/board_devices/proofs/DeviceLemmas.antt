@@ -11,9 +11,8 @@ use Rattle.board_prelude.specs.Common.{IsDisk, IsDiskSize, is_free_line, is_hard
 use Rattle.board_prelude.specs.Common.{wire_set, wire_of, line_set, irq_of, triggers_after, triggers_of, plain_after}
 use Rattle.board_prelude.specs.Common.{plain_of, timer_after, timer_of, clock_after, clock_of, disk_after, disk_with}
 use Rattle.board_prelude.specs.Common.{disk_of, routes_of, pirq_levels, own_level, level_with, all_lines, levels_with}
-use Rattle.board_prelude.specs.Common.{levels_of, elcr_of, device_value, pair_after, pair_reset_or_after, pair_stepped}
-use Rattle.board_prelude.specs.Common.{pair_of, after_bad, byte_of, config_store, list_any}
-use Rattle.board_prelude.specs.Common.{is_interrupt, config_address}
+use Rattle.board_prelude.specs.Common.{levels_of, elcr_of, device_value, pair_after, pair_reset_or_after, pair_of}
+use Rattle.board_prelude.specs.Common.{after_bad, byte_of, config_store, list_any, is_interrupt, config_address}
 use Rattle.std.proofs.Common.{◌≡◌, ℕ, ◌<◌, ◌≤◌, Bool, true, false, ◌||◌, ◌&&◌, List, [], ◌∷◌, Option, Some, None}
 use Rattle.std.proofs.Common.{length, get_or, refl, sym, ◌∙◌, ap, subst, arith, ◌*◌, ◌/◌, ◌%◌, replicate, eq-eqb}
 use Rattle.std.proofs.Common.{ne_eqb, get_or-set_same, get_or-set_other, length-set, ◌↔◌, Result, Err, ◌==◌, unwrap_or}
@@ -36,18 +35,12 @@ NotPulses _ = Unit {0}
 abbrev pub lined : Setup → List Entry → Pair → Pair
 lined setup history pair = pair_after_lines pair (levels_of setup history) (elcr_of history)
 
-stepped : (setup : Setup) (entry : Entry) (history : List Entry) (event : Event) (pair : Pair) → NotPulses event →
-    pair_stepped setup entry history event pair
-    ≡ lined setup (entry ∷ history) (pair_reset_or_after setup entry history pair)
-stepped setup entry history (Pulses count) pair not = absurd not
-stepped setup entry history _ pair not = refl
-
 -- they reach what the event, or the reset, made of the pair
 pair_lined : (setup : Setup) (history : List Entry) (entry : Entry) → NotPulses entry.event →
     pair_of setup (entry ∷ history)
     ≡ lined setup (entry ∷ history) (pair_reset_or_after setup entry history (pair_of setup history))
 unfolding pair_of
-pair_lined setup history entry not = stepped setup entry history entry.event (pair_of setup history) not
+pair_lined setup history entry not = grind (arith, nat_tests)
 
 -- the pair is no part of what the others are
 pub with_pair : (setup : Setup) (history : List Entry) (devices : DevicesValue) (pair : Pair) →
@@ -344,16 +337,12 @@ leaves_devices setup history entry devices are leaves routes =
     rw (left_as leaves devices) (others_asked asks devices (sets.room devices) are.others) in
     let made : pair_after entry.event entry.reply devices.pair ≡ devices.pair =
     ap (λ (d : DevicesValue). d.pair) (sym (left_as leaves devices)) in
-    record {
-      others = after;
-      pair =
-          sym (pair_asked setup asks sets.still
-          ∙ (lines_stand setup history entry sets (grind (arith, nat_tests, are.others)) routes
-          (pair_after entry.event entry.reply (pair_of setup history))
-          ∙ (ap (λ pair. lined setup history (pair_after entry.event entry.reply pair)) (sym are.pair)
-          ∙ (ap (lined setup history) made
-          ∙ (ap (lined setup history) are.pair ∙ (pair_has_seen same-levels setup history ∙ sym are.pair))))));
-    }
+    let asked = pair_asked setup asks sets.still in
+    let stands =
+    lines_stand setup history entry sets (grind (arith, nat_tests, are.others)) routes
+    (pair_after entry.event entry.reply (pair_of setup history)) in
+    let seen = pair_has_seen same-levels setup history in
+    record { others = after; pair = cc (asked, stands, are.pair, made, seen) }
 
 -- ---- a hard reset
 

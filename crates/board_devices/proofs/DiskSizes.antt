@@ -1,47 +1,18 @@
 -- No access, reset or bad sector changes how many sectors a disk has.
-use Rattle.board_prelude.proofs.Common.{common_steps, nat_tests, PortAccess, Dev, Ata, Width, One, Setup, Disk, IsDisk}
-use Rattle.board_prelude.proofs.Common.{IsDiskSize, disk_with, disk_of}
-use Rattle.std.proofs.Common.{◌≡◌, ℕ, ◌*◌, ◌/◌, ◌%◌, Bool, true, false, cond, eqb, List, [], length, Option, Some, None}
-use Rattle.std.proofs.Common.{refl, ◌∙◌, arith, option_map, length-set}
-use Rattle.device_spec.proofs.Common.{Two, Four, length-replicate, Activity, sectors_of, is_drq, bytes_written}
-use Rattle.device_spec.proofs.Common.{activity_written, word_written}
-use Rattle.device_spec.specs.Ata.Steps.{after_read as disk_after_read, after_write as disk_after_write, after_bad}
+use Rattle.board_prelude.proofs.Common.{common_steps, nat_tests, PortAccess, Dev, Setup, Disk, IsDisk, IsDiskSize}
+use Rattle.board_prelude.proofs.Common.{disk_with, disk_of}
+use Rattle.std.proofs.Common.{◌≡◌, ℕ, ◌*◌, true, false, eqb, List, [], length, Option, Some, arith, option_map}
+use Rattle.std.proofs.Common.{length-set}
+use Rattle.device_spec.proofs.Common.{length-replicate, sectors_of, word_written}
+use Rattle.device_spec.specs.Ata.Steps.{after_bad}
 use Rattle.board_devices.specs.Devices.{DevicesValue, HasDisk, sectors_fitted}
 use Rattle.board_devices.specs.Steps.{after_read, after_write, devices_accessed, fitted_accessed}
 
 -- ---- the disk
 
-abbrev HasSectors : ℕ → Disk → Type 0
-HasSectors count disk = sectors_of disk.medium ≡ count
-
-either_has : (count : ℕ) (b : Bool) (x y : Disk) → HasSectors count x → HasSectors count y →
-    HasSectors count (cond b x y)
-either_has count b x y p q = grind (arith, nat_tests)
-
-bytes_written-has : (sector : ℕ) (bytes : List ℕ) (disk : Disk) →
-    HasSectors (sectors_of disk.medium) (bytes_written sector bytes disk)
-bytes_written-has sector bytes disk =
-    either_has (sectors_of disk.medium) (eqb (length bytes) 512) _ _ (length-set disk.medium.bad sector false) refl
-
-activity_written-has : (activity : Activity) (word : ℕ) (disk : Disk) →
-    HasSectors (sectors_of disk.medium) (activity_written activity word disk)
-activity_written-has activity word disk = grind (arith, nat_tests, bytes_written-has)
-
-word_written-has : (word : ℕ) (disk : Disk) → HasSectors (sectors_of disk.medium) (word_written word disk)
+word_written-has : (word : ℕ) (disk : Disk) → sectors_of (word_written word disk).medium ≡ sectors_of disk.medium
 unfolding word_written
-word_written-has word disk =
-    grind (arith, nat_tests, common_steps, either_has, sectors_of, is_drq, activity_written-has)
-
-written_has : (port : ℕ) (width : Width) (value : ℕ) (disk : Disk) →
-    HasSectors (sectors_of disk.medium) (disk_after_write port width value disk)
-written_has port One value disk = grind (arith, nat_tests)
-written_has port Two value disk = word_written-has (value % 65536) disk
-written_has port Four value disk =
-    word_written-has (value / 65536) (word_written (value % 65536) disk) ∙ word_written-has (value % 65536) disk
-
-read_has : (port : ℕ) (width : Width) (disk : Disk) →
-    HasSectors (sectors_of disk.medium) (disk_after_read port width disk)
-read_has port width disk = grind (arith, nat_tests)
+word_written-has word disk = grind (arith, nat_tests, eqb, length-set)
 
 -- ---- where one is fitted
 
@@ -53,10 +24,7 @@ fitted_spoiled sector disk = grind (arith, nat_tests, length-set)
 
 access_fitted : (reached : Option Dev) (access : PortAccess) (disk : Option Disk) →
     sectors_fitted (fitted_accessed reached access disk) ≡ sectors_fitted disk
-access_fitted (Some Ata) access None = refl
-access_fitted (Some Ata) access (Some disk) =
-    grind (arith, nat_tests, common_steps, either_has, sectors_of, written_has, read_has)
-access_fitted _ access disk = refl
+access_fitted reached access disk = grind (arith, nat_tests, common_steps, sectors_of, word_written-has)
 
 pub read_fitted : (dev : Dev) (access : PortAccess) (devices : DevicesValue) →
     sectors_fitted (after_read dev access devices).disk ≡ sectors_fitted devices.disk

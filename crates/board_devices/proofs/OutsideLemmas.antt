@@ -1,21 +1,16 @@
 -- What a monitor asks of the devices, and what it writes to them.
-use Rattle.std.proofs.Common.{arith, ◌≡◌, ℕ, false, Option, Some, None, refl, ◌↔◌, is_some}
-use Rattle.board_prelude.proofs.Common.{nat_tests, PortAccess, Spurious, interrupt, Pair, answer_at, answer_of}
+use Rattle.std.proofs.Common.{arith, ◌≡◌, false, refl, ◌↔◌, is_some}
+use Rattle.board_prelude.proofs.Common.{nat_tests, PortAccess, Spurious, interrupt, Pair, answer_of}
 use Rattle.board_prelude.proofs.Common.{after_write as clock_after_write, who_answered}
 use Rattle.board_base.specs.declared.target.Dev.TheVariants.{Clock}
 use Rattle.board_devices.specs.Common.{DevicesValue, after_write, devices_accessed}
 
 -- ---- INT, and the spurious answer of the master
 
-spurious_at : (pair : Pair) (level : Option ℕ) → (is_some level ≡ false)
-    ↔ (who_answered (answer_at pair level) ≡ Spurious 0)
-spurious_at pair None = (λ none. refl, λ answered. refl)
-spurious_at pair (Some level) = grind (arith, nat_tests)
-
 pub spurious_is : (pair : Pair) → (is_some (interrupt pair.master) ≡ false)
     ↔ (who_answered (answer_of pair) ≡ Spurious 0)
 unfolding answer_of
-spurious_is pair = spurious_at pair (interrupt pair.master)
+spurious_is pair = grind (arith, nat_tests)
 
 -- ---- a write to the clock
 

@@ -5,13 +5,12 @@ use Rattle.board_spec.proofs.Common.{same-levels, inputs-again, settled-asks, se
 use Rattle.board_prelude.proofs.Common.{Levels, has, levels_where, with_level, levels_of_byte, Chip, interrupt}
 use Rattle.board_prelude.proofs.Common.{latches_after, chip_after_inputs, Pair, settled, master_inputs, pair_at_reset}
 use Rattle.board_prelude.proofs.Common.{levels_at_power_on, pair_after_lines, PitState, out_of, pulses, rises, Event}
-use Rattle.board_prelude.proofs.Common.{Pulses, Entry, Setup, is_hard_reset, timer_of, routes_of, levels_with}
-use Rattle.board_prelude.proofs.Common.{levels_of, elcr_of, pair_pulsed, pair_reset_or_after, pair_stepped, pair_of}
-use Rattle.std.proofs.Common.{◌≡◌, ℕ, zero, suc, ◌+◌, ◌/◌, ◌%◌, ◌<◌, nat_lt, ◌&&◌, ◌||◌, not, Bool, true, false}
-use Rattle.std.proofs.Common.{cond, List, [], ◌∷◌, is_some, take, drop, inl, inr, refl, ap, sym, subst, ◌∙◌, arith}
-use Rattle.std.proofs.Common.{lit<, slice_set}
+use Rattle.board_prelude.proofs.Common.{Pulses, Entry, Setup, timer_of, routes_of, levels_with, levels_of, elcr_of}
+use Rattle.board_prelude.proofs.Common.{pair_pulsed, pair_reset_or_after, pair_stepped, pair_of}
+use Rattle.std.proofs.Common.{◌≡◌, ℕ, zero, suc, ◌+◌, ◌/◌, ◌%◌, ◌<◌, nat_lt, ◌&&◌, ◌||◌, not, Bool, true, false, cond}
+use Rattle.std.proofs.Common.{List, [], ◌∷◌, is_some, take, drop, inl, inr, refl, ap, sym, subst, ◌∙◌, arith, slice_set}
 use Rattle.board_devices.specs.Common.{DevicesValue, AreAfter, AreDevicesOf, Asks, lines_at, pair_after_run}
-use Rattle.board_devices.proofs.ChipSteps.{Keeps, by_cond, same_chips, event_keeps}
+use Rattle.board_devices.proofs.ChipSteps.{Keeps, same_chips, event_keeps}
 use Rattle.board_devices.proofs.DeviceLemmas.{with_pair, routes_stand, others_asked, levels_pulsed}
 
 -- ---- the latch of line 0 at the master
@@ -50,30 +49,16 @@ lines_fresh pair levels elcr is =
     })
     (record { fresh = (grind (arith, nat_tests, is.fresh)) })
 
--- a step of the chip itself makes no latch stale
-keeps_fresh : (old new : Chip) → Keeps old new → is_stale old ≡ false → is_stale new ≡ false
-keeps_fresh old new keeps h = rw (keeps.latches 0 (lit< tt), keeps.inputs) (grind (arith, nat_tests))
-
--- nor does what follows it
+-- nor a step of the chips themselves, and what follows it
 steps_fresh : (old new : Pair) → Keeps old.master new.master → Keeps old.slave new.slave → IsFresh old →
     IsFresh (settled new)
-steps_fresh old new master slave is =
-    settled_fresh new (record { fresh = keeps_fresh old.master new.master master is.fresh })
+steps_fresh old new master slave is = settled_fresh new (record { fresh = grind (arith, nat_tests, master, is) })
 
 reset_fresh : (levels : List Bool) → IsFresh (pair_at_reset levels)
 unfolding levels_where
 reset_fresh levels = record { fresh = refl }
 
 -- ---- line 0 rises and falls
-
--- the levels of the master's lines
-abbrev low_lines : List Bool → Bool → Levels
-low_lines levels level = master_inputs (take 8 (slice_set levels 0 level))
-
-same_above : (levels : List Bool) (l : ℕ) → suc l < 8 →
-    has (low_lines levels true) (suc l) ≡ has (low_lines levels false) (suc l)
-same_above [] l h = refl
-same_above (x ∷ rest) l h = grind (arith, nat_tests, common_steps, has-levels_where, has)
 
 -- a level of the latches after its input
 abbrev after_at : Bool → Bool → Bool → Bool
@@ -86,14 +71,10 @@ module _ (rest : List Bool) (latches inputs : Levels) (fresh : (has latches 0 &&
   abbrev low_at : Levels
   low_at = master_inputs (take 8 (false ∷ rest))
 
-  first : (level : Bool) → has (master_inputs (take 8 (level ∷ rest))) 0 ≡ level
-  unfolding levels_where
-  first level = refl
-
   base : (l : ℕ) → l < 8 → after_at (after_at (has latches l) (has inputs l) (has high_at l)) (has high_at l)
       (has low_at l) ≡ after_at (has latches l) (has inputs l) (has low_at l)
-  base zero h = rw (first true, first false) (grind (arith, nat_tests))
-  base (suc l) h = rw (same_above (true ∷ rest) l h) (grind (arith, nat_tests))
+  base zero h = grind (arith, nat_tests, common_steps, has-levels_where, has, fresh)
+  base (suc l) h = grind (arith, nat_tests, common_steps, has-levels_where, has)
 
   forgets : latches_after (latches_after latches inputs high_at) high_at low_at ≡ latches_after latches inputs low_at
   forgets = levels_where-same _ _
@@ -221,10 +202,10 @@ stepped_fresh : (setup : Setup) (entry : Entry) (before : List Entry) (event : E
     IsFresh (pair_stepped setup entry before event pair)
 stepped_fresh setup entry before (Pulses count) pair is = pulsed_fresh setup before count pair is
 stepped_fresh setup entry before _ pair is =
+    let reset = reset_fresh (levels_of setup (entry ∷ before)) in
+    let after = event_keeps IsFresh steps_fresh entry.event entry.reply pair is in
     lines_fresh (pair_reset_or_after setup entry before pair) (levels_of setup (entry ∷ before))
-    (elcr_of (entry ∷ before))
-    (by_cond IsFresh (is_hard_reset before entry.event) _ _ (reset_fresh (levels_of setup (entry ∷ before)))
-    (event_keeps IsFresh steps_fresh entry.event entry.reply pair is))
+    (elcr_of (entry ∷ before)) (grind (arith, nat_tests, reset, after))
 
 pub always_fresh : (setup : Setup) (history : List Entry) → IsFresh (pair_of setup history)
 unfolding pair_of

@@ -1,6 +1,6 @@
-use Rattle.std.proofs.Common.{◌≡◌, ◌∙◌, ◌∷◌, List, ap, sym, Bool}
-use Rattle.board_prelude.proofs.Common.{Pair, pair_after_lines, pair_at_reset, levels_of, elcr_of}
-use Rattle.board_devices.specs.Devices.{DevicesValue, AreAfter}
+use Rattle.std.proofs.Common.{◌≡◌, ◌∷◌}
+use Rattle.board_prelude.proofs.Common.{pair_at_reset, levels_of}
+use Rattle.board_devices.specs.Devices.{AreAfter}
 use Rattle.board_devices.proofs.DeviceLemmas.{reset_after, reset_pair, with_pair, settled_as}
 use Rattle.board_devices.proofs.devices.Devices.reset.Goals as goal
 
@@ -17,6 +17,4 @@ returns-clause-reset c = λ setup history entry is hard routes.
     (with_pair setup now c.reset_machines.new.self (pair_at_reset c.levels-levels.result) machines) in
     settled_as setup now c.reset_pair.new.self c.settle.new.self others c.settle.ensures.others
     (c.settle.ensures.pair setup now others routes)
-    (reset_pair setup history entry hard
-    ∙ sym (ap (λ (p : Pair). pair_after_lines p (levels_of setup now) (elcr_of now))
-    (ap (λ (d : DevicesValue). d.pair) c.reset_pair.ensures.after ∙ ap (λ (l : List Bool). pair_at_reset l) levels)))
+    (cc (reset_pair setup history entry hard, c.reset_pair.ensures.after, levels))

@@ -1,4 +1,0 @@
-use Rattle.board_devices.proofs.state.timer.Goals as goal
-
-pub returns : goal.returns
-returns c = record { took = c.load_state.ensures.loaded.bad }
