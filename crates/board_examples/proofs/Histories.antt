@@ -23,8 +23,7 @@ use Rattle.board_examples.specs.Common.{after_lines, initialised, NobodyIsReady,
 use Rattle.board_examples.specs.Common.{AnEdgeIsKept, TheHigherEndsFirst, ANewBeginning, AShortSequence, SpecialMask}
 use Rattle.board_examples.specs.Common.{ChosenRegisters, Polls, PollsOfOne, ResetAtLevels, EachCommand, AutomaticEnd}
 use Rattle.board_examples.specs.Common.{ModesEnd, FullyNested, Cascaded, Ports, AfterReset, ReadBackOf0, Counters1And2}
-use Rattle.board_examples.specs.Common.{OnePeriod, EachMode, EachCount, EachGate, BytesAndLatches, AnAlarmStays}
-use Rattle.board_examples.specs.Common.{AHardReset, AMoment, HourForms, Alarms, Interrupts, EachByte, passed, filled}
+use Rattle.board_examples.specs.Common.{OnePeriod, EachMode, EachCount, EachGate, BytesAndLatches, passed, filled}
 use Rattle.board_examples.specs.Common.{PastTheEnd, BadInTheMiddle, ReadToItsEnd, BadIsWritten, WrittenIsGood}
 use Rattle.board_examples.specs.Common.{WordsOfSector3, LowByteFirst, CommandEnds, WordsTheWrongWay, Writes, Resets}
 use Rattle.board_examples.specs.Common.{Commands, Addresses, Identify, Lengths, DiskPorts, TimerLatched, SystemPort}
@@ -45,7 +44,6 @@ use Rattle.device_spec.specs.Pit.{asks_for_load, complete, take_low, take_byte, 
 use Rattle.device_spec.specs.Pit.{count_down, count_to_end, count_to_reload, count_half, count_to_strobe, pulse_by_mode}
 use Rattle.device_spec.specs.Pit.{pulse, port_read, read_back_chosen, write_control, port_write, set_gate2, pulse_all}
 use Rattle.device_spec.specs.Pit.{pulses, rises}
-use Rattle.board_examples.specs.Machines.Routing.{RouteBytes, LinesDriven, TriggerBytes}
 use Rattle.device_spec.specs.Ata.Steps.{control_written}
 
 pub rom_size : length counting_rom ≡ 0x1_0000
@@ -115,14 +113,6 @@ unfolding AfterReset ReadBackOf0 Counters1And2 given told after_lines mode_numbe
     count_to_reload count_half count_to_strobe pulse_by_mode pulse reset port_read read_back_chosen write_control
     port_write set_gate2 out_of pulse_all pulses rises
 timer = search (rules, arith)
-
-pub clock : AnAlarmStays × AHardReset × AMoment × HourForms × Alarms × Interrupts × EachByte
-unfolding AnAlarmStays AHardReset given told power_on
-clock = search rules
-
-pub routing : RouteBytes × LinesDriven × TriggerBytes
-unfolding is_line_driven
-routing = search rules
 
 pub disk :
     (PastTheEnd × BadInTheMiddle × ReadToItsEnd × BadIsWritten × WrittenIsGood × WordsOfSector3 × LowByteFirst ×

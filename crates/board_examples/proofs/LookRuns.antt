@@ -2,7 +2,7 @@
 -- for two processors.
 use Rattle.std.proofs.Common.{ℕ, ◌≡◌, ◌+◌, ◌-◌, ◌*◌, ◌/◌, ◌^◌, ◌<◌, ◌≤◌, ◌≢◌, Bool, true, false, ◌∷◌, [], nat_lt, refl}
 use Rattle.std.proofs.Common.{List, flat_map, arith, eq-eqb, ne_eqb, inr, sym, ◌∙◌, suc, ◌&&◌, not, if◌then◌else◌, map}
-use Rattle.std.proofs.Common.{replicate, All, rules, inl}
+use Rattle.std.proofs.Common.{replicate, All, rules, inl, drop}
 use Rattle.std.proofs.Math.Nat.{div-eq_of_lt-le}
 use Rattle.board_prelude.proofs.Common.{nat_tests, div-lt_iff_lt-mul, Kind, is_within, Setup, Bytes, Area, Window}
 use Rattle.board_prelude.proofs.Common.{is_covered, is_rom_selected, is_smram_range, row_of, area_of, memory_claim}
@@ -13,6 +13,7 @@ use Rattle.board_prelude.proofs.Common.{reset_byte, writable_bits, host_bridge, 
 use Rattle.board_prelude.proofs.Common.{reset_control, card_function, denial_of, memory_shut, rom_unselected}
 use Rattle.board_prelude.proofs.Common.{port_target_of, stored_of, port_answer, memory_answer, map_change_of}
 use Rattle.board_prelude.proofs.Common.{map_writes_of, ide_function, io_claim, io_shut, events_by, statement_of}
+use Rattle.board_prelude.proofs.Common.{AllByRecursion}
 use Rattle.board_base.specs.declared.target.Area.TheVariants.{Abort, Dram, Rom, Smram}
 use Rattle.std.proofs.lemmas.List.Elements.{All-from_recursion}
 use Rattle.board_examples.specs.Common.{small_board, range, smram_range, smram_written, map_round, MapAfterReset}
@@ -40,10 +41,10 @@ covers-no x k window positive is before =
 pub inner_span : {setup : Setup} {bytes : Bytes} {addr lo hi : ℕ} {kind : Kind} {smm : Bool} {area : Area} →
     (lo ≤ addr) × (addr ≤ hi) × (hi < address_count) →
     ((x : ℕ) → lo ≤ x → x ≤ hi → area_of setup bytes x kind smm ≡ area) →
-    area_of setup bytes (lo - 1) kind smm ≢ area → area_of setup bytes (hi + 1) kind smm ≢ area →
+    (area_of setup bytes (lo - 1) kind smm ≢ area) × (area_of setup bytes (hi + 1) kind smm ≢ area) →
     IsSpan setup bytes addr kind smm lo hi area
-inner_span place same before after =
-    record { above = place.0; below = place.1; last = place.2; same = same; begins = inr before; ends = inr after }
+inner_span place same beside =
+    record { above = place.0; below = place.1; last = place.2; same = same; begins = inr beside.0; ends = inr beside.1 }
 
 -- ---- past the memory, and with XBCS as after a reset, the cards alone answer between 1 MiB and the last 64 KiB
 
@@ -70,27 +71,28 @@ far_area setup bytes addr lo hi kind smm x far from to =
 
 pub far_span : {setup : Setup} {bytes : Bytes} {addr lo hi : ℕ} {kind : Kind} {smm : Bool} {area : Area} →
     IsFar bytes addr lo hi → ((x : ℕ) → lo ≤ x → x ≤ hi → claimed setup bytes x ≡ area) →
-    area_of setup bytes (lo - 1) kind smm ≢ area → area_of setup bytes (hi + 1) kind smm ≢ area →
+    (area_of setup bytes (lo - 1) kind smm ≢ area) × (area_of setup bytes (hi + 1) kind smm ≢ area) →
     IsSpan setup bytes addr kind smm lo hi area
-far_span {setup = setup} {bytes = bytes} {addr = addr} {lo = lo} {hi = hi} far same before after =
+far_span {setup = setup} {bytes = bytes} {addr = addr} {lo = lo} {hi = hi} far same beside =
     inner_span (far.begins, far.ends, omega (arith, far.before_rom))
-    (λ x from to. far_area setup bytes addr lo hi _ _ x far from to ∙ same x from to) before after
+    (λ x from to. far_area setup bytes addr lo hi _ _ x far from to ∙ same x from to) beside
 
 -- in a window that is enabled and the first of all
 pub first_span : {setup : Setup} {bytes : Bytes} {addr lo hi : ℕ} {kind : Kind} {smm : Bool} (window : Window)
     (later : List Window) → flat_map (memory_windows bytes) setup.cards ≡ window ∷ later →
     is_enabled_for 1 bytes window.dev ≡ true → IsFar bytes addr lo hi →
-    window.inside / 2 ^ window.bits * 2 ^ window.bits ≤ lo →
-    hi < (window.inside / 2 ^ window.bits + 1) * 2 ^ window.bits →
-    area_of setup bytes (lo - 1) kind smm ≢ card_area window →
-    area_of setup bytes (hi + 1) kind smm ≢ card_area window → IsSpan setup bytes addr kind smm lo hi (card_area window)
+    (window.inside / 2 ^ window.bits * 2 ^ window.bits ≤ lo)
+    × (hi < (window.inside / 2 ^ window.bits + 1) * 2 ^ window.bits) →
+    (area_of setup bytes (lo - 1) kind smm ≢ card_area window)
+    × (area_of setup bytes (hi + 1) kind smm ≢ card_area window) →
+    IsSpan setup bytes addr kind smm lo hi (card_area window)
 unfolding memory_claim
-first_span window later windows on far first last before after =
+first_span window later windows on far inside beside =
     far_span far (λ x from to. rw (
       windows,
       on,
-      covers-yes x (window.inside / 2 ^ window.bits) window refl (omega arith) (omega arith),
-    ) refl) before after
+      covers-yes x (window.inside / 2 ^ window.bits) window refl (omega (arith, inside.0)) (omega (arith, inside.1)),
+    ) refl) beside
 
 -- ---- the flat map after reset and after a write to SMRAM, range by range: the register matters in its own range alone
 
@@ -141,20 +143,18 @@ module _ (bytes : Bytes) (plain : IsPlain bytes) where
   low_dram : IsRight small_board bytes (range 0x0 0x9_FFFF (Dram 0))
   low_dram = right _ _ (λ _. Dram 0) (λ x from to kind smm. grind (arith, nat_tests))
 
-  windows : IsRight small_board bytes (range 0xC_0000 0xE_FFFF Abort)
-  windows = right _ _ (λ _. Abort) (λ x from to kind smm. grind (arith, nat_tests))
-
-  bios : IsRight small_board bytes (range 0xF_0000 0xF_FFFF Rom)
-  bios = right _ _ (λ _. Rom) (λ x from to kind smm. grind (arith, nat_tests))
-
-  high_dram : IsRight small_board bytes (range 0x10_0000 0x7F_FFFF (Dram 0))
-  high_dram = right _ _ (λ _. Dram 0) (λ x from to kind smm. grind (arith, nat_tests))
-
-  nobody : IsRight small_board bytes (range 0x80_0000 0xFFFE_FFFF Abort)
-  nobody = right _ _ (λ _. Abort) (λ x from to kind smm. grind (arith, nat_tests))
-
-  top : IsRight small_board bytes (range 0xFFFF_0000 0xFFFF_FFFF Rom)
-  top = right _ _ (λ _. Rom) (λ x from to kind smm. grind (arith, nat_tests))
+  -- those of the ROM, and past it
+  last_right : AllByRecursion (IsRight small_board bytes) (drop 2 ranges)
+  last_right = (
+    right _ _ (λ _. Rom) (λ x from to kind smm. grind (arith, nat_tests)),
+    (
+      right _ _ (λ _. Dram 0) (λ x from to kind smm. grind (arith, nat_tests)),
+      (
+        right _ _ (λ _. Abort) (λ x from to kind smm. grind (arith, nat_tests)),
+        (right _ _ (λ _. Rom) (λ x from to kind smm. grind (arith, nat_tests)), tt),
+      ),
+    ),
+  )
 
   abbrev smram_area : Bool → Area
   smram_area opened = if opened then Smram else Abort
@@ -166,7 +166,7 @@ module _ (bytes : Bytes) (plain : IsPlain bytes) where
       All (IsRight small_board bytes) (map_round middle)
   all_right middle is =
       All-from_recursion (IsRight small_board bytes) (map_round middle)
-      (low_dram, (is, (windows, (bios, (high_dram, (nobody, (top, tt)))))))
+      (low_dram, (is, (right _ _ (λ _. Abort) (λ x from to kind smm. grind (arith, nat_tests)), last_right)))
 
 after_reset : IsPlain (byte_of small_board [])
 unfolding byte_of reset_byte host_bridge isa_bridge
@@ -196,10 +196,7 @@ maps = (
         let plain = after_reset in
         All-from_recursion (IsRight small_board (byte_of small_board [])) ranges (
           low_dram _ plain,
-          (
-            right _ plain _ _ (λ _. Abort) (λ x from to kind smm. grind (arith, nat_tests)),
-            (bios _ plain, (high_dram _ plain, (nobody _ plain, (top _ plain, tt)))),
-          ),
+          (right _ plain _ _ (λ _. Abort) (λ x from to kind smm. grind (arith, nat_tests)), last_right _ plain),
         );
     least = grind arith;
   },
@@ -222,45 +219,39 @@ looks = (
   legal two_cards (from_reset two_cards_at_one_address) (
     record {
       version = refl;
-      span = first_span (window 2 0 0xC000_0000 12) _ refl refl (search (rules, arith))
-          (omega arith) (omega arith) (λ e. grind (arith, e)) (λ e. grind (arith, e));
+      span = first_span (window 2 0 0xC000_0000 12) _ refl refl (search (rules, arith)) (omega arith) (grind arith);
     },
     tt,
   ) refl,
   legal moved_card (from_reset card_moved_under_the_rom) (
     record {
       version = refl;
-      span = first_span (window 2 0 0xFFF0_0000 20) _ refl refl (search (rules, arith))
-          (omega arith) (omega arith) (λ e. grind (arith, e)) (λ e. grind (arith, e));
+      span = first_span (window 2 0 0xFFF0_0000 20) _ refl refl (search (rules, arith)) (omega arith) (grind arith);
     },
     (
       record {
         version = refl;
         span = far_span (search (rules, arith))
             (λ x from to. rw (covers-no x 0xFFF (window 2 0 0xFFF0_0000 20) (omega arith) refl (omega arith)) refl)
-            (λ e. grind (arith, e)) (λ e. grind (arith, e));
+            (grind arith);
       },
       (
         record {
           version = refl;
-          span = first_span (window 2 0 0xE000_0000 20) _ refl refl (search (rules, arith))
-              (omega arith) (omega arith) (λ e. grind (arith, e)) (λ e. grind (arith, e));
+          span = first_span (window 2 0 0xE000_0000 20) _ refl refl (search (rules, arith)) (omega arith) (grind arith);
         },
         tt,
       ),
     ),
   ) refl,
   legal rom_card_board (from_reset expansion_rom) (
-    record {
-      version = refl;
-      span = far_span (search (rules, arith)) (λ x from to. refl) (λ e. grind (arith, e)) (λ e. grind (arith, e));
-    },
+    record { version = refl; span = far_span (search (rules, arith)) (λ x from to. refl) (grind arith) },
     (
       record {
         version = refl;
         span = far_span (search (rules, arith))
             (λ x from to. rw (covers-yes x 0xD000 (window 2 6 0xD000_0001 16) refl from (omega arith)) refl)
-            (λ e. grind (arith, e)) (λ e. grind (arith, e));
+            (grind arith);
       },
       tt,
     ),
@@ -268,17 +259,12 @@ looks = (
   legal frame_board (from_reset outside_base) (
     record {
       version = refl;
-      span = first_span (window 4 0 0xC000_0000 28) _ refl refl (search (rules, arith))
-          (omega arith) (omega arith) (λ e. grind (arith, e)) (λ e. grind (arith, e));
+      span = first_span (window 4 0 0xC000_0000 28) _ refl refl (search (rules, arith)) (omega arith) (grind arith);
     },
     tt,
   ) refl,
   legal small_board (from_reset look_in_smm) (
-    record {
-      version = refl;
-      span = inner_span (omega arith) (λ x from to. grind (arith, nat_tests))
-          (λ e. grind (arith, e)) (λ e. grind (arith, e));
-    },
+    record { version = refl; span = inner_span (omega arith) (λ x from to. grind (arith, nat_tests)) (grind arith) },
     tt,
   ) refl,
 )
@@ -292,8 +278,7 @@ rom_span =
     inner_span (omega arith)
     (λ x from to.
     let plain : IsPlain (byte_of small_board (addressed ∷ [])) = search rules in
-    area_is _ plain x Read false ∙ grind (arith, nat_tests))
-    (λ e. grind (arith, e)) (λ e. grind (arith, e))
+    area_is _ plain x Read false ∙ grind (arith, nat_tests)) (grind arith)
 
 pub orders : LookLast × LookFirst × LookAlone × LookTooEarly
 unfolding LookLast LookFirst LookAlone LookTooEarly byte_of config_address reset_control reset_byte writable_bits
@@ -305,8 +290,7 @@ orders = (
       legal = legal small_board look_last (
         record {
           version = refl;
-          span = inner_span (omega arith) (λ x from to. grind (arith, nat_tests))
-              (λ e. grind (arith, e)) (λ e. grind (arith, e));
+          span = inner_span (omega arith) (λ x from to. grind (arith, nat_tests)) (grind arith);
         },
         tt,
       ) refl;
@@ -316,16 +300,7 @@ orders = (
   ),
   (
     legal small_board look_first (record { version = refl; span = rom_span }, tt) refl,
-    (
-      search rules,
-      (
-        record {
-          size = refl;
-          each = λ actor. grind (arith, nat_tests);
-        },
-        refl,
-      ),
-    ),
+    (search rules, (record { size = refl; each = λ actor. grind (arith, nat_tests) }, refl)),
   ),
   (
     legal small_board (sees_rom ∷ addressed ∷ []) (record { version = refl; span = rom_span }, tt) refl,

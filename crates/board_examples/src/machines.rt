@@ -178,43 +178,43 @@ pub fn bytes_and_latches()
 // The clock
 
 /// An alarm that rang, until register C is read.
-#[tactic(auto, using(crate::proofs::Histories::clock))]
+#[tactic(auto, unfolding(crate::specs::Machines::Clock::AnAlarmStays, crate::specs::Machines::Words::given, crate::specs::Machines::Words::told, device_spec::specs::Clock::power_on))]
 pub fn an_alarm_stays()
     ensures example { AnAlarmStays }
 {}
 
 /// A hard reset clears the index, the flags and the interrupts.
-#[tactic(auto, using(crate::proofs::Histories::clock))]
+#[tactic(auto, unfolding(crate::specs::Machines::Clock::AHardReset, crate::specs::Machines::Words::given, crate::specs::Machines::Words::told, device_spec::specs::Clock::power_on))]
 pub fn a_hard_reset()
     ensures example { AHardReset }
 {}
 
 /// The bytes of a moment.
-#[tactic(auto, using(crate::proofs::Histories::clock))]
+#[tactic(auto, unfolding(crate::specs::Machines::Words::given, crate::specs::Machines::Words::told, device_spec::specs::Clock::power_on))]
 pub fn a_moment()
     ensures example { AMoment }
 {}
 
 /// Hours in the four forms.
-#[tactic(auto, using(crate::proofs::Histories::clock))]
+#[tactic(auto, unfolding(crate::specs::Machines::Words::given, crate::specs::Machines::Words::told, device_spec::specs::Clock::power_on))]
 pub fn hour_forms()
     ensures example { HourForms }
 {}
 
 /// When an alarm rings.
-#[tactic(auto, using(crate::proofs::Histories::clock))]
+#[tactic(auto, unfolding(crate::specs::Machines::Words::given, crate::specs::Machines::Words::told, device_spec::specs::Clock::power_on))]
 pub fn alarms()
     ensures example { Alarms }
 {}
 
 /// What raises the interrupt line.
-#[tactic(auto, using(crate::proofs::Histories::clock))]
+#[tactic(auto, unfolding(crate::specs::Machines::Words::given, crate::specs::Machines::Words::told, device_spec::specs::Clock::power_on))]
 pub fn interrupts()
     ensures example { Interrupts }
 {}
 
 /// What a write and a hard reset leave of each byte.
-#[tactic(auto, using(crate::proofs::Histories::clock))]
+#[tactic(auto, unfolding(crate::specs::Machines::Words::given, crate::specs::Machines::Words::told, device_spec::specs::Clock::power_on))]
 pub fn each_byte()
     ensures example { EachByte }
 {}
@@ -222,19 +222,17 @@ pub fn each_byte()
 // The routing
 
 /// The bytes of the route control registers.
-#[tactic(auto, using(crate::proofs::Histories::routing))]
 pub fn route_bytes()
     ensures example { RouteBytes }
 {}
 
 /// The lines that routed pins hold at 1.
-#[tactic(auto, using(crate::proofs::Histories::routing))]
+#[tactic(auto, unfolding(device_spec::specs::Routing::is_line_driven))]
 pub fn lines_driven()
     ensures example { LinesDriven }
 {}
 
 /// The bytes of the edge/level control registers.
-#[tactic(auto, using(crate::proofs::Histories::routing))]
 pub fn trigger_bytes()
     ensures example { TriggerBytes }
 {}
