@@ -30,6 +30,7 @@ impl Model for Roms {
 
 impl Roms {
     /// Of no ROM any bytes.
+    #[tactic(auto, using(crate::proofs::RomBytes::none_given))]
     pub fn open(alloc: Global) -> Result<Roms, NoMemory>
         ensures none { IfOk result (λ roms. (dev : ℕ) → given roms dev ≡ []) }
     {
