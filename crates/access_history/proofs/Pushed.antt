@@ -1,33 +1,27 @@
 -- A history that got an entry.
-use Rattle.std.proofs.Common.{◌≡◌, ℕ, ◌+◌, ◌-◌, ◌≤◌, List, [], ◌∷◌, ◌++◌, length, reverse, refl, ap, arith}
-use Rattle.bus_turn.proofs.Rows.{All-more}
-use Rattle.board_prelude.proofs.Common.{reverse-append, length-append, map-append, get_or_append_left, All-push}
-use Rattle.board_prelude.proofs.Common.{All-head, All-tail, Entry, Part}
-use Rattle.access_history.specs.declared.packed.Count.{Count}
+use Rattle.std.proofs.Common.{◌≡◌, ℕ, ◌-◌, ◌≤◌, List, [], ◌∷◌, ◌++◌, length, reverse, refl, ap, arith, suc}
+use Rattle.board_prelude.proofs.Common.{reverse-append, length-append, map-append, get_or_append_left, All-push, Entry}
+use Rattle.board_prelude.proofs.Common.{Part}
 use Rattle.access_history.specs.declared.packed.PackedReply.{PackedReply}
 use Rattle.access_history.specs.declared.packed.PackedEntry.{PackedEntry}
-use Rattle.access_history.specs.Packed.{IsHistory, IsWithin, AreWithin, KeepsParts, entry_in, entries_in, number_in}
-use Rattle.access_history.specs.Packed.{parts_at, reply_in}
+use Rattle.access_history.specs.Packed.{IsHistory, IsWithin, AreWithin, KeepsParts, entry_in, entries_in, reply_in}
 
 within_more : (n m : ℕ) → n ≤ m → (reply : PackedReply) → IsWithin n reply → IsWithin m reply
 within_more n m more reply within = grind arith
 
-parts_front : (list more : List Part) (count : Count) (first : ℕ) → first + number_in count ≤ length list
-    → parts_at (list ++ more) count first ≡ parts_at list count first
-parts_front list more count first less = grind (arith, get_or_append_left)
-
 reply_front : (list more : List Part) (reply : PackedReply) → IsWithin (length list) reply
     → reply_in (list ++ more) reply ≡ reply_in list reply
-reply_front list more reply within = grind (arith, parts_front)
+reply_front list more reply within = grind (arith, get_or_append_left)
 
 -- entries are the same over a list that got more parts
 entries_front : (list more : List Part) (entries : List PackedEntry) → AreWithin (length list) entries
     → entries_in (list ++ more) entries ≡ entries_in list entries
 entries_front list more [] within = refl
 entries_front list more (entry ∷ entries) within =
-    let Within : PackedEntry → Type 0 = λ e. IsWithin (length list) e.reply in
-    let here = reply_front list more entry.reply (All-head Within entry entries within) in
-    rw (here, entries_front list more entries (All-tail Within entry entries within)) refl
+    rw (
+      reply_front list more entry.reply (within 0 entry (omega arith)),
+      entries_front list more entries (λ k d less. within (suc k) d (omega (arith, less))),
+    ) refl
 
 pub pushed_entries : {new_entries : List PackedEntry} {parts new_parts : List Part} {entry : Entry}
     (entries : List PackedEntry) (packed : PackedEntry) → AreWithin (length parts) entries →
@@ -44,11 +38,9 @@ pub pushed_history : {entries new_entries : List PackedEntry} {parts new_parts :
 pushed_history {entries} {parts = parts} {new_parts} packed old some kept new_is more_capacity more_room =
     let parts_are = simp length-append at (ap length kept.adds) in
     let entries_are = simp length-append at (ap length new_is) in
-    let Within : ℕ → PackedEntry → Type 0 = λ n e. IsWithin n e.reply in
     record {
-      within = rw new_is (All-push (Within (length new_parts)) entries packed
-          (All-more (Within (length parts)) (Within (length new_parts)) entries
-          (λ e. within_more (length parts) (length new_parts) (omega (arith, parts_are)) e.reply) old.within)
+      within = rw new_is (All-push (λ e. IsWithin (length new_parts) e.reply) entries packed
+          (λ k d less. within_more (length parts) (length new_parts) (omega (arith, parts_are)) _ (old.within k d less))
           kept.within);
       room = omega (arith, old.room, some, more_capacity, entries_are);
       parts_room = omega (arith, old.parts_room, some, more_room, parts_are, kept.few);
