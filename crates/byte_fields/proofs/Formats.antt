@@ -3,7 +3,7 @@ use Rattle.std.proofs.Common.{◌≡◌, ℕ, zero, suc, ◌+◌, ◌*◌, ◌�
 use Rattle.std.proofs.Common.{take, drop, Result, Ok, Err, refl, sym, ap, subst, ◌∙◌, append_assoc, arith, nat_lt}
 use Rattle.std.proofs.Common.{flat_map, Option, Some}
 use Rattle.board_base.proofs.Common.{flat_map-cons, ltb-false, le-ltb, take_at, drop_at, length-append, length-take}
-use Rattle.board_base.proofs.Common.{take-append-drop, get_or-take, get_or_past, cases_lt, nil_from_length, get_or-drop}
+use Rattle.board_base.proofs.Common.{take-append-drop, get_or-take, get_or_past, nil_from_length, get_or-drop}
 use Rattle.board_base.proofs.Common.{drop-append_seam}
 use Rattle.std.proofs.Math.Nat.{mul-suc}
 use Rattle.byte_fields.specs.Fields.{AreBytes, Reading, then_read, gives, said, plain, ◌>>=◌}
@@ -82,16 +82,13 @@ fields_format {most = most} {reads = reads} {other = other} {IsGood = IsGood} fi
 pub last_field : {A C : Type 0} {n : ℕ} {first : Reading A} {spelled : A → List ℕ} {IsGood : A → Type 0}
     (make : A → C) → IsFormat n first spelled IsGood → AreFields n (first >>= λ a. gives (make a))
     (λ (t : (a : A) × IsGood a). make t.0) (λ t. spelled t.0)
-last_field {C = C} {first = first} {spelled = spelled} make one = record {
+last_field {first = first} {spelled = spelled} make one = record {
   back = λ t rest. rw (one.back t.0 rest t.1) refl;
   taken = λ bytes value rest are is.
       let got = then_ok (first bytes) (λ a. gives (make a)) value rest is in
       let a = one.taken bytes got.0.0 got.0.1 are got.1 in
-      let told = ok_is (make got.0.0, got.0.1) (value, rest) got.2 in (
-        (got.0.0, a.1),
-        a.0 ∙ ap (λ (pair : C × List ℕ). spelled got.0.0 ++ pair.1) told,
-        ap (λ (pair : C × List ℕ). pair.0) told,
-      );
+      let told : (make got.0.0 ≡ value) × (got.0.1 ≡ rest) = grind (arith, got.2) in
+      ((got.0.0, a.1), a.0 ∙ ap (λ (later : List ℕ). spelled got.0.0 ++ later) told.1, told.0);
   bad = λ bytes left are is.
       elim (then_err (first bytes) (λ a. gives (make a)) left is) [
         | inl early ↦ one.bad bytes left are early
@@ -161,11 +158,9 @@ pub ◌then◌ : {A C : Type 0} {n m : ℕ} {first : Reading A} {next : A → Re
 
 -- no field
 pub done_format : {C : Type 0} (c : C) → IsFormat 0 (gives c) (λ value. []) (λ value. value ≡ c)
-done_format {C} c = record {
+done_format c = record {
   back = λ value rest same. rw same refl;
-  taken = λ bytes value rest are is.
-      let same = ok_is (c, bytes) (value, rest) is in
-      (ap (λ (got : C × List ℕ). got.1) same, sym (ap (λ (got : C × List ℕ). got.0) same));
+  taken = λ bytes value rest are is. grind arith;
   bad = λ bytes left are is. absurd cc;
   size = λ value good. omega arith;
 }
@@ -245,11 +240,7 @@ many_format {n = n} {next = next} {spelled = spelled} {IsGood = IsGood} loop eac
 -- ---- so many bytes
 
 front_bytes : (n : ℕ) (bytes : List ℕ) → AreBytes bytes → AreBytes (take n bytes)
-front_bytes n bytes are k =
-    elim (cases_lt k n) [
-      | inl below ↦ rw (get_or-take n bytes k 0 below) (are k)
-      | inr past ↦ rw (get_or_past (take n bytes) k 0 (omega (arith, length-take n bytes, past))) (omega arith)
-    ]
+front_bytes n bytes are k = grind (arith, get_or-take, get_or_past, length-take, are k)
 
 -- bytes of a fixed number that say a value, or are bad
 abbrev pub cut_field : {A : Type 0} → (size : ℕ) → (List ℕ → Option A) → Reading A

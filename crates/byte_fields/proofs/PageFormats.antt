@@ -41,13 +41,11 @@ where_format plain false =
 
 where_to : (same : Bool) (plain page : List ℕ) → bytes_eq page plain ≡ same → length page ≡ length plain →
     IsWhere plain (not same) page
-where_to true plain page is long = (bytes_eq-Decides page plain).0 is
-where_to false plain page is long = (long, is)
+where_to same plain page is long = grind (arith, (bytes_eq-Decides page plain).0)
 
 where_from : (differs : Bool) (plain page : List ℕ) → IsWhere plain differs page →
     (length page ≡ length plain) × (page_bytes plain page ≡ flag_byte differs ∷ where_bytes differs page)
-where_from true plain page good = (good.0, rw good.1 refl)
-where_from false plain page good = (ap length good, rw ((bytes_eq-Decides page plain).1 good) refl)
+where_from differs plain page good = grind (arith, (bytes_eq-Decides page plain).1)
 
 pub page_format : (plain : List ℕ) →
     IsFormat (1 + length plain) (page_field plain) (page_bytes plain) (λ page. length page ≡ length plain)
