@@ -1,9 +1,9 @@
 -- Lists of jobs and of callers, by the numbers of their processors.
 use Rattle.std.proofs.Common.{◌≡◌, ℕ, ◌+◌, ◌<◌, ◌≤◌, ◌==◌, List, [], ◌∷◌, ◌++◌, map, length, take, drop, All, refl, sym}
-use Rattle.std.proofs.Common.{◌∙◌, ap, arith, reverse, slice_index_or, filter, Bool, true, false, set, slice_index}
+use Rattle.std.proofs.Common.{◌∙◌, ap, arith, reverse, slice_index_or, filter, Bool, true, false, set, slice_index, suc}
 use Rattle.board_prelude.proofs.Common.{Any, range_with_len, nat_tests, get_or-map, get_or_default, reverse-append}
-use Rattle.board_prelude.proofs.Common.{append-nil, take_all, drop_all, map-append, length-map, All-head, All-tail}
-use Rattle.board_prelude.proofs.Common.{get_or-set_at, get_or-set_other, length-append, Event, Statement, events_by}
+use Rattle.board_prelude.proofs.Common.{append-nil, take_all, drop_all, map-append, length-map, get_or-set_at}
+use Rattle.board_prelude.proofs.Common.{get_or-set_other, length-append, Event, Statement, events_by}
 use Rattle.std.proofs.lemmas.List.FromFn.{get_or-range_with_len, length-range_with_len, map-range_with_len_more}
 use Rattle.std.proofs.lemmas.List.Elements.{All-map}
 use Rattle.run_order.specs.declared.done.Done.{Done}
@@ -35,12 +35,12 @@ numbered_length f xs n e = sym (length-map xs f) ∙ (ap length e ∙ length-ran
 pub filter_all : {X : Type 0} (p : X → Bool) (xs : List X) → All (λ x. p x ≡ true) xs → filter p xs ≡ xs
 filter_all p [] all = refl
 filter_all p (x ∷ xs) all =
-    rw (All-head (λ x. p x ≡ true) x xs all, filter_all p xs (All-tail (λ x. p x ≡ true) x xs all)) refl
+    rw (all 0 x (omega arith), filter_all p xs (λ k d less. all (suc k) d (omega (arith, less)))) refl
 
 pub filter_none : {X : Type 0} (p : X → Bool) (xs : List X) → All (λ x. p x ≡ false) xs → filter p xs ≡ []
 filter_none p [] none = refl
 filter_none p (x ∷ xs) none =
-    rw (All-head (λ x. p x ≡ false) x xs none) (filter_none p xs (All-tail (λ x. p x ≡ false) x xs none))
+    rw (none 0 x (omega arith)) (filter_none p xs (λ k d less. none (suc k) d (omega (arith, less))))
 
 -- each stands at the place of its number
 pub number_at : {X : Type 0} (f : X → ℕ) (xs : List X) (n : ℕ) → map f xs ≡ range_with_len 0 n → (k : ℕ) (d : X)
@@ -69,9 +69,8 @@ pub by_number : (W : ℕ → List Done → Type 0) (jobs : List Job) (first : �
 unfolding done_by
 by_number W [] first all numbers actor low high = grind arith
 by_number W (job ∷ jobs) first all numbers actor low high =
-    let P : Job → Type 0 = λ job. W job.cpu.number job.work.done.items in
-    let rest = by_number W jobs (first + 1) (All-tail P job jobs all) in
-    grind (arith, nat_tests, All-head P job jobs all, rest)
+    let rest = by_number W jobs (first + 1) (λ k d less. all (suc k) d (omega (arith, less))) in
+    grind (arith, nat_tests, all 0 job (omega arith), rest)
 
 pub asked_again : (most : ℕ) (works next : List Work)
     → map (λ (work : Work). work.asked) next ≡ map (λ (work : Work). work.asked) works

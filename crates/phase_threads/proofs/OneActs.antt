@@ -1,15 +1,15 @@
 -- A phase in which one processor acts.
 use Rattle.std.proofs.Common.{set, Result, OnOk, ◌≡◌, ◌≢◌, ℕ, ◌+◌, ◌<◌, ◌≤◌, ◌==◌, not, List, [], ◌∷◌, length, All}
-use Rattle.std.proofs.Common.{get_or, slice_index_or, refl, sym, ◌∙◌, ap, arith, inl, inr, map, zero, suc, false, ◌++◌}
-use Rattle.std.proofs.Common.{take, reverse, length-append, Bool, filter, true}
-use Rattle.board_prelude.proofs.Common.{cases_eq, nat_tests, length-map, get_or-map, All-head, All-tail, All-cons}
-use Rattle.board_prelude.proofs.Common.{Entry, Statement, MapChange, Setup, entries_by, events_by, map_writes_of}
-use Rattle.board_prelude.proofs.Common.{ne_eqb, eq-eqb, get_or-set_at, get_or-set_other, length-reverse, length-set}
-use Rattle.board_prelude.proofs.Common.{map-append, reverse-append, reverse-reverse, take_more, Event}
+use Rattle.std.proofs.Common.{get_or, slice_index_or, refl, sym, ◌∙◌, ap, arith, inl, inr, map, suc, false, ◌++◌, take}
+use Rattle.std.proofs.Common.{reverse, Bool, filter, true}
+use Rattle.board_prelude.proofs.Common.{cases_eq, nat_tests, length-map, get_or-map, All-cons, Entry, Statement}
+use Rattle.board_prelude.proofs.Common.{MapChange, Setup, entries_by, events_by, map_writes_of, ne_eqb, eq-eqb}
+use Rattle.board_prelude.proofs.Common.{get_or-set_at, get_or-set_other, length-reverse, length-set, map-append}
+use Rattle.board_prelude.proofs.Common.{reverse-append, reverse-reverse, take_more, Event, All-permutation}
+use Rattle.board_prelude.proofs.Common.{IsPermutation-sym}
 use Rattle.std.proofs.lemmas.List.{get_or-set_same}
-use Rattle.std.proofs.lemmas.List.Elements.{All-filter, All-map, All-append, All-weaker, filter-append, filter_passes}
+use Rattle.std.proofs.lemmas.List.Elements.{All-filter, All-map, All-append, All-weaker, filter_passes}
 use Rattle.std.proofs.lemmas.List.Sorted.{IsPermutation-filter_both}
-use Rattle.board_prelude.proofs.Common.{All-permutation, IsPermutation-sym}
 use Rattle.std.proofs.lemmas.List.Filters.{length-filter_both}
 use Rattle.board_core.specs.Kept.{Standing}
 use Rattle.shared_board.proofs.Histories.{writes_extend}
@@ -28,6 +28,7 @@ use Rattle.phase_threads.proofs.Numbers.{filter_none, same_lengths, asked_again,
 use Rattle.phase_threads.proofs.Workers.{begins_opened}
 use Rattle.run_order.specs.declared.done.Done.TheVariants.{Went}
 use Rattle.run_order.proofs.Settled.{placed_alone}
+use Rattle.std.proofs.Math.Seq.{map-set_same}
 
 -- ---- entries
 
@@ -240,32 +241,22 @@ dones_trace setup number opened [] own plain = (refl, refl)
 dones_trace setup number opened (entry ∷ before) own plain = (
   before ++ opened,
   map_writes_of setup (before ++ opened),
-  gone_alone setup number entry (before ++ opened) (All-head (λ (e : Entry). e.actor ≡ number) entry before own),
+  gone_alone setup number entry (before ++ opened) (own 0 entry (omega arith)),
   refl,
-  All-head (λ (e : Entry). is_look e.event ≡ false) entry before plain,
-  dones_trace setup number opened before (All-tail (λ (e : Entry). e.actor ≡ number) entry before own)
-      (All-tail (λ (e : Entry). is_look e.event ≡ false) entry before plain),
+  plain 0 entry (omega arith),
+  dones_trace setup number opened before (λ k d less. own (suc k) d (omega (arith, less)))
+      (λ k d less. plain (suc k) d (omega (arith, less))),
 )
 
 -- ---- entries of one processor after a history
 
-others_more : (number : ℕ) (more opened : List Entry) → All (λ entry. entry.actor ≡ number) more
-    → others number (more ++ opened) ≡ others number opened
-others_more number more opened own =
-    filter-append (λ (e : Entry). not (e.actor == number)) more opened
-    ∙ ap (λ (h : List Entry). h ++ others number opened) (filter_none (λ (e : Entry). not (e.actor == number)) more
-    (λ k d less. rw (eq-eqb (get_or more k d).actor number (own k d less)) refl))
-
 own_more : (number : ℕ) (more opened : List Entry) → All (λ entry. entry.actor ≡ number) more
-    → length (entries_by number (more ++ opened)) ≡ length more + length (entries_by number opened)
-own_more number more opened own =
-    let its : Entry → Bool = λ entry. entry.actor == number in
-    let all = filter_all its more (λ k d less. eq-eqb (get_or more k d).actor number (own k d less)) in
-    rw (filter-append its more opened, all) (length-append more (entries_by number opened))
-
-added_count : (number : ℕ) (phase : List Statement) (before now : Standing) (a : HasAdded number phase before now)
-    → length a.more ≡ length phase
-added_count number phase before now a = grind (arith, ap length a.said, length-reverse, length-map)
+    → (others number (more ++ opened) ≡ others number opened)
+    × (length (entries_by number (more ++ opened)) ≡ length more + length (entries_by number opened))
+own_more number [] opened own = (refl, omega arith)
+own_more number (entry ∷ more) opened own =
+    let rest = own_more number more opened (λ k d less. own (suc k) d (omega (arith, less))) in
+    grind (arith, nat_tests, own 0 entry (omega arith), rest)
 
 -- ---- the phase
 
@@ -318,27 +309,20 @@ plain_has_run {number} {before} {now} {phase} {old} {new} can only stepped =
 
 -- ---- a step of the loop
 
-kept_in : (old : List Work) (number : ℕ) (was work : Work) → was ≡ slice_index_or old number was →
-    work.done.items ≡ was.done.items → done_in (set old number work) ≡ done_in old
-kept_in [] number was work is same = refl
-kept_in (one ∷ old) zero was work is same = grind arith
-kept_in (one ∷ old) (suc number) was work is same = rw (kept_in old number was work is same) refl
-
 pub has_stepped : {number : ℕ} {before now : Standing} {phase : List Statement} (old : List Work) (was work : Work)
     → number < length old
     → was ≡ slice_index_or old number was → HasAdded number phase before now → work.asked ≤ was.asked + length phase
     → work.done.items ≡ was.done.items → HasStepped number before now phase old (set old number work)
 has_stepped {number} {before} {now} {phase} old was work within is a asked same =
-    let count = added_count number phase before now a in
-    let mine = ap (λ (h : List Entry). length (entries_by number h)) a.grows ∙ own_more number a.more before.entries
-    a.own in
+    let count : length a.more ≡ length phase = grind (arith, ap length a.said, length-reverse, length-map) in
+    let more = own_more number a.more before.entries a.own in
+    let mine = ap (λ (h : List Entry). length (entries_by number h)) a.grows ∙ more.1 in
     record {
       added = a;
-      grown =
-          has_grown number before now phase old was work within is a.setup
-          (ap (others number) a.grows ∙ others_more number a.more before.entries a.own) (omega (arith, mine, count))
-          asked;
-      kept = kept_in old number was work is same;
+      grown = has_grown number before now phase old was work within is a.setup (ap (others number) a.grows ∙ more.0)
+          (omega (arith, mine, count)) asked;
+      kept = map-set_same (λ (w : Work). w.done.items) old number work was
+          (same ∙ ap (λ (w : Work). w.done.items) is);
     }
 
 -- one statement more

@@ -1,10 +1,9 @@
 -- A phase, as the history of the run takes it in.
-use Rattle.std.proofs.Common.{◌≡◌, ℕ, ◌+◌, ◌<◌, ◌≤◌, List, [], ◌∷◌, ◌++◌, map, length, take, drop, get_or, flat_map}
-use Rattle.std.proofs.Common.{All, Option, Vec, Global, sym, ◌∙◌, ap, arith, reverse, Some, Result, OnOk}
-use Rattle.std.proofs.Common.{take-append-drop}
-use Rattle.board_prelude.proofs.Common.{reverse-append, reverse-reverse, length-append, map-append, append-nil}
-use Rattle.board_prelude.proofs.Common.{drop_more, flat_map-append, drop-append_seam, take-append_seam, All-drop, Entry}
-use Rattle.board_prelude.proofs.Common.{Statement, Setup, IsCardList, version_of, IsLegal}
+use Rattle.std.proofs.Common.{◌≡◌, ℕ, ◌+◌, ◌<◌, ◌≤◌, List, [], ◌∷◌, ◌++◌, length, take, drop, flat_map, All, Option}
+use Rattle.std.proofs.Common.{Vec, Global, sym, ◌∙◌, ap, arith, reverse, Some, Result, OnOk, take-append-drop, get_or}
+use Rattle.board_prelude.proofs.Common.{reverse-append, reverse-reverse, length-append, append-nil, flat_map-append}
+use Rattle.board_prelude.proofs.Common.{drop-append_seam, take-append_seam, All-drop, Entry, Statement, Setup}
+use Rattle.board_prelude.proofs.Common.{IsCardList, version_of, IsLegal, drop_more}
 use Rattle.board_core.specs.Kept.{Standing}
 use Rattle.run_order.specs.declared.done.Done.{Done}
 use Rattle.run_order.specs.Common.{placed, Order, bare, IsPhaseRun, PhaseRuns, AreInPlace, AreAllInPlace, Begins}
@@ -95,10 +94,6 @@ Phase = Vec Statement Global
 
 abbrev pub in_phase : Phase → List Statement
 in_phase phase = phase.items
-
-pub phases_more : (done : List Phase) (phase : Phase)
-    → map in_phase (done ++ phase ∷ []) ≡ map in_phase done ++ phase.items ∷ []
-phases_more done phase = map-append in_phase done (phase ∷ [])
 
 pub all_in_place : (setup : Setup) (phase : List Statement) (earlier : List (List Statement))
     (added history all : List Entry) → all ≡ added ++ history → length added ≡ length phase →

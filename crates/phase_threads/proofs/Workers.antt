@@ -1,11 +1,11 @@
 -- What the workers of a phase leave, put together.
 use Rattle.std.proofs.Common.{◌≡◌, ℕ, ◌<◌, List, [], ◌∷◌, ◌++◌, length, map, All, Option, refl, sym, ◌∙◌, ap, arith}
-use Rattle.std.proofs.Common.{◌+◌, ◌≤◌, ◌==◌, false, Some, inl, inr, reverse, get_or}
+use Rattle.std.proofs.Common.{◌+◌, ◌≤◌, ◌==◌, false, Some, inl, inr, reverse, get_or, suc}
 use Rattle.std.specs.List.{AllZip}
 use Rattle.std.proofs.lemmas.List.Elements.{AllZip-get_or, length_all_zip, All-map}
-use Rattle.board_prelude.proofs.Common.{All-head, All-tail, Entry, Event, Statement, entries_by, events_by, Any}
-use Rattle.board_prelude.proofs.Common.{range_with_len, cases_lt, ne_eqb, length-map, length-reverse, MapChange, Setup}
-use Rattle.board_prelude.proofs.Common.{IsInRange, most_statements}
+use Rattle.board_prelude.proofs.Common.{Entry, Event, Statement, entries_by, events_by, Any, range_with_len, cases_lt}
+use Rattle.board_prelude.proofs.Common.{ne_eqb, length-map, length-reverse, MapChange, Setup, IsInRange}
+use Rattle.board_prelude.proofs.Common.{most_statements}
 use Rattle.board_core.specs.Kept.{Standing}
 use Rattle.board_live.specs.declared.live.Live.{Live}
 use Rattle.shared_board.specs.declared.shared.Origin.{Origin}
@@ -62,9 +62,10 @@ idle_runs live phase job idle = record {
 pub all_idle : (live : Live) (phase : List Statement) (jobs : List Job) → All (λ job. job.work.due ≡ 0) jobs
     → AllZip (Runs live phase) jobs jobs
 all_idle live phase [] idle = tt
-all_idle live phase (job ∷ jobs) idle =
-    let none : Job → Type 0 = λ job. job.work.due ≡ 0 in
-    (idle_runs live phase job (All-head none job jobs idle), all_idle live phase jobs (All-tail none job jobs idle))
+all_idle live phase (job ∷ jobs) idle = (
+  idle_runs live phase job (idle 0 job (omega arith)),
+  all_idle live phase jobs (λ k d less. idle (suc k) d (omega (arith, less))),
+)
 
 -- ---- what follows of it
 
@@ -135,12 +136,9 @@ whole_begins : (live : Live) (board now : Standing) (part : Option Origin) (phas
     (now.setup ≡ board.setup) × Begins board.entries now.entries
 whole_begins live board now part phase before [] some run closes fine = absurd (omega (arith, some))
 whole_begins live board now part phase before (job ∷ jobs) some run closes fine =
-    let ran = All-head (IsRun live board part phase before) job jobs run in
-    let closed = All-head (λ (job : Job). ClosesBoard now job.cpu) job jobs closes in
-    let trace = (ran.done (All-head (λ (job : Job). job.refused ≡ false) job jobs fine)).trace in (
+    let ran = run 0 job some in let closed = closes 0 job some in let trace = (ran.done (fine 0 job some)).trace in (
       sym closed.setup ∙ ran.setup,
-      begins_trans board.entries (seen_of job.cpu) now.entries
-          (begins_opened _ _ _ _ _ _ trace) closed.begins,
+      begins_trans board.entries (seen_of job.cpu) now.entries (begins_opened _ _ _ _ _ _ trace) closed.begins,
     )
 
 -- the jobs of the callers of a board that was just opened

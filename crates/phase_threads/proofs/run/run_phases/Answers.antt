@@ -1,9 +1,9 @@
 use Rattle.std.proofs.Common.{rules, ◌≡◌, ◌+◌, ◌<◌, ◌≤◌, List, [], ◌∷◌, ◌++◌, length, flat_map, All, ◌∙◌, ap, arith}
 use Rattle.std.proofs.Common.{append_assoc, map}
 use Rattle.board_prelude.proofs.Common.{into_iter_items, length-append, get_or-append_seam, most_statements}
-use Rattle.board_prelude.proofs.Common.{reverse-append}
+use Rattle.board_prelude.proofs.Common.{reverse-append, map-append}
 use Rattle.phase_threads.specs.Common.{IsStatement}
-use Rattle.phase_threads.proofs.Phases.{Phase, in_phase, phases_more, all_in_place, statements_more, statements_within}
+use Rattle.phase_threads.proofs.Phases.{Phase, in_phase, all_in_place, statements_more, statements_within}
 use Rattle.phase_threads.proofs.run.run_phases.Goals as goal
 
 -- what holds of each phase holds of one between others
@@ -16,8 +16,7 @@ of_one P done phase rest all =
 room_for : (done : List Phase) (phase : Phase) (rest phases : List Phase) → done ++ phase ∷ rest ≡ phases
     → length (flat_map in_phase phases) ≤ most_statements
     → length (flat_map in_phase done) + length phase.items ≤ most_statements
-room_for done phase rest phases whole most =
-    omega (arith, rw whole at (statements_within done phase rest))
+room_for done phase rest phases whole most = omega (arith, rw whole at (statements_within done phase rest))
 
 pub run_phase-requires-clause-can : goal.run_phase-requires-clause-can
 run_phase-requires-clause-can g c κs within =
@@ -57,8 +56,9 @@ loop-phase-preserved g c =
       legal = rw l.invariant.setup at taken.legal;
       same = taken.same;
       up_to = c.in_ok-run.ensures.up_to;
-      phases = rw (phases_more l.yielded phase) (taken.phases _ l.invariant.phases);
-      places = rw (phases_more l.yielded phase, reverse-append (map in_phase l.yielded) (phase.items ∷ []))
+      phases = rw (map-append in_phase l.yielded (phase ∷ [])) (taken.phases _ l.invariant.phases);
+      places = rw
+          (map-append in_phase l.yielded (phase ∷ []), reverse-append (map in_phase l.yielded) (phase.items ∷ []))
           (all_in_place c.args.board.setup phase.items _ taken.added _ _ taken.adds taken.size
           (rw l.invariant.setup at taken.places) l.invariant.places);
       asked = rw (statements_more l.yielded phase) asked;
