@@ -57,6 +57,8 @@ pub reset_byte-blank : (setup : Setup) (off : ℕ) → IsFixedOffset off → 12 
 unfolding reset_byte
 reset_byte-blank setup off fixed from = unlisted (λ entry. entry.reset) host_bridge off (outside off fixed from)
 
+pub ruleset fixed_registers = (nat_tests, reset_byte-header, reset_byte-blank)
+
 pub writable_bits-fixed : (setup : Setup) (off : ℕ) → IsFixedOffset off → writable_bits setup (bridge off) ≡ 0
 unfolding writable_bits host_bridge
 writable_bits-fixed setup off fixed =

@@ -47,6 +47,7 @@ impl Model for Pmc {
 
 impl Pmc {
     /// The registers after a reset: 8 MiB of DRAM in row 0, and no hole.
+    #[tactic(auto, using(crate::proofs::PmcLemmas::pmc_at_reset), unfolding(board_spec::specs::Common::host_bridge, board_spec::specs::Common::reset_byte))]
     pub fn new() -> Pmc
         ensures reset { (setup : Setup) → IsPmcOf (reset_byte setup) result }
     {
@@ -115,6 +116,7 @@ impl Pmc {
 }
 
 /// The register at an offset where nothing changes it: the header, and 0 where nothing stands.
+#[tactic(auto, using(crate::proofs::TableLemmas::fixed_registers))]
 pub fn fixed_byte(off: u8) -> u8
     requires offset { IsFixedOffset off }
     ensures byte { (setup : Setup) → result ≡ reset_byte setup (bridge off) }
