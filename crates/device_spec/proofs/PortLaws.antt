@@ -1,11 +1,11 @@
 -- Each port is one device's: no two lines of the table meet, and none has a port of configuration data.
 use Rattle.std.proofs.Common.{◌≡◌, ℕ, Bool, true, false, ◌&&◌, ◌||◌, nat_le, List, [], ◌∷◌, Option, Some, None, refl}
-use Rattle.std.proofs.Common.{◌∙◌, find, arith, inl, inr, ap, sym}
+use Rattle.std.proofs.Common.{◌∙◌, find, arith, inl, inr, sym}
 use Rattle.std.specs.List.{list_any}
-use Rattle.board_base.proofs.Common.{cond-true, cond-false, false≢true, nat_tests, cases_Bool, and_parts, and-false}
+use Rattle.board_base.proofs.Common.{cond-true, cond-false, false≢true, nat_tests, cases_Bool}
 use Rattle.board_base.specs.Bits.{is_within}
 use Rattle.device_spec.specs.PortNames.{config_data_ports}
-use Rattle.device_spec.specs.PortTable.{Ports, is_size, takes, device_line, port_devices}
+use Rattle.device_spec.specs.PortTable.{Ports, takes, device_line, port_devices}
 use Rattle.device_spec.specs.Common.{Dev, Wires, Vector, Spurious, is_port_of, first_with, PortsApart, ConfigApart}
 use Rattle.board_base.specs.declared.target.Dev.TheVariants.{Confadd}
 
@@ -25,28 +25,18 @@ first_met devices dev = find (λ other. meets (device_line dev).ports (device_li
 neither : (x y : Bool) → (x || y) ≡ false → (x ≡ false) × (y ≡ false)
 neither x y is = grind arith
 
-outside : (a b c d port : ℕ) → (nat_le a d && nat_le c b) ≡ false → is_within a b port ≡ true →
-    is_within c d port ≡ false
-outside a b c d port apart is = grind (arith, nat_tests)
-
 module _ (port size : ℕ) where
   untaken : (first last : ℕ) → is_within first last port ≡ true → (ports : List Ports) →
       crosses first last ports ≡ false → takes ports port size ≡ false
   untaken first last is [] apart = refl
-  untaken first last is (some ∷ others) apart =
-      let both = neither _ _ apart in
-      rw (outside first last some.first some.last port both.0 is, untaken first last is others both.1)
-      (rw (and-false (is_size some.sizes size)) refl)
+  untaken first last is (some ∷ others) apart = grind (arith, nat_tests, untaken first last is others)
 
   apart_takes : (ports others : List Ports) → meets ports others ≡ false → takes ports port size ≡ true →
       takes others port size ≡ false
   apart_takes [] others apart is = absurd (false≢true is)
   apart_takes (some ∷ later) others apart is =
-      let both = neither _ _ apart in
-      elim (cases_Bool (is_size some.sizes size && is_within some.first some.last port)) [
-        | inl here ↦ untaken some.first some.last (and_parts (is_size some.sizes size) _ here).1 others both.0
-        | inr not ↦ apart_takes later others both.1 (sym (ap (λ (b : Bool). b || takes later port size) not) ∙ is)
-      ]
+      let own = λ (here : is_within some.first some.last port ≡ true). untaken some.first some.last here others in
+      grind (arith, nat_tests, own, apart_takes later others)
 
   -- a device that is the first with a port of its own is the first that takes an access
   first_takes : (devices : List Dev) (dev : Dev) → is_port_of dev port size ≡ true →

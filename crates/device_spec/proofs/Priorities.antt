@@ -3,7 +3,8 @@ use Rattle.std.proofs.Common.{◌≡◌, ℕ, ◌+◌, ◌<◌, ◌≤◌, Bool,
 use Rattle.std.proofs.Common.{List, [], ◌∷◌, ◌++◌, length, get_or, drop, refl, sym, ap, ◌∙◌, inl, inr, add-one}
 use Rattle.std.proofs.Common.{drop-cons, ltb-true}
 use Rattle.board_base.proofs.Common.{or-false, and-false, drop_of_length-le, cases_Bool, agree_below_at, or_from}
-use Rattle.std.proofs.Math.Bool.{or-true, or_assoc}
+use Rattle.std.proofs.Math.Bool.{or-true}
+use Rattle.std.proofs.lemmas.List.Folds.{list_any-append}
 use Rattle.device_spec.specs.Common.{find, list_any, Chip, priority_order, is_blocking, blocks_itself, is_requested}
 use Rattle.device_spec.specs.Common.{first_selectable, request, first_blocking}
 use Rattle.std.proofs.lemmas.Bool.{agree_below}
@@ -42,8 +43,7 @@ scan chip (level ∷ lower) =
     (cond (is_blocking chip level) None (scan chip lower))
 
 or-end : (test : ℕ → Bool) (xs : List ℕ) (x : ℕ) → list_any test (xs ++ x ∷ []) ≡ (list_any test xs || test x)
-or-end test [] x = or-false (test x)
-or-end test (y ∷ xs) x = ap (λ b. test y || b) (or-end test xs x) ∙ sym (or_assoc (test y) (list_any test xs) (test x))
+or-end test xs x = list_any-append test xs (x ∷ []) ∙ ap (λ b. list_any test xs || b) (or-false (test x))
 
 -- after a level that blocks no level can be selected
 blocked : (chip : Chip) (higher order : List ℕ) → list_any (is_blocking chip) higher ≡ true →

@@ -13,3 +13,5 @@ unfolding is_line_driven
 reserved-rest routes pins line reserved =
     let quiet = λ (k : ℕ). drives-reserved (get_or routes k 0) (get_or pins k false) line reserved in
     or_from _ _ (quiet 0) (or_from _ _ (quiet 1) (or_from _ _ (quiet 2) (or_from _ _ (quiet 3) refl)))
+
+pub ruleset reserved = (reserved-rest)

@@ -16,6 +16,7 @@ pub fn ports_are_apart()
 // The machines
 
 /// No pin reaches the lines 0, 1, 2, 8 and 13, whatever the registers hold.
+#[tactic(auto, using(crate::proofs::RoutingLaws::reserved))]
 pub fn reserved_lines_rest()
     ensures { ReservedLinesRest }
 {}
