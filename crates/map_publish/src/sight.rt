@@ -52,6 +52,7 @@ fn copy_over(row: &mut [Range; MOST_RANGES], ranges: &[Range]) -> usize
 
 impl Sight {
     /// The sight of a map.
+    #[tactic(auto, using(crate::proofs::Sights::kept_of))]
     pub(crate) fn new(map: &FlatMap) -> Sight
         ensures version { result.version ≡ map.now.version }
         ensures map { (setup : Setup) (bytes : Bytes) → StandsFor setup bytes map.now.regs
@@ -70,6 +71,7 @@ impl Sight {
     }
 
     /// Becomes the sight of another map. It copies only the ranges that there are.
+    #[tactic(auto, using(crate::proofs::Sights::kept_of))]
     pub(crate) fn take_in(&mut self, map: &FlatMap)
         ensures version { self.new.version ≡ map.now.version }
         ensures map { (setup : Setup) (bytes : Bytes) → StandsFor setup bytes map.now.regs
