@@ -10,14 +10,10 @@ use Rattle.pic_levels.proofs.LevelLemmas.{is_bit-or, is_bit-set, is_bit-clear}
 
 -- ---- line by line
 
--- line l stands at place l
-line_numbered : (l : ℕ) → l < 16 → get_or sixteen l 0 ≡ l
-line_numbered l small = grind (arith, nat_tests)
-
 -- the lines that pass the test are at 1
 pub has_lines_where : (p : ℕ → Bool) (l : ℕ) → l < 16 → get_or (lines_where p) l false ≡ p l
 unfolding lines_where
-has_lines_where p l small = get_or-map p sixteen l 0 false small ∙ ap p (line_numbered l small)
+has_lines_where p l small = get_or-map p sixteen l 0 false small ∙ ap p (grind (arith, nat_tests))
 
 pub lines_where_length : (p : ℕ → Bool) → length (lines_where p) ≡ 16
 unfolding lines_where
