@@ -31,15 +31,8 @@ pub quietly : (gate : Bool) (n : ℕ) (c : CounterState) → ComeQuietly gate n 
 unfolding pulses_of rises_of after_quiet
 quietly gate zero c quiet = grind (arith, nat_tests)
 quietly gate (suc n) c quiet =
-    grind (
-      arith,
-      nat_tests,
-      quietly gate n c,
-      one_in c.mode gate n c refl quiet,
-      out_stays gate n c,
-      out_stays gate
-          (suc n) c,
-    )
+    let now = one_in c.mode gate n c refl quiet in
+    grind (arith, nat_tests, quietly gate n c, now, out_stays gate n c, out_stays gate (suc n) c)
 
 pub are_quiet : (gate : Bool) (c : CounterState) (k : ℕ) → k < quiet_pulses gate c → IsQuiet gate (pulses_of gate k c)
 unfolding after_quiet
