@@ -1,11 +1,11 @@
 -- What a command answers, from the files that it read and the text that came of them.
-use Rattle.std.proofs.Common.{◌≡◌, ◌≢◌, ℕ, [], ◌∷◌, List, Some, refl, Result, Ok, Err, IfOk, IfErr}
+use Rattle.std.proofs.Common.{arith, ◌≡◌, ◌≢◌, ℕ, [], ◌∷◌, List, Some, refl, Result, Ok, Err, IfOk, IfErr}
+use Rattle.std.proofs.lemmas.Bool.Decides.{nat_tests}
 use Rattle.board_spec.specs.Setup.{Setup}
 use Rattle.script_spec.specs.Common.{Script as Said, DiffersAt}
 use Rattle.log_check.specs.declared.fault.CheckFault.{CheckFault}
 use Rattle.log_check.specs.declared.fault.CheckFault.TheVariants.{Differs as DiffersAtLine}
-use Rattle.log_check.specs.declared.fault.CheckFault.TheVariants.{NoMemory as NoMemoryForCheck}
-use Rattle.command_words.specs.Words.{Command, Check, Resume}
+use Rattle.command_words.specs.Words.{Command, Check}
 use Rattle.command_files.specs.declared.status.Which.{Which}
 use Rattle.command_files.specs.declared.status.Which.TheVariants.{Script, Rom, Disk}
 use Rattle.command_files.specs.declared.status.Status.{Status}
@@ -31,8 +31,7 @@ log_is_read (Check script log) P is = (Script ∷ Rom ∷ Disk ∷ [], [], refl)
 log_is_read _ P is = absurd is
 
 boards_compared : (command : Command) (P : Type 0) → OfResume command P → CompareBoards command
-boards_compared (Resume image script) P is = tt
-boards_compared _ P is = absurd is
+boards_compared command P is = grind (arith, nat_tests)
 
 module _ (command : Command) (shelf : ShelfCall) (known : Known)
     (read : OfFiles shelf.files (λ files. AllRead command files known)) where
@@ -75,6 +74,4 @@ pub check_stopped : (known : Known) (said : Said) (setup : Setup) (bytes script 
     known.script ≡ Some said → setup ≡ board_of known said → bytes ≡ known.log → (fault : CheckFault) →
     ((line : ℕ) → fault ≡ DiffersAtLine line → DiffersAt setup said.version said.phases bytes line) →
     HasNoText (Check script log) known (status_of_check_fault fault)
-check_stopped known said setup bytes script log is fits same (DiffersAtLine line) differs =
-    (said, is, rw (← fits, ← same) (differs line refl))
-check_stopped known said setup bytes script log is fits same NoMemoryForCheck differs = tt
+check_stopped known said setup bytes script log is fits same fault differs = grind (arith, nat_tests)

@@ -1,12 +1,13 @@
 -- What each way out of a command says of its cause.
-use Rattle.std.proofs.Common.{◌≡◌, ◌≢◌, ℕ, inl, inr, List, Some, refl}
+use Rattle.std.proofs.Common.{arith, ◌≡◌, ◌≢◌, ℕ, inr, List, Some, refl}
+use Rattle.std.proofs.lemmas.Bool.Decides.{nat_tests}
 use Rattle.board_prelude.proofs.Common.{Appends, Keeps}
 use Rattle.board_outside.specs.Outside.{Rose}
 use Rattle.board_outside.specs.declared.fault.PutFault.{PutFault}
 use Rattle.board_outside.specs.declared.fault.PutFault.TheVariants.{Failed, NoMemory as NoMemoryForPut}
 use Rattle.command_files.specs.declared.status.Which.{Which}
 use Rattle.command_files.specs.declared.status.Status.{Status}
-use Rattle.command_files.specs.declared.status.Status.TheVariants.{Done, Usage, ReadFault, WriteFault, NoMemory}
+use Rattle.command_files.specs.declared.status.Status.TheVariants.{Done, ReadFault}
 use Rattle.command_words.specs.Words.{Command}
 use Rattle.board_commands.specs.Common.{IsCommandText, AppendsFront, SinkCall, OfCommand, PutsText, PutsTextFront}
 use Rattle.board_commands.specs.Common.{Stopped, HasCause, IsCaused}
@@ -25,12 +26,7 @@ module _ (command : Command) (shelf : ShelfCall) (sink : SinkCall) where
       (status : Status) → IsRefused command shelf status → Keeps sink.taken_before sink.taken_now →
       HasCause status (Some command) shelf sink × CanEnd command status
       × Stopped status sink.taken_before sink.taken_now Front
-  refusal_says Done refused keeps = absurd refused
-  refusal_says Usage refused keeps = absurd refused
-  refusal_says WriteFault refused keeps = absurd refused
-  refusal_says (ReadFault which) refused keeps = (refused, refused.can_read, keeps)
-  refusal_says NoMemory refused keeps = (tt, tt, inl keeps)
-  refusal_says _ refused keeps = (refused.1, refused.0, keeps)
+  refusal_says status refused keeps = grind (arith, nat_tests)
 
   -- a command was refused before it had its text, and nothing was put
   pub caused_refusal : (status : Status) → IsRefused command shelf status → HidesNoFault shelf status →
@@ -98,6 +94,4 @@ module _ (command : Command) (shelf : ShelfCall) (sink : SinkCall) where
 
 pub refusal_of : (command : Command) (shelf : ShelfCall) (status : Status) → IsRefused command shelf status
     → IsRefusal status
-refusal_of command shelf Done refused = refused
-refusal_of command shelf Usage refused = refused
-refusal_of command shelf _ refused = tt
+refusal_of command shelf status refused = grind (arith, nat_tests)

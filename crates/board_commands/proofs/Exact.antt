@@ -1,4 +1,5 @@
 -- The status that the words and the files ask for comes, while the outside is quiet.
+use Rattle.std.proofs.lemmas.Bool.Decides.{nat_tests}
 use Rattle.std.proofs.Common.{◌≡◌, inl, inr, Option, Some, None, refl, arith}
 use Rattle.board_outside.specs.Outside.{Rose}
 use Rattle.command_files.specs.declared.status.Status.{Status}
@@ -12,8 +13,7 @@ use Rattle.command_files.proofs.Refusals.{at_files}
 -- the shelf is quiet wherever a status is to come
 quiet_shelf_for : (wanted : Status) (quiet_shelf quiet_sink : Type 0) → IsQuietFor wanted quiet_shelf quiet_sink
     → quiet_shelf
-quiet_shelf_for Done quiet_shelf quiet_sink quiet = quiet.0
-quiet_shelf_for _ quiet_shelf quiet_sink quiet = quiet
+quiet_shelf_for wanted quiet_shelf quiet_sink quiet = grind (arith, nat_tests)
 
 module _ (one_status : OneStatus) (command : Command) (files : Files) (shelf : ShelfCall) (sink : SinkCall)
     (told : shelf.files ≡ Some files) (wanted : Status)
@@ -61,7 +61,7 @@ exact one (Some command) (Some files) shelf sink status told_is is = λ wanted h
     left one command files shelf sink told_is wanted has quiet status is
 
 none_rose : ¬ Rose 0 0
-none_rose rose = elim rose [ inl more ↦ omega arith | inr last ↦ omega arith ]
+none_rose rose = grind (arith, nat_tests)
 
 always_quiet : (wanted : Status) → IsQuietFor wanted (Unit {0}) (Unit {0}) → IsQuietFor wanted (¬ Rose 0 0) (¬ Rose 0 0)
 always_quiet Done quiet = (none_rose, none_rose)

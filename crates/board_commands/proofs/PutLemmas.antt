@@ -1,13 +1,12 @@
 -- The puts that were made, one part of a text after another.
-use Rattle.std.proofs.Common.{ℕ, inl, inr, List, [], ◌∷◌, ◌++◌, Option, Some, None, refl, sym, subst, Result, Ok, Err}
-use Rattle.std.proofs.Common.{IsErr}
+use Rattle.std.proofs.Common.{arith, append_assoc, ℕ, List, [], ◌∷◌, ◌++◌, Option, Some, None, refl, sym, subst, Result}
+use Rattle.std.proofs.Common.{Ok, Err, IsErr}
+use Rattle.std.proofs.lemmas.Bool.Decides.{nat_tests}
 use Rattle.board_prelude.proofs.Common.{result_ok}
 use Rattle.board_outside.specs.Outside.{Put, Made}
 use Rattle.board_outside.specs.declared.fault.PutFault.{PutFault}
-use Rattle.board_outside.specs.declared.fault.PutFault.TheVariants.{Failed, NoMemory as NoMemoryForPut}
 use Rattle.command_words.specs.Words.{Command}
 use Rattle.command_files.specs.declared.status.Status.{Status}
-use Rattle.command_files.specs.declared.status.Status.TheVariants.{Done, Usage, WriteFault, NoMemory}
 use Rattle.command_files.specs.Common.{status_of_put_fault, ShelfCall, IsRefused, OfCalls}
 use Rattle.command_files.proofs.CallLemmas.{none_told, calls_hold, call_more, Both, calls_both}
 use Rattle.board_commands.specs.Puts.{AllTook, LatestRefused, ArePutsOf, PutsBy}
@@ -29,24 +28,19 @@ module _ (before between now : Option (List Put)) (so_far : OfCalls before betwe
 
 pub puts_failed : {T E : Type 0} (before now : Option (List Put)) (result : Result T E) → IsErr result →
     OfCalls before now LatestRefused → OfCalls before now (PutsBy result)
-puts_failed before now (Ok value) is refused = absurd cc
-puts_failed before now (Err error) is refused = refused
+puts_failed before now result is refused = grind (arith, nat_tests)
 
 all_took : (later before : List Put) → AllTook later → AllTook before → AllTook (later ++ before)
 all_took [] before one two = two
 all_took (latest ∷ later) before one two = (one.0, all_took later before one.1 two)
 
 latest_refused : (later before : List Put) → LatestRefused later → AllTook before → LatestRefused (later ++ before)
-latest_refused [] before one two = absurd one
-latest_refused (latest ∷ later) before one two = (one.0, all_took later before one.1 two)
+latest_refused later before one two = grind (arith, nat_tests, all_took)
 
 -- the puts of a piece, after those of the pieces before it
 pub piece_put : (before between now : Option (List Put)) → OfCalls before between AllTook →
     OfCalls between now AllTook → OfCalls before now AllTook
-piece_put before between now so_far made =
-    calls_hold before now (Both AllTook AllTook) AllTook
-    (λ puts both. subst AllTook (sym both.parts) (all_took both.second both.first both.two both.one))
-    (calls_both before between now AllTook AllTook so_far made)
+piece_put before between now so_far made = grind (arith, nat_tests, all_took, append_assoc)
 
 pub piece_not_put : (before between now : Option (List Put)) → OfCalls before between AllTook →
     OfCalls between now LatestRefused → OfCalls before now LatestRefused
@@ -57,12 +51,7 @@ piece_not_put before between now so_far made =
 
 pub nothing_put : (command : Command) (shelf : ShelfCall) (status : Status) → IsRefused command shelf status
     → ArePutsOf status []
-nothing_put command shelf Done refused = absurd refused
-nothing_put command shelf Usage refused = absurd refused
-nothing_put command shelf WriteFault refused = absurd refused
-nothing_put command shelf NoMemory refused = inl refl
-nothing_put command shelf _ refused = refl
+nothing_put command shelf status refused = grind (arith, nat_tests)
 
 pub put_refused : (fault : PutFault) (made : List Put) → LatestRefused made → ArePutsOf (status_of_put_fault fault) made
-put_refused Failed made is = is
-put_refused NoMemoryForPut made is = inr is
+put_refused fault made is = grind (arith, nat_tests)

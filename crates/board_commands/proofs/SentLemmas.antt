@@ -1,6 +1,7 @@
 -- What a sink took of a text, piece after piece.
-use Rattle.std.proofs.Common.{◌≡◌, ℕ, ◌+◌, ◌<◌, List, [], ◌++◌, Option, Some, None, length, get_or, take, drop, sym}
-use Rattle.std.proofs.Common.{subst, refl, append_assoc, append-nil, Vec, Result, Ok, Err, OnErr}
+use Rattle.std.proofs.Common.{arith, ◌≡◌, ℕ, ◌+◌, ◌<◌, List, [], ◌++◌, Option, length, get_or, take, drop, subst, refl}
+use Rattle.std.proofs.Common.{append_assoc, append-nil, Vec, Result, Ok, Err, OnErr}
+use Rattle.std.proofs.lemmas.Bool.Decides.{nat_tests}
 use Rattle.board_prelude.proofs.Common.{Global, take-append-drop, flat_map-cons, Appends}
 use Rattle.std.proofs.lemmas.List.{at_drop_more}
 use Rattle.log_pieces.specs.Text.{bytes_in, joined}
@@ -8,30 +9,21 @@ use Rattle.board_commands.specs.Output.{Sent, AppendsFront}
 
 pub more_taken : (before now later : Option (List ℕ)) (front piece : List ℕ) → Appends before now front →
     Appends now later piece → Appends before later (front ++ piece)
-more_taken None now later front piece sent more = tt
-more_taken (Some xs) None later front piece sent more = absurd sent
-more_taken (Some xs) (Some ys) None front piece sent more = absurd more
-more_taken (Some xs) (Some ys) (Some zs) front piece sent more = rw (more, sent) (append_assoc xs front piece)
+more_taken before now later front piece sent more = grind (arith, nat_tests, append_assoc)
 
 -- with all of the next piece
 piece_sent : (before now later : Option (List ℕ)) (text piece more : List ℕ) → Sent before now text (piece ++ more) →
     Appends now later piece → Sent before later text more
-piece_sent before now later text piece more sent taken = record {
-  front = sent.front ++ piece;
-  whole = rw (append_assoc sent.front piece more) sent.whole;
-  taken = more_taken before now later sent.front piece sent.taken taken;
-}
+piece_sent before now later text piece more sent taken = grind (arith, nat_tests, append_assoc, more_taken)
 
 -- so it is with what is left after the piece
 pub then_sent : (before now later : Option (List ℕ)) (text rest left : List ℕ) (k : ℕ) → left ≡ drop k rest →
     Sent before now text rest → Appends now later (take k rest) → Sent before later text left
 then_sent before now later text rest left k is sent more =
-    rw is
-    (piece_sent before now later text (take k rest) (drop k rest) (rw (take-append-drop k rest) sent) more)
+    grind (arith, nat_tests, append_assoc, more_taken, take-append-drop)
 
 nothing_taken : (known : Option (List ℕ)) → Appends known known []
-nothing_taken None = tt
-nothing_taken (Some xs) = sym (append-nil xs)
+nothing_taken known = grind (arith, nat_tests, append-nil)
 
 pub nothing_sent : (known : Option (List ℕ)) (text : List ℕ) → Sent known known text text
 nothing_sent known text = record { front = []; whole = refl; taken = nothing_taken known }
@@ -39,14 +31,7 @@ nothing_sent known text = record { front = []; whole = refl; taken = nothing_tak
 -- with a front of it
 piece_refused : (before now later : Option (List ℕ)) (text piece more : List ℕ) → Sent before now text (piece ++ more) →
     AppendsFront now later piece → AppendsFront before later text
-piece_refused before now later text piece more sent refused = record {
-  rest = refused.rest ++ more;
-  sent = record {
-    front = sent.front ++ refused.sent.front;
-    whole = rw (sent.whole, refused.sent.whole) (simp append_assoc);
-    taken = more_taken before now later sent.front refused.sent.front sent.taken refused.sent.taken;
-  };
-}
+piece_refused before now later text piece more sent refused = grind (arith, nat_tests, append_assoc, more_taken)
 
 -- the pieces from one on, whose next has these bytes
 module _ (before now later : Option (List ℕ)) (text : List ℕ) (pieces : List (Vec ℕ Global)) (i : ℕ)

@@ -41,7 +41,7 @@ fn answer<R: Threads + Wait + Sync, S: Shelf, G: Gate>(
 }
 
 /// Makes the text of a command from its files, and puts it to the sink.
-#[tactic(auto, using(crate::proofs::Causes::caused_done, crate::proofs::Causes::refusal_of))]
+#[tactic(auto, using(crate::proofs::Causes::caused_done, crate::proofs::Causes::refusal_of, crate::proofs::Causes::caused_refusal, crate::proofs::Causes::caused_put_fault, crate::proofs::PutLemmas::nothing_put, crate::proofs::PutLemmas::put_refused, command_files::proofs::CallLemmas::none_made, command_files::proofs::CallLemmas::calls_hold, std::proofs::lemmas::Bool::Decides::nat_tests))]
 fn run_command<R: Threads + Wait + Sync, S: Shelf, K: Sink, G: Gate>(
     rt: &R,
     alloc: Global,
@@ -66,6 +66,7 @@ fn run_command<R: Threads + Wait + Sync, S: Shelf, K: Sink, G: Gate>(
 }
 
 /// Does the command that the words are. Each status comes only where its cause holds.
+#[tactic(auto, using(std::proofs::lemmas::Bool::Decides::nat_tests))]
 fn run_words<R: Threads + Wait + Sync, S: Shelf, K: Sink, G: Gate>(
     rt: &R,
     alloc: Global,

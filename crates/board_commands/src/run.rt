@@ -56,6 +56,7 @@ fn log_of_ended<R: Threads + Sync>(
 }
 
 /// The log of a run of a script. As many threads write it as the script has processors.
+#[tactic(auto, using(std::proofs::lemmas::Bool::Decides::nat_tests))]
 pub(crate) fn log_of_run<R: Threads + Wait + Sync, G: Gate>(
     rt: &R,
     alloc: Global,

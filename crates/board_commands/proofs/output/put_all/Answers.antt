@@ -1,19 +1,12 @@
-use Rattle.std.proofs.Common.{rules, refl, sym, ◌∙◌, subst}
-use Rattle.board_commands.specs.Common.{Sent, AllTook}
+use Rattle.std.proofs.Common.{arith, rules, ◌∙◌}
+use Rattle.std.proofs.lemmas.Bool.Decides.{nat_tests}
 use Rattle.board_commands.proofs.SentLemmas.{nothing_sent, then_piece_sent, then_piece_refused}
 use Rattle.command_files.proofs.CallLemmas.{none_made}
 use Rattle.board_commands.proofs.PutLemmas.{piece_put, piece_not_put, puts_failed}
 use Rattle.board_commands.proofs.output.put_all.Goals as goal
 
 pub loop-piece-init : goal.loop-piece-init
-loop-piece-init g c =
-    let taken = g.K.Sink.taken c.args.out.now in
-    record {
-      sent = subst (Sent taken taken c.args.text.now) (sym c.pieces-piece-items.ensures.bytes)
-          (nothing_sent taken c.args.text.now);
-      quiet = refl;
-      puts = none_made (g.K.Sink.puts c.args.out.now) AllTook tt;
-    }
+loop-piece-init g c = grind (arith, nat_tests, nothing_sent, none_made)
 
 pub loop-piece-preserved : goal.loop-piece-preserved
 loop-piece-preserved g c = record {

@@ -1,8 +1,8 @@
-use Rattle.std.proofs.Common.{◌≡◌, ℕ, ◌+◌, List, [], ◌∷◌, take, drop, get_or, refl, All, slice_index_or, flat_map, sym}
+use Rattle.std.proofs.Common.{◌≡◌, ℕ, List, [], ◌∷◌, get_or, refl, All, slice_index_or, flat_map, sym}
 use Rattle.board_prelude.proofs.Common.{Vec, Global, get_or_default, Statement, IsScripted, in_file_order, Setup}
 use Rattle.phase_threads.specs.Jobs.{IsStatement}
 use Rattle.script_spec.specs.Phases.{lists_of}
-use Rattle.log_check.proofs.PhaseLists.{phases_cut, all_of_phase}
+use Rattle.log_check.proofs.PhaseLists.{all_in_phase}
 use Rattle.script_text.specs.Script.{said_of}
 use Rattle.board_commands.proofs.run.run_script.Goals as goal
 
@@ -13,8 +13,7 @@ phases_in_range : (setup : Setup) (version cpus : ℕ) (phases : List (Vec State
 phases_in_range setup version cpus phases all i d within =
     let phase : Vec Statement Global = get_or phases i d in
     let own : All (IsScripted setup version cpus) phase.items =
-    all_of_phase (IsScripted setup version cpus) (lists_of (take i phases)) phase.items (lists_of (drop (i + 1) phases))
-    (rw (phases_cut phases i phase within (get_or_default phases i d phase within)) at all) in
+    all_in_phase phases i phase within (get_or_default phases i d phase within) (IsScripted setup version cpus) all in
     λ k e inside. let is : IsScripted setup version cpus (slice_index_or phase.items k e) = own k e inside in
     record { actor = is.actor; event = is.event }
 
