@@ -1,16 +1,15 @@
 -- The fields of cards.
-use Rattle.std.proofs.Common.{◌≡◌, ℕ, ◌+◌, ◌-◌, ◌*◌, ◌^◌, ◌<◌, ◌≤◌, true, List, [], ◌∷◌, length, Option, Some, refl}
+use Rattle.std.proofs.Common.{◌≡◌, ℕ, ◌+◌, ◌-◌, ◌*◌, ◌^◌, ◌<◌, ◌≤◌, List, [], ◌∷◌, length, Option, Some, refl, ◌↔◌}
 use Rattle.std.proofs.Common.{arith, map, flat_map, sum_by, All, unwrap_or}
-use Rattle.board_prelude.proofs.Common.{AllByRecursion, w8, flat_map-cons, recursion_from_All, sum_by-cons}
-use Rattle.board_prelude.proofs.Common.{sum_by-append, Base, FittedCard, IsBase, IsCard, IsExpansionRom, Rises}
-use Rattle.board_prelude.proofs.Common.{memory_of_cards, memory_size, nat_tests}
+use Rattle.board_prelude.proofs.Common.{AllByRecursion, flat_map-cons, recursion_from_All, sum_by-cons, sum_by-append}
+use Rattle.board_prelude.proofs.Common.{Base, FittedCard, IsBase, IsCard, IsExpansionRom, Rises, memory_of_cards}
+use Rattle.board_prelude.proofs.Common.{memory_size, nat_tests}
 use Rattle.std.proofs.lemmas.List.Elements.{All-from_recursion}
 use Rattle.std.proofs.lemmas.List.Concat.{flat_map_single}
-use Rattle.board_image.specs.Common.{base_byte, card_bytes, number, base_of_byte, has_room, base_in, rom_of}
-use Rattle.board_image.specs.Common.{bases_fields, card_fields, cards_fields}
+use Rattle.board_image.specs.Common.{base_byte, card_bytes, base_in, rom_of, bases_fields, card_fields, cards_fields}
 use Rattle.byte_fields.proofs.Formats.{IsFormat, format_as, fields_format, ◌then◌, ◌&◌, last_field, many_format}
 use Rattle.byte_fields.proofs.Formats.{AreGood}
-use Rattle.byte_fields.proofs.Numbers.{flag_format, byte_format, byte_within, Ranges, where_ok}
+use Rattle.byte_fields.proofs.Numbers.{flag_format, byte_format, byte_within, Ranges}
 use Rattle.board_image.proofs.ImageLoops.{base_field, room_after, bases_loop, card_after, past_card, cards_loop}
 
 -- ---- bases
@@ -18,54 +17,36 @@ use Rattle.board_image.proofs.ImageLoops.{base_field, room_after, bases_loop, ca
 abbrev pub IsBaseIn : (room : ℕ) → Base → Type 0
 IsBaseIn room base = IsBase base × (memory_size base ≤ room)
 
-room_to : (room : ℕ) (base : Base) → IsBaseIn room base → has_room room base ≡ true
-room_to room base is = grind (arith, nat_tests)
-
-byte_said : (base : Base) → IsBase base → (base_byte base < 2 ^ 8) × (base_of_byte (base_byte base) ≡ base)
-byte_said base is = grind (arith, nat_tests)
-
 base_told : (room n : ℕ) (base : Base) → n < 2 ^ 8 → base_in room n ≡ Some base →
     (n ≡ base_byte base) × IsBaseIn room base
-base_told room n base below is =
-    let told = where_ok (has_room room (base_of_byte n)) (base_of_byte n) base is in
-    rw (← told.1) (grind (arith, nat_tests), grind (arith, nat_tests, told.0))
+base_told room n base below is = grind (arith, nat_tests)
 
 base_format : (room : ℕ) → IsFormat 1 (base_field room) (λ base. base_byte base ∷ []) (IsBaseIn room)
 base_format room =
-    byte_format base_byte (IsBaseIn room)
-    (λ base is.
-    let said = byte_said base is.0 in
-    (said.0, rw (said.1, room_to room base is) refl))
-    (base_told room)
+    byte_format base_byte (IsBaseIn room) (λ base is. grind (arith, nat_tests)) (base_told room)
 
 -- bases that fit in the room
 abbrev pub AreBasesIn : (room : ℕ) → List Base → Type 0
 AreBasesIn room bases = All IsBase bases × (sum_by memory_size bases ≤ room)
 
-bases_to : (bases : List Base) (room : ℕ) → AllByRecursion IsBase bases → sum_by memory_size bases ≤ room →
-    AreGood room_after IsBaseIn room bases
-bases_to [] room all fit = tt
-bases_to (base ∷ later) room all fit =
-    let whole = sum_by-cons memory_size base later in (
-      (all.0, omega (arith, whole, fit)),
-      bases_to later (room - memory_size base) all.1 (omega (arith, whole, fit)),
-    )
-
-bases_from : (bases : List Base) (room : ℕ) → AreGood room_after IsBaseIn room bases →
-    AllByRecursion IsBase bases × (sum_by memory_size bases ≤ room)
-bases_from [] room good = (tt, omega arith)
-bases_from (base ∷ later) room good =
+bases_are : (bases : List Base) (room : ℕ) →
+    AreGood room_after IsBaseIn room bases ↔ (AllByRecursion IsBase bases × (sum_by memory_size bases ≤ room))
+bases_are [] room = (λ good. (tt, omega arith), λ is. tt)
+bases_are (base ∷ later) room =
     let whole = sum_by-cons memory_size base later in
-    let rest = bases_from later (room - memory_size base) good.1 in
-    ((good.0.0, rest.0), omega (arith, whole, rest.1, good.0.1))
+    let rest = bases_are later (room - memory_size base) in (
+      λ good. let told = rest.0 good.1 in ((good.0.0, told.0), omega (arith, whole, told.1, good.0.1)),
+      λ is. ((is.0.0, omega (arith, whole, is.1)), rest.1 (is.0.1, omega (arith, whole, is.1))),
+    )
 
 bases_format : (room count : ℕ) → count ≤ 6 → IsFormat 6 (bases_fields count room) (map base_byte)
     (λ bases. (length bases ≡ count) × AreBasesIn room bases)
 bases_format room count few =
-    format_as 6 _ (λ bases. (length bases ≡ count) × AreBasesIn room bases) (many_format bases_loop base_format room
-    count) (omega arith) (λ bases is. (is.0, bases_to _ _ (recursion_from_All IsBase bases is.1.0) is.1.1))
+    format_as 6 _ (λ bases. (length bases ≡ count) × AreBasesIn room bases)
+    (many_format bases_loop base_format room count) (omega arith)
+    (λ bases is. (is.0, (bases_are bases room).1 (recursion_from_All IsBase bases is.1.0, is.1.1)))
     (λ bases good.
-    let all = bases_from _ _ good.1 in
+    let all = (bases_are bases room).0 good.1 in
     (good.0, (All-from_recursion IsBase bases all.0, all.1)))
     (λ bases good. flat_map_single base_byte bases)
 
@@ -76,9 +57,6 @@ rom_said rom is = grind (arith, nat_tests)
 
 rom_told : (n : ℕ) (rom : Option ℕ) → n < 2 ^ 8 → rom_of n ≡ Some rom → (n ≡ unwrap_or rom 0) × IsExpansionRom rom
 rom_told n rom below is = grind (arith, nat_tests)
-
-rom_format : IsFormat 1 (number w8 rom_of) (λ rom. unwrap_or rom 0 ∷ []) IsExpansionRom
-rom_format = byte_format (λ rom. unwrap_or rom 0) IsExpansionRom rom_said rom_told
 
 -- ---- cards
 
@@ -94,7 +72,7 @@ card_format before =
     fields_format
     (byte_within (before.0 + 1) 9 (omega arith) then λ dev good.
     flag_format then λ vga any.
-    rom_format then λ rom good.
+    (byte_format (λ rom. unwrap_or rom 0) IsExpansionRom rom_said rom_told) then λ rom good.
     byte_within 0 6 (omega arith) then λ count few.
     last_field (λ bases. record { dev = dev; vga = vga; bases = bases; rom = rom })
     (bases_format before.1 count few.1))
@@ -115,23 +93,6 @@ memory_of_more card later =
 abbrev LiesAbove : ℕ → FittedCard → Type 0
 LiesAbove above card = above < card.dev
 
-cards_to : (cards : List FittedCard) (above room : ℕ) → AllByRecursion IsCard cards →
-    AllByRecursion (LiesAbove above) cards → Rises cards → memory_of_cards cards ≤ room →
-    AreGood past_card IsCardAfter (above, room) cards
-cards_to [] above room all high rise fit = tt
-cards_to (card ∷ later) above room all high rise fit =
-    let whole = memory_of_more card later in
-    let one = memory_of_more card [] in (
-      (
-        (omega (arith, high.0), all.0.last),
-        all.0.rom,
-        (omega arith, all.0.count),
-        (all.0.each, omega (arith, whole, fit)),
-      ),
-      cards_to later card.dev (room - memory_of_cards (card ∷ [])) all.1
-          (recursion_from_All (LiesAbove card.dev) later rise.0) rise.1 (omega (arith, whole, one, fit)),
-    )
-
 higher : (low high : ℕ) (cards : List FittedCard) → low ≤ high → AllByRecursion (LiesAbove high) cards →
     AllByRecursion (LiesAbove low) cards
 higher low high [] rises all = tt
@@ -144,20 +105,41 @@ record AreCards (cards : List FittedCard) (above room : ℕ) : Type 0 where
   pub rise : Rises cards
   pub fit : memory_of_cards cards ≤ room
 
-cards_from : (cards : List FittedCard) (above room : ℕ) → 1 ≤ above →
-    AreGood past_card IsCardAfter (above, room) cards → AreCards cards above room
-cards_from [] above room some good = record { each = tt; high = tt; rise = tt; fit = omega arith }
-cards_from (card ∷ later) above room some good =
-    let low : above + 1 ≤ card.dev = good.0.0.0 in
-    let first : 2 ≤ card.dev = omega (arith, low, some) in
-    let is : IsCard card = assumption (first, good.0) in
-    let rest = cards_from later card.dev (room - memory_of_cards (card ∷ [])) (omega (arith, low)) good.1 in
-    record {
-      each = (is, rest.each);
-      high = (omega (arith, low), higher above card.dev later (omega (arith, low)) rest.high);
-      rise = (All-from_recursion (LiesAbove card.dev) later rest.high, rest.rise);
-      fit = omega (arith, memory_of_more card later, memory_of_more card [], rest.fit, good.0.3.1);
-    }
+cards_are : (cards : List FittedCard) (above room : ℕ) → 1 ≤ above →
+    AreGood past_card IsCardAfter (above, room) cards ↔ AreCards cards above room
+cards_are [] above room some = (λ good. record { each = tt; high = tt; rise = tt; fit = omega arith }, λ are. tt)
+cards_are (card ∷ later) above room some =
+    let whole = memory_of_more card later in
+    let one = memory_of_more card [] in
+    let rest = cards_are later card.dev (room - memory_of_cards (card ∷ [])) in (
+      λ good.
+          let low : above + 1 ≤ card.dev = good.0.0.0 in
+          let first : 2 ≤ card.dev = omega (arith, low, some) in
+          let is : IsCard card = assumption (first, good.0) in
+          let more = (rest (omega (arith, low))).0 good.1 in
+          record {
+            each = (is, more.each);
+            high = (omega (arith, low), higher above card.dev later (omega (arith, low)) more.high);
+            rise = (All-from_recursion (LiesAbove card.dev) later more.high, more.rise);
+            fit = omega (arith, whole, one, more.fit, good.0.3.1);
+          },
+      λ are.
+          let is = are.each.0 in
+          let fit = are.fit in (
+            (
+              (omega (arith, are.high.0), is.last),
+              is.rom,
+              (omega arith, is.count),
+              (is.each, omega (arith, whole, fit)),
+            ),
+            (rest (omega (arith, is.first))).1 (record {
+              each = are.each.1;
+              high = recursion_from_All (LiesAbove card.dev) later are.rise.0;
+              rise = are.rise.1;
+              fit = omega (arith, whole, one, fit);
+            }),
+          ),
+    )
 
 -- ---- all cards of a board
 
@@ -174,8 +156,9 @@ cards_format count room =
     format_as _ _ _ (many_format cards_loop card_format (1, room) count) (omega arith)
     (λ cards are.
     let all = recursion_from_All IsCard cards are.1 in
-    (are.0, cards_to _ 1 _ all (two_or_more _ all) are.2 are.3))
+    let them : AreCards cards 1 room = record { each = all; high = two_or_more cards all; rise = are.2; fit = are.3 } in
+    (are.0, (cards_are cards 1 room (omega arith)).1 them))
     (λ cards good.
-    let are = cards_from _ 1 _ (omega arith) good.1 in
+    let are = (cards_are cards 1 room (omega arith)).0 good.1 in
     (good.0, All-from_recursion IsCard cards are.each, are.rise, are.fit))
     (λ cards good. refl)

@@ -1,56 +1,36 @@
 -- The fields of steps.
-use Rattle.std.proofs.Common.{◌≡◌, ℕ, ◌+◌, ◌%◌, ◌^◌, ◌<◌, ◌≤◌, Bool, true, [], ◌∷◌, Some, ◌⊎◌, refl, Option, None, List}
-use Rattle.std.proofs.Common.{◌∙◌, ap, arith, ◌≢◌, ◌==◌}
-use Rattle.board_prelude.proofs.Common.{nat_tests, eq-eqb, eqb-true, Fetch, Read, Write, Width, One, PortAccess}
-use Rattle.board_prelude.proofs.Common.{bytes_of, is_write, IsBusAccess, IsWideAccess, FitsBytes, Stimulus}
-use Rattle.board_prelude.proofs.Common.{stimulus_of_code, code_found, option_map}
+use Rattle.std.proofs.Common.{◌≡◌, ℕ, ◌+◌, ◌%◌, ◌^◌, ◌<◌, ◌≤◌, Bool, true, [], ◌∷◌, Some, ◌⊎◌, refl, List, arith, ◌≢◌}
+use Rattle.std.proofs.Common.{◌==◌}
+use Rattle.board_prelude.proofs.Common.{nat_tests, PortAccess, bytes_of, is_write, IsBusAccess, IsWideAccess, FitsBytes}
+use Rattle.board_prelude.proofs.Common.{code_found}
 use Rattle.std.proofs.Math.Nat.{one-le-pow}
-use Rattle.board_base.specs.declared.access.Width.TheVariants.{Two, Four}
 use Rattle.board_base.specs.declared.access.Access.{Access}
 use Rattle.board_image.specs.Common.{kind_byte, tag_byte, memory_bytes, port_bytes, wide_bytes, kind_of, kind_field}
 use Rattle.board_image.specs.Common.{width_of, width_field, tag_of, most_value, is_wide_size, is_wide_place}
 use Rattle.board_image.specs.Common.{memory_fields, port_fields, wide_fields, Reading}
-use Rattle.board_spec.specs.declared.stimulus.Stimulus.TheVariants.{Wire}
 use Rattle.image_writer.specs.declared.tag.Tag.{Tag}
 use Rattle.byte_fields.proofs.Formats.{IsFormat, format_as, fields_format, ◌then◌, ◌&◌, last_field}
-use Rattle.byte_fields.proofs.Numbers.{Any, flag_format, wide16, wide32, wide64, byte_format, byte_where, Tells, no_row}
-use Rattle.byte_fields.proofs.Numbers.{row, where_format, within_format, Ranges}
+use Rattle.byte_fields.proofs.Numbers.{Any, flag_format, wide16, wide32, wide64, byte_format, byte_where, Tells}
+use Rattle.byte_fields.proofs.Numbers.{where_format, within_format, Ranges}
 use Rattle.image_writer.specs.declared.tag.Tag.TheVariants as tags
 
 kind_tells : Tells kind_of kind_byte
-kind_tells = row kind_byte 0 Fetch refl (row kind_byte 1 Read refl (row kind_byte 2 Write refl (no_row kind_byte)))
+kind_tells n kind is = grind (arith, nat_tests)
 
 pub kind_format : IsFormat 1 kind_field (λ kind. kind_byte kind ∷ []) Any
 kind_format = byte_format kind_byte Any (λ kind any. grind arith) (λ n kind below is. (kind_tells n kind is, tt))
 
 width_tells : Tells width_of bytes_of
-width_tells = row bytes_of 1 One refl (row bytes_of 2 Two refl (row bytes_of 4 Four refl (no_row bytes_of)))
+width_tells n width is = grind (arith, nat_tests)
 
 pub width_format : IsFormat 1 width_field (λ width. bytes_of width ∷ []) Any
 width_format = byte_format bytes_of Any (λ width any. grind arith) (λ n width below is. (width_tells n width is, tt))
 
-mapped : (found : Option Stimulus) (tag : Tag) → option_map (λ one. tags.Stimulus one) found ≡ Some tag →
-    (one : Stimulus) × (found ≡ Some one) × (tags.Stimulus one ≡ tag)
-mapped None tag is = absurd cc
-mapped (Some one) tag is = (one, refl, cc)
-
-stimulus_tells : Tells (λ n. option_map (λ one. tags.Stimulus one) (stimulus_of_code n)) tag_byte
-stimulus_tells n tag told =
-    let found = mapped (stimulus_of_code n) tag told in
-    code_found n found.0 found.1 ∙ ap tag_byte found.2
-
 pub tag_tells : Tells tag_of tag_byte
-tag_tells =
-    row _ 1 _ refl (row _ 2 _ refl (row _ 3 _ refl (row _ 4 _ refl (row _ 6 _ refl (row _ 10 _ refl stimulus_tells)))))
-
-stimulus_said : (one : Stimulus) →
-    (tag_byte (tags.Stimulus one) < 2 ^ 8) × (tag_of (tag_byte (tags.Stimulus one)) ≡ Some (tags.Stimulus one))
-stimulus_said Wire = (omega arith, refl)
-stimulus_said _ = (omega arith, refl)
+tag_tells n tag told = grind (arith, nat_tests, code_found)
 
 pub tag_said : (tag : Tag) → Any tag → (tag_byte tag < 2 ^ 8) × (tag_of (tag_byte tag) ≡ Some tag)
-tag_said (tags.Stimulus one) any = stimulus_said one
-tag_said _ any = (omega arith, refl)
+tag_said tag any = grind (arith, nat_tests)
 
 -- ---- accesses
 
@@ -67,15 +47,6 @@ CanSpellMemory access =
 abbrev pub CanSpellPort : PortAccess → Type 0
 CanSpellPort access = (access.port < 2 ^ 16) × IsBusAccess access.write access.port access.width access.value
 
-value_to : (writes : Bool) (place : ℕ) (width : Width) (value : ℕ) → IsBusAccess writes place width value →
-    Ranges 0 (most_value writes (bytes_of width)) value
-value_to writes place width value is = let fits = is.fits in grind arith
-
-bus_from : (writes : Bool) (place : ℕ) (width : Width) (value : ℕ) → (place % bytes_of width == 0) ≡ true →
-    Ranges 0 (most_value writes (bytes_of width)) value → IsBusAccess writes place width value
-bus_from writes place width value aligned fits =
-    record { aligned = eqb-true (place % bytes_of width) 0 aligned; fits = grind arith }
-
 pub memory_format : IsFormat 11 memory_fields memory_bytes CanSpellMemory
 unfolding memory_fields memory_bytes
 memory_format =
@@ -88,11 +59,10 @@ memory_format =
     (within_format wide32 0 (most_value (is_write kind) (bytes_of width)) (grind arith)))
     (λ access can. (
       (access.kind, tt) & (access.smm, tt) & (access.width, tt)
-          & (access.addr, (can.0, eq-eqb (access.addr % bytes_of access.width) 0 can.1.aligned))
-          & (access.value, value_to (is_write access.kind) access.addr access.width access.value can.1),
+          & (access.addr, grind (arith, nat_tests, can)) & (access.value, grind (arith, nat_tests, can.1)),
       refl,
     ))
-    (λ t. ((t.2.2.2.1.0, bus_from (is_write t.0) t.2.2.2.0 t.2.2.0 t.2.2.2.2.0 t.2.2.2.1.1 t.2.2.2.2.1), refl))
+    (λ t. (grind (arith, nat_tests, t.2.2.2.1, t.2.2.2.2.1), refl))
 
 pub port_format : IsFormat 8 port_fields port_bytes CanSpellPort
 unfolding port_fields port_bytes
@@ -105,19 +75,15 @@ port_format =
     (within_format wide32 0 (most_value write (bytes_of width)) (grind arith)))
     (λ access can. (
       (access.write, tt) & (access.width, tt)
-          & (access.port, (can.0, eq-eqb (access.port % bytes_of access.width) 0 can.1.aligned))
-          & (access.value, value_to access.write access.port access.width access.value can.1),
+          & (access.port, grind (arith, nat_tests, can)) & (access.value, grind (arith, nat_tests, can.1)),
       refl,
     ))
-    (λ t. ((t.2.2.1.0, bus_from t.0 t.2.2.0 t.2.0 t.2.2.2.0 t.2.2.1.1 t.2.2.2.1), refl))
+    (λ t. (grind (arith, nat_tests, t.2.2.1, t.2.2.2.1), refl))
 
 -- the sizes of wide accesses
 
 abbrev IsWideSize : ℕ → Type 0
 IsWideSize bytes = (bytes ≡ 2) ⊎ (bytes ≡ 4) ⊎ (bytes ≡ 8)
-
-size_from : (bytes : ℕ) → is_wide_size bytes ≡ true → IsWideSize bytes
-size_from bytes is = grind (arith, nat_tests)
 
 place_from : (bytes addr : ℕ) → is_wide_place bytes addr ≡ true →
     ((bytes ≡ 8) ⊎ (addr % bytes ≢ 0)) × (addr + bytes ≤ 0x1_0000_0000)
@@ -139,7 +105,7 @@ wide_format =
     where_format wide32 (is_wide_place bytes) then λ addr placed.
     last_field (λ value. record { kind = kind; bytes = bytes; smm = smm; addr = addr; value = value })
     (within_format wide64 0 (most_value (is_write kind) bytes)
-    (grind (arith, size_from bytes good.1))))
+    (let so : IsWideSize bytes = grind (arith, nat_tests) in grind (arith, so))))
     (λ access is. (
       (access.kind, tt) & (access.smm, tt) & (access.bytes, grind (arith, nat_tests, is.bytes))
           & (access.addr, grind (arith, nat_tests, is.wide, is.ends, is.bytes))
@@ -147,8 +113,8 @@ wide_format =
       refl,
     ))
     (λ t. (
-      assumption (
-        size_from t.2.2.0 t.2.2.1.1,
+      let fact : IsWideSize t.2.2.0 = grind (arith, nat_tests) in assumption (
+        fact,
         place_from t.2.2.0 t.2.2.2.0 t.2.2.2.1.1,
         wide_fits_from (is_write t.0) t.2.2.0 t.2.2.2.2.0 t.2.2.2.2.1,
       ),

@@ -1,18 +1,18 @@
 -- The fields of a whole image.
 use Rattle.std.proofs.Common.{◌≡◌, ℕ, ◌+◌, ◌%◌, ◌/◌, ◌^◌, ◌<◌, ◌≤◌, ◌↔◌, IsTrue, inl, inr, Bool, true, false, List, []}
-use Rattle.std.proofs.Common.{◌∷◌, ◌++◌, length, Option, Some, None, Ok, Err, refl, sym, ap, ◌∙◌, append_assoc, arith}
-use Rattle.std.proofs.Common.{flat_map, All, is_some, unwrap_or, eq-eqb, eqb-true, length-append, append-nil}
+use Rattle.std.proofs.Common.{◌∷◌, ◌++◌, length, Option, Ok, Err, refl, sym, ap, ◌∙◌, append_assoc, arith, flat_map}
+use Rattle.std.proofs.Common.{All, is_some, unwrap_or, length-append, append-nil}
 use Rattle.board_prelude.specs.Common.{AllByRecursion, w16, w32, to_le_bytes, Statement, Setup, IsRomSize, is_rom_size}
 use Rattle.board_prelude.specs.Common.{IsDisk, IsDiskSize, is_disk_length, most_statements, most_card_memory, most_mib}
-use Rattle.board_prelude.proofs.Common.{nat_tests, cases_Bool, false≢true, nil_from_length, recursion_from_All}
+use Rattle.board_prelude.proofs.Common.{nat_tests, nil_from_length, recursion_from_All}
 use Rattle.std.proofs.lemmas.List.Elements.{All-from_recursion}
 use Rattle.board_image.specs.declared.head.Head.{Head}
 use Rattle.board_image.specs.Common.{Saved, magic, image_version, flag_byte, card_bytes, disk_bytes, size_bytes}
 use Rattle.board_image.specs.Common.{head_bytes, step_bytes, image_bytes, IsImageStep, IsImage, then_read, gives, ended}
 use Rattle.board_image.specs.Common.{has_disk_size, disk_where, head_fields, setup_fields, steps_fields, saved_fields}
 use Rattle.board_image.specs.Common.{image_fields, AreBytes}
-use Rattle.byte_fields.proofs.Formats.{ok_is, not_err, err_is, then_ok, then_err, IsFormat, format_as, fields_format}
-use Rattle.byte_fields.proofs.Formats.{◌then◌, ◌&◌, last_field, many_format, plain_format, AreGood}
+use Rattle.byte_fields.proofs.Formats.{ok_is, not_err, then_ok, then_err, IsFormat, format_as, fields_format, ◌then◌}
+use Rattle.byte_fields.proofs.Formats.{◌&◌, last_field, many_format, plain_format, AreGood}
 use Rattle.byte_fields.proofs.Numbers.{flag_format, wide16, wide32, byte_within, within_format, where_format, Ranges}
 use Rattle.byte_fields.proofs.Exactly.{exactly_format}
 use Rattle.board_image.proofs.EventFormats.{wider}
@@ -46,25 +46,17 @@ length_from size is =
     (size / 512, omega (arith, said.0, said.1), omega (arith, said.2), omega (arith, said.0))
 
 pub length_same : (size : ℕ) (test : Bool) → (IsTrue test ↔ IsDiskSize size) → test ≡ is_disk_length size
-length_same size true is = sym (length_to size (is.0 refl))
-length_same size false is =
-    elim (cases_Bool (is_disk_length size)) [
-      | inl good ↦ absurd (false≢true (is.1 (length_from size good)))
-      | inr bad ↦ sym bad
-    ]
+length_same size test is = grind (arith, nat_tests, length_to size, length_from size, is.0, is.1)
 
 disk_size_to : (has_disk : Bool) (size : ℕ) → HasDiskSize has_disk size →
     (size < 2 ^ 32) × (has_disk_size has_disk size ≡ true)
-disk_size_to false size is = (omega arith, eq-eqb size 0 is)
-disk_size_to true size is = (omega (arith, is.2, is.3), length_to size is)
+disk_size_to has_disk size is = grind (arith, nat_tests)
 
 disk_size_from : (has_disk : Bool) (size : ℕ) → has_disk_size has_disk size ≡ true → HasDiskSize has_disk size
-disk_size_from false size is = eqb-true size 0 is
-disk_size_from true size is = length_from size is
+disk_size_from has_disk size is = grind (arith, nat_tests, length_from size)
 
 disk_most : (has_disk : Bool) (size : ℕ) → HasDiskSize has_disk size → size ≤ 0x200_0000
-disk_most false size is = omega (arith, is)
-disk_most true size (sectors, some, few, is) = omega (arith, few, is)
+disk_most has_disk size is = grind (arith, nat_tests)
 
 record IsHead (head : Head) : Type 0 where
   pub mib : Ranges 1 64 head.mib
@@ -78,9 +70,6 @@ head_spelled head =
     magic ++ (to_le_bytes w16 image_version
     ++ (head.mib ∷ head.cards ∷ flag_byte head.has_disk ∷ 0
     ∷ (to_le_bytes w32 head.rom_size ++ (to_le_bytes w32 head.disk_size ++ to_le_bytes w32 head.steps))))
-
-only : (k n : ℕ) → Ranges k k n → n ≡ k
-only k n is = omega arith
 
 head_format : IsFormat 26 head_fields head_spelled IsHead
 unfolding head_fields
@@ -116,7 +105,7 @@ head_format =
         rom_size_from t.2.2.2.2.2.2.0 t.2.2.2.2.2.2.1.1,
         disk_size_from t.2.2.2.2.0 t.2.2.2.2.2.2.2.0 t.2.2.2.2.2.2.2.1.1,
       ),
-      rw (only image_version t.2.0 t.2.1, only 0 t.2.2.2.2.2.0 t.2.2.2.2.2.1) refl,
+      let fact : t.2.2.2.2.2.0 ≡ 0 = omega arith in let so : t.2.0 ≡ image_version = omega arith in rw (so, fact) refl,
     ))
 
 -- ---- the setup
@@ -134,21 +123,14 @@ setup_spelled setup = flat_map card_bytes setup.cards ++ (setup.rom ++ disk_byte
 -- a disk is the bytes that it has
 disk_same : (has_disk : Bool) (bytes : List ℕ) (size : ℕ) → HasDiskSize has_disk size → length bytes ≡ size →
     unwrap_or (disk_where has_disk bytes) [] ≡ bytes
-disk_same true bytes size is long = refl
-disk_same false bytes size is long = sym (nil_from_length bytes (long ∙ is))
-
-disk_told : (disk : Option (List ℕ)) → disk ≡ disk_where (is_some disk) (unwrap_or disk [])
-disk_told None = refl
-disk_told (Some bytes) = refl
+disk_same has_disk bytes size is long = grind (arith, nat_tests, nil_from_length bytes)
 
 disk_there : (has_disk : Bool) (bytes : List ℕ) → is_some (disk_where has_disk bytes) ≡ has_disk
-disk_there true bytes = refl
-disk_there false bytes = refl
+disk_there has_disk bytes = grind (arith, nat_tests)
 
 made_of : (mib : ℕ) (has_disk : Bool) (setup : Setup) → setup.mib ≡ mib → is_some setup.disk ≡ has_disk →
     setup ≡ record { mib = mib; cards = setup.cards; rom = setup.rom; disk = disk_where has_disk (disk_bytes setup) }
-made_of mib has_disk setup is there =
-    rw (← is, ← there) (ap (λ (disk : Option (List ℕ)). record setup { disk = disk }) (disk_told setup.disk))
+made_of mib has_disk setup is there = grind (arith, nat_tests)
 
 setup_format : (head : Head) → IsHead head → IsFormat 34_078_800 (setup_fields head) setup_spelled (IsFitted head)
 unfolding setup_fields
@@ -172,23 +154,20 @@ setup_format head is =
 
 -- ---- the steps
 
-steps_to : (setup : Setup) (steps : List Statement) → AllByRecursion (IsImageStep setup) steps →
-    AreGood same_setup IsImageStep setup steps
-steps_to setup [] all = tt
-steps_to setup (step ∷ later) all = (all.0, steps_to setup later all.1)
-
-steps_from : (setup : Setup) (steps : List Statement) → AreGood same_setup IsImageStep setup steps →
-    AllByRecursion (IsImageStep setup) steps
-steps_from setup [] good = tt
-steps_from setup (step ∷ later) good = (good.0, steps_from setup later good.1)
+steps_are : (setup : Setup) (steps : List Statement) →
+    AreGood same_setup IsImageStep setup steps ↔ AllByRecursion (IsImageStep setup) steps
+steps_are setup [] = (λ good. tt, λ all. tt)
+steps_are setup (step ∷ later) =
+    let rest = steps_are setup later in (λ good. (good.0, rest.0 good.1), λ all. (all.0, rest.1 all.1))
 
 steps_format : (setup : Setup) (count : ℕ) → count ≤ most_statements → IsFormat 4_250_000 (steps_fields setup count)
     (flat_map step_bytes) (λ steps. (length steps ≡ count) × All (IsImageStep setup) steps)
 steps_format setup count few =
     format_as _ _ (λ steps. (length steps ≡ count) × All (IsImageStep setup) steps)
     (many_format steps_loop step_format setup count) (omega (arith, few))
-    (λ steps are. (are.0, steps_to _ _ (recursion_from_All (IsImageStep setup) steps are.1)))
-    (λ steps good. (good.0, All-from_recursion (IsImageStep setup) steps (steps_from _ _ good.1))) (λ steps good. refl)
+    (λ steps are. (are.0, (steps_are setup steps).1 (recursion_from_All (IsImageStep setup) steps are.1)))
+    (λ steps good. (good.0, All-from_recursion (IsImageStep setup) steps ((steps_are setup steps).0 good.1)))
+    (λ steps good. refl)
 
 -- ---- the whole
 
@@ -210,12 +189,10 @@ abbrev IsSaved : Saved → Type 0
 IsSaved saved = IsImage saved.setup saved.steps
 
 disk_of_head : (disk : Option (List ℕ)) → IsDisk disk → HasDiskSize (is_some disk) (length (unwrap_or disk []))
-disk_of_head None is = refl
-disk_of_head (Some bytes) is = is
+disk_of_head disk is = grind (arith, nat_tests)
 
 disk_of_setup : (disk : Option (List ℕ)) → HasDiskSize (is_some disk) (length (unwrap_or disk [])) → IsDisk disk
-disk_of_setup None is = tt
-disk_of_setup (Some bytes) is = is
+disk_of_setup disk is = grind (arith, nat_tests)
 
 saved_format : IsFormat 38_328_826 saved_fields saved_spelled IsSaved
 unfolding saved_fields image_bytes head_bytes size_bytes
@@ -252,13 +229,11 @@ saved_format =
 
 end_ok : (saved value : Saved) (left rest : List ℕ) → then_read (ended left) (λ done. gives saved) ≡ Ok (value, rest) →
     (left ≡ []) × (saved ≡ value)
-end_ok saved value [] rest is = (refl, ap (λ (pair : Saved × List ℕ). pair.0) (ok_is (saved, []) (value, rest) is))
-end_ok saved value (byte ∷ later) rest is = absurd cc
+end_ok saved value left rest is = grind (arith, nat_tests)
 
 end_bad : (saved : Saved) (left : List ℕ) (bad : ℕ) → then_read (ended left) (λ done. gives saved) ≡ Err bad →
     length left ≡ bad
-end_bad saved [] bad is = absurd (not_err (saved, []) bad is)
-end_bad saved (byte ∷ later) bad is = err_is {X = Saved × List ℕ} (length (byte ∷ later)) bad is
+end_bad saved left bad is = grind (arith, nat_tests)
 
 -- the bytes of an image are read as it
 pub image_back : (setup : Setup) (steps : List Statement) → IsImage setup steps →

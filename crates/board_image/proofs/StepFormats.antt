@@ -1,9 +1,9 @@
 -- The fields of steps, by their tags.
-use Rattle.std.proofs.Common.{◌≡◌, ℕ, ◌^◌, ◌<◌, ◌&&◌, Bool, true, false, Option, refl, sym, ap, subst, ◌∙◌, arith}
+use Rattle.std.proofs.Common.{◌≡◌, ℕ, ◌^◌, ◌<◌, ◌&&◌, Bool, true, false, Option, refl, sym, ap, ◌∙◌, arith}
 use Rattle.board_prelude.proofs.Common.{nat_tests, option_map_or, Kind, Fetch, PortAccess, WideAccess, Moment, IsMoment}
-use Rattle.board_prelude.proofs.Common.{days_in_month, moment_of, Event, Memory, Wide, Port, Ack, Pulses, Time}
-use Rattle.board_prelude.proofs.Common.{BadSector, Setup, IsWideAccess, IsInRange, IsScriptSector, Stimulus, Applied}
-use Rattle.board_prelude.proofs.Common.{stimulus_form, applied, applied_by, applied_again, event_applied}
+use Rattle.board_prelude.proofs.Common.{days_in_month, moment_of, Event, Memory, Wide, Port, Ack, Time, Setup}
+use Rattle.board_prelude.proofs.Common.{IsWideAccess, IsInRange, IsScriptSector, Stimulus, Applied, stimulus_form}
+use Rattle.board_prelude.proofs.Common.{applied, applied_by, applied_again, event_applied}
 use Rattle.board_base.specs.declared.access.Access.{Access}
 use Rattle.board_spec.specs.declared.event.Event.TheVariants.{Look as LookAt}
 use Rattle.board_spec.specs.declared.stimulus.Stimulus.TheVariants as stimuli
@@ -91,18 +91,15 @@ IsStimulus setup one has_level event =
 
 module _ (one : Stimulus) (number : ℕ) (on : Bool) where
   number_again : number_of (event_applied one number on) ≡ number
-  number_again =
-      ap (λ (said : Option Applied). option_map_or (λ said. said.number) said 0) (applied_again one number on)
+  number_again = grind (arith, nat_tests, applied_again one number on)
 
 tag_again : (one : Stimulus) (number : ℕ) (on : Bool) → tag_of_event (event_applied one number on) ≡ tags.Stimulus one
-tag_again stimuli.Wire number on = refl
-tag_again _ number on = refl
+tag_again one number on = grind (arith, nat_tests)
 
 bytes_again : (one : Stimulus) (number : ℕ) (on : Bool) →
     field_bytes (event_applied one number on) ≡ applied_bytes (applied one number on)
 unfolding field_bytes
-bytes_again stimuli.Wire number on = refl
-bytes_again _ number on = refl
+bytes_again one number on = grind (arith, nat_tests)
 
 applied_format : (setup : Setup) (one : Stimulus) (has_level : Bool) → (stimulus_form one).has_level ≡ has_level →
     IsFormat 15 (applied_fields setup one has_level) field_bytes (IsStimulus setup one has_level)
@@ -152,44 +149,28 @@ event_format setup (tags.Stimulus one) = applied_format setup one (stimulus_form
 
 -- the tag of such an event is that tag
 tag_told : (setup : Setup) (tag : Tag) (event : Event) → CanSpell setup tag event → tag_of_event event ≡ tag
-tag_told setup tags.Look event can = ap tag_of_event can.1
-tag_told setup tags.Ack event can = ap tag_of_event can
 tag_told setup (tags.Stimulus one) event can =
     ap tag_of_event can.1
     ∙ tag_again one (number_of event) ((stimulus_form one).has_level && level_of event)
-tag_told setup _ event can = ap tag_of_event can.2
-
--- what an image step is, by the tag of its event
-spelled_to : (setup : Setup) (event : Event) → FitsField event → IsInRange setup event → IsScriptSector event →
-    CanSpell setup (tag_of_event event) event
-spelled_to setup (Memory access) fits is sector = (access, (fits, is), refl)
-spelled_to setup (Port access) fits is sector = (access, (fits, is), refl)
-spelled_to setup (LookAt kind addr smm) fits is sector = (fits, refl)
-spelled_to setup Ack fits is sector = refl
-spelled_to setup (Time moment) fits is sector = (moment, is, refl)
-spelled_to setup (Wide access) fits is sector = (access, is, refl)
-spelled_to setup (Pulses count) fits is sector = ((omega arith, grind (arith, nat_tests)), refl)
-spelled_to setup (BadSector sector) fits is few = ((omega arith, grind (arith, nat_tests)), refl)
-spelled_to setup _ fits is sector = ((fits, is), refl)
+tag_told setup tag event can = grind (arith, nat_tests)
 
 IsGoodEvent : Setup → Event → Type 0
 IsGoodEvent setup event = FitsField event × IsInRange setup event × IsScriptSector event
 
+-- what an image step is, by the tag of its event
+spelled_to : (setup : Setup) (event : Event) → IsGoodEvent setup event → CanSpell setup (tag_of_event event) event
+unfolding IsGoodEvent
+spelled_to setup (Memory access) is = (access, (is.0, is.1), refl)
+spelled_to setup (Port access) is = (access, (is.0, is.1), refl)
+spelled_to setup (LookAt kind addr smm) is = (is.0, refl)
+spelled_to setup Ack is = refl
+spelled_to setup (Time moment) is = (moment, is.1, refl)
+spelled_to setup (Wide access) is = (access, is.1, refl)
+spelled_to setup _ is = (grind (arith, nat_tests), refl)
+
 spelled_from : (setup : Setup) (event : Event) → CanSpell setup (tag_of_event event) event → IsGoodEvent setup event
 unfolding IsGoodEvent
-spelled_from setup (Memory access) can =
-    let same : can.0 ≡ access = cc in
-    let is = subst CanSpellMemory same can.1 in (is.0, is.1, tt)
-spelled_from setup (Port access) can =
-    let same : can.0 ≡ access = cc in
-    let is = subst CanSpellPort same can.1 in (is.0, is.1, tt)
-spelled_from setup (LookAt kind addr smm) can = (can.0, tt, tt)
-spelled_from setup Ack can = (tt, tt, tt)
-spelled_from setup (Time moment) can = let same : can.0 ≡ moment = cc in (tt, subst IsMoment same can.1, tt)
-spelled_from setup (Wide access) can = let same : can.0 ≡ access = cc in (tt, subst IsWideAccess same can.1, tt)
-spelled_from setup (Pulses count) can = let had = can.0.1 in (tt, grind (arith, nat_tests), tt)
-spelled_from setup (BadSector sector) can = let had = can.0.1 in (tt, tt, grind (arith, nat_tests))
-spelled_from setup _ can = (can.0.0, can.0.1, tt)
+spelled_from setup event can = grind (arith, nat_tests)
 
 pub step_format : (setup : Setup) → IsFormat 17 (step_fields setup) step_bytes (IsImageStep setup)
 unfolding step_fields IsGoodEvent
@@ -200,7 +181,7 @@ step_format setup =
     last_field (λ event. record { actor = actor; event = event }) (event_format setup tag))
     (λ step is. (
       (step.actor, (omega arith, is.actor)) & (tag_of_event step.event, tt)
-          & (step.event, spelled_to setup step.event is.fits is.event is.sector),
+          & (step.event, spelled_to setup step.event (is.fits, is.event, is.sector)),
       refl,
     ))
     (λ t.
