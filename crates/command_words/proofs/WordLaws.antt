@@ -1,6 +1,5 @@
 -- The words that ask for a command are those that a user writes.
-use Rattle.std.proofs.Common.{◌≡◌, ℕ, Bool, true, false, List, [], ◌∷◌, Some, refl, sym, ◌∙◌, subst, arith, codes}
-use Rattle.std.proofs.Common.{decimal}
+use Rattle.std.proofs.Common.{◌≡◌, ℕ, Bool, true, List, [], ◌∷◌, Some, refl, arith, codes, decimal}
 use Rattle.std.proofs.lemmas.Bool.Decides.{nat_tests}
 use Rattle.script_spec.specs.Common.{parse_decimal, parse_hex}
 use Rattle.script_spec.proofs.Chains.{by_word}
@@ -18,22 +17,17 @@ Asks words command = IsCommand command × AreWordsOf words command
 -- with the name of one file, and with those of two
 one_read : (verb : List ℕ) (named : List ℕ → Command) → ((name : List ℕ) → Asks (verb ∷ name ∷ []) (named name)) →
     (words : List (List ℕ)) (command : Command) → with_name named words ≡ Some command → Asks (verb ∷ words) command
-one_read verb named each (name ∷ []) command e =
-    subst (Asks (verb ∷ name ∷ [])) (some_is (named name) command e) (each name)
-one_read verb named each _ command e = absurd cc
+one_read verb named each words command e = grind (arith, nat_tests)
 
 two_read : (verb : List ℕ) (named : List ℕ → List ℕ → Command) →
     ((name other : List ℕ) → Asks (verb ∷ name ∷ other ∷ []) (named name other)) → (words : List (List ℕ))
     (command : Command) → with_names named words ≡ Some command → Asks (verb ∷ words) command
-two_read verb named each (name ∷ other ∷ []) command e =
-    subst (Asks (verb ∷ name ∷ other ∷ [])) (some_is (named name other) command e) (each name other)
-two_read verb named each _ command e = absurd cc
+two_read verb named each words command e = grind (arith, nat_tests)
 
 make_read : (words : List (List ℕ)) (command : Command) → make_of words ≡ Some command
     → Asks (codes "make" ∷ words) command
 unfolding make_of
-make_read (word ∷ []) command e = grind (arith, nat_tests, then_said, decimal_read)
-make_read _ command e = absurd cc
+make_read words command e = grind (arith, nat_tests, then_said, decimal_read)
 
 transfer_is : (transfer : Transfer) → is_transfer transfer ≡ true → IsTransfer transfer
 transfer_is transfer e = grind (arith, nat_tests)
@@ -89,8 +83,7 @@ made_back rounds there = grind (arith, nat_tests, decimal_back)
 
 direction_back : (to_memory : Bool) → direction_of (direction_word to_memory) ≡ Some to_memory
 unfolding direction_of
-direction_back true = refl
-direction_back false = refl
+direction_back to_memory = grind (arith, nat_tests)
 
 transfer_back : (transfer : Transfer) → IsTransfer transfer → is_transfer transfer ≡ true
 transfer_back transfer there = grind (arith, nat_tests)
@@ -103,22 +96,14 @@ unfolding dma_of
 dma_back script digits transfer there address =
     grind (arith, nat_tests, direction_back, decimal_back, transfer_back)
 
-as_words : (words written : List (List ℕ)) (command : Command) → words ≡ written → command_of written ≡ Some command →
-    command_of words ≡ Some command
-as_words words written command is asks =
-    subst (λ (words' : List (List ℕ)). command_of words' ≡ Some command) (sym is) asks
-
 asked_back : (words : List (List ℕ)) (command : Command) → IsCommand command → AreWordsOf words command →
     command_of words ≡ Some command
 unfolding command_of
-asked_back words (Make rounds) there is = as_words words _ (Make rounds) is (made_back rounds there)
-asked_back words (Dma script transfer) there is =
-    as_words words _ (Dma script transfer) is.2 (dma_back script is.0 transfer there is.1)
-asked_back words command there is = as_words words _ command is refl
+asked_back words command there is = grind (arith, nat_tests, made_back, dma_back)
 
 pub words_decide : WordsDecide
 words_decide = λ words command. (all_read words command, λ asks. asked_back words command asks.0 asks.1)
 
 pub one_command : OneCommand
 one_command = λ words command other there there_too asks asks_too.
-    some_is command other (sym (asked_back words command there asks) ∙ asked_back words other there_too asks_too)
+    cc (asked_back words command there asks, asked_back words other there_too asks_too)
