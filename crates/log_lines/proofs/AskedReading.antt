@@ -1,6 +1,6 @@
 -- What a statement that was read asks.
 use Rattle.board_prelude.proofs.Common.{nat_tests, IsMoment, Event, Time, Stimulus, stimulus_form}
-use Rattle.std.proofs.Common.{◌≡◌, ◌≢◌, ℕ, ◌<◌, ◌≤◌, true, Option, Some, None, List, refl, subst, arith, MatchOption}
+use Rattle.std.proofs.Common.{◌≡◌, ◌≢◌, ℕ, ◌<◌, ◌≤◌, true, Option, Some, None, List, subst, arith, MatchOption}
 use Rattle.script_spec.specs.Common.{HasForm, ask}
 use Rattle.script_spec.proofs.LineReading.{one_item}
 use Rattle.script_lines.specs.declared.item.Asked.{Asked}
@@ -41,24 +41,16 @@ no_number one number level event few known high is = let said = is.said 0 in gri
 -- a line that says another item asks nothing
 pub not_asked : (version seq : ℕ) (text : List ℕ) (item : Read) (event : Event) → HasForm version text (line_said item)
     → ((actor : ℕ) (asked : Asked) → item ≢ Asks actor asked) → ¬ IsAsked version text seq event
-not_asked version seq text (Asks actor asked) event has other is = other actor asked refl
-not_asked version seq text _ event has other is = absurd (cc (one_item version text _ (ask seq event) has is.has))
-
--- whatever the processor is
-said_again : (asked : Asked) (actor seq other : ℕ) (event : Event) → asked_said actor asked ≡ ask seq event
-    → asked_said other asked ≡ ask other event
-said_again asked actor seq other event same = grind (arith, nat_tests)
+not_asked version seq text item event has other is =
+    let same = one_item version text (line_said item) (ask seq event) has is.has in grind (arith, nat_tests, other)
 
 pub asked_exact : (version actor : ℕ) (text : List ℕ) (asked : Asked) (found : Option (ℕ × Event)) →
     HasForm version text (asked_said actor asked) → MatchOption found ((event : Event) → ¬ IsEventOf asked event)
     (λ p. (p.0 ≡ actor) × IsEventOf asked p.1) →
     MatchOption found ((seq : ℕ) (event : Event) → ¬ IsAsked version text seq event) (λ p. IsAsked version text p.0 p.1)
 asked_exact version actor text asked None has exact = λ seq event is.
-    exact event (record {
-      said = λ other. said_again asked actor seq other event
-          (one_item version text (asked_said actor asked) (ask seq event) has is.has);
-      fits = is.fits;
-    })
+    let same = one_item version text (asked_said actor asked) (ask seq event) has is.has in
+    exact event (record { said = λ other. grind (arith, nat_tests, same); fits = is.fits })
 asked_exact version actor text asked (Some p) has exact = record {
   has = rw exact.0 (subst (HasForm version text) (exact.1.said actor) has);
   fits = exact.1.fits;

@@ -1,5 +1,5 @@
 -- Where a text is cut.
-use Rattle.board_prelude.proofs.Common.{nat_tests, position_or_len, option_map, take_rest}
+use Rattle.board_prelude.proofs.Common.{nat_tests, position_or_len, take_rest}
 use Rattle.std.proofs.Common.{◌≡◌, ℕ, ◌+◌, ◌-◌, Bool, cond, eqb, ltb, Option, Some, None, List, [], ◌∷◌, length, take}
 use Rattle.std.proofs.Common.{drop, refl, arith}
 use Rattle.std.proofs.lemmas.Option.{cond_some}
@@ -16,14 +16,10 @@ place_of mark text = position_or_len (is_mark mark) text
 abbrev cut_to : (place : ℕ) → List ℕ → Option (List ℕ × List ℕ)
 cut_to place text = cond (ltb place (length text)) (Some (take place text, drop (place + 1) text)) None
 
-cut_later : (c place : ℕ) (cs : List ℕ) → option_map (λ p. (c ∷ p.0, p.1)) (cut_to place cs) ≡ cut_to (1 + place)
-    (c ∷ cs)
-cut_later c place cs = grind (arith, nat_tests)
-
 cut_is : (mark : ℕ) (text : List ℕ) → cut mark text ≡ cut_to (place_of mark text) text
 unfolding cut
 cut_is mark [] = refl
-cut_is mark (c ∷ cs) = grind (arith, nat_tests, cut_is mark cs, cut_later c (place_of mark cs) cs)
+cut_is mark (c ∷ cs) = grind (arith, nat_tests, cut_is mark cs)
 
 abbrev place : ℕ → List ℕ → Option ℕ
 place mark text = cond (ltb (place_of mark text) (length text)) (Some (place_of mark text)) None
