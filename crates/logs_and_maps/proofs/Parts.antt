@@ -1,30 +1,23 @@
 -- The lines of a history and of its parts.
-use Rattle.std.proofs.Common.{add-zero, ◌≡◌, ℕ, ◌+◌, ◌<◌, ◌++◌, List, [], ◌∷◌, length, reverse, take, get_or, refl, sym}
-use Rattle.std.proofs.Common.{ap, ◌∙◌, append_assoc, arith}
-use Rattle.board_prelude.proofs.Common.{reverse-append, append-nil, take_at_read, common_steps, Entry, line_feed}
+use Rattle.std.proofs.Common.{◌≡◌, ℕ, ◌+◌, ◌<◌, ◌++◌, List, [], ◌∷◌, length, reverse, take, get_or, append_assoc, arith}
+use Rattle.board_prelude.proofs.Common.{reverse-append, append-nil, nat_tests, common_steps, Entry, line_feed}
 use Rattle.board_prelude.proofs.Common.{line_text, lines_text, log_text}
 use Rattle.logs_and_maps.specs.LinesFrom.{lines_from}
-use Rattle.logs_and_maps.proofs.Lines.{lines_text-newest}
 
 pub lines_of_parts : (first : ℕ) (early late : List Entry) →
     lines_from first (early ++ late) ≡ lines_from first early ++ lines_from (first + length early) late
 unfolding lines_from
-lines_of_parts first [] late = rw (add-zero first) refl
+lines_of_parts first [] late = grind (arith, nat_tests)
 lines_of_parts first (entry ∷ early) late =
-    let same : first + 1 + length early ≡ first + length (entry ∷ early) = omega arith in
-    rw (lines_of_parts (first + 1) early late, same) (simp append_assoc)
+    grind (arith, nat_tests, append_assoc, lines_of_parts (first + 1) early late)
 
 lines_after : (entries before : List Entry) →
     lines_text (reverse entries ++ before) ≡ lines_text before ++ lines_from (length before + 1) entries
-unfolding lines_from
-lines_after [] before = sym (append-nil (lines_text before))
+unfolding lines_from lines_text
+lines_after [] before = grind (arith, nat_tests, append-nil)
 lines_after (entry ∷ entries) before =
-    let turned : reverse (entry ∷ entries) ++ before ≡ reverse entries ++ (entry ∷ before) =
-    ap (λ (h : List Entry). h ++ before) (reverse-append (entry ∷ []) entries)
-    ∙ append_assoc (reverse entries) (entry ∷ []) before in
-    let next : length (entry ∷ before) + 1 ≡ length before + 1 + 1 = omega arith in
-    rw (turned, lines_after entries (entry ∷ before), next, lines_text-newest before entry (length before) refl)
-    (simp append_assoc)
+    let turned = reverse-append (entry ∷ []) entries in
+    grind (arith, nat_tests, append_assoc, turned, lines_after entries (entry ∷ before))
 
 pub lines_of_history : (entries : List Entry) → lines_text (reverse entries) ≡ lines_from 1 entries
 unfolding lines_text
@@ -41,13 +34,7 @@ lines_from-one_more :
     → lines_from first (take (i + 1) entries)
     ≡ lines_from first (take i entries) ++ (line_text (first + i) (get_or entries i default) ++ line_feed ∷ [])
 unfolding lines_from
-lines_from-one_more first entries i default inside =
-    let front : length (take i entries) ≡ i = grind (arith, common_steps) in
-    rw (
-      (take_at_read entries i default inside).1,
-      lines_of_parts first (take i entries) (get_or entries i default ∷ []),
-      front,
-    ) (simp append-nil)
+lines_from-one_more first entries i default inside = grind (arith, nat_tests, common_steps, lines_of_parts)
 
 -- the line of the entry at i makes the lines one entry longer
 pub appended_line : (first : ℕ) (entries : List Entry) (i : ℕ) (default : Entry) → i < length entries →

@@ -1,12 +1,10 @@
 -- The lines of a log, read one by one.
-use Rattle.board_prelude.proofs.Common.{length-reverse, nat_tests, digits, reverse-append, Entry, line_feed, line_text}
-use Rattle.board_prelude.proofs.Common.{lines_text}
-use Rattle.std.proofs.Common.{◌≡◌, ◌≢◌, ℕ, ◌+◌, Option, Some, None, List, [], ◌∷◌, ◌++◌, length, reverse, refl, sym, ap}
-use Rattle.std.proofs.Common.{subst, ◌∙◌, inl, inr, append_assoc, arith, MatchOption}
+use Rattle.board_prelude.proofs.Common.{nat_tests, common_steps, digits, Entry, line_feed, line_text, lines_text}
+use Rattle.std.proofs.Common.{◌≡◌, ◌≢◌, ℕ, ◌+◌, Option, Some, None, List, [], ◌∷◌, ◌++◌, length, reverse, refl, sym}
+use Rattle.std.proofs.Common.{inl, inr, arith, MatchOption}
 use Rattle.script_spec.specs.Common.{IsVersion, IsWellFormed, cut}
 use Rattle.script_spec.proofs.Common.{lacks-line, line_whole, some_is, word_is, cut_field, cut_joined}
 use Rattle.logs_and_maps.specs.Reading.{heading, parse_heading, HasEntry, HasNoEntry}
-use Rattle.logs_and_maps.proofs.Lines.{lines_text-newest}
 
 -- ---- the next line
 
@@ -19,39 +17,23 @@ entry_cut version n rest entry after has =
 pub none_uncut : (version n : ℕ) (rest : List ℕ) → None ≡ cut line_feed rest → HasNoEntry version n rest
 none_uncut version n rest uncut entry after has = absurd (cc (uncut, entry_cut version n rest entry after has))
 
--- what one line says
-abbrev IsRead : (version n : ℕ) → (line : List ℕ) → Option Entry → Type 0
-IsRead version n line read =
+-- the line before the next line feed has an entry, or none
+pub line_told : (version n : ℕ) (rest line after : List ℕ) (read : Option Entry) →
+    Some (line, after) ≡ cut line_feed rest →
     MatchOption read ((entry : Entry) → IsWellFormed version entry → line ≢ line_text n entry)
-    (λ entry. IsWellFormed version entry × (line ≡ line_text n entry))
-
-pub has_entry : (version n : ℕ) (rest line after : List ℕ) (read : Option Entry) (entry : Entry)
-    → Some (line, after) ≡ cut line_feed rest
-    → IsRead version n line read → read ≡ Some entry → HasEntry version n rest entry after
-has_entry version n rest line after read entry parts exact is =
-    let e = subst (IsRead version n line) is exact in
-    record { formed = e.0; line = rw (← e.1) (cut_joined line_feed rest line after (sym parts)) }
-
-pub no_entry : (version n : ℕ) (rest line after : List ℕ) (read : Option Entry) →
-    Some (line, after) ≡ cut line_feed rest → IsRead version n line read → read ≡ None → HasNoEntry version n rest
-no_entry version n rest line after read parts exact is entry later has =
-    let e = subst (IsRead version n line) is exact in
-    let same = some_is (line, after) (line_text n entry, later) (parts ∙ entry_cut version n rest entry later has) in
-    e entry has.formed (ap (λ (p : List ℕ × List ℕ). p.0) same)
+    (λ entry. IsWellFormed version entry × (line ≡ line_text n entry)) →
+    MatchOption read (HasNoEntry version n rest) (λ entry. HasEntry version n rest entry after)
+line_told version n rest line after read parts exact =
+    let joined = cut_joined line_feed rest line after (sym parts) in
+    grind (arith, nat_tests, lacks-line, line_whole, cut_field)
 
 -- ---- the entries so far
 
 pub lines_more : (version n : ℕ) (lines rest after : List ℕ) (entries : List Entry) (entry : Entry) →
     n ≡ length entries + 1 → lines ≡ lines_text (reverse entries) ++ rest → HasEntry version n rest entry after →
     lines ≡ lines_text (reverse (entries ++ entry ∷ [])) ++ after
-lines_more version n lines rest after entries entry place cut has =
-    rw (
-      cut,
-      has.line,
-      place,
-      reverse-append entries (entry ∷ []),
-      lines_text-newest (reverse entries) entry (length entries) (length-reverse entries),
-    ) (simp append_assoc)
+unfolding lines_text
+lines_more version n lines rest after entries entry place cut has = grind (arith, nat_tests, common_steps)
 
 -- ---- headings
 

@@ -1,10 +1,11 @@
 -- Where the bytes of a log stop being one.
-use Rattle.board_prelude.proofs.Common.{get_or-append_seam, common_steps, nat_tests, cases_lt, get_or_append_left}
-use Rattle.board_prelude.proofs.Common.{append_cancel_left, length-append, All-nil, All-cons, All-head, All-tail}
-use Rattle.board_prelude.proofs.Common.{All-push, Entry, line_feed, line_text, lines_text, log_text}
-use Rattle.std.proofs.Common.{◌≡◌, ◌≢◌, ℕ, ◌+◌, ◌<◌, true, Some, None, List, [], ◌∷◌, ◌++◌, length, reverse, get_or}
-use Rattle.std.proofs.Common.{All, refl, sym, ap, subst, ◌∙◌, inl, inr, append_assoc, append-nil, arith, Result, Ok}
-use Rattle.std.proofs.Common.{Err, IfErr, IsErrAnd, codes, decimal, drop}
+use Rattle.board_prelude.proofs.Common.{common_steps, nat_tests, reverse-append, reverse-reverse, append_cancel_left}
+use Rattle.board_prelude.proofs.Common.{length-append, All-nil, All-cons, All-head, All-tail, All-push, Entry}
+use Rattle.board_prelude.proofs.Common.{line_feed, line_text, lines_text, log_text}
+use Rattle.std.proofs.Common.{◌≡◌, ◌≢◌, ℕ, ◌+◌, true, Some, None, List, [], ◌∷◌, ◌++◌, length, reverse, get_or, All}
+use Rattle.std.proofs.Common.{refl, sym, ap, subst, ◌∙◌, inl, inr, append_assoc, append-nil, arith, Result, IfErr}
+use Rattle.std.proofs.Common.{IsErrAnd, codes, decimal, drop}
+use Rattle.std.proofs.lemmas.List.{same_from_push}
 use Rattle.script_spec.specs.Common.{text_of_lines, IsOneLine, IsVersion, IsWellFormed, IsLogText, IsSomeLog, IsBadLog}
 use Rattle.script_spec.specs.Common.{cut}
 use Rattle.script_spec.proofs.Common.{lacks, lacks-append, lacks-word, decimal_word, one_line, compared, log_lines}
@@ -33,36 +34,29 @@ each_line version history = grind (arith, nat_tests, All-cons, one_line, heading
 -- lines that begin a log are its first
 begins : (lines : List (List ℕ)) (later : List ℕ) (version : ℕ) (history : List Entry) → All IsOneLine lines
     → text_of_lines lines ++ later ≡ log_text version history → (more : List (List ℕ)) ×
-    (whole version history ≡ lines ++ more)
+    (whole version history ≡ lines ++ more) × (later ≡ text_of_lines more)
 begins lines later version history each same =
-    elim (compared lines later (whole version history) [] each (each_line version history)
-    (same ∙ log_is version history ∙ sym (append-nil (text_of_lines (whole version history))))) [
-      | inl all ↦ ([], sym all ∙ sym (append-nil lines))
-      | inr (inl on) ↦ (on.this ∷ on.more, on.is)
-      | inr (inr on) ↦ absurd (nothing_more on.this (text_of_lines on.more ++ later) on.whole)
-    ]
+    let cases = compared lines later (whole version history) [] each (each_line version history) in
+    grind (arith, nat_tests, cases, log_is version history, append-nil, append_assoc, append_cancel_left, nothing_more)
 
 lines_length : (history : List Entry) → length (log_lines history) ≡ length history
 lines_length [] = refl
 lines_length (entry ∷ before) = grind (arith, common_steps, length-append, lines_length before)
 
-get_at : (lines : List (List ℕ)) (this : List ℕ) (more : List (List ℕ)) (k : ℕ) → k ≡ length lines
-    → get_or (lines ++ this ∷ more) k [] ≡ this
-get_at lines this more k is = rw is (get_or-append_seam lines this more [])
-
 -- each line of a log is that of an entry
-line_at : (P : Entry → Type 0) (history : List Entry) (k : ℕ) → All P history → k < length history
-    → (entry : Entry) × P entry × (get_or (log_lines history) k [] ≡ line_text (k + 1) entry)
-line_at P [] k each lt = absurd (omega (arith, lt))
-line_at P (entry ∷ before) k each lt = elim (cases_lt k (length before)) [
-  | inl earlier ↦
-      let r = line_at P before k (All-tail P entry before each) earlier in
-      let inside : k < length (log_lines before) = omega (arith, earlier, lines_length before) in
-      (r.0, r.1, get_or_append_left (log_lines before) (line_text (length before + 1) entry ∷ []) [] k inside ∙ r.2)
-  | inr last ↦
-      let at_end : k ≡ length before = omega (arith, lt, last) in
-      (entry, All-head P entry before each, rw at_end (get_at (log_lines before) _ [] _ (sym (lines_length before))))
-]
+line_said : (P : Entry → Type 0) (entries : List Entry) (front : List (List ℕ)) (this : List ℕ)
+    (later : List (List ℕ)) → All P entries → log_lines entries ≡ front ++ this ∷ reverse later
+    → (entry : Entry) × P entry × (this ≡ line_text (length front + 1) entry)
+line_said P [] front this later each is =
+    absurd (omega (arith, ap length is, length-append front (this ∷ reverse later)))
+line_said P (entry ∷ before) front this [] each is =
+    let cut = same_from_push (log_lines before) front (line_text (length before + 1) entry) this is in
+    (entry, All-head P entry before each, sym cut.1 ∙ rw (← cut.0, lines_length before) refl)
+line_said P (entry ∷ before) front this (last ∷ later) each is =
+    let moved = reverse-append (last ∷ []) later in
+    let cut = same_from_push (log_lines before) (front ++ this ∷ reverse later)
+    (line_text (length before + 1) entry) last (grind (arith, nat_tests, common_steps, is, moved)) in
+    line_said P before front this later (All-tail P entry before each) cut.0
 
 -- no log goes on where no entry's line does
 clash : (version other : ℕ) (history entries : List Entry) (this : List ℕ) (more : List (List ℕ)) (rest after : List ℕ)
@@ -75,13 +69,9 @@ clash version other history entries this more rest after known its each same non
     let first : heading other ≡ heading version = ap (λ (lines : List (List ℕ)). get_or lines 0 []) same in
     let versions : other ≡ version =
     some_is other version (sym (version_known other its) ∙ ap parse_heading first ∙ version_known version known) in
-    let count = ap length later ∙ length-append (log_lines history) (this ∷ more) in
-    let inside : length history < length entries = omega (arith, count, lines_length history, lines_length entries) in
-    let found = line_at (IsWellFormed other) entries (length history) each inside in
-    let line : this ≡ line_text (length history + 1) found.0 =
-    sym (get_at (log_lines history) this more (length history) (sym (lines_length history)))
-    ∙ ap (λ (lines : List (List ℕ)). get_or lines (length history) []) (sym later)
-    ∙ found.2 in
+    let found = line_said (IsWellFormed other) entries (log_lines history) this (reverse more) each
+    (rw (reverse-reverse more) later) in
+    let line : this ≡ line_text (length history + 1) found.0 = rw (← (lines_length history)) found.2 in
     none found.0 after (record {
       formed = subst (λ (v : ℕ). IsWellFormed v found.0) versions found.1;
       line = is ∙ ap (λ (text : List ℕ). text ++ line_feed ∷ after) line;
@@ -194,5 +184,4 @@ module _ (bytes heading_line lines : List ℕ) (version : ℕ) (parts : Some (he
 
 pub passed_on : {T : Type 0} (result : Result T LogFault) (fault : LogFault) (Named : LogFault → Type 0) →
     IsErrAnd result (λ given. given ≡ fault) → Named fault → IfErr result Named
-passed_on (Ok value) fault Named is named = tt
-passed_on (Err given) fault Named is named = subst Named (sym is) named
+passed_on result fault Named is named = grind (arith, nat_tests)

@@ -1,4 +1,4 @@
-use Rattle.logs_and_maps.proofs.ReadLines.{none_uncut, has_entry, no_entry}
+use Rattle.logs_and_maps.proofs.ReadLines.{none_uncut, line_told}
 use Rattle.logs_and_maps.proofs.read.next_entry.Goals as goal
 
 pub returns-in_default-clause-exact : goal.returns-in_default-clause-exact
@@ -6,11 +6,10 @@ returns-in_default-clause-exact c = none_uncut c.args.version c.args.n c.args.re
 
 pub returns-in-Some-2-clause-exact : goal.returns-in-Some-2-clause-exact
 returns-in-Some-2-clause-exact c =
-    has_entry c.args.version c.args.n c.args.rest.now c.in-Some.line.now c.in-Some.after.now c.in_ok-entry.field-0
-    c.in-Some-2.entry
-    c.in-Some.ensures.parts c.in_ok-entry.ensures.exact c.in-Some-2.is
+    rw c.in-Some-2.is at (line_told c.args.version c.args.n c.args.rest.now c.in-Some.line.now c.in-Some.after.now
+    c.in_ok-entry.field-0 c.in-Some.ensures.parts c.in_ok-entry.ensures.exact)
 
 pub returns-in-None-clause-exact : goal.returns-in-None-clause-exact
 returns-in-None-clause-exact c =
-    no_entry c.args.version c.args.n c.args.rest.now c.in-Some.line.now c.in-Some.after.now c.in_ok-entry.field-0
-    c.in-Some.ensures.parts c.in_ok-entry.ensures.exact c.in-None.is
+    rw c.in-None.is at (line_told c.args.version c.args.n c.args.rest.now c.in-Some.line.now c.in-Some.after.now
+    c.in_ok-entry.field-0 c.in-Some.ensures.parts c.in_ok-entry.ensures.exact)

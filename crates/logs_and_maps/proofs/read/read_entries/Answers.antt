@@ -1,4 +1,5 @@
-use Rattle.std.proofs.Common.{[], ◌∷◌, length, subst, arith, MatchOption, length-append, refl, ap, ◌∙◌, reverse}
+use Rattle.std.proofs.lemmas.Bool.Decides.{nat_tests}
+use Rattle.std.proofs.Common.{[], ◌∷◌, length, subst, arith, MatchOption, length-append, ap, ◌∙◌, reverse}
 use Rattle.board_prelude.proofs.Common.{reverse-append, All-cons, line_feed, line_text, lines_text}
 use Rattle.script_spec.specs.Common.{IsWellFormed}
 use Rattle.logs_and_maps.specs.Reading.{HasEntry, HasNoEntry}
@@ -7,12 +8,7 @@ use Rattle.logs_and_maps.proofs.read.read_entries.Goals as goal
 
 pub loop-rest-init : goal.loop-rest-init
 unfolding lines_text
-loop-rest-init c = rw c.new-entries.ensures.items (record {
-  cut = refl;
-  each = λ k d lt. absurd (omega (arith, lt));
-  place = omega arith;
-  room = omega arith;
-})
+loop-rest-init c = grind (arith, nat_tests, lines_text)
 
 pub loop-rest-preserved : goal.loop-rest-preserved
 loop-rest-preserved c =

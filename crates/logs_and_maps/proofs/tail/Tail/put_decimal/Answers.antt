@@ -1,4 +1,5 @@
-use Rattle.std.proofs.Common.{ℕ, ◌≤◌, ◌<◌, ◌^◌, ap, arith, ◌∙◌, length, decimal, length-append, length-drop}
+use Rattle.std.proofs.lemmas.Bool.Decides.{nat_tests}
+use Rattle.std.proofs.Common.{ℕ, ◌≤◌, ◌<◌, ◌^◌, arith, length, decimal, length-append, length-drop}
 use Rattle.std.proofs.lemmas.Fmt.{IsAscii-decimal, length-decimal-le}
 use Rattle.std.proofs.lemmas.Str.{IsAscii-append}
 use Rattle.logs_and_maps.proofs.tail.Tail.put_decimal.Goals as goal
@@ -7,11 +8,7 @@ long_line : (n : ℕ) → n < 2 ^ 64 → length (decimal n) ≤ 20
 long_line n fits = length-decimal-le 20 n (omega arith) (omega (arith, fits)) fits
 
 pub write_digits-start-requires : goal.write_digits-start-requires
-write_digits-start-requires c =
-    let long = long_line c.args.number c.ranges.number.fits in
-    let was = ap length c.self.view_is in
-    let cut = length-drop c.self.inside.start c.self.inside.bytes in
-    (omega (arith, long, was, cut, c.requires.room, c.self.invariant.0), omega (arith, c.self.invariant.0))
+write_digits-start-requires c = grind (arith, nat_tests, length-append, length-drop, long_line)
 
 pub invariant_of-self : goal.invariant_of-self
 invariant_of-self c =
@@ -22,8 +19,4 @@ invariant_of-self c =
     )
 
 pub returns-clause-length : goal.returns-clause-length
-returns-clause-length c =
-    let long = long_line c.args.number c.ranges.number.fits in
-    let was = ap length c.self.view_is in
-    let now = ap length c.write_digits-start.ensures.written ∙ length-append (decimal c.args.number) _ in
-    omega (arith, long, was, now)
+returns-clause-length c = grind (arith, nat_tests, length-append, length-drop, long_line)
