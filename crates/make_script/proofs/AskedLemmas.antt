@@ -6,8 +6,8 @@ use Rattle.board_prelude.proofs.Common.{line_feed, digits, ltb-true, not-true, A
 use Rattle.board_prelude.proofs.Common.{Moment, bytes_of, weekday_of, days_since_1980, days_of_years, days_of_months}
 use Rattle.board_prelude.proofs.Common.{Event, Memory, Port, Ack, Pulses, Time, is_write, event_text}
 use Rattle.std.proofs.Common.{ℕ, ◌≡◌, ◌+◌, ◌*◌, ◌<◌, ◌≤◌, true, false, None, List, [], ◌∷◌, ◌++◌, length, map, filter}
-use Rattle.std.proofs.Common.{sum_by, All, refl, sym, ap, ◌∙◌, inl, inr, append_assoc, append-nil, arith, zero, suc}
-use Rattle.std.proofs.Common.{◌%◌, ◌^◌, Bool, ◌&&◌, not, ltb, eqb}
+use Rattle.std.proofs.Common.{sum_by, All, refl, sym, ◌∙◌, inl, inr, append_assoc, append-nil, arith, zero, suc, ◌%◌}
+use Rattle.std.proofs.Common.{◌^◌, Bool, ◌&&◌, not, ltb, eqb}
 use Rattle.script_spec.specs.Common.{lines_of, text_of_lines, Item, Ask, StandsFor, IsEventForm, item_text, is_phase}
 use Rattle.script_spec.specs.Common.{is_statement, cards_of, is_event_in_range, is_event_placed, is_cpus_above}
 use Rattle.script_spec.specs.Common.{is_card_there, pulses_of, pulses_of_event, passes_limits, least_reason, most_bytes}
@@ -33,13 +33,7 @@ pub lines-back : (lines : List (List ℕ)) → list_all (λ line. lacks line_fee
     → lines_of (text_of_lines lines) ≡ lines
 unfolding lines_of
 lines-back [] lack = refl
-lines-back (line ∷ later) lack =
-    let parts : (lacks line_feed line ≡ true) × (list_all (λ l. lacks line_feed l) later ≡ true) =
-    and_parts (lacks line_feed line) (list_all (λ l. lacks line_feed l) later) lack
-    in
-    ap lines_of (append_assoc line (line_feed ∷ []) (text_of_lines later))
-    ∙ line-cut line (text_of_lines later) parts.0
-    ∙ ap (λ (ls : List (List ℕ)). line ∷ ls) (lines-back later parts.1)
+lines-back (line ∷ later) lack = grind (arith, nat_tests, append_assoc, line-cut, and_parts, lines-back later)
 
 -- ---- a statement
 
@@ -156,12 +150,6 @@ fits_event (Pulses count) = ltb count 5
 fits_event (Time moment) = fits_moment moment
 fits_event _ = false
 
-no-wire : (event : Event) → fits_event event ≡ true → (before : List Item) → is_card_there before event ≡ true
-no-wire event fits before = grind (arith, nat_tests)
-
-few-pulses : (event : Event) → fits_event event ≡ true → pulses_of_event event ≤ 4
-few-pulses event fits = grind (arith, nat_tests)
-
 -- what is seen of a statement without its numbers
 abbrev is_line : Statement → Bool
 is_line statement =
@@ -171,13 +159,8 @@ is_line statement =
 abbrev is_fine : Statement → Bool
 is_fine statement = is_line statement && is_event_placed statement.event && fits_event statement.event
 
-fine-with : (statement : Statement) → is_line statement ≡ true → is_event_placed statement.event ≡ true
-    → IsEventForm 1 statement.event → ((before : List Item) → is_card_there before statement.event ≡ true)
-    → pulses_of_event statement.event ≤ 4 → IsFine statement
-fine-with statement line placed form card few = grind (arith, nat_tests, and_parts, said, ltb-true, not-true)
-
 fine : (statement : Statement) → is_fine statement ≡ true → IsFine statement
-fine statement test = grind (arith, nat_tests, and_parts, fine-with, no-wire, few-pulses)
+fine statement test = grind (arith, nat_tests, and_parts, said, ltb-true, not-true)
 
 all-fine : (statements : List Statement) → list_all is_fine statements ≡ true → All IsFine statements
 all-fine [] test = All-nil IsFine

@@ -1,8 +1,8 @@
 -- The text that is made, round after round, is that of the made script.
 use Rattle.script_spec.specs.Lines.{text_of_lines}
-use Rattle.std.proofs.Common.{Result, Ok, Err, OnOk, ◌+◌, add-one, ℕ, zero, suc, ◌≡◌, ◌*◌, ◌%◌, ◌/◌, ◌<◌, ◌≤◌, true}
-use Rattle.std.proofs.Common.{false, List, [], ◌∷◌, ◌++◌, length, map, Some, None, refl, sym, ap, ◌∙◌, inl, inr}
-use Rattle.std.proofs.Common.{append_assoc, append-nil, arith, codes}
+use Rattle.std.proofs.Common.{Result, OnOk, ◌+◌, add-one, ℕ, zero, suc, ◌≡◌, ◌*◌, ◌%◌, ◌/◌, ◌<◌, ◌≤◌, true, false, List}
+use Rattle.std.proofs.Common.{[], ◌∷◌, ◌++◌, length, map, Some, None, refl, sym, ap, ◌∙◌, inl, inr, append_assoc}
+use Rattle.std.proofs.Common.{append-nil, arith, codes}
 use Rattle.board_prelude.proofs.Common.{flat_map-append, nat_tests, find, list_all, digits, and_from, map-append}
 use Rattle.board_prelude.proofs.Common.{length-append, All-nil, All-cons, length-map-range_with_len, IsRomSize, IsDisk}
 use Rattle.board_prelude.proofs.Common.{MemoryBase, IoBase, line_feed, event_text, Statement}
@@ -37,9 +37,8 @@ text-more i text new so_far round = rw (round, so_far, add-one) (simp (text-appe
 pub appended_pieces : {T E : Type 0} (r : Result T E) (old a b c rest one two three new whole : List ℕ) →
     one ≡ old ++ a → two ≡ one ++ b → three ≡ two ++ c → OnOk r (new ≡ three ++ rest) →
     whole ≡ a ++ (b ++ (c ++ rest)) → OnOk r (new ≡ old ++ whole)
-appended_pieces (Ok x) old a b c rest one two three new whole first second third last pieces =
-    rw (last, third, second, first, pieces) (simp append_assoc)
-appended_pieces (Err e) old a b c rest one two three new whole first second third last pieces = tt
+appended_pieces r old a b c rest one two three new whole first second third last pieces =
+    grind (arith, nat_tests, append_assoc)
 
 -- ---- each line is that of its statement
 
@@ -137,13 +136,11 @@ setup-read later items read =
 rounds-count : (n : ℕ) → length (statements_of_rounds n) ≡ 11 * n
 unfolding statements_of_rounds round_statements
 rounds-count zero = refl
-rounds-count (suc i) =
-    omega (arith, length-append (statements_of_rounds i) (round_statements i), rounds-count i)
+rounds-count (suc i) = grind (arith, nat_tests, length-append, rounds-count i)
 
 pub statement-count : StatementCount
 unfolding opening_events
-statement-count n =
-    omega (arith, length-append (map (asks 0) opening_events) (statements_of_rounds n), rounds-count n)
+statement-count n = grind (arith, nat_tests, length-append, rounds-count)
 
 said-by : (n : ℕ) → IsSaidBy (made_script n) (items_asked (made_statements n) setup_items)
 unfolding made_script
