@@ -31,20 +31,16 @@ unfolding target_recorded config_recorded
 denied_target said (Some (Register reg)) = refl
 denied_target said _ = refl
 
-not_denied : (target : Target) → (target_said target).denial ≡ 0
-not_denied (targets.Dram row) = refl
-not_denied _ = refl
-
-unreserved : (target : Target) → (target_said target).reserved ≡ 0
-unreserved (targets.Dram row) = refl
-unreserved _ = refl
+plain : (target : Target) → ((target_said target).denial ≡ 0) × ((target_said target).reserved ≡ 0)
+plain (targets.Dram row) = (refl, refl)
+plain _ = (refl, refl)
 
 not_reserved : (target : Target) (denial : Option Denial) → (with_denial (target_said target) denial).reserved ≡ 0
-not_reserved target denial = grind (arith, nat_tests, unreserved target)
+not_reserved target denial = grind (arith, nat_tests, plain target)
 
 denial_back : (target : Target) (denial : Option Denial) → denial_recorded (part_said target denial) ≡ Some denial
 unfolding denial_recorded part_said
-denial_back target denial = grind (arith, nat_tests, not_denied target)
+denial_back target denial = grind (arith, nat_tests, plain target)
 
 pub part_back : (part : Part) → FitsPart part → part_recorded (of_part part) ≡ Some part
 unfolding part_recorded part_said

@@ -1,12 +1,11 @@
 -- What the record of a reply says is this reply.
-use Rattle.std.proofs.Common.{◌≡◌, ℕ, ◌<◌, ◌≤◌, ◌^◌, Bool, false, Option, Some, None, length, All, refl, arith, lit<}
-use Rattle.std.proofs.Common.{IfSome}
+use Rattle.std.proofs.Common.{◌≡◌, ℕ, ◌<◌, ◌≤◌, ◌^◌, Bool, false, Option, Some, None, All, refl, arith, IfSome}
 use Rattle.board_prelude.proofs.Common.{nat_tests, Target, Device, Denial, bytes_of, Event, Memory, Wide, Port, Ack}
 use Rattle.board_prelude.proofs.Common.{Parts, Two, Three, Four, Reply, Bus, Saw, is_write, answers_outside, parts_list}
-use Rattle.board_prelude.proofs.Common.{parts_of as cut_of, bytes_few}
+use Rattle.board_prelude.proofs.Common.{bytes_few}
 use Rattle.board_spec.specs.declared.event.Event.TheVariants.{Look as LookAt}
 use Rattle.board_spec.specs.declared.event.Reply.TheVariants.{Parts as InParts}
-use Rattle.script_spec.specs.WellFormed.{FitsPart, IsBusReply, IsWideReply, IsLookReply, HasShape}
+use Rattle.script_spec.specs.WellFormed.{FitsPart, IsBusReply, IsLookReply, HasShape}
 use Rattle.board_records.specs.declared.reply.AfterStep.{AfterStep}
 use Rattle.board_records.specs.Replies.{record_said, bus_said, wide_said, look_said, blank}
 use Rattle.record_text.specs.Common.{bus_recorded, two_parts_recorded, three_parts_recorded, four_parts_recorded}
@@ -28,25 +27,10 @@ wide_back : (parts : Parts) (value : Option ℕ) (after : AfterStep) → All Fit
     reply_recorded (wide_said parts value after) ≡ Some (InParts parts value)
 unfolding reply_recorded form_recorded wide_recorded parts_recorded two_parts_recorded three_parts_recorded
     four_parts_recorded wide_said blank
-wide_back (Two a b) value after fits =
-    grind (arith, nat_tests, part_back a (fits 0 a (lit< tt)), part_back b (fits 1 a (lit< tt)))
-wide_back (Three a b c) value after fits =
-    grind (
-      arith,
-      nat_tests,
-      part_back a (fits 0 a (lit< tt)),
-      part_back b (fits 1 a (lit< tt)),
-      part_back c (fits 2 a (lit< tt)),
-    )
+wide_back (Two a b) value after fits = grind (arith, nat_tests, part_back, fits 0 a, fits 1 a)
+wide_back (Three a b c) value after fits = grind (arith, nat_tests, part_back, fits 0 a, fits 1 a, fits 2 a)
 wide_back (Four a b c d) value after fits =
-    grind (
-      arith,
-      nat_tests,
-      part_back a (fits 0 a (lit< tt)),
-      part_back b (fits 1 a (lit< tt)),
-      part_back c (fits 2 a (lit< tt)),
-      part_back d (fits 3 a (lit< tt)),
-    )
+    grind (arith, nat_tests, part_back, fits 0 a, fits 1 a, fits 2 a, fits 3 a)
 
 -- ---- by the event
 
@@ -56,12 +40,6 @@ unfolding record_said
 bus_back writes bytes (Bus value target denial) after few fits =
     cycle_back value target denial after (narrow_value writes bytes value few fits.0) (fits.1, fits.2)
 bus_back writes bytes _ after few fits = absurd fits
-
-parted_back : (writes : Bool) (bytes count : ℕ) (reply : Reply) (after : AfterStep) →
-    IsWideReply writes bytes count reply → reply_recorded (record_said reply after) ≡ Some reply
-unfolding record_said
-parted_back writes bytes count (InParts parts value) after fits = wide_back parts value after fits.1
-parted_back writes bytes count _ after fits = absurd fits
 
 look_back : (reply : Reply) (after : AfterStep) → IsLookReply reply
     → reply_recorded (record_said reply after) ≡ Some reply
@@ -74,8 +52,8 @@ reply_back : (event : Event) (reply : Reply) (after : AfterStep) → HasShape ev
 unfolding record_said
 reply_back (Memory access) reply after shape =
     bus_back (is_write access.kind) (bytes_of access.width) reply after (bytes_few access.width) shape
-reply_back (Wide access) reply after shape =
-    parted_back (is_write access.kind) access.bytes (length (cut_of access)) reply after shape
+reply_back (Wide access) (InParts parts value) after shape = wide_back parts value after shape.1
+reply_back (Wide access) _ after shape = absurd shape
 reply_back (Port access) reply after shape =
     bus_back access.write (bytes_of access.width) reply after (bytes_few access.width) shape
 reply_back (LookAt kind addr smm) reply after shape = look_back reply after shape
