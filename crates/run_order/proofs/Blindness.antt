@@ -6,12 +6,11 @@ use Rattle.board_prelude.proofs.Common.{port_byte, Event, Memory, Wide, Port, Ac
 use Rattle.board_prelude.proofs.Common.{Entry, plain_value, map-same, levels-same, disk_of-same, elcr-same}
 use Rattle.board_spec.specs.Common.{Kind, Width, Reg, Target, Rom, Card, Device, Config, Abort, Dev, largest_of}
 use Rattle.board_spec.specs.Common.{Triggers, PitState, out_of, pulses, port_read, Clock, Disk, Pair, answer_of, Setup}
-use Rattle.board_spec.specs.Common.{installed, version_of, wide, pirq, control_written, control_after, reset_control}
-use Rattle.board_spec.specs.Common.{address_written, config_address, config_store, register_change, byte_of}
-use Rattle.board_spec.specs.Common.{map_change_of, map_writes_of, Cell, DramCell, CardCell, entry_put, stored_of}
-use Rattle.board_spec.specs.Common.{dram_byte, expansion_byte, parts_of, wire_of, irq_of, triggers_of, PlainPorts}
-use Rattle.board_spec.specs.Common.{plain_of, timer_of, clock_of, disk_with, pirqs, levels_with, levels_of, elcr_of}
-use Rattle.board_spec.specs.Common.{pair_pulsed, pair_stepped, pair_of, device_value, who_answered, IsOfMemory}
+use Rattle.board_spec.specs.Common.{installed, version_of, wide, pirq, reset_control, config_address, register_change}
+use Rattle.board_spec.specs.Common.{byte_of, map_change_of, map_writes_of, Cell, DramCell, CardCell, entry_put}
+use Rattle.board_spec.specs.Common.{stored_of, dram_byte, expansion_byte, parts_of, wire_of, irq_of, triggers_of}
+use Rattle.board_spec.specs.Common.{PlainPorts, plain_of, timer_of, clock_of, disk_with, pirqs, levels_with, levels_of}
+use Rattle.board_spec.specs.Common.{elcr_of, pair_pulsed, pair_stepped, pair_of, device_value, who_answered}
 use Rattle.board_spec.specs.Common.{SameDevices, MemoryLeavesDevices, IsAnswer, memory_answer, part_answer, wide_value}
 use Rattle.board_spec.specs.Common.{port_answer, port_value, value_at, card_at, card_byte, kept_size}
 use Rattle.board_base.specs.declared.target.Dev.TheVariants.{Confadd, Reset, Clock as ClockChip}
@@ -21,22 +20,16 @@ use Rattle.run_order.specs.Common.{is_look, bare}
 
 -- ---- an event that is a look
 
--- it writes nothing
-record Silent (event : Event) : Type 0 where
-  pub control : control_written event ≡ None
-  pub address : address_written event ≡ None
-  pub store : (setup : Setup) (address : ℕ) → config_store setup address event ≡ None
-  pub put : (reply : Reply) (cell : Cell) → entry_put event reply cell ≡ None
-  pub memory : IsOfMemory event
+abbrev IsLook : Event → Type 0
+IsLook event = (kind : Kind) × (addr : ℕ) × (smm : Bool) × (event ≡ LookAt kind addr smm)
+
+look_is : (event : Event) → is_look event ≡ true → IsLook event
+look_is (LookAt kind addr smm) is = (kind, addr, smm, refl)
+look_is _ is = absurd (cc is)
 
 look_put : (kind : Kind) (addr : ℕ) (smm : Bool) (reply : Reply) (cell : Cell)
     → entry_put (LookAt kind addr smm) reply cell ≡ None
 look_put kind addr smm reply cell = grind arith
-
-silent : (event : Event) → is_look event ≡ true → Silent event
-silent (LookAt kind addr smm) is =
-    record { control = refl; address = refl; store = λ setup address. refl; put = look_put kind addr smm; memory = tt }
-silent _ is = absurd (cc is)
 
 -- ---- one definition after another
 
@@ -50,41 +43,35 @@ bare_entry entry before not = rw not refl
 
 -- what a look leaves alone, and what an entry's number does not change, is the same without both
 along : {X : Type 0} (f : List Entry → X) →
-    ((entry : Entry) (before : List Entry) → is_look entry.event ≡ true → f (entry ∷ before) ≡ f before) →
+    ((entry : Entry) (before : List Entry) → IsLook entry.event → f (entry ∷ before) ≡ f before) →
     ((entry : Entry) (before : List Entry) → is_look entry.event ≡ false → f before ≡ f (bare before)
     → f (entry ∷ before) ≡ f (plain entry ∷ bare before)) → (h : List Entry) → f h ≡ f (bare h)
 unfolding bare
 along f looks steps [] = refl
 along f looks steps (entry ∷ before) =
-    grind (arith, nat_tests, looks entry before, steps entry before, along f looks steps before)
+    let look = λ (is : is_look entry.event ≡ true). looks entry before (look_is entry.event is) in
+    grind (arith, nat_tests, look, steps entry before, along f looks steps before)
 
 control_bare : (h : List Entry) → reset_control h ≡ reset_control (bare h)
 unfolding reset_control
-control_bare = along reset_control (λ e h is. ap (control_after (reset_control h)) (silent e.event is).control)
-    (λ e h _ same. cc)
+control_bare = along reset_control (λ e h is. rw is.3 refl) (λ e h _ same. cc)
 
 address_bare : (h : List Entry) → config_address h ≡ config_address (bare h)
 unfolding config_address
-address_bare = along config_address (λ e h is. let s = silent e.event is in rw (s.control, s.address) refl)
-    (λ e h _ same. cc (control_bare h))
+address_bare = along config_address (λ e h is. rw is.3 refl) (λ e h _ same. cc (control_bare h))
 
 register_change_bare : (setup : Setup) (h : List Entry) (event : Event)
     → register_change setup h event ≡ register_change setup (bare h) event
 register_change_bare setup h event = cc (control_bare h, address_bare h)
 
-look_changes_nothing : (setup : Setup) (h : List Entry) (event : Event) → is_look event ≡ true
-    → register_change setup h event ≡ None
-look_changes_nothing setup h event is = let s = silent event is in
-    rw (s.control) (s.store setup (config_address h))
-
 byte_bare : (setup : Setup) (reg : Reg) (h : List Entry) → byte_of setup h reg ≡ byte_of setup (bare h) reg
 unfolding byte_of
-byte_bare setup reg = along (λ h. byte_of setup h reg) (λ e h is. rw (look_changes_nothing setup h e.event is) refl)
+byte_bare setup reg = along (λ h. byte_of setup h reg) (λ e h is. rw is.3 refl)
     (λ e h _ same. cc (register_change_bare setup h e.event))
 
 writes_bare : (setup : Setup) (h : List Entry) → map_writes_of setup h ≡ map_writes_of setup (bare h)
 unfolding map_writes_of map_change_of
-writes_bare setup = along (map_writes_of setup) (λ e h is. rw (look_changes_nothing setup h e.event is) refl)
+writes_bare setup = along (map_writes_of setup) (λ e h is. rw is.3 refl)
     (λ e h _ same. cc (register_change_bare setup h e.event))
 
 pub version_same : (setup : Setup) (final before : List Entry) → bare final ≡ bare before
@@ -95,8 +82,8 @@ version_same setup final before same =
 -- ---- the devices
 
 module _ (leaves : MemoryLeavesDevices) (setup : Setup) where
-  left : (entry : Entry) (before : List Entry) → is_look entry.event ≡ true → SameDevices setup before (entry ∷ before)
-  left entry before is = leaves setup before entry (silent entry.event is).memory
+  left : (entry : Entry) (before : List Entry) → IsLook entry.event → SameDevices setup before (entry ∷ before)
+  left entry before is = leaves setup before entry (rw is.3 tt)
 
   timer_bare : (h : List Entry) → timer_of h ≡ timer_of (bare h)
   unfolding timer_of
@@ -118,22 +105,15 @@ module _ (leaves : MemoryLeavesDevices) (setup : Setup) where
   unfolding disk_with
   disk_bare bytes = along (disk_with bytes) (λ e h is. (left e h is).disk bytes) (λ e h _ same. cc (control_bare h))
 
-  wire_bare : (dev : ℕ) (h : List Entry) → wire_of h dev ≡ wire_of (bare h) dev
-  unfolding wire_of
-  wire_bare dev = along (λ h. wire_of h dev) (λ e h is. (left e h is).wires dev) (λ e h _ same. cc)
-
-  line_bare : (line : ℕ) (h : List Entry) → irq_of h line ≡ irq_of (bare h) line
-  unfolding irq_of
-  line_bare line = along (λ h. irq_of h line) (λ e h is. (left e h is).lines line) (λ e h _ same. cc)
-
   levels_bare : (h : List Entry) (timer other : PitState) → timer ≡ other
       → levels_with setup h timer ≡ levels_with setup (bare h) other
+  unfolding wire_of irq_of
   levels_bare h timer other same = levels-same setup h (bare h) timer other (record {
     out = ap (out_of 0) same;
     clock = clock_bare h;
     disk = λ bytes. disk_bare bytes h;
-    wires = λ dev. wire_bare dev h;
-    lines = λ line. line_bare line h;
+    wires = λ dev. along (λ h. wire_of h dev) (λ e h is. (left e h is).wires dev) (λ e h _ same. cc) h;
+    lines = λ line. along (λ h. irq_of h line) (λ e h is. (left e h is).lines line) (λ e h _ same. cc) h;
     routes = map-same _ _ pirqs (λ k. byte_bare setup (pirq k) h);
   })
 
@@ -176,7 +156,8 @@ module _ (leaves : MemoryLeavesDevices) (setup : Setup) (final before : List Ent
     cells_same : stored_of final ≡ stored_of before
     unfolding stored_of
     cells_same = λ i cell. both (λ h. stored_of h cell)
-        (along (λ h. stored_of h cell) (λ e h is. rw ((silent e.event is).put e.reply cell) refl) (λ e h _ same. cc)) i
+        (along (λ h. stored_of h cell) (λ e h is. let none : entry_put e.event e.reply cell ≡ None =
+        rw is.3 (look_put is.0 is.1 is.2 e.reply cell) in rw none refl) (λ e h _ same. cc)) i
 
     pair_same : pair_of setup final ≡ pair_of setup before
     pair_same = both (pair_of setup) (pair_bare leaves setup)

@@ -2,7 +2,7 @@
 use Rattle.std.proofs.Common.{◌≡◌, ℕ, zero, suc, ◌+◌, ◌≤◌, ◌==◌, List, [], ◌∷◌, map, get_or, set, refl, ap, arith, ◌-◌}
 use Rattle.std.proofs.Common.{◌^◌, ◌<◌, Bool, ◌++◌, length, take, All, ◌≢◌, sym, ◌∙◌, slice_index, reverse}
 use Rattle.board_prelude.proofs.Common.{nat_tests, take_more, map-append, length-map, get_or-set_other, reverse-append}
-use Rattle.board_prelude.proofs.Common.{length-reverse, get_or-set_at, All-cons, All-head, All-tail, Entry, entries_by}
+use Rattle.board_prelude.proofs.Common.{length-reverse, get_or-set_at, All-cons, Entry, entries_by}
 use Rattle.run_order.specs.declared.done.Done.{Done}
 use Rattle.run_order.specs.Common.{done_by, without_first, passed, looks_in, all_looks_in, IsPlacedBelow, entry_of}
 use Rattle.run_order.specs.Common.{over, Order, IsOrder}
@@ -125,12 +125,12 @@ order_reserved items items' capacity' n kept same room few =
 pub none_looked : (done : List Done) → All (λ one. looks_in (one ∷ []) ≢ 1) done → looks_in done ≡ 0
 none_looked [] none = refl
 none_looked (one ∷ done) none =
-    let rest = none_looked done (All-tail (λ one. looks_in (one ∷ []) ≢ 1) one done none) in
-    grind (arith, rest, All-head (λ one. looks_in (one ∷ []) ≢ 1) one done none)
+    let rest = none_looked done (λ k d less. none (suc k) d (omega (arith, less))) in
+    grind (arith, rest, none 0 one (omega arith))
 
 pub nobody_looked : {X : Type 0} (f : X → List Done) (works : List X) → All (λ work. looks_in (f work) ≡ 0) works
     → all_looks_in (map f works) ≡ 0
 nobody_looked f [] none = refl
 nobody_looked f (work ∷ works) none =
-    let rest = nobody_looked f works (All-tail (λ work. looks_in (f work) ≡ 0) work works none) in
-    omega (arith, All-head (λ work. looks_in (f work) ≡ 0) work works none, rest)
+    let rest = nobody_looked f works (λ k d less. none (suc k) d (omega (arith, less))) in
+    omega (arith, none 0 work (omega arith), rest)

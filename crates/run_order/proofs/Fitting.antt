@@ -1,17 +1,16 @@
 -- A processor's statements fit into the history of the bus: at each place its looks that are due there are right.
 use Rattle.std.proofs.Common.{ℕ, ◌≡◌, ◌≤◌, false, List, [], ◌∷◌, ◌+◌, ◌-◌, Bool, ◌++◌, length, refl, sym, ◌∙◌, ap}
-use Rattle.std.proofs.Common.{arith, inl, inr, append_assoc, length-append, ⊎_elim, ◌==◌, nat_le, MatchBool, map}
+use Rattle.std.proofs.Common.{arith, inl, inr, append_assoc, length-append, ⊎_elim, map}
 use Rattle.board_prelude.proofs.Common.{Event, Look, Saw, Entry, Setup, version_of, IsAnswer, entries_by}
 use Rattle.board_prelude.proofs.Common.{drop-append_seam, option_to_list, Kind, Area, MapChange, IsCardList, byte_of}
 use Rattle.board_prelude.proofs.Common.{map_change_of, map_writes_of, registers_after, Bytes, area_of, IsSpan}
-use Rattle.board_prelude.proofs.Common.{SameMapBytes, map_writes_decide, map_bytes_decide, cases_Bool, nat_tests}
+use Rattle.board_prelude.proofs.Common.{SameMapBytes, map_writes_decide, map_bytes_decide}
 use Rattle.board_spec.specs.declared.event.Event.TheVariants.{Look as LookAt}
 use Rattle.run_order.specs.declared.done.Done.{Done}
 use Rattle.run_order.specs.declared.done.Done.TheVariants.{Went, Looked}
 use Rattle.run_order.specs.Common.{is_look, Begins, event_of, without_first, noted}
-use Rattle.run_order.specs.Trace.{HasMoreWrites, IsLookOf, IsDone, IsClosed}
-use Rattle.run_order.proofs.Histories.{onto, begins_before, begins_trans, onto_begins, own_later, same_place}
-use Rattle.run_order.proofs.Histories.{version_step}
+use Rattle.run_order.specs.Trace.{HasMoreWrites, IsLookOf, IsDone}
+use Rattle.run_order.proofs.Histories.{onto, begins_before, begins_trans, own_later, same_place}
 
 -- ---- a processor's statements in the bus's whole history: where its calls stand, and between which versions its looks
 
@@ -54,21 +53,17 @@ same_end : (xs ys shorter other : List MapChange) → xs ++ shorter ≡ ys ++ ot
 same_end xs ys shorter other e n =
     grind (arith, ap length e, length-append, drop-append_seam xs shorter, drop-append_seam ys other)
 
-writes_begin : (setup : Setup) (more before : List Entry)
+writes_extend : (setup : Setup) (more before : List Entry)
     → HasMoreWrites (map_writes_of setup before) (map_writes_of setup (more ++ before))
 unfolding map_writes_of
-writes_begin setup [] before = ([], refl)
-writes_begin setup (entry ∷ more) before =
-    let rest = writes_begin setup more before in
+writes_extend setup [] before = ([], refl)
+writes_extend setup (entry ∷ more) before =
+    let rest = writes_extend setup more before in
     let change : List MapChange = option_to_list (map_change_of setup (more ++ before) entry.event) in (
       change ++ rest.0,
       ap (λ (ws : List MapChange). change ++ ws) rest.1
           ∙ sym (append_assoc change rest.0 (map_writes_of setup before)),
     )
-
-writes_extend : (setup : Setup) (before whole : List Entry) → Begins before whole
-    → HasMoreWrites (map_writes_of setup before) (map_writes_of setup whole)
-writes_extend setup before whole b = rw b.1 (writes_begin setup b.0 before)
 
 -- a span of one state of the registers is one of each state with the same map bytes
 span_moves : (setup : Setup) (bytes other : Bytes) → IsCardList setup.cards → SameMapBytes setup bytes other
@@ -92,7 +87,7 @@ module _ (setup : Setup) (cards : IsCardList setup.cards) (whole : List Entry) (
       → IsLookOf setup known kind addr smm look → HasMoreWrites known (map_writes_of setup whole)
       → IsRight setup whole (LookAt kind addr smm) look
   right known kind addr smm look is e before b version =
-      let part = writes_extend setup before whole b in
+      let part = rw (← b.1) at (writes_extend setup b.0 before) in
       let same : map_writes_of setup before ≡ known = same_end part.0 e.0 (map_writes_of setup before) known
       (sym part.1 ∙ e.1) (version ∙ is.version) in
       let bytes : SameMapBytes setup (registers_after setup known) (byte_of setup before) =
@@ -132,39 +127,10 @@ module _ (setup : Setup) (cards : IsCardList setup.cards) (whole : List Entry) (
       rw (one.known_is, one.now_is) at f in
       follows_on before was older (Went version event ∷ items) d.5 (begins_trans was one.list whole one.begins inside)
       (begins_trans older (map_writes_of setup one.list) (map_writes_of setup whole) one.meets
-      (writes_extend setup one.list whole inside))
+      (rw inside.1 (writes_extend setup inside.0 one.list)))
       (one.list, one.entry, call, rest)
 
-  -- a worker that is done, in a history that was closed
-  pub follows : (done : List Done) (seen : List Entry) (known : List MapChange)
-      → IsDone setup actor opened done seen known → IsClosed setup actor seen known whole
-      → Follows setup whole actor opened (version_of setup opened) (onto done [])
-  follows done seen known d closed = follows_on done seen known [] d closed.begins closed.meets closed.mine
-
--- ---- at each place the looks that are due there are right
-
--- the looks at the front that are due after a history are right there, and K holds of what is left
-abbrev pub Due : Setup → List Entry → (List Done → Type 0) → List Done → Type 0
-Due setup before K [] = K []
-Due setup before K (Went after event ∷ items) = K (Went after event ∷ items)
-Due setup before K (Looked kind addr smm look ∷ items) =
-    MatchBool (nat_le look.version (version_of setup before))
-    (IsAnswer setup before (LookAt kind addr smm) (Saw look) × Due setup before K items)
-    (K (Looked kind addr smm look ∷ items))
-
--- the next statement is this call of the bus, after which the version was this, and P holds of what is left
-pub record IsHeaded (event : Event) (version : ℕ) (P : List Done → Type 0) (items : List Done) : Type 0 where
-  pub version_is : (v : ℕ) → noted v items ≡ version
-  pub call : is_look event ≡ false
-  pub events : map event_of items ≡ event ∷ map event_of (without_first items)
-  pub rest : P (without_first items)
-
-abbrev pub Fits : Setup → ℕ → List Entry → List Entry → List Done → Type 0
-Fits setup actor before [] items = Due setup before (λ rest. rest ≡ []) items
-Fits setup actor before (entry ∷ later) items =
-    Due setup before (λ rest. MatchBool (entry.actor == actor)
-    (IsHeaded entry.event (version_of setup (entry ∷ before)) (Fits setup actor (entry ∷ before) later) rest)
-    (Fits setup actor (entry ∷ before) later rest)) items
+-- ---- where a processor stands
 
 -- P holds of the version of a look that comes next
 abbrev pub FirstLook : (ℕ → Type 0) → List Done → Type 0
@@ -183,90 +149,70 @@ first_all P all items = grind (arith, all)
 abbrev pub Late : ℕ → List Done → Type 0
 Late n items = FirstLook (λ k. n ≤ k) items
 
-pub late_by : (setup : Setup) (whole : List Entry) (actor : ℕ) (from : List Entry) (low n : ℕ) (items : List Done)
-    → Follows setup whole actor from low items → n ≤ low → Late n items
-late_by setup whole actor from low n items f le = grind arith
+-- what a processor has still to do after a history of the bus, which is whole later
+pub record Waits (setup : Setup) (whole before : List Entry) (actor : ℕ) (items : List Done) : Type 0 where
+  pub from : List Entry
+  pub low : ℕ
+  pub mine : entries_by actor before ≡ entries_by actor from
+  pub follows : Follows setup whole actor from low items
 
-module _ (setup : Setup) (whole : List Entry) (actor : ℕ) where
+pub late_by : {setup : Setup} {whole before : List Entry} {actor n : ℕ} {items : List Done}
+    (w : Waits setup whole before actor items) → n ≤ w.low → Late n items
+late_by {items = items} w le = let f = w.follows in grind arith
+
+-- this call of the bus is the processor's next statement
+pub record IsNextCall (setup : Setup) (whole : List Entry) (entry : Entry) (before : List Entry) (items : List Done)
+    : Type 0 where
+  pub version_is : (v : ℕ) → noted v items ≡ version_of setup (entry ∷ before)
+  pub call : is_look entry.event ≡ false
+  pub events : map event_of items ≡ entry.event ∷ map event_of (without_first items)
+  pub rest : Waits setup whole (entry ∷ before) entry.actor (without_first items)
+  pub late : Late (version_of setup (entry ∷ before)) (without_first items)
+
+module _ (setup : Setup) (whole : List Entry) where
   -- what a processor knew is in the history before its next call
-  until_call : (items : List Done) (from : List Entry) (low : ℕ) → Follows setup whole actor from low items
-      → (before : List Entry) (entry : Entry) → Begins (entry ∷ before) whole
-      → entry.actor ≡ actor → entries_by actor before ≡ entries_by actor from → low ≤ version_of setup before
-  until_call [] from low f before entry b own n = grind (arith, own_later actor entry before whole b own)
-  until_call (Looked kind addr smm look ∷ items) from low f before entry b own n =
-      omega (arith, f.0, until_call items from look.version f.3 before entry b own n)
-  until_call (Went after event ∷ items) from low f before entry b own n =
+  until_call : (entry : Entry) (before from : List Entry) (low : ℕ) (items : List Done) → Begins (entry ∷ before) whole
+      → Follows setup whole entry.actor from low items → entries_by entry.actor before ≡ entries_by entry.actor from
+      → low ≤ version_of setup before
+  until_call entry before from low [] b f n = grind (arith, own_later entry.actor entry before whole b refl)
+  until_call entry before from low (Looked kind addr smm look ∷ items) b f n =
+      omega (arith, f.0, until_call entry before from look.version items b f.3 n)
+  until_call entry before from low (Went after event ∷ items) b f n =
       let call = f.2 in
-      let one = same_place actor whole f.1 entry f.0 before call.place b call.own own (call.next ∙ sym n) in
+      let one = same_place entry.actor whole f.1 entry f.0 before call.place b call.own refl (call.next ∙ sym n) in
       rw one.1 at call.known
 
-  due : (before from : List Entry) (K : List Done → Type 0) → Begins before whole
-      → ((items : List Done) (low : ℕ) → Follows setup whole actor from low items
-      → Late (version_of setup before + 1) items → K items)
-      → (items : List Done) (low : ℕ) → Follows setup whole actor from low items → Late (version_of setup before) items
-      → Due setup before K items
-  due before from K b k [] low f late = k [] low f tt
-  due before from K b k (Went after event ∷ items) low f late = k (Went after event ∷ items) low f tt
-  due before from K b k (Looked kind addr smm look ∷ items) low f late =
-      let right = f.2 before b in let more = due before from K b k items look.version f.3 in
-      let later = late_by setup whole actor from look.version (version_of setup before) items f.3 in
-      grind (arith, nat_tests, right, more, later, k (Looked kind addr smm look ∷ items) low f)
-
-  none_left : (before from : List Entry) → whole ≡ before → entries_by actor before ≡ entries_by actor from
-      → (items : List Done) (low : ℕ)
-      → Follows setup whole actor from low items → Late (version_of setup before + 1) items → items ≡ []
-  none_left before from is n [] low f late = refl
-  none_left before from is n (Looked kind addr smm look ∷ items) low f late =
-      absurd (omega (arith, ap (version_of setup) is, f.1, late))
-  none_left before from is n (Went after event ∷ items) low f late =
-      let call = f.2 in grind (arith, own_later actor f.1 f.0 whole call.place call.own, call.next)
-
-  -- a call of the processor's own is its next statement
-  headed : (entry : Entry) (before from : List Entry) (P : List Done → Type 0) → Begins (entry ∷ before) whole
-      → entry.actor ≡ actor → entries_by actor before ≡ entries_by actor from
-      → ((items : List Done) (at : List Entry) (low : ℕ) → Follows setup whole actor at low items
-      → entries_by actor (entry ∷ before) ≡ entries_by actor at → version_of setup (entry ∷ before) ≤ low → P items)
-      → (items : List Done) (low : ℕ) → Follows setup whole actor from low items
-      → Late (version_of setup before + 1) items → IsHeaded entry.event (version_of setup (entry ∷ before)) P items
-  headed entry before from P b own n p [] low f late =
-      absurd (grind (arith, own_later actor entry before whole b own))
-  headed entry before from P b own n p (Looked kind addr smm look ∷ items) low f late =
-      absurd (omega (arith, until_call items from look.version f.3 before entry b own n, late))
-  headed entry before from P b own n p (Went after event ∷ items) low f late =
-      let call = f.2 in
-      let one = same_place actor whole f.1 entry f.0 before call.place b call.own own (call.next ∙ sym n) in
-      let next : entry ∷ before ≡ f.1 ∷ f.0 = cc (one.0, one.1) in
+  pub next_call : (entry : Entry) (before : List Entry) (items : List Done) → Begins (entry ∷ before) whole
+      → Waits setup whole before entry.actor items → Late (version_of setup before + 1) items
+      → IsNextCall setup whole entry before items
+  next_call entry before [] b w late =
+      let f = w.follows in absurd (grind (arith, own_later entry.actor entry before whole b refl, w.mine))
+  next_call entry before (Looked kind addr smm look ∷ items) b w late =
+      absurd (omega (arith, until_call entry before w.from look.version items b w.follows.3 w.mine, late))
+  next_call entry before (Went after event ∷ items) b w late =
+      let f = w.follows in let call = f.2 in
+      let one = same_place entry.actor whole f.1 entry f.0 before call.place b call.own refl (call.next ∙ sym w.mine) in
+      let next : f.1 ∷ f.0 ≡ entry ∷ before = cc (one.0, one.1) in
       let said : event ≡ entry.event = sym call.said ∙ ap (λ (e : Entry). e.event) one.0 in
+      let rest : Waits setup whole (entry ∷ before) entry.actor items = record {
+        from = f.1 ∷ f.0;
+        low = version_of setup (f.1 ∷ f.0);
+        mine = ap (entries_by entry.actor) (sym next);
+        follows = f.3;
+      } in
       record {
-        version_is = λ v. call.noted ∙ ap (version_of setup) (sym next);
+        version_is = λ v. call.noted ∙ ap (version_of setup) next;
         call = rw (← said) call.no_look;
         events = ap (λ (e : Event). e ∷ map event_of items) said;
-        rest = p items (f.1 ∷ f.0) (version_of setup (f.1 ∷ f.0)) f.3 (ap (entries_by actor) next)
-            (omega (arith, ap (version_of setup) next));
+        rest = rest;
+        late = late_by rest (omega (arith, ap (version_of setup) next));
       }
 
-  pub fits : (later before from : List Entry) (low : ℕ) (items : List Done) → whole ≡ onto later before →
-      entries_by actor before ≡ entries_by actor from → Follows setup whole actor from low items →
-      Late (version_of setup before) items → Fits setup actor before later items
-  fits [] before from low items is n f late =
-      due before from (λ rest. rest ≡ []) ([], is) (none_left before from is n) items low f late
-  fits (entry ∷ later) before from low items is n f late =
-      let b : Begins (entry ∷ before) whole = rw is (onto_begins later (entry ∷ before)) in
-      let step = version_step setup entry before in
-      due before from (λ rest. MatchBool (entry.actor == actor)
-      (IsHeaded entry.event (version_of setup (entry ∷ before)) (Fits setup actor (entry ∷ before) later) rest)
-      (Fits setup actor (entry ∷ before) later rest))
-      (begins_before entry before whole b)
-      (λ rest low' f' late'. elim (cases_Bool (entry.actor == actor)) [
-        | inl own ↦
-            let owns : entry.actor ≡ actor = grind (arith, nat_tests) in
-            rw own (headed entry before from (Fits setup actor (entry ∷ before) later) b owns n
-            (λ items' at low'' f'' n' le. fits later (entry ∷ before) at low'' items' is n' f''
-            (late_by setup whole actor at low'' (version_of setup (entry ∷ before)) items' f'' le))
-            rest low' f' late')
-        | inr other ↦
-            rw other (fits later (entry ∷ before) from low' rest is (rw other n) f'
-            (first_goes (λ k. version_of setup before + 1 ≤ k) (λ k. version_of setup (entry ∷ before) ≤ k)
-            (λ k le. omega (arith, le, step.1)) rest late'))
-      ])
-      items low f late
+  -- at the end nothing is left
+  pub none_left : (actor : ℕ) (before : List Entry) (items : List Done) → whole ≡ before
+      → Waits setup whole before actor items → Late (version_of setup before + 1) items → items ≡ []
+  none_left actor before [] is w late = refl
+  none_left actor before (Looked kind addr smm look ∷ items) is w late =
+      absurd (omega (arith, ap (version_of setup) is, w.follows.1, late))
+  none_left actor before (Went after event ∷ items) is w late = let f = w.follows in let call = f.2 in
+      grind (arith, own_later actor f.1 f.0 whole call.place call.own, call.next, w.mine)

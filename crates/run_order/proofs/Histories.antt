@@ -1,8 +1,8 @@
 -- Beginnings of a history, and a processor's entries in it.
 use Rattle.std.proofs.Common.{◌≡◌, ℕ, ◌+◌, ◌<◌, ◌≤◌, List, [], ◌∷◌, ◌++◌, length, refl, sym, ◌∙◌, ap, arith}
-use Rattle.std.proofs.Common.{append_assoc, reverse, take, All, subst, get_or-take}
+use Rattle.std.proofs.Common.{append_assoc, reverse, take, All, subst, get_or-take, suc}
 use Rattle.board_prelude.proofs.Common.{reverse-append, nat_tests, Entry, Setup, version_of, IsLegal, map_writes_of}
-use Rattle.board_prelude.proofs.Common.{entries_by, reverse-reverse, All-permutation, All-head, All-tail}
+use Rattle.board_prelude.proofs.Common.{entries_by, reverse-reverse, All-permutation}
 use Rattle.std.proofs.lemmas.List.Sorted.{IsPermutation-reverse}
 use Rattle.run_order.specs.Trace.{Begins}
 use Rattle.run_order.specs.declared.entry.RunEntry.{RunEntry}
@@ -89,5 +89,7 @@ pub over_front : (n : ℕ) (bus : List Entry) (entries : List RunEntry) → All 
     → over (take n bus) entries ≡ over bus entries
 over_front n bus [] within = refl
 over_front n bus (entry ∷ entries) within =
-    λ t. of_front n bus entry (All-head (IsPlacedBelow n) entry entries within) t ∷ over_front n bus entries
-    (All-tail (IsPlacedBelow n) entry entries within) t
+    rw (
+      of_front n bus entry (within 0 entry (omega arith)),
+      over_front n bus entries (λ k d less. within (suc k) d (omega (arith, less))),
+    ) refl

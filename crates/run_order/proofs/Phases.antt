@@ -1,18 +1,17 @@
 -- The law of the places: a phase that was placed is whole.
-use Rattle.std.proofs.Common.{◌≡◌, ℕ, ◌+◌, ◌<◌, ◌≤◌, ◌==◌, false, cond, List, [], ◌∷◌, ◌++◌, map, length, take, drop}
-use Rattle.std.proofs.Common.{All, refl, sym, ◌∙◌, ap, arith, inl, inr, reverse, if◌then◌else◌}
+use Rattle.std.proofs.Common.{◌≡◌, ℕ, ◌+◌, ◌<◌, ◌≤◌, ◌==◌, cond, List, [], ◌∷◌, ◌++◌, map, length, take, drop, All}
+use Rattle.std.proofs.Common.{refl, sym, ◌∙◌, ap, arith, inl, inr, reverse, if◌then◌else◌, get_or, suc}
 use Rattle.std.proofs.lemmas.List.{append_cancel_right}
 use Rattle.board_spec.proofs.OrderLawProofs.{events-append, statements-append, statements-newest}
 use Rattle.board_prelude.proofs.Common.{cases_lt, nat_tests, append-nil, reverse-append, reverse-reverse, get_or_past}
 use Rattle.board_prelude.proofs.Common.{filter-append, map-append, length-map, length-reverse, length-take, take_all}
-use Rattle.board_prelude.proofs.Common.{drop_all, take-append-le, drop-append-le, All-head, All-tail, Event, Entry}
-use Rattle.board_prelude.proofs.Common.{Statement, version_of, entries_by, statement_of, statements_of, events_by}
-use Rattle.board_prelude.proofs.Common.{IsWholePhase, HasPhases}
+use Rattle.board_prelude.proofs.Common.{drop_all, take-append-le, drop-append-le, Event, Entry, Statement, version_of}
+use Rattle.board_prelude.proofs.Common.{entries_by, statement_of, statements_of, events_by, IsWholePhase, HasPhases}
 use Rattle.run_order.specs.declared.done.Done.{Done}
 use Rattle.run_order.specs.Common.{event_of, placed, done_by, bare, AnswersAreBlind, PhaseRuns}
 use Rattle.run_order.proofs.Histories.{onto, onto_is}
-use Rattle.run_order.proofs.Fitting.{Fits, late_by, fits, follows}
-use Rattle.run_order.proofs.Placement.{Each, own, has_placed}
+use Rattle.run_order.proofs.Fitting.{late_by, Waits, first_all, follows_on}
+use Rattle.run_order.proofs.Placement.{Each, own, Stands, placed_holds}
 use Rattle.run_order.proofs.Counts.{from_first}
 
 -- ---- statements and events
@@ -36,9 +35,8 @@ nobody_else : (actor n : ℕ) (phase : List Statement) → n ≤ actor → All (
     → events_by actor phase ≡ []
 nobody_else actor n [] past few = refl
 nobody_else actor n (statement ∷ phase) past few =
-    let less = All-head (λ (s : Statement). s.actor < n) statement phase few in
-    let not : (statement.actor == actor) ≡ false = grind (arith, nat_tests) in
-    rw not (nobody_else actor n phase past (All-tail (λ (s : Statement). s.actor < n) statement phase few))
+    let rest = nobody_else actor n phase past (λ k d less. few (suc k) d (omega (arith, less))) in
+    grind (arith, nat_tests, few 0 statement (omega arith), rest)
 
 -- ---- as many statements
 
@@ -85,14 +83,19 @@ pub phase_runs : AnswersAreBlind → PhaseRuns
 phase_runs blind setup opened later phase works final run legal same =
     let whole : List Entry = onto later opened in let v : ℕ = version_of setup opened in
     let is : reverse later ++ opened ≡ whole = sym (onto_is later opened) in
-    let fit : Each (λ a. Fits setup a opened later) 0 works = λ k c from less.
-    let work = rw is at (run.each c (omega (arith, from, less))) in
-    let place : k ≡ c = omega (arith, from) in
-    let f = rw (back_again (done_by 0 c works)) at (follows setup run.cards whole c opened (reverse (done_by 0 c works))
-    work.seen work.known work.trace work.closed) in
-    rw (place, ← (from_first works c).0) (fits setup whole c later opened opened v (done_by 0 c works) refl refl f
-    (late_by setup whole c opened v v (done_by 0 c works) f (omega arith))) in
-    let all = has_placed blind setup final later opened works legal same (rw is at run.legal) run.callers fit in
+    let fit : Each (Stands setup whole final opened []) 0 works = λ k c from less.
+    let place : k ≡ c = omega (arith, from) in let items : List Done = get_or works c [] in
+    let work = rw (is, (from_first works c).0) at (run.each c (omega (arith, from, less))) in
+    let waits : Waits setup whole opened c items = record {
+      from = opened;
+      low = v;
+      mine = refl;
+      follows = let end = work.closed in rw (back_again items) at (follows_on setup run.cards whole c opened
+          (reverse items) work.seen work.known [] work.trace end.begins end.meets end.mine);
+    } in
+    rw place (waits, late_by waits (omega arith), first_all _ (λ n due. tt) items) in
+    let all = placed_holds blind setup whole final later opened works final [] tt
+    (record { is = refl; legal = legal; bare = same; places = tt }) refl (rw is at run.legal) run.callers fit in
     let part : List Statement = statements_of all.added in
     let said : statements_of (placed v later works final) ≡ statements_of final ++ part =
     ap statements_of all.holds.is ∙ statements-append all.added final in

@@ -1,7 +1,8 @@
-use Rattle.std.proofs.Common.{List, [], arith}
+use Rattle.std.proofs.Common.{List, [], sym, ◌∙◌, arith}
 use Rattle.board_prelude.proofs.Common.{Entry}
+use Rattle.run_order.specs.Common.{over}
 use Rattle.run_order.proofs.Counts.{one_of}
-use Rattle.run_order.proofs.Settled.{one_is_all}
+use Rattle.run_order.proofs.Settled.{look_at, settled}
 use Rattle.run_order.proofs.order.RunOrder.next_looks.Goals as goal
 
 pub looks-requires-clause-room : goal.looks-requires-clause-room
@@ -12,9 +13,11 @@ looks-requires-clause-room c =
 
 pub returns : goal.returns
 returns c =
-    let so = c.requires.settled c.if-version-before.false in
-    let all = λ (bus : List Entry). one_is_all (λ done. done.now) c.args.rests.now c.looks.result
-    (record { ref_ptr = (0, 0); now = [] }) c.from-place.ensures so
-    (omega (arith, c.requires.actor, c.from-place.ensures)) c.looks.ensures.left (c.looks.ensures.placed bus)
-    c.looks.ensures.room in
-    let placed = λ (bus : List Entry). (all bus).placed in let one = all [] in assumption
+    let so = c.requires.settled c.if-version-before.false in let is = c.from-place.ensures in
+    let look = λ (bus : List Entry). look_at c.from-place.result c.args.actor (λ done. done.now) c.args.rests.now
+    c.looks.result _ is (omega (arith, c.requires.actor, is)) (λ j less. so j (λ e. omega (arith, e, is, less)))
+    c.looks.ensures.left (c.looks.ensures.placed bus) c.looks.ensures.room in
+    let done = λ (bus : List Entry). settled c.args.version 0 _ (over bus c.looks.new.self.entries)
+    (λ j. (look bus).others j (λ other. so j (λ e. other (e ∙ sym is)))) in
+    let placed = λ (bus : List Entry). sym (done bus).0 ∙ (look bus).placed in
+    let left = sym (done []).1 ∙ (look []).left_is in let room = (look []).room in assumption

@@ -1,4 +1,4 @@
-use Rattle.std.proofs.Common.{◌≡◌, ◌<◌, List, [], length, get_or, map, drop, refl, sym, ◌∙◌, ap, arith}
+use Rattle.std.proofs.Common.{◌≡◌, ◌<◌, List, length, get_or, map, drop, refl, sym, ◌∙◌, ap, arith, ◌+◌}
 use Rattle.board_prelude.proofs.Common.{get_or-drop, Entry}
 use Rattle.run_order.specs.declared.done.Done.{Done}
 use Rattle.run_order.specs.Common.{nowhere, over, placed, Order}
@@ -13,9 +13,9 @@ loop-i-init c =
     ∙ ap (λ (o : Order). drop o.bus bus) c.self.view_is in
     let old : List (List Done) = map (λ done. done.now) c.args.rests.now in let looked = c.all_looks.ensures in
     record {
-      placed = looked_again old (over bus c.args.self.now.entries) c.args.self.now.spare
-          (record { placed_on = refl; fits = omega (arith, ap length later_is, c.requires.room) })
-          (record { placed = looked.placed bus; left_is = looked.left; room = looked.room });
+      placed = rw (looked.left, looked.placed bus)
+          (looked_again c.args.version later old (over bus c.args.self.now.entries));
+      fits = omega (arith, ap length later_is, c.requires.room, looked.room);
       settled = rw looked.left (left_is_settled c.args.version old);
       bus = omega (arith, looked.bus);
       keeps = looked.keeps;
@@ -25,9 +25,9 @@ pub next_looks-requires-clause-room : goal.next_looks-requires-clause-room
 next_looks-requires-clause-room c =
     let l = c.loop-i in
     let less : l.i < length c.from-later.result = omega (arith, c.loop-i-test.true, c.len-i-end.ensures.length) in
-    let fewer = no_more_looks (λ done. done.now) l.rests c.from-actor.result c.without_first.result
-    (record { ref_ptr = (0, 0); now = [] }) c.without_first.ensures.rest in
-    omega (arith, fewer, l.invariant.placed.fits, less, c.push_bus.ensures.spare)
+    let fewer = no_more_looks (λ done. done.now) l.rests c.from-actor.result c.without_first.result _
+    c.without_first.ensures.rest in
+    omega (arith, fewer, l.invariant.fits, less, c.push_bus.ensures.spare)
 
 pub next_looks-requires-clause-settled : goal.next_looks-requires-clause-settled
 next_looks-requires-clause-settled c =
@@ -44,16 +44,18 @@ loop-i-preserved c =
     let own : c.entry-entry.result ≡ get_or later l.i nowhere = sym (c.entry-entry.ensures.entry nowhere) in
     let at : get_or bus l.self.bus nowhere ≡ get_or later l.i nowhere =
     rw (l.invariant.bus, later_is, get_or-drop c.args.self.now.bus bus l.i nowhere) refl in
-    let stepped = next_placed (λ done. done.now) l.rests c.without_first.result (record { ref_ptr = (0, 0); now = [] })
-    c.noted-version.result c.from-actor.result (over bus c.push_bus.new.self.entries) nowhere l.invariant.placed
-    l.invariant.settled less (rw (later_is, size) c.requires.callers)
-    (c.from-actor.ensures ∙ ap (λ (e : Entry). e.actor) own) c.noted-version.ensures.noted
-    c.without_first.ensures.rest (rw (own, at) at (c.push_bus.ensures.pushed bus)) in
+    let entered = next_placed l.version later (λ done. done.now) l.rests c.without_first.result _
+    c.noted-version.result c.from-actor.result (over bus c.push_bus.new.self.entries) nowhere l.invariant.settled less
+    (rw (later_is, size) c.requires.callers) (c.from-actor.ensures ∙ ap (λ (e : Entry). e.actor) own)
+    c.noted-version.ensures.noted c.without_first.ensures.rest (rw (own, at) at (c.push_bus.ensures.pushed bus)) in
+    let fewer = no_more_looks (λ done. done.now) l.rests c.from-actor.result c.without_first.result _
+    c.without_first.ensures.rest in
     let looked = c.next_looks.ensures in
     record {
-      placed = looked_again _ (over bus c.push_bus.new.self.entries) c.push_bus.new.self.spare
-          (rw c.push_bus.ensures.spare stepped)
-          (record { placed = looked.placed bus; left_is = looked.left; room = looked.room });
+      placed = rw (looked.left, looked.placed bus)
+          (looked_again c.noted-version.result (drop (l.i + 1) later) _ (over bus c.push_bus.new.self.entries)
+          ∙ (entered ∙ l.invariant.placed));
+      fits = omega (arith, looked.room, fewer, l.invariant.fits, c.push_bus.ensures.spare, less);
       settled = rw looked.left (left_is_settled c.noted-version.result _);
       bus = omega (arith, looked.bus, c.push_bus.ensures.bus, l.invariant.bus);
       keeps = looked.keeps ∙ (c.push_bus.ensures.keeps ∙ l.invariant.keeps);
@@ -61,9 +63,10 @@ loop-i-preserved c =
 
 pub returns-clause-placed : goal.returns-clause-placed
 returns-clause-placed c =
-    let l = c.loop-i in let bus : List Entry = c.args.bus.now in
+    let l = c.loop-i in let bus : List Entry = c.args.bus.now in let later : List Entry = c.from-later.result in
     let old : List (List Done) = map (λ done. done.now) c.args.rests.now in
-    placed_last l.invariant.placed l.invariant.settled
-    (omega (arith, c.loop-i-test.false, c.len-i-end.ensures.length))
+    sym (placed_last l.version l.i later (map (λ done. done.now) l.rests) (over bus l.self.entries)
+    l.invariant.settled (omega (arith, c.loop-i-test.false, c.len-i-end.ensures.length)))
+    ∙ (l.invariant.placed
     ∙ ap (λ (entries : List Entry). placed c.args.version entries old (over bus c.args.self.now.entries))
-    (c.from-later.ensures.entries ∙ ap (λ (o : Order). drop o.bus bus) c.self.view_is)
+    (c.from-later.ensures.entries ∙ ap (λ (o : Order). drop o.bus bus) c.self.view_is))
