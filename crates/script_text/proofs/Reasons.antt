@@ -203,3 +203,13 @@ pub name_judged : (items : List Item) (reading : Reading) (item : Item) (result 
     Stands items item result → Judges (λ done. item) items item result
 name_judged items reading item result is setup range placed there memory pulses stands =
     grind (arith, nat_tests, common_steps, no_reason, begun_setup, setup_within)
+
+-- ---- what functions of `reason` cite
+
+pub ruleset setup_rules = (nat_tests, common_steps, setup_place, misplaced, repeated)
+
+pub ruleset number_rules = (nat_tests, common_steps, cpus_kept, memory_kept, refused)
+
+pub ruleset limit_rules = (limits_with, past_phases, past_limit, within, no_reason)
+
+pub ruleset phase_rules = (nat_tests, common_steps, setup_kept, no_setup, phase_placed, lacks_is, limit_rules)

@@ -86,6 +86,7 @@ impl Reading {
     }
 
     /// Refuses a line of the setup after the first phase, or where one of its kind came before.
+    #[tactic(auto, using(crate::proofs::Reasons::setup_rules))]
     fn validate_setup(&self, came: bool) -> Result<(), Reason>
         ensures judged { (items : List Said) (item : Said) → IsReadingOf items self.now → is_setup item ≡ true
             → is_repeated items item ≡ came → Stands items item result }
@@ -99,6 +100,7 @@ impl Reading {
         Ok(())
     }
 
+    #[tactic(auto, using(crate::proofs::Reasons::number_rules))]
     fn validate_cpus(&self, count: u32) -> Result<u8, Reason>
         ensures judged { (items : List Said) → IsReadingOf items self.now
             → Judges SetCpus items (SetCpus count) result }
@@ -111,6 +113,7 @@ impl Reading {
         }
     }
 
+    #[tactic(auto, using(crate::proofs::Reasons::number_rules))]
     fn validate_memory(&self, mib: u32) -> Result<u8, Reason>
         ensures judged { (items : List Said) → IsReadingOf items self.now
             → Judges SetMemory items (SetMemory mib) result }
@@ -154,6 +157,7 @@ impl Reading {
         Ok(card)
     }
 
+    #[tactic(auto, using(crate::proofs::Reasons::phase_rules))]
     fn validate_phase(&self) -> Result<(), Reason>
         ensures judged { (items : List Said) → IsReadingOf items self.now
             → Judges (λ done. BeginPhase) items BeginPhase result }

@@ -1,11 +1,7 @@
-use Rattle.std.proofs.Common.{Ok, arith, ◌∙◌, refl, sym}
-use Rattle.board_prelude.proofs.Common.{common_steps, nat_tests}
+use Rattle.std.proofs.Common.{Ok, ◌∙◌, refl, sym}
 use Rattle.script_spec.specs.Grammar.{SetCpus}
-use Rattle.script_text.proofs.Reasons.{refused, out_of_range, name_judged, cpus_kept}
+use Rattle.script_text.proofs.Reasons.{out_of_range, name_judged, cpus_kept}
 use Rattle.script_text.proofs.reading.Reading.validate_cpus.Goals as goal
-
-pub returns-in_err-validate_setup : goal.returns-in_err-validate_setup
-returns-in_err-validate_setup c = grind (arith, nat_tests, common_steps, cpus_kept, refused)
 
 pub returns-then-is_within : goal.returns-then-is_within
 returns-then-is_within c = record {
