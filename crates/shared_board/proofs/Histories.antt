@@ -1,6 +1,6 @@
 -- Histories that go on, and their map writes.
-use Rattle.std.proofs.Common.{◌≡◌, ℕ, suc, ◌+◌, ◌-◌, ◌≤◌, ◌==◌, Bool, List, [], ◌∷◌, ◌++◌, length, drop, filter, refl}
-use Rattle.std.proofs.Common.{sym, ap, ◌∙◌, subst, append_assoc, append-nil, arith, reverse, length-append}
+use Rattle.std.proofs.Common.{◌≡◌, ℕ, suc, ◌-◌, ◌≤◌, ◌==◌, Bool, List, [], ◌∷◌, ◌++◌, length, drop, filter, refl, sym}
+use Rattle.std.proofs.Common.{ap, ◌∙◌, append_assoc, append-nil, arith, reverse, length-append}
 use Rattle.board_prelude.proofs.Common.{option_to_list, reverse-append, filter-append, Entry, MapChange, Setup}
 use Rattle.board_prelude.proofs.Common.{entries_by, map_change_of, map_writes_of, nat_tests, Event, Reply, next_entry}
 use Rattle.board_prelude.proofs.Common.{version_of}
@@ -50,15 +50,13 @@ oldest_added count entry history within =
 pub writes_few : (setup : Setup) (history : List Entry) → length (map_writes_of setup history) ≤ length history
 unfolding map_writes_of
 writes_few setup [] = omega arith
-writes_few setup (entry ∷ before) =
-    let earlier = writes_few setup before in grind (arith, nat_tests)
+writes_few setup (entry ∷ before) = grind (arith, nat_tests, writes_few setup before)
 
 -- a history that goes on has more map writes
 pub writes_extend : (setup : Setup) (shorter longer : List Entry) → Extends shorter longer →
     Extends (map_writes_of setup shorter) (map_writes_of setup longer)
 unfolding map_writes_of
-writes_extend setup shorter longer (more, is) =
-    subst (λ (h : List Entry). Extends (map_writes_of setup shorter) (map_writes_of setup h)) (sym is) (after more)
+writes_extend setup shorter longer (more, is) = rw is (after more)
   where
     after : (more : List Entry) → Extends (map_writes_of setup shorter) (map_writes_of setup (more ++ shorter))
     after [] = ([], refl)

@@ -1,6 +1,6 @@
 -- How many entries a board of few callers has.
 use Rattle.std.proofs.Common.{◌≡◌, cond, nat_lt, ℕ, zero, suc, ◌+◌, ◌*◌, ◌<◌, ◌≤◌, List, [], ◌∷◌, length, All, arith}
-use Rattle.board_prelude.proofs.Common.{nat_tests, All-head, All-tail, All-cons, Entry, entries_by}
+use Rattle.board_prelude.proofs.Common.{nat_tests, All-cons, Entry, entries_by}
 use Rattle.shared_board.specs.Known.{AreFew, most_each}
 
 -- the entries of the first so many callers
@@ -16,9 +16,8 @@ total_step (suc n) entry history = grind (arith, nat_tests, total_step n entry h
 covered : (n : ℕ) (history : List Entry) → All (λ entry. entry.actor < n) history → length history ≤ total n history
 covered n [] all = omega arith
 covered n (entry ∷ history) all =
-    let first : entry.actor < n = All-head (λ (e : Entry). e.actor < n) entry history all in
-    let rest = covered n history (All-tail (λ (e : Entry). e.actor < n) entry history all) in
-    grind (arith, nat_tests, rest, total_step n entry history)
+    let rest = covered n history (λ k d less. all (suc k) d (omega (arith, less))) in
+    grind (arith, nat_tests, all 0 entry (omega arith), rest, total_step n entry history)
 
 bounded : (n : ℕ) (history : List Entry) → ((actor : ℕ) → length (entries_by actor history) ≤ most_each) →
     total n history ≤ n * most_each
