@@ -50,16 +50,21 @@ zero_page kept within =
     ∙ ap (λ (count : ℕ). replicate {A = ℕ} count 0) all))
     (λ is. kept_is.1 (sym (take_at kept (replicate (memory_page - n) 0) n refl) ∙ ap (take n) (page_is.0 is)))
 
-module _ (kept : List ℕ) (is_zero : Bool) (within : length kept ≤ memory_page)
-    (is : is_zero ≡ bytes_eq (page_of kept) (replicate memory_page 0)) where
-  pub told_page : memory_bytes (page_of kept) ≡ cond is_zero (0 ∷ []) (1 ∷ page_of kept)
-  told_page = rw is (one_page (page_of kept) (page_length kept within))
+either_size : (is_zero : Bool) (page : List ℕ) → length page ≡ memory_page →
+    length (cond is_zero (0 ∷ []) (1 ∷ page)) ≡ cond is_zero 1 4097
+either_size true page whole = refl
+either_size false page whole = omega arith
 
-  pub size_zero : is_zero ≡ true → length (memory_bytes (page_of kept)) ≡ 1
-  size_zero zero = ap length (rw zero at told_page)
+module _ (kept : List ℕ) (within : length kept ≤ memory_page) where
+  pub told_page : memory_bytes (page_of kept)
+      ≡ cond (bytes_eq (page_of kept) (replicate memory_page 0)) (0 ∷ []) (1 ∷ page_of kept)
+  told_page = one_page (page_of kept) (page_length kept within)
 
-  pub size_full : is_zero ≡ false → length (memory_bytes (page_of kept)) ≡ 4097
-  size_full full = omega (arith, ap length (rw full at told_page), page_length kept within)
+  pub told_size :
+      length (memory_bytes (page_of kept)) ≡ cond (bytes_eq (page_of kept) (replicate memory_page 0)) 1 4097
+  told_size =
+      rw told_page
+      (either_size (bytes_eq (page_of kept) (replicate memory_page 0)) (page_of kept) (page_length kept within))
 
 -- what follows the bytes that are kept
 pub rest_zeros : (kept zeros : List ℕ) → zeros ≡ replicate memory_page 0 →

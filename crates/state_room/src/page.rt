@@ -22,6 +22,7 @@ fn is_zero(kept: &[u8], zeros: &[u8]) -> bool
 }
 
 /// How many bytes spell the page.
+#[tactic(auto, using(crate::proofs::Pages::told_size))]
 pub(crate) fn page_size(kept: &[u8], zeros: &[u8]) -> usize
     requires within { length kept.now ≤ memory_page }
     requires zeros { zeros.now ≡ replicate memory_page 0 }
@@ -34,6 +35,7 @@ pub(crate) fn page_size(kept: &[u8], zeros: &[u8]) -> usize
 }
 
 /// Puts what spells the page into the room from a place on, and returns where it ends.
+#[tactic(auto, using(crate::proofs::Pages::told_size, crate::proofs::Pages::rest_length))]
 pub(crate) fn put_page(into: &mut [u8], at: usize, kept: &[u8], zeros: &[u8]) -> usize
     requires within { length kept.now ≤ memory_page }
     requires zeros { zeros.now ≡ replicate memory_page 0 }
