@@ -1,9 +1,11 @@
 -- The registers of the 82371SB that cannot be written, in the table of registers.
-use Rattle.std.proofs.Common.{◌≡◌, ◌≢◌, ℕ, ◌<◌, ◌≤◌, List, [], ◌∷◌, false, None, refl, arith, inl, inr, slice_index}
-use Rattle.std.proofs.Common.{◌==◌, ◌∙◌, if◌then◌else◌, rules}
+use Rattle.std.proofs.Common.{◌≡◌, ◌≢◌, ℕ, ◌<◌, List, [], ◌∷◌, false, None, refl, arith, inl, inr, slice_index, ◌==◌}
+use Rattle.std.proofs.Common.{◌∙◌, if◌then◌else◌, rules}
 use Rattle.board_base.proofs.Common.{cases_lt, cases_eq, cases_Bool, nat_tests, get_or_past, merged-none, common_steps}
-use Rattle.board_prelude.proofs.Common.{Width, Reg, Store, Setup, is_within, byte, isa_bridge, ide_function, reset_byte}
-use Rattle.board_prelude.proofs.Common.{writable_bits, isa, ide, smram, is_same, changed_byte, each_below, ne_eqb}
+use Rattle.board_prelude.proofs.Common.{Width, One, Reg, Store, Setup, is_within, byte, merged, isa_bridge}
+use Rattle.board_prelude.proofs.Common.{ide_function, reset_byte, writable_bits, isa, ide, smram, is_same, changed_byte}
+use Rattle.board_prelude.proofs.Common.{each_below, ne_eqb}
+use Rattle.xbus_select.specs.Piix.{piix_register}
 
 -- a register has this byte at all times
 pub record IsFixedAt (setup : Setup) (reg : Reg) (byte : ℕ) : Type 0 where
@@ -20,18 +22,6 @@ abbrev pub ide_header : List ℕ
 ide_header =
     0x86 ∷ 0x80 ∷ 0x10 ∷ 0x70 ∷ 0x00 ∷ 0x00 ∷ 0x80 ∷ 0x02 ∷ 0x00 ∷ 0x80 ∷ 0x01 ∷ 0x01 ∷ 0x00 ∷ 0x00 ∷ 0x00 ∷ 0x00 ∷ []
 
--- past the header of the ISA bridge but 4Eh and 4Fh, and past that of the IDE function
-isa_past : (setup : Setup) (off : ℕ) → 16 ≤ off → off ≢ 0x4E → off ≢ 0x4F → is_within 0x60 0x63 off ≡ false →
-    IsFixedAt setup (isa off) 0
-unfolding reset_byte writable_bits isa_bridge
-isa_past setup off above xbcs high pirq =
-    record { reset = grind (arith, nat_tests); read_only = grind (arith, nat_tests); fits = omega arith }
-
-ide_past : (setup : Setup) (off : ℕ) → 16 ≤ off → is_within 0x40 0x41 off ≡ false → IsFixedAt setup (ide off) 0
-unfolding reset_byte writable_bits ide_function
-ide_past setup off above timing =
-    record { reset = grind (arith, nat_tests); read_only = grind (arith, nat_tests); fits = omega arith }
-
 -- all registers of the ISA bridge but XBCS and those that route interrupts
 pub isa_fixed : (setup : Setup) (off : ℕ) → off ≢ 0x4E → is_within 0x60 0x63 off ≡ false → IsFixedAt setup (isa off)
     (slice_index isa_header off)
@@ -45,7 +35,8 @@ isa_fixed setup off xbcs pirq =
       }
       | inr above ↦ rw (get_or_past {X = ℕ} isa_header off 0 above) (elim (cases_eq off 0x4F) [
         | inl high ↦ rw high (record { reset = refl; read_only = refl; fits = omega arith })
-        | inr low ↦ isa_past setup off above xbcs low pirq
+        | inr low ↦
+            record { reset = grind (arith, nat_tests); read_only = grind (arith, nat_tests); fits = omega arith }
       ])
     ]
 
@@ -62,7 +53,9 @@ ide_fixed setup off command timing =
             ∙ rw (ne_eqb off 0x04 command) refl;
         fits = each_below (λ k. slice_index ide_header k < 256) 16 off (search rules) below;
       }
-      | inr above ↦ rw (get_or_past {X = ℕ} ide_header off 0 above) (ide_past setup off above timing)
+      | inr above ↦
+          rw (get_or_past {X = ℕ} ide_header off 0 above)
+          (record { reset = grind (arith, nat_tests); read_only = grind (arith, nat_tests); fits = omega arith })
     ]
 
 -- a board with nothing on it: the chip's registers are those of every board
@@ -75,3 +68,10 @@ pub kept_byte :
     IsFixedAt setup reg fixed → old ≡ fixed → changed_byte setup (Store at width written) reg old ≡ fixed
 kept_byte setup at width written reg old fixed plain is_fixed is_old =
     grind (arith, nat_tests, common_steps, cases_Bool, merged-none)
+
+-- and one that can takes a byte that is stored there
+pub stored_byte : (setup : Setup) (fun own off written old new after : ℕ) → written < 256 →
+    merged (writable_bits setup (piix_register fun own)) old written ≡ after →
+    new ≡ (if off == own then after else old) →
+    new ≡ changed_byte setup (Store (piix_register fun off) One written) (piix_register fun own) old
+stored_byte setup fun own off written old new after below is_after is = grind (arith, nat_tests)

@@ -1,10 +1,9 @@
 -- The registers of the ISA bridge in the table of registers: after a reset, and after a store of one byte.
-use Rattle.std.proofs.Common.{◌≡◌, ◌≢◌, ℕ, ◌<◌, inl, inr, ◌∙◌, refl, sym, ap, arith, slice_index}
+use Rattle.std.proofs.Common.{◌≡◌, ◌≢◌, ℕ, ◌<◌, inl, inr, ◌∙◌, refl, sym, arith, slice_index, ◌==◌, if◌then◌else◌}
 use Rattle.board_prelude.proofs.Common.{nat_tests, One, Reg, Store, Setup, merged, reset_byte, writable_bits}
-use Rattle.board_prelude.proofs.Common.{changed_byte, Bytes, isa, ide, xbcs as select_register, changed_byte-one_same}
-use Rattle.board_prelude.proofs.Common.{changed_byte-one_other}
+use Rattle.board_prelude.proofs.Common.{changed_byte, Bytes, isa, ide, xbcs as select_register}
 use Rattle.xbus_select.specs.Common.{IdeBytes, IsIdeOf, PiixBytes, IsPiixRegister, IsIsaFixed, IsPiixOf}
-use Rattle.xbus_select.proofs.FixedLemmas.{IsFixedAt, isa_header, isa_fixed, kept_byte, bare}
+use Rattle.xbus_select.proofs.FixedLemmas.{IsFixedAt, isa_header, isa_fixed, kept_byte, stored_byte, bare}
 use Rattle.xbus_select.proofs.IdeLemmas.{ide_stored_at}
 
 pub fixed_at : (setup : Setup) (off : ℕ) → IsIsaFixed off → IsFixedAt setup (isa off) (slice_index isa_header off)
@@ -43,25 +42,15 @@ module _ (setup : Setup) (bytes : Bytes) (old : PiixBytes) where
       ∙ (fixed_at other _ is_fixed).reset
 
   -- to a register of the ISA bridge
-  isa_stored_at : (off new written : ℕ) → IsPiixOf bytes old →
-      new ≡ changed_byte setup (Store (isa off) One written) select_register old.xbcs →
+  pub isa_stored : (off new written : ℕ) → written < 256 →
+      new ≡ (if off == 0x4E then merged (writable_bits setup select_register) old.xbcs written else old.xbcs) →
+      IsPiixOf bytes old →
       IsPiixOf (λ reg. changed_byte setup (Store (isa off) One written) reg (bytes reg)) (record old { xbcs = new })
-  isa_stored_at off new written is_piix xbcs = record {
-    xbcs = xbcs ∙ ap (λ (now : ℕ). changed_byte setup (Store (isa off) One written) select_register now) is_piix.xbcs;
+  isa_stored off new written below xbcs is_piix = record {
+    xbcs = rw (← is_piix.xbcs) (stored_byte setup 0 0x4E off written _ _ _ below refl xbcs);
     ide = ide_stored_at setup bytes old.ide old.ide (isa off) written is_piix.ide refl refl refl;
     fixed = fixed_stays (isa off) written is_piix;
   }
-
-  pub xbcs_stored : (written : ℕ) → written < 256 → IsPiixOf bytes old →
-      IsPiixOf (λ reg. changed_byte setup (Store select_register One written) reg (bytes reg))
-      (record old { xbcs = merged (writable_bits setup select_register) old.xbcs written })
-  xbcs_stored written below is_piix =
-      isa_stored_at _ _ _ is_piix (sym (changed_byte-one_same setup _ old.xbcs _ below refl))
-
-  pub isa_stored : (off written : ℕ) → 0x4E ≢ off → IsPiixOf bytes old →
-      IsPiixOf (λ reg. changed_byte setup (Store (isa off) One written) reg (bytes reg)) old
-  isa_stored off written apart is_piix =
-      isa_stored_at _ _ _ is_piix (sym (changed_byte-one_other setup select_register _ old.xbcs written apart))
 
   -- to a register of the IDE function
   pub ide_stored_in : (new : IdeBytes) (off written : ℕ) → IsPiixOf bytes old →

@@ -1,16 +1,15 @@
 -- At the ports of the keyboard controller, the clock and the primary IDE channel, the device answers
 -- exactly where the chip selects it.
-use Rattle.std.proofs.Common.{◌≡◌, ◌≢◌, ℕ, ◌↔◌, Bool, true, false, Option, Some, None, refl, ap, arith, inl, inr, ◌&&◌}
-use Rattle.std.proofs.Common.{not, if◌then◌else◌, unwrap_or, option_map, ◌∙◌}
-use Rattle.board_prelude.proofs.Common.{cases_Bool, cond-true, cond-false, false≢true, nat_tests, Width, One, Dev}
-use Rattle.board_prelude.proofs.Common.{Keyboard, Ata, Device, Denial, Register, bytes_of, is_port_of, device_at, Setup}
-use Rattle.board_prelude.proofs.Common.{is_bit, Bytes, Window, io_claim, xbcs as select_register, ide_command, idetim}
-use Rattle.board_prelude.proofs.Common.{idetim_high, device, nobody, card_port, unselected, device_port, is_config_port}
-use Rattle.board_prelude.proofs.Common.{port_target_of, common_steps}
+use Rattle.std.proofs.Common.{◌≡◌, ◌≢◌, ℕ, ◌↔◌, Bool, true, false, Option, Some, None, ap, arith, inl, inr, ◌&&◌, not}
+use Rattle.std.proofs.Common.{if◌then◌else◌, unwrap_or, option_map, ◌∙◌}
+use Rattle.board_prelude.proofs.Common.{cases_Bool, cond-false, nat_tests, Width, One, Dev, Keyboard, Ata, Device}
+use Rattle.board_prelude.proofs.Common.{Denial, Register, bytes_of, is_port_of, device_at, Setup, is_bit, Bytes, Window}
+use Rattle.board_prelude.proofs.Common.{io_claim, xbcs as select_register, ide_command, idetim, idetim_high, device}
+use Rattle.board_prelude.proofs.Common.{nobody, card_port, unselected, device_port, is_config_port, port_target_of}
+use Rattle.board_prelude.proofs.Common.{common_steps}
 use Rattle.board_base.specs.declared.target.Dev.TheVariants.{Clock}
 use Rattle.device_spec.specs.Common.{PortsApart, ConfigApart}
-use Rattle.xbus_select.specs.Ide.{is_ide_decoded}
-use Rattle.xbus_select.specs.Piix.{is_keyboard_port, is_clock_port, is_disk_port, is_selected}
+use Rattle.xbus_select.specs.Piix.{is_keyboard_port, is_clock_port, is_disk_port}
 use Rattle.xbus_select.specs.PortSelects.{KeyboardAnswers, ClockAnswers, DiskAnswers}
 
 -- ---- a device is no card and not nobody
@@ -35,11 +34,7 @@ by_bits :
     ((if not first then unselected setup bytes port (Register ide_command) else
     if not second then unselected setup bytes port (Register idetim) else device dev).target ≡ Device dev)
     ↔ ((first && second) ≡ true)
-by_bits setup bytes port dev true true = (λ _. refl, λ _. refl)
-by_bits setup bytes port dev true false =
-    (λ is. absurd (not_device setup bytes port (Register idetim) dev is), λ no. absurd (false≢true no))
-by_bits setup bytes port dev false second =
-    (λ is. absurd (not_device setup bytes port (Register ide_command) dev is), λ no. absurd (false≢true no))
+by_bits setup bytes port dev first second = grind (arith, nat_tests, common_steps, not_device)
 
 -- ---- the ports of a device
 
@@ -61,26 +56,18 @@ module _ (apart : PortsApart) (config : ConfigApart) where
 
   pub keyboard_answers : KeyboardAnswers
   keyboard_answers setup bytes address disk port is =
-      let selects : is_selected bytes port ≡ is_bit (bytes select_register) 1 =
-      cond-true (is_keyboard_port port) _ _ is in
-      rw (at_its_port setup bytes address disk Keyboard port One (grind (arith, nat_tests)), selects)
-      (by_bit setup bytes port (Register select_register) Keyboard (is_bit (bytes select_register) 1))
+      let answers = by_bit setup bytes port (Register select_register) Keyboard (is_bit (bytes select_register) 1) in
+      rw (at_its_port setup bytes address disk Keyboard port One (grind (arith, nat_tests))) (grind (arith, nat_tests))
 
   pub clock_answers : ClockAnswers
   clock_answers setup bytes address disk port is =
-      let other : is_keyboard_port port ≡ false = grind (arith, nat_tests) in
-      let selects : is_selected bytes port ≡ is_bit (bytes select_register) 0 =
-      cond-false (is_keyboard_port port) _ _ other ∙ cond-true (is_clock_port port) _ _ is in
-      rw (at_its_port setup bytes address disk Clock port One (grind (arith, nat_tests)), selects)
-      (by_bit setup bytes port (Register select_register) Clock (is_bit (bytes select_register) 0))
+      let answers = by_bit setup bytes port (Register select_register) Clock (is_bit (bytes select_register) 0) in
+      rw (at_its_port setup bytes address disk Clock port One (grind (arith, nat_tests))) (grind (arith, nat_tests))
 
   pub disk_answers : DiskAnswers
   disk_answers setup bytes address width port is =
       let no_keyboard : is_keyboard_port port ≡ false = grind (arith, nat_tests) in
       let no_clock : is_clock_port port ≡ false = grind (arith, nat_tests) in
       let there : is_disk_port port ≡ true = grind (arith, nat_tests) in
-      let selects : is_selected bytes port ≡ is_ide_decoded bytes =
-      cond-false (is_keyboard_port port) _ _ no_keyboard
-      ∙ (cond-false (is_clock_port port) _ _ no_clock ∙ ap (λ (b : Bool). b && is_ide_decoded bytes) there) in
-      rw (at_its_port setup bytes address true Ata port width is, selects)
+      rw (at_its_port setup bytes address true Ata port width is, no_keyboard, no_clock, there)
       (by_bits setup bytes port Ata (is_bit (bytes ide_command) 0) (is_bit (bytes idetim_high) 7))

@@ -115,6 +115,7 @@ impl Piix {
 }
 
 /// The register at an offset of the ISA bridge where nothing changes it: the header, and 0 elsewhere.
+#[tactic(auto, using(crate::proofs::PiixLemmas::fixed_at))]
 pub fn isa_fixed_byte(off: u8) -> u8
     requires fixed { IsIsaFixed off }
     ensures byte { (setup : Setup) → result ≡ reset_byte setup (isa off) }

@@ -27,6 +27,7 @@ const WRITABLE: u8 = 1 << CLOCK_SELECT
     | 1 << EXTENDED_BIOS_ENABLE;
 
 /// The register after a byte is written to it.
+#[tactic(auto, unfolding(board_spec::specs::RegisterTable::writable_bits, board_spec::specs::RegisterTable::isa_bridge))]
 pub fn xbcs_after(old: u8, written: u8) -> u8
     ensures merged { (setup : Setup) → result ≡ merged (writable_bits setup select_register) old written }
 {
