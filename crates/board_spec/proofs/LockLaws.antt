@@ -1,18 +1,16 @@
 -- The lock law holds of every legal history.
-use Rattle.std.proofs.Common.{◌≡◌, ◌≢◌, ℕ, ◌+◌, ◌-◌, inl, inr, Bool, false, List, [], ◌∷◌, ◌++◌, Option, Some, ◌∙◌}
-use Rattle.std.proofs.Common.{arith, zero, suc, ◌==◌, map}
+use Rattle.std.proofs.Common.{◌≡◌, ◌≢◌, ℕ, inl, inr, Bool, false, List, [], ◌∷◌, ◌++◌, Option, Some, ◌∙◌, arith, zero}
+use Rattle.std.proofs.Common.{suc, ◌==◌, map}
 use Rattle.device_spec.proofs.Common.{nat_tests, cases_Bool}
-use Rattle.board_spec.specs.Common.{AllByRecursion, Kind, WideAccess, bytes_of, Denial, Area, Target, Smram, Setup, bit}
-use Rattle.board_spec.specs.Common.{reset_byte, host_bridge, is_hard_reset, register_change, smram_after, byte_with}
-use Rattle.board_spec.specs.Common.{byte_of, Bytes, Window, area_under, area_of, smram, target_at, memory_answer}
-use Rattle.board_spec.specs.Common.{part_answer, IsAnswer, IsNext, IsLegal, SetsLock, NoHardReset, IsOutsideSmm}
-use Rattle.board_spec.specs.Common.{HasSmram, NamesSmram, longest_at, parts_from, parts_of, parts_list, LegalKeepsLock}
-use Rattle.board_base.specs.declared.access.Access.{Access}
+use Rattle.board_spec.specs.Common.{Kind, WideAccess, Denial, Area, Target, Smram, Setup, bit, reset_byte, host_bridge}
+use Rattle.board_spec.specs.Common.{is_hard_reset, register_change, smram_after, byte_with, byte_of, Bytes, Window}
+use Rattle.board_spec.specs.Common.{area_under, area_of, smram, target_at, memory_answer, part_answer, IsAnswer, IsNext}
+use Rattle.board_spec.specs.Common.{IsLegal, SetsLock, NoHardReset, IsOutsideSmm, HasSmram, NamesSmram, parts_from}
+use Rattle.board_spec.specs.Common.{LegalKeepsLock}
 use Rattle.board_base.specs.declared.target.Area.TheVariants.{Smram as SmramArea}
 use Rattle.board_spec.specs.declared.event.Event.{Event}
 use Rattle.board_spec.specs.declared.event.Event.TheVariants.{Memory, Wide, Look as LookAt}
 use Rattle.board_spec.specs.declared.event.Reply.{Reply}
-use Rattle.board_spec.specs.declared.event.Part.{Part}
 use Rattle.board_spec.specs.declared.event.Reply.TheVariants.{Bus, Parts, Saw}
 use Rattle.board_spec.specs.declared.event.Entry.{Entry}
 use Rattle.board_spec.specs.declared.map_change.MapChange.{MapChange}
@@ -83,28 +81,24 @@ reply_names : (value : Option ℕ) (target : Target) (denial : Option Denial) (r
 reply_names value target denial reply e names = grind arith
 
 -- no part of a wide access outside SMM reaches SMRAM
-no_smram_parts : (setup : Setup) (before : List Entry) → bit (byte_of setup before smram) 6 ≡ 0 →
-    (parts : List Access) → AllByRecursion (λ part. part.smm ≡ false) parts → (replies : List Part) →
-    replies ≡ map (part_answer setup before) parts → ¬ HasSmram replies
-unfolding part_answer
-no_smram_parts setup before shut (part ∷ parts) outside (reply ∷ replies) same (inl here) =
-    let area = target_names setup (area_of setup (byte_of setup before) part.addr part.kind part.smm) part.addr in
-    grind (arith, outside.0, area, no_smram setup (byte_of setup before) part.addr part.kind shut)
-no_smram_parts setup before shut (part ∷ parts) outside (reply ∷ replies) same (inr later) =
-    let rest : replies ≡ map (part_answer setup before) parts = cc in
-    no_smram_parts setup before shut parts outside.1 replies rest later
-no_smram_parts setup before shut parts outside [] same has = absurd has
-no_smram_parts setup before shut [] outside (reply ∷ replies) same has = cc
-
--- each part is made in SMM where the whole is
-parts_smm : (access : WideAccess) (smm : Bool) → access.smm ≡ smm → (most addr left : ℕ) →
-    AllByRecursion (λ part. part.smm ≡ smm) (parts_from access most addr left)
-unfolding parts_from
-parts_smm access smm is zero addr left = tt
-parts_smm access smm is (suc most) addr left =
-    let size : ℕ = bytes_of (longest_at addr left) in
-    let later = parts_smm access smm is most (addr + size) (left - size) in
-    elim (cases_Bool (left == 0)) [ inl none ↦ rw none tt | inr some ↦ rw some (is, later) ]
+no_smram_parts : (setup : Setup) (before : List Entry) (access : WideAccess) →
+    bit (byte_of setup before smram) 6 ≡ 0 → access.smm ≡ false → (most addr left : ℕ) →
+    ¬ HasSmram (map (part_answer setup before) (parts_from access most addr left))
+unfolding parts_from part_answer
+no_smram_parts setup before access shut outside zero addr left has = absurd has
+no_smram_parts setup before access shut outside (suc most) addr left has =
+    elim (cases_Bool (left == 0)) [
+      | inl none ↦ absurd (rw none at has)
+      | inr some ↦
+          let either = rw some at has in
+          elim either [
+            | inl here ↦
+                let area =
+                target_names setup (area_of setup (byte_of setup before) addr access.kind access.smm) addr here in
+                no_smram setup (byte_of setup before) addr access.kind shut (rw outside at area)
+            | inr later ↦ no_smram_parts setup before access shut outside most _ _ later
+          ]
+    ]
 
 -- the answer to an access or a look outside SMM, with DOPEN at 0, does not name SMRAM
 no_smram_answer : (setup : Setup) (before : List Entry) (event : Event) (reply : Reply) →
@@ -115,8 +109,7 @@ no_smram_answer setup before (Memory access) reply shut answer outside names =
     let area = target_names setup _ access.addr named in
     no_smram setup (byte_of setup before) access.addr access.kind shut (rw outside at area)
 no_smram_answer setup before (Wide access) (Parts parts value) shut answer outside names =
-    no_smram_parts setup before shut (parts_of access)
-    (parts_smm access false outside 4 access.addr access.bytes) (parts_list parts) answer.each names
+    no_smram_parts setup before access shut outside 4 access.addr access.bytes (rw answer.each at names)
 no_smram_answer setup before (LookAt kind addr smm) (Saw look) shut answer outside names =
     let area = answer.span.same addr answer.span.above answer.span.below ∙ names in
     no_smram setup (byte_of setup before) addr kind shut (rw outside at area)

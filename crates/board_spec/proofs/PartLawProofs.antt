@@ -37,22 +37,17 @@ AreLongest from left (width ∷ later) =
     (longest_at from left ≡ width) × (0 < left) × AreLongest (from + bytes_of width) (left - bytes_of width) later
 
 -- the rest of an access is cut by these widths
-record Cut (access : WideAccess) (most from left : ℕ) (widths : List Width) : Type 0 where
-  pub parts : parts_from access most from left ≡ made access from widths
-  pub total : total widths ≡ left
-  pub aligned : Aligned from widths
-
 cut : (access : WideAccess) (most from left : ℕ) (widths : List Width) → AreLongest from left widths →
-    length widths ≤ most → Cut access most from left widths
+    length widths ≤ most →
+    (parts_from access most from left ≡ made access from widths) × (total widths ≡ left) × Aligned from widths
 unfolding parts_from made
-cut access zero from left [] longest few = record { parts = refl; total = sym longest; aligned = tt }
-cut access (suc most) from left [] longest few =
-    record { parts = grind (arith, nat_tests); total = sym longest; aligned = tt }
+cut access zero from left [] longest few = (refl, sym longest, tt)
+cut access (suc most) from left [] longest few = (grind (arith, nat_tests), sym longest, tt)
 cut access zero from left (width ∷ later) longest few = absurd (omega arith)
 cut access (suc most) from left (width ∷ later) longest few =
     let rest = cut access most (from + bytes_of width) (left - bytes_of width) later longest.2 (omega arith) in
     let fits : (from % bytes_of width ≡ 0) × (bytes_of width ≤ left) = grind (arith, nat_tests) in
-    record { parts = grind (arith, nat_tests); total = omega (arith, rest.total); aligned = (fits.0, rest.aligned) }
+    (grind (arith, nat_tests, rest.0), omega (arith, rest.1, fits.1), (fits.0, rest.2))
 
 -- ---- the eight ways to cut
 
@@ -72,9 +67,9 @@ cut_by access widths longest count =
       widths = widths;
       least = count.0;
       most = count.1;
-      parts = is.parts;
-      total_is = is.total;
-      aligned = is.aligned;
+      parts = is.0;
+      total_is = is.1;
+      aligned = is.2;
     }
 
 quarters : (n : ℕ) → (n % 4 ≡ 0) ⊎ (n % 4 ≡ 1) ⊎ (n % 4 ≡ 2) ⊎ (n % 4 ≡ 3)
