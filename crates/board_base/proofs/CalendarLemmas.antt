@@ -1,7 +1,6 @@
 -- The calendar of `specs/Calendar.antt` is that of `jiff`.
-use Rattle.std.proofs.Common.{◌≡◌, ℕ, zero, suc, ◌+◌, ◌-◌, ◌%◌, ◌≤◌, Bool, true, ◌&&◌, leb, refl, arith, ℤ, pos}
+use Rattle.std.proofs.Common.{◌≡◌, ℕ, zero, suc, ◌+◌, ◌-◌, ◌%◌, ◌≤◌, true, refl, arith, ℤ, pos}
 use Rattle.std.proofs.lemmas.Bool.Decides.{nat_tests}
-use Rattle.std.proofs.lemmas.Bool.{and_from, and_parts, le-leb, leb-true}
 use Rattle.std.specs.Int.{IsInRange}
 use Rattle.jiff_core.specs.Calendar.{days_in_month as jiff_days_in_month, days_of_months as jiff_days_of_months}
 use Rattle.jiff_core.specs.Calendar.{day_count, days_from_civil, weekday_number}
@@ -10,7 +9,7 @@ use Rattle.jiff_core.proofs.CalendarLemmas.{weekday_number-parts}
 use Rattle.jiff_core.proofs.MarchLemmas.{day_count-early}
 use Rattle.jiff_core.proofs.SignedLemmas.{signed_arith}
 use Rattle.board_base.specs.Calendar.{days_in_month, days_in_year, days_of_months, days_of_years, days_since_1980}
-use Rattle.board_base.specs.Calendar.{weekday_of, is_moment, IsDate, IsTime, MomentsDecided, WeekdaysFollow}
+use Rattle.board_base.specs.Calendar.{weekday_of, IsDate, MomentsDecided, WeekdaysFollow}
 use Rattle.board_base.specs.Bits.{is_within}
 
 -- the months of a year have as many days
@@ -128,42 +127,9 @@ weekdays_follow =
 
 -- ---- which moments there are
 
-pub six_parts : (a b c d e f : Bool) → (a && b && c && d && e && f) ≡ true →
-    (a ≡ true) × (b ≡ true) × (c ≡ true) × (d ≡ true) × (e ≡ true) × (f ≡ true)
-six_parts a b c d e f test = grind arith
-
 pub is_within_parts : (low high n : ℕ) → is_within low high n ≡ true → (low ≤ n) × (n ≤ high)
-is_within_parts low high n test =
-    let both = and_parts (leb low n) (leb n high) test in
-    (leb-true low n both.0, leb-true n high both.1)
-
-is_inside : (low high n : ℕ) → low ≤ n → n ≤ high → is_within low high n ≡ true
-is_inside low high n first last = and_from (leb low n) (leb n high) (le-leb low n first) (le-leb n high last)
-
-moment_decides : (year month day hour minute second : ℕ) →
-    is_moment year month day hour minute second ≡ true → IsDate year month day × IsTime hour minute second
-moment_decides year month day hour minute second test =
-    let parts = six_parts _ _ _ _ _ _ test in
-    let years = is_within_parts _ _ year parts.0 in
-    let months = is_within_parts _ _ month parts.1 in
-    let days = is_within_parts _ _ day parts.2 in
-    let hours = leb-true hour _ parts.3 in
-    let minutes = leb-true minute _ parts.4 in
-    let seconds = leb-true second _ parts.5 in
-    assumption (years, months, days, hours, minutes, seconds)
-
-moment_decided : (year month day hour minute second : ℕ) →
-    IsDate year month day × IsTime hour minute second → is_moment year month day hour minute second ≡ true
-moment_decided year month day hour minute second (date, time) =
-    rw (
-      is_inside 1980 2099 year date.year_low date.year_high,
-      is_inside 1 12 month date.month_low date.month_high,
-      is_inside 1 (days_in_month year month) day date.day_low date.day_high,
-      le-leb hour 23 time.hour_high,
-      le-leb minute 59 time.minute_high,
-      le-leb second 59 time.second_high,
-    ) refl
+is_within_parts low high n test = grind (arith, nat_tests)
 
 pub moments_decided : MomentsDecided
 moments_decided year month day hour minute second =
-    (moment_decides year month day hour minute second, moment_decided year month day hour minute second)
+    ((λ test. grind (arith, nat_tests)), (λ is. grind (arith, nat_tests, is.0, is.1)))

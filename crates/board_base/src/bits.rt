@@ -12,6 +12,7 @@ pub fn is_set(value: u32, bit: u32) -> bool
 }
 
 /// A register after a write: the bits of the mask as written, and the others as they were.
+#[tactic(auto, using(crate::proofs::MergedLemmas::merged_bits))]
 pub fn merged(mask: u8, old: u8, written: u8) -> u8
     ensures merged { result ≡ merged mask old written }
     ensures bits { (k : ℕ) → k < 8 → bit_of result k ≡ (if is_bit mask k then bit_of written k else bit_of old k) }

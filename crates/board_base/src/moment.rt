@@ -66,11 +66,13 @@ impl Moment {
     }
 
     /// A law of the calendar: each day has the weekday after that of the day before it.
+    #[tactic(auto, using(crate::proofs::CalendarLemmas::weekdays_follow))]
     pub fn weekdays_follow()
         ensures law { WeekdaysFollow }
     {}
 
     /// A law of the calendar: `is_moment` says whether there is such a moment.
+    #[tactic(auto, using(crate::proofs::CalendarLemmas::moments_decided))]
     pub fn moments_decided()
         ensures law { MomentsDecided }
     {}
