@@ -1,16 +1,20 @@
 -- The DRAM after a history, and after one entry more.
 use Rattle.std.proofs.Common.{◌≡◌, ℕ, ◌+◌, ◌<◌, List, [], ◌∷◌, length, Option, Some, None, ◌∙◌, refl, arith}
-use Rattle.std.proofs.Common.{slice_index, replicate, unwrap_or}
-use Rattle.board_prelude.proofs.Common.{option_or, length-replicate, get_or-replicate, nat_tests, Width, Dram, bytes_of}
-use Rattle.board_prelude.proofs.Common.{Entry, Setup, installed, byte, wide, DramCell, stored_of, byte_put, entry_put}
+use Rattle.std.proofs.Common.{slice_index, unwrap_or, ◌*◌, All}
+use Rattle.board_prelude.proofs.Common.{concat, option_or, length-replicate, get_or-replicate, nat_tests, Width, Dram}
+use Rattle.board_prelude.proofs.Common.{bytes_of, Entry, Setup, byte, wide, DramCell, stored_of, byte_put, entry_put}
 use Rattle.board_prelude.proofs.Common.{dram_byte}
 use Rattle.std.proofs.Math.Seq.{of_parts}
+use Rattle.dram_store.proofs.ConcatLemmas.{zero_banks}
+use Rattle.dram_store.specs.Bank.{IsBank, IsZero, bank_size}
 use Rattle.dram_store.specs.Dram.{dram_at, IsDramOf, IsWritten}
 
-pub fresh : (setup : Setup) (dram : List ℕ) → dram ≡ replicate (installed setup) 0 → IsDramOf setup [] dram
+pub fresh : (setup : Setup) (banks : List (List ℕ)) → All IsBank banks → All IsZero banks → length banks ≡ setup.mib →
+    IsDramOf setup [] (concat banks)
 unfolding stored_of
-fresh setup dram is =
-    grind (arith, nat_tests, of_parts, length-replicate {A = ℕ} (installed setup) 0, get_or-replicate)
+fresh setup banks each zeros count =
+    let is = zero_banks banks each zeros in
+    grind (arith, nat_tests, of_parts, length-replicate {A = ℕ} (length banks * bank_size) 0, get_or-replicate)
 
 -- ---- bytes put into the DRAM
 

@@ -37,6 +37,7 @@ impl Model for Dram {
 
 impl Dram {
     /// A DRAM of `mib` MiB, 1 to 512, all zeros. No later call takes memory.
+    #[tactic(auto, using(crate::proofs::ConcatLemmas::zero_banks))]
     pub fn open(alloc: Global, mib: u32) -> Result<Dram, NoMemory>
         requires some { 1 ≤ mib }
         requires most { mib ≤ most_mib }
@@ -94,7 +95,7 @@ impl Dram {
 
     /// The bytes of a MiB that are kept, from its first on: those after them are 0, and are not filled in for this.
     /// None past the installed memory.
-    #[tactic(auto, using(crate::proofs::ConcatLemmas::banks_length))]
+    #[tactic(auto, using(crate::proofs::ConcatLemmas::banks_length, crate::proofs::StretchLemmas::kept_bytes))]
     pub fn kept(&self, mib: usize) -> Option<&[u8]>
         ensures none { result ≡ None → length self.now ≤ mib * bank_size }
         ensures some { IfSome result (λ kept. (mib + 1) * bank_size ≤ length self.now) }

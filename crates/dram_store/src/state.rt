@@ -34,6 +34,7 @@ impl Dram {
     }
 
     /// Reads a bank for each MiB.
+    #[tactic(auto, using(crate::proofs::StateFormats::banks_done))]
     fn read_state(alloc: Global, mib: u32, fields: &mut Fields) -> Result<Dram, Fault>
         requires most { mib ≤ most_mib }
         ensures filled { Filled (λ dram. dram) result fields.new (dram_fields mib fields.old) }

@@ -1,7 +1,7 @@
 use Rattle.std.proofs.Common.{arith}
 use Rattle.board_prelude.proofs.Common.{err_from_is_err_and, All-push, length_push}
 use Rattle.dram_store.specs.Bank.{IsBank}
-use Rattle.dram_store.proofs.StateFormats.{bank_failed, bank_read, banks_done}
+use Rattle.dram_store.proofs.StateFormats.{bank_failed, bank_read}
 use Rattle.dram_store.proofs.dram.Dram.read_state.Goals as goal
 
 pub returns-in_err-load_state : goal.returns-in_err-load_state
@@ -25,8 +25,3 @@ loop-preserved c =
       count = omega (arith, length_push banks bank, c.loop.invariant.count);
       each = All-push IsBank banks bank c.loop.invariant.each c.in_ok-load_state.ensures.size;
     })
-
-pub returns : goal.returns
-returns c = record {
-  filled = banks_done c.args.mib c.loop.counter c.loop.banks.items _ _ c.loop.invariant.read c.loop-test.false;
-}
