@@ -1,8 +1,7 @@
 -- The cards in a list by their device numbers, and the bytes of their registers.
-use Rattle.board_prelude.proofs.Common.{nat_tests, position, cases_Bool, cases_eq, cases_lt, eq-eqb, ne_eqb, All-head}
-use Rattle.board_prelude.proofs.Common.{All-tail, eqb-true, true≢false, get_or-map, length-map, take_all, take_more}
-use Rattle.board_prelude.proofs.Common.{Setup, FittedCard, IsCard, IsCardList, Rises, card_at, Reg, reset_byte, Bytes}
-use Rattle.board_prelude.proofs.Common.{card_register}
+use Rattle.board_prelude.proofs.Common.{nat_tests, position, cases_eq, cases_lt, eq-eqb, All-head, All-tail, eqb-true}
+use Rattle.board_prelude.proofs.Common.{true≢false, get_or-map, length-map, take_all, take_more, Setup, FittedCard}
+use Rattle.board_prelude.proofs.Common.{IsCard, IsCardList, Rises, card_at, Reg, reset_byte, Bytes, card_register}
 use Rattle.std.proofs.Common.{◌≡◌, ◌≢◌, ℕ, zero, suc, ◌+◌, ◌<◌, ◌≤◌, ◌⊎◌, inl, inr, false, List, [], ◌∷◌, ◌++◌, take}
 use Rattle.std.proofs.Common.{length, get_or, set, Some, None, refl, sym, ◌∙◌, ap, subst, arith, get_or-set_same}
 use Rattle.std.proofs.Common.{get_or-set_other, length-set, ◌==◌, All, is_some, find}
@@ -15,7 +14,6 @@ use Rattle.pci_bars.specs.Cards.{CardBytes, DecodesAs, IsCardOf, AreCards, AreCa
 use Rattle.pci_bars.specs.Cards.{AreReset}
 use Rattle.addr_decode.specs.MapRegs.{stored}
 use Rattle.pci_bars.proofs.CardLemmas.{card-apart}
-use Rattle.addr_decode.proofs.StoreLemmas.{in_function_0}
 
 -- ---- what holds of a card and the bytes of its registers
 
@@ -74,11 +72,7 @@ found_from : (cards : List CardBytes) (dev first : ℕ) →
     is_some (find (λ card. card.dev == dev) (cards_of cards))
     ≡ is_some (position_from (λ card. card.card.dev == dev) first cards)
 found_from [] dev first = refl
-found_from (card ∷ later) dev first =
-    elim (cases_Bool (card.card.dev == dev)) [
-      | inl here ↦ rw here refl
-      | inr not ↦ rw not (found_from later dev (first + 1))
-    ]
+found_from (card ∷ later) dev first = let rest = found_from later dev (first + 1) in grind arith
 
 pub fitted_is : (setup : Setup) (cards : List CardBytes) (dev : ℕ) → setup.cards ≡ cards_of cards →
     is_some (position (λ card. card.card.dev == dev) cards) ≡ is_some (card_at setup dev)
@@ -90,6 +84,20 @@ pub card_kept : (cards : List CardBytes) (i : ℕ) (old new : CardBytes) → old
     new.card ≡ old.card → cards_of (set cards i new) ≡ cards_of cards
 card_kept cards i old new is_old same_card = map-set_same card_of cards i new old (same_card ∙ ap card_of is_old)
 
+module _ {setup : Setup} {Is : Bytes → CardBytes → Type 0} (own : IsOfCard setup Is) (bytes : Bytes) where
+  -- a byte of another device, or of a function other than 0, is none of a card
+  card_beside : (at : Reg) (written : ℕ) (card : CardBytes) → (at.dev ≢ card.card.dev) ⊎ (at.fun ≢ 0) →
+      Is bytes card → Is (stored setup bytes at written) card
+  card_beside at written card other is = grind (arith, nat_tests)
+
+  -- nor is one past offset FFh
+  card_beyond : (at : Reg) (written : ℕ) (card : CardBytes) → IsCard card.card → written < 256 → 256 ≤ at.off →
+      Is bytes card → Is (stored setup bytes at written) card
+  card_beyond at written card fit below past is =
+      let beyond = own.beyond bytes card at.off written fit below past is in
+      let beside = card_beside at written card in
+      grind (arith, nat_tests)
+
 module _ {setup : Setup} {Is : Bytes → CardBytes → Type 0} (own : IsOfCard setup Is) (bytes : Bytes)
     (cards : List CardBytes) (are : (setup.cards ≡ cards_of cards) × All (Is bytes) cards) where
   pub cards_agree : (bytes' : Bytes) → AreCards cards →
@@ -97,17 +105,24 @@ module _ {setup : Setup} {Is : Bytes → CardBytes → Type 0} (own : IsOfCard s
       (setup.cards ≡ cards_of cards) × All (Is bytes') cards
   cards_agree bytes' each same = grind (arith, nat_tests)
 
-  -- a byte of a bridge, or of a function other than 0, is none of a card
-  pub cards_beside : (at : Reg) (written : ℕ) → AreCards cards → (at.dev < 2) ⊎ (at.fun ≢ 0) →
+  -- a byte of a bridge, of a function other than 0, or past offset FFh is none of the cards
+  pub cards_stay : (at : Reg) (written : ℕ) → AreCards cards → written < 256 →
+      (at.dev < 2) ⊎ (at.fun ≢ 0) ⊎ (256 ≤ at.off) →
       (setup.cards ≡ cards_of cards) × All (Is (stored setup bytes at written)) cards
-  cards_beside at written each other = grind (arith, nat_tests)
+  cards_stay at written each below outside = (
+    are.0,
+    λ k d within.
+        let fit = each k d within in
+        let above = fit.first in
+        elim outside [
+          | inl low ↦ card_beside own bytes at written (get_or cards k d) (inl (λ e. omega arith)) (are.1 k d within)
+          | inr (inl fun) ↦ card_beside own bytes at written (get_or cards k d) (inr fun) (are.1 k d within)
+          | inr (inr past) ↦ card_beyond own bytes at written (get_or cards k d) fit below past (are.1 k d within)
+        ],
+  )
 
   -- a byte of a device
   module _ (dev off written : ℕ) where
-    beside : (k : ℕ) (d : CardBytes) → k < length cards → (get_or cards k d).card.dev ≢ dev →
-        Is (stored setup bytes (card_register dev off) written) (get_or cards k d)
-    beside k d within apart = grind (arith, nat_tests)
-
     -- the card at a place becomes another state of the same card, and each of the others stays as it is
     pub card_written :
         (i : ℕ) (old new : CardBytes) → Rises (cards_of cards) →
@@ -128,11 +143,12 @@ module _ {setup : Setup} {Is : Bytes → CardBytes → Type 0} (own : IsOfCard s
                 | inr apart ↦
                     let first = position-Some (λ card. card.card.dev == dev) cards i d at_i in
                     rw (get_or-set_other cards i k new d apart)
-                    (beside k d in_list (λ same. elim (cases_lt k i) [
-                      | inl before ↦ true≢false (sym (eq-eqb _ _ same) ∙ first.2 k before)
+                    (card_beside own bytes (card_register dev off) written (get_or cards k d)
+                    (inl (λ same. elim (cases_lt k i) [
+                      | inl before ↦ true≢false (sym (eq-eqb _ _ (sym same)) ∙ first.2 k before)
                       | inr after ↦
                           omega (arith, rises_apart cards rises i k d (omega arith) in_list, eqb-true _ _ first.1)
-                    ]))
+                    ])) (are.1 k d in_list))
               ],
         )
 
@@ -141,39 +157,24 @@ module _ {setup : Setup} {Is : Bytes → CardBytes → Type 0} (own : IsOfCard s
         (setup.cards ≡ cards_of cards) × All (Is (stored setup bytes (card_register dev off) written)) cards
     no_card_written none = (
       are.0,
-      λ k d within. beside k d within (λ same.
+      λ k d within.
+          card_beside own bytes (card_register dev off) written (get_or cards k d) (inl (λ same.
           let fitted = own.fitted bytes (get_or cards k d) (are.1 k d within) in
           let none_fitted = fitted_is setup cards dev are.0 in
-          true≢false (sym (ap is_some (rw same at fitted)) ∙ (sym none_fitted ∙ ap is_some none))),
+          true≢false (sym (ap is_some (rw (← same) at fitted)) ∙ (sym none_fitted ∙ ap is_some none))))
+          (are.1 k d within),
     )
-
-  -- nor does a card keep a byte past offset FFh
-  pub cards_beyond : (at : Reg) (written : ℕ) → AreCards cards → written < 256 → 256 ≤ at.off →
-      (setup.cards ≡ cards_of cards) × All (Is (stored setup bytes at written)) cards
-  cards_beyond at written each below past =
-      elim (cases_eq at.fun 0) [
-        | inr fun ↦ cards_beside at written each (inr fun)
-        | inl fun ↦ (
-          are.0,
-          λ k d within.
-              rw (← in_function_0 at at.dev refl fun) (elim (cases_eq (get_or cards k d).card.dev at.dev) [
-                | inr apart ↦ beside at.dev at.off written k d within apart
-                | inl same ↦
-                    rw (← same) (own.beyond bytes (get_or cards k d) at.off written (each k d within) below past
-                    (are.1 k d within))
-              ]),
-        )
-      ]
 
 -- ---- after a reset
 
 pub find_at : (cards : List FittedCard) → Rises cards → (k : ℕ) (d : FittedCard) → k < length cards →
     find (λ card. card.dev == (get_or cards k d).dev) cards ≡ Some (get_or cards k d)
 find_at [] rises k d within = absurd (omega arith)
-find_at (card ∷ later) rises zero d within = rw (eq-eqb card.dev card.dev refl) refl
+find_at (card ∷ later) rises zero d within = grind (arith, nat_tests)
 find_at (card ∷ later) rises (suc k) d within =
     let above = rises.0 k d (omega arith) in
-    rw (ne_eqb card.dev (get_or later k d).dev (omega arith)) (find_at later rises.1 k d (omega arith))
+    let rest = find_at later rises.1 k d (omega arith) in
+    grind (arith, nat_tests)
 
 pub reset_cards : (setup : Setup) (cards : List CardBytes) → AreFitted cards → AreReset cards →
     setup.cards ≡ cards_of cards → AreCardsOf setup (reset_byte setup) cards
@@ -221,9 +222,9 @@ no_low_spec : (cards : List FittedCard) (dev : ℕ) → dev < 2 → All IsCard c
     is_some (find (λ card. card.dev == dev) cards) ≡ false
 no_low_spec [] dev low each = refl
 no_low_spec (card ∷ later) dev low each =
-    let here = All-head IsCard card later each in
-    rw (ne_eqb card.dev dev (omega (arith, here.first)))
-    (no_low_spec later dev low (All-tail IsCard card later each))
+    let above = (All-head IsCard card later each).first in
+    let rest = no_low_spec later dev low (All-tail IsCard card later each) in
+    grind (arith, nat_tests)
 
 pub no_low_card : (setup : Setup) (cards : List CardBytes) (dev : ℕ) → dev < 2 → AreCards cards →
     setup.cards ≡ cards_of cards → is_some (card_at setup dev) ≡ false

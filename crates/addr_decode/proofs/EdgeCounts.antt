@@ -1,8 +1,9 @@
 -- How many edges a board has, and how many of them lie above an address.
 use Rattle.std.proofs.Common.{ℕ, ◌+◌, ◌*◌, ◌<◌, ◌≤◌, inl, inr, List, [], ◌∷◌, length, Option, Some, None, arith, nat_lt}
-use Rattle.std.proofs.Common.{All, filter, flat_map, IfSome}
+use Rattle.std.proofs.Common.{All, filter, flat_map, IfSome, not, refl}
+use Rattle.std.proofs.lemmas.List.Filters.{length-filter_both}
 use Rattle.board_prelude.proofs.Common.{Contains, enumerate_from, nat_tests, length-append, All-head, All-tail, Base}
-use Rattle.board_prelude.proofs.Common.{IoBase, FittedCard, Setup, IsCard, IsCardList, Bytes, memory_window, rom_window}
+use Rattle.board_prelude.proofs.Common.{FittedCard, Setup, IsCard, IsCardList, Bytes, memory_window, rom_window}
 use Rattle.board_prelude.proofs.Common.{rom_window_of}
 use Rattle.addr_decode.specs.Edges.{fixed_edges, window_edges, card_edges, edges_of, edges_after, IsNextEdge}
 use Rattle.addr_decode.specs.Edges.{most_edges, FewEdges}
@@ -14,8 +15,7 @@ few_of_bases :
     (flat_map (λ numbered. flat_map window_edges (memory_window bytes dev numbered.0 numbered.1))
     (enumerate_from k bases)) ≤ 2 * length bases
 few_of_bases bytes dev k [] = omega arith
-few_of_bases bytes dev k (IoBase bits ∷ later) = omega (arith, few_of_bases bytes dev (k + 1) later)
-few_of_bases bytes dev k (_ ∷ later) = omega (arith, few_of_bases bytes dev (k + 1) later)
+few_of_bases bytes dev k (base ∷ later) = let rest = few_of_bases bytes dev (k + 1) later in grind arith
 
 few_of_rom :
     (bytes : Bytes) (dev : ℕ) (rom : Option ℕ) → length (flat_map window_edges (rom_window_of bytes dev rom)) ≤ 2
@@ -42,15 +42,15 @@ few_edges setup bytes cards = omega (arith, cards.count, few_of_cards bytes setu
 
 -- ---- above an address
 
-few_kept : (addr : ℕ) (edges : List ℕ) → length (filter (nat_lt addr) edges) ≤ length edges
-few_kept addr [] = omega arith
-few_kept addr (edge ∷ later) = let few = few_kept addr later in grind (arith, nat_tests)
-
 -- a board has no more edges above an address
 pub few_edges_after :
     (setup : Setup) (bytes : Bytes) (addr : ℕ) → IsCardList setup.cards → edges_after setup bytes addr ≤ most_edges
 few_edges_after setup bytes addr cards =
-    omega (arith, few_kept addr (edges_of setup bytes), few_edges setup bytes cards)
+    omega (
+      arith,
+      length-filter_both (nat_lt addr) (λ edge. not (nat_lt addr edge)) (λ edge. refl) (edges_of setup bytes),
+      few_edges setup bytes cards,
+    )
 
 pub no_more : (low high : ℕ) (edges : List ℕ) → low ≤ high →
     length (filter (nat_lt high) edges) ≤ length (filter (nat_lt low) edges)

@@ -1,42 +1,28 @@
 -- Between two edges all addresses have the same areas.
 use Rattle.std.proofs.Common.{◌≡◌, ℕ, ◌+◌, ◌*◌, ◌/◌, ◌^◌, ◌<◌, ◌≤◌, inl, inr, Bool, true, false, List, [], ◌∷◌, ◌++◌}
-use Rattle.std.proofs.Common.{Option, Some, None, refl, arith, ◌==◌, All, flat_map, unwrap_or, IfSome, IsNone}
+use Rattle.std.proofs.Common.{Option, Some, None, refl, arith, ◌==◌, ◌&&◌, All, flat_map, unwrap_or, IfSome, IsNone}
 use Rattle.std.proofs.Common.{if◌then◌else◌, slice_index_or}
-use Rattle.board_prelude.proofs.Common.{list_any, cases_eq, ne_eqb, AllByRecursion, enumerate_from, cases_lt, nat_tests}
-use Rattle.board_prelude.proofs.Common.{pow_pos, recursion_from_All, Kind, FittedCard, Setup, smram_range, upper_memory}
-use Rattle.board_prelude.proofs.Common.{is_within, Bytes, Window, row_of, is_in_hole, is_shadowed, is_rom_selected}
-use Rattle.board_prelude.proofs.Common.{is_covered, memory_window, rom_window, is_rom_on, vga_window, memory_windows}
-use Rattle.board_prelude.proofs.Common.{is_enabled_for, first_window, memory_claim, area_of, xbcs as select_register}
-use Rattle.board_prelude.proofs.Common.{address_count}
+use Rattle.board_prelude.proofs.Common.{list_any, AllByRecursion, enumerate_from, cases_lt, nat_tests, pow_pos}
+use Rattle.board_prelude.proofs.Common.{find-append, recursion_from_All, Kind, FittedCard, Setup, smram_range}
+use Rattle.board_prelude.proofs.Common.{upper_memory, is_within, Bytes, Window, row_of, is_in_hole, is_shadowed}
+use Rattle.board_prelude.proofs.Common.{is_rom_selected, is_covered, memory_window, rom_window, is_rom_on, vga_window}
+use Rattle.board_prelude.proofs.Common.{memory_windows, is_enabled_for, first_window, memory_claim, area_of}
+use Rattle.board_prelude.proofs.Common.{xbcs as select_register, address_count}
 use Rattle.std.proofs.lemmas.List.Elements.{All-contains_itself}
 use Rattle.addr_decode.specs.Edges.{fixed_edges, row_edges, window_edges, card_edges, edges_of, IsNextEdge, NoEdgeAbove}
 use Rattle.addr_decode.specs.Edges.{SameAreas, AreasChangeAtEdges}
 
 -- ---- what holds of each of a list
 
-all_joined : {X : Type 0} (P : X → Type 0) (xs ys : List X) → AllByRecursion P xs → AllByRecursion P ys →
-    AllByRecursion P (xs ++ ys)
-all_joined P [] ys all_xs all_ys = all_ys
-all_joined P (x ∷ xs) ys all_xs all_ys = (all_xs.0, all_joined P xs ys all_xs.1 all_ys)
-
 all_parts : {X : Type 0} (P : X → Type 0) (xs ys : List X) → AllByRecursion P (xs ++ ys) →
     AllByRecursion P xs × AllByRecursion P ys
 all_parts P [] ys all = (tt, all)
 all_parts P (x ∷ xs) ys all = let later = all_parts P xs ys all.1 in ((all.0, later.0), later.1)
 
-all_where : {X : Type 0} (P : X → Type 0) (holds : Bool) (xs : List X) → AllByRecursion P xs →
-    AllByRecursion P (if holds then xs else [])
-all_where P true xs all = all
-all_where P false xs all = tt
-
 all_listed :
     (P : ℕ → Type 0) (xs : List ℕ) (x : ℕ) → AllByRecursion P xs → list_any (λ other. x == other) xs ≡ true → P x
 all_listed P [] x all is = absurd cc
-all_listed P (first ∷ later) x all is =
-    elim (cases_eq x first) [
-      | inl here ↦ rw here all.0
-      | inr apart ↦ all_listed P later x all.1 (rw (ne_eqb x first apart) at is)
-    ]
+all_listed P (first ∷ later) x all is = let rest = all_listed P later x all.1 in grind (arith, nat_tests, all.0)
 
 -- ---- ranges and windows
 
@@ -44,35 +30,42 @@ all_listed P (first ∷ later) x all is =
 abbrev Clear : ℕ → ℕ → ℕ → Type 0
 Clear addr x edge = addr < edge → x < edge
 
--- a window covers both addresses or neither
-abbrev IsCoveredAlike : ℕ → ℕ → Window → Type 0
-IsCoveredAlike addr x window = is_covered x window ≡ is_covered addr window
-
-module _ (addr x : ℕ) (order : addr ≤ x) where
+module _ (addr x : ℕ) (order : addr ≤ x) (counts : ℕ → Bool) where
   covered_by : (size quotient : ℕ) → 0 < size → Clear addr x (quotient * size) → Clear addr x (quotient * size + size) →
       (quotient == x / size) ≡ (quotient == addr / size)
   covered_by size quotient positive at_first at_end = grind (arith, nat_tests)
 
+  -- the first of these windows is one at both addresses
+  abbrev IsAlike : List Window → Type 0
+  IsAlike windows = first_window counts x windows ≡ first_window counts addr windows
+
+  both_alike : (xs ys : List Window) → IsAlike xs → IsAlike ys → IsAlike (xs ++ ys)
+  both_alike xs ys first later =
+      rw (
+        find-append (λ window. counts window.dev && is_covered x window) xs ys,
+        find-append (λ window. counts window.dev && is_covered addr window) xs ys,
+        first,
+        later,
+      ) refl
+
+  where_alike : (holds : Bool) (xs : List Window) → IsAlike xs → IsAlike (if holds then xs else [])
+  where_alike true xs alike = alike
+  where_alike false xs alike = refl
+
   windows_alike : (windows : List Window) → AllByRecursion (Clear addr x) (flat_map window_edges windows) →
-      AllByRecursion (IsCoveredAlike addr x) windows
-  windows_alike [] clear = tt
-  windows_alike (window ∷ later) clear = (
-    covered_by (2 ^ window.bits) (window.inside / 2 ^ window.bits) (pow_pos window.bits) clear.0 clear.1.0,
-    windows_alike later clear.1.1,
-  )
+      IsAlike windows
+  windows_alike [] clear = refl
+  windows_alike (window ∷ later) clear =
+      let first =
+      covered_by (2 ^ window.bits) (window.inside / 2 ^ window.bits) (pow_pos window.bits) clear.0 clear.1.0 in
+      rw (first, windows_alike later clear.1.1) refl
 
   each_alike : {A : Type 0} (windows : A → List Window) (xs : List A) → AllByRecursion (Clear addr x)
-      (flat_map (λ a. flat_map window_edges (windows a)) xs) → AllByRecursion (IsCoveredAlike addr x)
-      (flat_map windows xs)
-  each_alike windows [] clear = tt
+      (flat_map (λ a. flat_map window_edges (windows a)) xs) → IsAlike (flat_map windows xs)
+  each_alike windows [] clear = refl
   each_alike windows (a ∷ later) clear =
       let parts = all_parts (Clear addr x) (flat_map window_edges (windows a)) _ clear in
-      all_joined _ (windows a) _ (windows_alike (windows a) parts.0) (each_alike windows later parts.1)
-
-  found_alike : (counts : ℕ → Bool) (windows : List Window) → AllByRecursion (IsCoveredAlike addr x) windows →
-      first_window counts x windows ≡ first_window counts addr windows
-  found_alike counts [] alike = refl
-  found_alike counts (window ∷ later) alike = rw (alike.0, found_alike counts later alike.1) refl
+      both_alike (windows a) _ (windows_alike (windows a) parts.0) (each_alike windows later parts.1)
 
 -- ---- no edge lies above the first address and up to the other
 
@@ -111,25 +104,27 @@ module _ (setup : Setup) (bytes : Bytes) (addr x : ℕ) (between : Between setup
 
   -- ---- cards
 
-  cards_alike : (cards : List FittedCard) → AllByRecursion (Clear addr x) (flat_map (card_edges bytes) cards) →
-      AllByRecursion (IsCoveredAlike addr x) (flat_map (memory_windows bytes) cards)
+  cards_alike : (counts : ℕ → Bool) (cards : List FittedCard) →
+      AllByRecursion (Clear addr x) (flat_map (card_edges bytes) cards) →
+      IsAlike addr x between.order counts (flat_map (memory_windows bytes) cards)
   unfolding fixed_edges
-  cards_alike [] clear = tt
-  cards_alike (card ∷ later) clear =
+  cards_alike counts [] clear = refl
+  cards_alike counts (card ∷ later) clear =
+      let order = between.order in
       let parts = all_parts (Clear addr x) (card_edges bytes card) _ clear in
       let own = all_parts (Clear addr x) _ (flat_map window_edges (rom_window bytes card)) parts.0 in
-      let rom = windows_alike addr x between.order (rom_window bytes card) own.1 in
-      let vga = windows_alike addr x between.order
+      let rom = windows_alike addr x order counts (rom_window bytes card) own.1 in
+      let vga = windows_alike addr x order counts
       (record { dev = card.dev; base = 7; inside = 0xA_0000; bits = 17 } ∷ [])
       (fixed_clear 0xA_0000 refl, (fixed_clear 0xC_0000 refl, tt)) in
-      all_joined _ (memory_windows bytes card) _
-      (all_joined _ _ (vga_window card)
-      (all_joined _ _ (if is_rom_on bytes card.dev then rom_window bytes card else [])
-      (each_alike addr x between.order (λ numbered. memory_window bytes card.dev numbered.0 numbered.1)
+      both_alike addr x order counts (memory_windows bytes card) _
+      (both_alike addr x order counts _ (vga_window card)
+      (both_alike addr x order counts _ (if is_rom_on bytes card.dev then rom_window bytes card else [])
+      (each_alike addr x order counts (λ numbered. memory_window bytes card.dev numbered.0 numbered.1)
       (enumerate_from 0 card.bases) own.0)
-      (all_where _ (is_rom_on bytes card.dev) _ rom))
-      (all_where _ card.vga _ vga))
-      (cards_alike later parts.1)
+      (where_alike addr x order counts (is_rom_on bytes card.dev) _ rom))
+      (where_alike addr x order counts card.vga _ vga))
+      (cards_alike counts later parts.1)
 
   -- ---- the areas
 
@@ -143,8 +138,7 @@ module _ (setup : Setup) (bytes : Bytes) (addr x : ℕ) (between : Between setup
         rom_same (bytes select_register),
         range_same smram_range.0 smram_range.1 refl refl,
         range_same upper_memory.0 upper_memory.1 refl refl,
-        found_alike addr x between.order (is_enabled_for 1 bytes) (flat_map (memory_windows bytes) setup.cards)
-            (cards_alike setup.cards between.cards),
+        cards_alike (is_enabled_for 1 bytes) setup.cards between.cards,
       ) refl
 
 pub areas_change_at_edges : AreasChangeAtEdges

@@ -1,100 +1,62 @@
 -- The memory map and the denials in the order of the code are those of the definitions.
-use Rattle.std.proofs.Common.{◌≡◌, ℕ, Bool, true, false, Option, Some, None, IfSome, refl, sym, ◌∙◌, arith, unwrap_or}
-use Rattle.std.proofs.Common.{[], ◌∷◌, option_map}
+use Rattle.std.proofs.Common.{◌≡◌, ℕ, Bool, false, Option, Some, None, refl, arith, unwrap_or, [], ◌∷◌, option_map}
 use Rattle.board_prelude.proofs.Common.{nat_tests, Area, Denial, Kind, top_of, memory_shut, rom_unselected}
-use Rattle.board_prelude.proofs.Common.{abort_denial, rom_denial, denial_in, denial_of, Setup, lies_in, upper_memory}
-use Rattle.board_prelude.proofs.Common.{Window, first_of, line_where, is_smram_range, is_shadow_range, card_area}
-use Rattle.board_prelude.proofs.Common.{area_under, Bytes, row_of, is_shadowed, memory_claim, area_of}
-use Rattle.board_prelude.proofs.Common.{xbcs as select_register, is_in_hole, is_bios_selected, is_smram_open, Read}
-use Rattle.board_prelude.proofs.Common.{Write, six_areas}
-use Rattle.board_base.specs.declared.target.Area.TheVariants.{Dram, Shadow, Rom, Abort}
-use Rattle.pmc_regs.specs.Pmc.{IsRowsOf}
-use Rattle.addr_decode.specs.Common.{MapBytes, StandsFor, dram_area, above_dram, beside_dram, master_area, AreSinglesOf}
+use Rattle.board_prelude.proofs.Common.{abort_denial, rom_denial, denial_in, denial_of, Setup, Window, first_of}
+use Rattle.board_prelude.proofs.Common.{line_where, is_smram_range, is_shadow_range, card_area, area_under, Bytes}
+use Rattle.board_prelude.proofs.Common.{row_of, is_shadowed, memory_claim, area_of, xbcs as select_register, is_in_hole}
+use Rattle.board_prelude.proofs.Common.{is_bios_selected, is_smram_open, Read, Write, six_areas}
+use Rattle.board_base.specs.declared.target.Area.TheVariants.{Rom, Abort}
+use Rattle.addr_decode.specs.Common.{dram_area, above_dram, beside_dram, master_area}
 use Rattle.addr_decode.specs.Memory.{board_denial, card_denial}
 
 no_dram : (rom : Bool) (claim : Option Window) →
     first_of (line_where rom Rom ∷ option_map card_area claim ∷ []) Abort ≡ above_dram None rom claim
 no_dram rom claim = grind arith
 
--- where DRAM answers, over the register bytes
-abbrev pub dram_by : Bytes → ℕ → Kind → Bool → Option Area
-dram_by bytes addr kind smm =
-    dram_area (row_of bytes addr) (is_smram_open bytes kind smm) (is_shadowed bytes addr kind)
-    (is_in_hole bytes addr) addr
-
--- where DRAM answers or not
-or_beside : (dram : Option Area) (rom : Bool) (claim : Option Window) →
-    unwrap_or dram (above_dram None rom claim) ≡ above_dram dram rom claim
-or_beside None rom claim = refl
-or_beside (Some area) rom claim = refl
-
 -- where DRAM answers nothing denies
-undenied : (row : Option ℕ) (opened shadowed hole : Bool) (addr : ℕ) (kind : Kind) (abort rom : Denial) →
-    IfSome (dram_area row opened shadowed hole addr) (λ area. None ≡ denial_in area kind abort rom)
-undenied row opened shadowed hole addr kind abort rom = grind (arith, nat_tests)
+abbrev pub unless_dram : Option Area → Option Denial → Option Denial
+unless_dram (Some area) denial = None
+unless_dram None denial = denial
 
-module _ (setup : Setup) (bytes : Bytes) (addr : ℕ) where
-  answers : (kind : Kind) (smram : Bool) (dram : Option Area) (beside : Area) →
-      dram ≡ dram_area (row_of bytes addr) smram (is_shadowed bytes addr kind) (is_in_hole bytes addr) addr →
-      beside ≡ beside_dram setup bytes addr →
-      unwrap_or dram beside ≡ area_under (row_of bytes addr) smram (is_shadowed bytes addr kind) (is_in_hole bytes addr)
+undenied :
+    (row : Option ℕ) (opened shadowed hole : Bool) (addr : ℕ) (kind : Kind) (abort rom : Denial) (beside : Area) →
+    denial_in (unwrap_or (dram_area row opened shadowed hole addr) beside) kind abort rom
+    ≡ unless_dram (dram_area row opened shadowed hole addr) (denial_in beside kind abort rom)
+undenied row opened shadowed hole addr kind abort rom beside = grind (arith, nat_tests)
+
+module _ (setup : Setup) (bytes : Bytes) (addr : ℕ) (kind : Kind) where
+  -- where DRAM answers
+  abbrev pub dram_by : (opened : Bool) → Option Area
+  dram_by opened = dram_area (row_of bytes addr) opened (is_shadowed bytes addr kind) (is_in_hole bytes addr) addr
+
+  in_order : (opened : Bool) →
+      area_under (row_of bytes addr) opened (is_shadowed bytes addr kind) (is_in_hole bytes addr)
       (is_bios_selected bytes addr) (memory_claim setup bytes addr) addr
-  answers kind smram dram beside is_dram is_beside =
-      rw is_beside (or_beside dram (is_bios_selected bytes addr) (memory_claim setup bytes addr)
-      ∙ rw is_dram (sym (grind (arith, nat_tests, no_dram))))
+      ≡ unwrap_or (dram_by opened) (beside_dram setup bytes addr)
+  in_order opened =
+      let none = no_dram (is_bios_selected bytes addr) (memory_claim setup bytes addr) in grind (arith, nat_tests)
 
-  -- so it is of a bus master, to which SMRAM never answers
-  pub master_answers : (kind : Kind) (dram : Option Area) (beside : Area) →
-      dram ≡ dram_area (row_of bytes addr) false (is_shadowed bytes addr kind) (is_in_hole bytes addr) addr →
-      beside ≡ beside_dram setup bytes addr → unwrap_or dram beside ≡ master_area setup bytes addr kind
+  pub area_in_order : (smm : Bool) → area_of setup bytes addr kind smm
+      ≡ unwrap_or (dram_by (is_smram_open bytes kind smm)) (beside_dram setup bytes addr)
+  unfolding area_of
+  area_in_order smm = in_order (is_smram_open bytes kind smm)
+
+  -- to a bus master SMRAM never answers
+  pub master_in_order :
+      master_area setup bytes addr kind ≡ unwrap_or (dram_by false) (beside_dram setup bytes addr)
   unfolding master_area
-  master_answers kind = answers kind false
+  master_in_order = in_order false
 
-  module _ (kind : Kind) (smm : Bool) where
-    pub either_answers : (dram : Option Area) (beside : Area) → dram ≡ dram_by bytes addr kind smm →
-        beside ≡ beside_dram setup bytes addr → unwrap_or dram beside ≡ area_of setup bytes addr kind smm
-    unfolding area_of
-    either_answers = answers kind (is_smram_open bytes kind smm)
+  pub denial_in_order : (smm : Bool) → denial_of setup bytes addr kind smm
+      ≡ unless_dram (dram_by (is_smram_open bytes kind smm)) (denial_in (beside_dram setup bytes addr) kind
+      (abort_denial (top_of bytes) (memory_shut setup bytes addr) (rom_unselected setup bytes addr) addr)
+      (rom_denial (bytes select_register)))
+  unfolding denial_of
+  denial_in_order smm =
+      rw (area_in_order smm) (undenied (row_of bytes addr) (is_smram_open bytes kind smm)
+      (is_shadowed bytes addr kind) (is_in_hole bytes addr) addr kind _ _ (beside_dram setup bytes addr))
 
-    pub dram_undenied : (area : Area) → Some area ≡ dram_by bytes addr kind smm →
-        None ≡ denial_of setup bytes addr kind smm
-    unfolding denial_of
-    dram_undenied area is =
-        rw (← either_answers _ _ is refl) (rw (← is)
-        at (undenied (row_of bytes addr) (is_smram_open bytes kind smm) (is_shadowed bytes addr kind)
-        (is_in_hole bytes addr) addr kind (abort_denial (top_of bytes) (memory_shut setup bytes addr)
-        (rom_unselected setup bytes addr) addr) (rom_denial (bytes select_register))))
-
-    -- at an address of a shadow window
-    pub shadow_answers : (row : ℕ) (open' : Bool) (beside : Area) → is_shadow_range addr ≡ true →
-        Some row ≡ row_of bytes addr → open' ≡ is_shadowed bytes addr kind → beside ≡ beside_dram setup bytes addr →
-        unwrap_or (line_where open' (Shadow row)) beside ≡ area_of setup bytes addr kind smm
-    shadow_answers row open' beside window is_row is_open' =
-        let apart : is_smram_range addr ≡ false = grind (arith, nat_tests) in
-        either_answers (line_where open' (Shadow row)) beside (rw (is_open', ← is_row, apart, window) refl)
-
-    pub no_row_answers : (beside : Area) → None ≡ row_of bytes addr → beside ≡ beside_dram setup bytes addr →
-        beside ≡ area_of setup bytes addr kind smm
-    no_row_answers beside is_row = either_answers None beside (rw (← is_row) refl)
-
-module _ (regs : MapBytes) (addr : ℕ) (outside : lies_in upper_memory addr ≡ false)
-    (no_hole : (bytes : Bytes) → AreSinglesOf bytes regs.singles → is_in_hole bytes addr ≡ false) where
-  pub if_plain_area : (found : Option ℕ) → ((bytes : Bytes) → IsRowsOf bytes regs.drb → found ≡ row_of bytes addr) →
-      IfSome found (λ row. (setup : Setup) (bytes : Bytes) (kind : Kind) (smm : Bool) → StandsFor setup bytes regs →
-      area_of setup bytes addr kind smm ≡ Dram row)
-  if_plain_area None is = tt
-  if_plain_area (Some row) is = λ setup bytes kind smm stands.
-      sym (either_answers setup bytes addr kind smm (Some (Dram row)) _
-      (grind (arith, nat_tests, no_hole bytes stands.singles, is bytes stands.rows)) refl)
-
-  pub if_plain_undenied :
-      (found : Option ℕ) → ((bytes : Bytes) → IsRowsOf bytes regs.drb → found ≡ row_of bytes addr) →
-      IfSome found (λ row. (setup : Setup) (bytes : Bytes) (kind : Kind) (smm : Bool) → StandsFor setup bytes regs →
-      denial_of setup bytes addr kind smm ≡ None)
-  if_plain_undenied None is = tt
-  if_plain_undenied (Some row) is = λ setup bytes kind smm stands.
-      sym (dram_undenied setup bytes addr kind smm (Dram row)
-      (grind (arith, nat_tests, no_hole bytes stands.singles, is bytes stands.rows)))
+pub ruleset memory_map = (nat_tests, area_in_order, denial_in_order)
 
 -- ---- denials
 

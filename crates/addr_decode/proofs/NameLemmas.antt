@@ -1,7 +1,7 @@
 -- The names of the registers: exactly the map bytes have one, and each stands for one register.
 use Rattle.std.proofs.Common.{◌≡◌, ◌≢◌, ℕ, ◌+◌, ◌<◌, ◌≤◌, Bool, true, false, ◌&&◌, ◌||◌, Option, Some, None, List, []}
-use Rattle.std.proofs.Common.{◌∷◌, ◌++◌, length, get_or, inl, inr, refl, sym, ◌∙◌, ap, arith, take, lit<, ◌==◌, map}
-use Rattle.std.proofs.Common.{find, is_some, option_map, option_and_then, rules, IfSome}
+use Rattle.std.proofs.Common.{◌∷◌, ◌++◌, length, get_or, inl, inr, refl, sym, ◌∙◌, arith, take, lit<, ◌==◌, map, find}
+use Rattle.std.proofs.Common.{is_some, option_map, option_and_then, rules, IfSome}
 use Rattle.board_prelude.proofs.Common.{position, AllByRecursion, list_any, and-true, and-false, cases_Bool, ne_eqb}
 use Rattle.board_prelude.proofs.Common.{nat_tests, Width, One, Reg, bytes_of, MapChange, Store, Reset, FittedCard}
 use Rattle.board_prelude.proofs.Common.{Setup, card_at, is_within, bridge, isa, card_register, is_host_byte, has_rom}
@@ -13,17 +13,17 @@ use Rattle.pci_bars.proofs.CardListLemmas.{find-cards, at_position}
 use Rattle.addr_decode.specs.declared.register.MapRegister.{MapRegister}
 use Rattle.addr_decode.specs.declared.register.MapRegister.TheVariants.{Single, Card}
 use Rattle.addr_decode.specs.MapRegister.{place_of, IsNumbered, IsNumberedName, AreNumbered, in_bridge, in_isa_bridge}
-use Rattle.addr_decode.specs.MapRegister.{in_card, in_device, map_register, names_from, names_of}
+use Rattle.addr_decode.specs.MapRegister.{in_card, in_device, map_register, names_from, names_of, MapBytesAreNamed}
+use Rattle.addr_decode.specs.MapRegister.{NamesStandForOne}
 use Rattle.addr_decode.specs.Singles.{single, single_count, single_number}
 use Rattle.pci_bars.specs.Cards.{CardBytes, AreFitted, cards_of}
-use Rattle.addr_decode.proofs.CardLemmas.{no_low_card}
-use Rattle.addr_decode.proofs.SingleLemmas.{number_stands, single_is}
+use Rattle.addr_decode.proofs.CardLemmas.{no_low_card, no_low_fitted}
+use Rattle.addr_decode.proofs.SingleLemmas.{number_stands}
 
 -- ---- the map bytes of each function
 
 no_rom : (card : Option FittedCard) → is_some card ≡ false → has_rom card ≡ false
-no_rom None none = refl
-no_rom (Some card) none = absurd (cc)
+no_rom card none = grind arith
 
 -- the offset of that of the ISA bridge
 abbrev pub is_isa_byte : ℕ → Bool
@@ -57,8 +57,7 @@ unfolding map_register
 by_function P cards other host south device reg = grind (arith, nat_tests)
 
 pub is_named : {X Y : Type 0} (f : X → Y) (name : Option X) → is_some (option_map f name) ≡ is_some name
-is_named f None = refl
-is_named f (Some x) = refl
+is_named f name = grind arith
 
 -- ---- they have a name
 
@@ -71,8 +70,7 @@ isa_named off = elim (cases_Bool (off == 0x4E)) [ inl here ↦ rw here refl | in
 device_named : (fitted : Option FittedCard) (dev off : ℕ) →
     is_some (option_map (Card dev) (option_and_then (in_card off) fitted))
     ≡ (is_some fitted && (off == 0x04 || is_within 0x10 0x27 off) || has_rom fitted && is_within 0x30 0x33 off)
-device_named None dev off = refl
-device_named (Some card) dev off = is_named (Card dev) (in_card off card) ∙ grind (arith, nat_tests)
+device_named fitted dev off = grind (arith, nat_tests)
 
 pub named : (setup : Setup) (reg : Reg) → is_some (card_at setup 0) ≡ false → is_some (card_at setup 1) ≡ false →
     is_some (map_register setup.cards reg) ≡ is_map_byte setup reg
@@ -129,8 +127,7 @@ covered_offset width k below = grind (arith, nat_tests)
 
 pub count_names : (cards : List FittedCard) (reg : Reg) (width : Width) →
     length (names_from cards reg width) ≡ bytes_of width
-count_names cards reg One = refl
-count_names cards reg _ = refl
+count_names cards reg width = grind arith
 
 any_same : (name : ℕ → Option MapRegister) (is : ℕ → Bool) (xs : List ℕ) → ((k : ℕ) → is_some (name k) ≡ is k) →
     list_any is_some (map name xs) ≡ list_any is xs
@@ -167,16 +164,11 @@ named_so_far cards cards' reg width k names d below same are =
     rw (are, same) (grind (arith, nat_tests))
 
 -- no register past offset FFh has a name
-small : (register : MapRegister) → IsNumbered register → (place_of register).off < 256
-small register is = grind (arith, nat_tests, single_is)
-
-no_name : (name : Option MapRegister) (reg : Reg) → 256 ≤ reg.off → AreNamed name reg → name ≡ None
-no_name None reg past is = refl
-no_name (Some register) reg past is =
-    absurd (omega (arith, small register is.number, ap (λ (at : Reg). at.off) is.place))
-
 pub none_past : (cards : List FittedCard) (reg : Reg) → 256 ≤ reg.off → map_register cards reg ≡ None
-none_past cards reg past = no_name _ reg past (names_at cards reg)
+none_past cards =
+    by_function (λ reg name. 256 ≤ reg.off → name ≡ None) cards (λ reg other past. refl)
+    (λ off past. grind (arith, nat_tests)) (λ off past. grind (arith, nat_tests))
+    (λ dev off above past. grind (arith, nat_tests))
 
 -- one more name
 pub one_more_named : (cards : List FittedCard) (reg : Reg) (k : ℕ) (names names' : List (Option MapRegister))
@@ -212,33 +204,20 @@ pub one_name : (cards : List FittedCard) (reg : Reg) (name : Option MapRegister)
     name ∷ [] ≡ names_from cards reg One
 one_name cards reg name is = grind (arith, nat_tests)
 
-pub bridge_name : (cards : List FittedCard) (reg : Reg) → (reg.dev ≡ 0) × (reg.fun ≡ 0) →
-    in_bridge reg.off ≡ map_register cards reg
-unfolding map_register
-bridge_name cards reg of = rw (of.1, of.0) refl
-
-pub isa_name : (cards : List FittedCard) (reg : Reg) → (reg.dev ≡ 1) × (reg.fun ≡ 0) →
-    in_isa_bridge reg.off ≡ map_register cards reg
-unfolding map_register
-isa_name cards reg of = rw (of.1, of.0) refl
-
-pub ide_name : (cards : List FittedCard) (reg : Reg) → (reg.dev ≡ 1) × (reg.fun ≡ 1) → None ≡ map_register cards reg
-unfolding map_register
-ide_name cards reg of = rw of.1 refl
-
 -- the card at a place has the device number that is found there
-card_found : (cards : List CardBytes) (dev place : ℕ) (d : CardBytes) →
+pub card_found : (cards : List CardBytes) (dev place : ℕ) (d : CardBytes) →
     position (λ card. card.card.dev == dev) cards ≡ Some place →
     Some (get_or cards place d).card ≡ find (λ card. card.dev == dev) (cards_of cards)
 card_found cards dev place d at =
     let within : place < length cards = (position-Some (λ card. card.card.dev == dev) cards place d at).0 in
     rw (← find-cards cards dev, ← at_position cards dev place (sym at), slice_get-get_or cards place d within) refl
 
-pub card_name : (cards : List CardBytes) (reg : Reg) (place : ℕ) (d : CardBytes) → 2 ≤ reg.dev → reg.fun ≡ 0 →
-    position (λ card. card.card.dev == reg.dev) cards ≡ Some place →
-    option_map (Card reg.dev) (in_card reg.off (get_or cards place d).card) ≡ map_register (cards_of cards) reg
-unfolding map_register
-card_name cards reg place d above fun at =
-    rw (fun, ne_eqb reg.dev 0 (omega arith), ne_eqb reg.dev 1 (omega arith))
-    (ap (λ (fitted : Option FittedCard). option_map (Card reg.dev) (option_and_then (in_card reg.off) fitted))
-    (card_found cards reg.dev place d at))
+pub ruleset at_place = (nat_tests, card_found)
+
+pub map_bytes_named : MapBytesAreNamed
+map_bytes_named setup reg list =
+    let low = λ (dev : ℕ) (below : dev < 2). no_low_fitted setup dev below list in
+    named setup reg (low 0 (lit< tt)) (low 1 (lit< tt))
+
+pub names_stand : NamesStandForOne
+names_stand cards reg register is = (is_name cards reg register is).place

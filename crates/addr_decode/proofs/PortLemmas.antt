@@ -1,14 +1,16 @@
 -- The ports in the order of the code are those of the definitions.
-use Rattle.std.proofs.Common.{◌≡◌, ◌≢◌, ℕ, ◌/◌, Bool, true, false, Option, Some, None, refl, sym, arith, is_some}
-use Rattle.std.proofs.Common.{if◌then◌else◌}
+use Rattle.std.proofs.Common.{◌≡◌, ℕ, ◌/◌, Bool, false, Option, Some, None, refl, sym, arith, is_some, if◌then◌else◌}
+use Rattle.std.proofs.Common.{◌≤◌, ◌==◌, ◌∙◌, List}
 use Rattle.board_prelude.proofs.Common.{nat_tests, ne_eqb, Width, Dev, Decoded, nobody, NoRegister, bytes_of, Select}
-use Rattle.board_prelude.proofs.Common.{Always, IdeChannel, device_at, select_of, Setup, card_at, is_enabled}
-use Rattle.board_prelude.proofs.Common.{is_config_port, config_register, Bytes, ide_command as command_register}
-use Rattle.board_prelude.proofs.Common.{idetim_high, xbcs as select_register, config_port, selected_by, device_port}
-use Rattle.board_prelude.proofs.Common.{port_target_of, card_function, function_at, function_exists}
+use Rattle.board_prelude.proofs.Common.{device_at, select_of, Setup, card_at, is_enabled, is_config_port}
+use Rattle.board_prelude.proofs.Common.{config_register, Bytes, ide_command as command_register, idetim_high}
+use Rattle.board_prelude.proofs.Common.{xbcs as select_register, config_port, selected_by, device_port, port_target_of}
+use Rattle.board_prelude.proofs.Common.{card_function, function_exists, position}
+use Rattle.pci_bars.specs.Cards.{CardBytes, cards_of}
 use Rattle.cfg_ports.specs.declared.conf_add.Selected.{Selected}
 use Rattle.cfg_ports.specs.Selection.{existing}
 use Rattle.addr_decode.specs.declared.onboard.Onboard.{Onboard}
+use Rattle.addr_decode.proofs.CardLemmas.{fitted_is}
 use Rattle.addr_decode.proofs.NameLemmas.{is_named}
 use Rattle.addr_decode.specs.Common.{by_select, response_of, IsChannelOf, register_answers, after_onboard}
 
@@ -17,10 +19,7 @@ module _ (setup : Setup) (bytes : Bytes) (timing port : ℕ) (is : timing / 0x10
       selected_by select disk dev setup bytes port
       ≡ after_onboard setup bytes port
       (by_select select dev (bytes select_register) disk (bytes command_register) timing)
-  select_in_order Always disk dev = refl
-  select_in_order IdeChannel false dev = refl
-  select_in_order IdeChannel true dev = rw is (grind (arith, nat_tests))
-  select_in_order _ disk dev = grind (arith, nat_tests)
+  select_in_order select disk dev = grind (arith, nat_tests)
 
   found_in_order : (found : Option Dev) (disk : Bool) →
       device_port found disk setup bytes port
@@ -60,7 +59,9 @@ selected_target setup address port selected answer on register is = grind (arith
 
 -- ---- functions
 
-pub card_exists :
-    (setup : Setup) (dev : ℕ) → dev ≢ 0 → dev ≢ 1 → is_some (card_at setup dev) ≡ is_some (function_at setup dev 0)
-card_exists setup dev not0 not1 =
-    rw (ne_eqb dev 0 not0, ne_eqb dev 1 not1) (sym (is_named card_function (card_at setup dev)))
+pub card_exists : (setup : Setup) (cards : List CardBytes) (dev : ℕ) → 2 ≤ dev → setup.cards ≡ cards_of cards →
+    is_some (position (λ card. card.card.dev == dev) cards) ≡ function_exists setup 0 dev 0
+card_exists setup cards dev above same =
+    fitted_is setup cards dev same
+    ∙ rw (ne_eqb dev 0 (λ e. omega arith), ne_eqb dev 1 (λ e. omega arith))
+    (sym (is_named card_function (card_at setup dev)))

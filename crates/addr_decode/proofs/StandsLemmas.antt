@@ -1,19 +1,17 @@
 -- The registers of the address map among those of a board: after a reset, and where a byte is stored.
-use Rattle.std.proofs.Common.{◌≡◌, ◌≢◌, ℕ, ◌+◌, ◌<◌, ◌≤◌, ◌⊎◌, inl, inr, Option, Some, None, List, length, set, refl}
-use Rattle.std.proofs.Common.{sym, ◌∙◌, subst, arith, add-one, slice_index, option_map}
+use Rattle.std.proofs.Common.{◌≡◌, ℕ, ◌+◌, ◌<◌, ◌≤◌, ◌⊎◌, inl, inr, None, List, length, set, sym, ◌∙◌, arith, add-one}
+use Rattle.std.proofs.Common.{slice_index}
 use Rattle.board_prelude.proofs.Common.{get_or-set_other, get_or-set_same, cases_eq, nat_tests, Width, bytes_of, One}
 use Rattle.board_prelude.proofs.Common.{Reg, Store, FittedCard, Setup, byte, reset_byte, changed_byte, Bytes, bridge}
-use Rattle.board_prelude.proofs.Common.{isa, drb, card_register, reg_after, after_stores, byte_by_byte}
+use Rattle.board_prelude.proofs.Common.{drb, card_register, reg_after, after_stores, byte_by_byte}
 use Rattle.pmc_regs.proofs.Common.{row_bytes, rows_are, rows_after_store}
 use Rattle.pam_windows.specs.Pam.{IsPamOffset, IsPamOf}
 use Rattle.pam_windows.proofs.PamLemmas.{pam_bytes, pam_are}
 use Rattle.pci_bars.specs.Cards.{CardBytes, AreCards, AreCardsOf, AreDecoded, cards_of, AreFitted, AreReset}
-use Rattle.addr_decode.specs.declared.register.MapRegister.TheVariants.{Single}
 use Rattle.addr_decode.specs.Common.{in_bridge, map_register, MapBytes, StandsFor, stored, AreSinglesOf, single}
 use Rattle.addr_decode.specs.Common.{single_count, single_number}
-use Rattle.addr_decode.proofs.StoreLemmas.{Differs, differs_back, stored-elsewhere, in_function_0}
-use Rattle.addr_decode.proofs.CardLemmas.{cards_agree, cards_beside, cards_decoded, of_decoded, of_registers}
-use Rattle.addr_decode.proofs.CardLemmas.{reset_cards}
+use Rattle.addr_decode.proofs.StoreLemmas.{Differs, differs_back, stored-elsewhere}
+use Rattle.addr_decode.proofs.CardLemmas.{cards_agree, cards_stay, cards_decoded, of_decoded, of_registers, reset_cards}
 use Rattle.addr_decode.proofs.SingleLemmas.{no_single, singles_apart, single_is}
 
 -- the registers of the bridges that a board's registers give
@@ -55,9 +53,9 @@ module _ (setup : Setup) (bytes : Bytes) (regs : MapBytes) (stands : StandsFor s
   }
 
   -- a window of PAM, a boundary of a row, and a register of one byte
-  module _ (fitted : AreFitted regs.cards) where
-    cards_stay : (at : Reg) → at.dev < 2 → AreDecoded setup (stored setup bytes at written) regs.cards
-    cards_stay at low = cards_beside (of_decoded setup) bytes regs.cards stands.cards at written fitted.each (inl low)
+  module _ (fitted : AreFitted regs.cards) (below : written < 256) where
+    decoded : (at : Reg) → at.dev < 2 → AreDecoded setup (stored setup bytes at written) regs.cards
+    decoded at low = cards_stay (of_decoded setup) bytes regs.cards stands.cards at written fitted.each below (inl low)
 
     pub window_stored : (pam : List ℕ) (off : ℕ) → IsPamOffset off →
         IsPamOf (stored setup bytes (bridge off) written) pam →
@@ -69,19 +67,19 @@ module _ (setup : Setup) (bytes : Bytes) (regs : MapBytes) (stands : StandsFor s
       singles = λ k below.
           stays (bridge off) (single k) _ (stands.singles k below)
           ((single_is k below).apart off within.0 (omega (arith, within.1)));
-      cards = cards_stay (bridge off) (omega arith);
+      cards = decoded (bridge off) (omega arith);
     }
 
-    pub row_stored : (row : ℕ) → length regs.drb ≡ 8 → row < 8 → written < 256 →
+    pub row_stored : (row : ℕ) → length regs.drb ≡ 8 → row < 8 →
         StandsFor setup (stored setup bytes (drb row) written) (record regs { drb = set regs.drb row written })
-    row_stored row eight within below = record {
+    row_stored row eight within = record {
       rows = rows_after_store setup bytes regs.drb row written eight within below stands.rows;
       windows = λ off inside.
           stays (drb row) (bridge off) _ (stands.windows off inside) (inr (inr (omega (arith, inside.1))));
       singles = λ k few.
           stays (drb row) (single k) _ (stands.singles k few)
           ((single_is k few).apart (0x60 + row) (omega arith) (omega arith));
-      cards = cards_stay (drb row) (omega arith);
+      cards = decoded (drb row) (omega arith);
     }
 
     pub single_stored : (number after : ℕ) → length regs.singles ≡ single_count → number < single_count →
@@ -107,33 +105,20 @@ module _ (setup : Setup) (bytes : Bytes) (regs : MapBytes) (stands : StandsFor s
                     get_or-set_other regs.singles number k after 0 apart
                     ∙ stays _ _ _ (stands.singles k below) (singles_apart _ k within below (λ e. apart (sym e)))
               ];
-          cards = cards_stay (single number) place.low;
+          cards = decoded (single number) place.low;
         }
 
 -- ---- a register without a name is none of those that the address map depends on
 
--- a card has none of the bridges' registers, nor has a function other than 0, nor are any past offset FFh
-pub outside_apart : (at : Reg) → (2 ≤ at.dev) ⊎ (at.fun ≢ 0) ⊎ (256 ≤ at.off) → IsApart at
-outside_apart at (inl above) = grind (arith, nat_tests, single_is)
-outside_apart at (inr (inl fun)) = grind (arith, nat_tests, single_is)
-outside_apart at (inr (inr past)) = grind (arith, nat_tests, single_is)
+-- a card has none of the bridges' registers
+pub card_apart : (at : Reg) → 2 ≤ at.dev → IsApart at
+card_apart at above = grind (arith, nat_tests, single_is)
 
 -- none of the registers of the map has this offset in the host bridge
 pub record IsBeside (off : ℕ) : Type 0 where
   pub windows : (off < 0x59) ⊎ (0x5F < off)
   pub rows : (off < 0x60) ⊎ (0x67 < off)
   pub singles : (k : ℕ) → k < single_count → Differs (bridge off) (single k)
-
-bridge_apart : (off : ℕ) → IsBeside off → IsApart (bridge off)
-bridge_apart off beside = grind (arith, nat_tests)
-
-isa_apart : (off : ℕ) → single_number (isa off) ≡ None → IsApart (isa off)
-isa_apart off none = grind (arith, nat_tests, no_single)
-
--- the name of a register of one byte
-named_none : (number : Option ℕ) → option_map Single number ≡ None → number ≡ None
-named_none None is = refl
-named_none (Some number) is = absurd (cc)
 
 pub nameless_in_bridge : (cards : List FittedCard) (at : Reg) → at.dev ≡ 0 → at.fun ≡ 0 → map_register cards at ≡ None →
     IsBeside at.off
@@ -146,23 +131,16 @@ nameless_in_bridge cards at first function none =
       singles = no_single (bridge at.off) (grind (arith, nat_tests, beside));
     }
 
-pub nameless_apart : (cards : List FittedCard) (at : Reg) → (at.dev < 2) ⊎ (at.fun ≢ 0) →
-    map_register cards at ≡ None → IsApart at
+pub nameless_apart : (cards : List FittedCard) (at : Reg) → map_register cards at ≡ None → IsApart at
 unfolding map_register
-nameless_apart cards at (inr fun) none = outside_apart at (inr (inl fun))
-nameless_apart cards at (inl low) none =
-    elim (cases_eq at.fun 0) [
-      | inr other ↦ outside_apart at (inr (inl other))
-      | inl function ↦ elim (cases_eq at.dev 0) [
-        | inl first ↦
-            subst IsApart (in_function_0 at 0 first function)
-            (bridge_apart at.off (nameless_in_bridge cards at first function none))
-        | inr not0 ↦
-            let second : at.dev ≡ 1 = omega arith in
-            subst IsApart (in_function_0 at 1 second function)
-            (isa_apart at.off (named_none (single_number (isa at.off)) (rw (function, second) at none)))
-      ]
-    ]
+nameless_apart cards at none = record {
+  rows = λ row below. grind (arith, nat_tests);
+  windows = λ off inside. let from = inside.0 in let to = inside.1 in grind (arith, nat_tests);
+  singles = λ k below.
+      let place = single_is k below in
+      let own = λ (is : single_number at ≡ None). no_single at is k below in
+      grind (arith, nat_tests, place.low, place.function, own);
+}
 
 -- ---- the bytes of a store, one after the other
 

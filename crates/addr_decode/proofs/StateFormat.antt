@@ -1,12 +1,14 @@
 -- The state of the registers is spelled and read back.
-use Rattle.std.proofs.Common.{◌≡◌, ℕ, zero, suc, ◌+◌, ◌*◌, ◌^◌, ◌<◌, ◌≤◌, List, [], ◌∷◌, ◌++◌, length, Option, Some}
-use Rattle.std.proofs.Common.{None, Result, Ok, refl, sym, ap, ◌∙◌, arith, slice_index, flat_map, get_or, take, drop}
-use Rattle.std.proofs.Common.{◌-◌, Err}
+use Rattle.std.proofs.Common.{◌≡◌, ℕ, zero, suc, ◌+◌, ◌*◌, ◌^◌, ◌<◌, ◌≤◌, List, [], ◌∷◌, ◌++◌, length, Option, None}
+use Rattle.std.proofs.Common.{Result, Ok, refl, sym, ap, ◌∙◌, arith, slice_index, flat_map, get_or, take, drop, ◌-◌}
+use Rattle.std.proofs.Common.{Err}
 use Rattle.board_prelude.proofs.Common.{AllByRecursion, All-cons, All-head, All-nil, All-tail, append-nil, get_or_past}
 use Rattle.board_prelude.proofs.Common.{drop_all, drop_at, drop_more, flat_map-cons, take_at, length-append}
 use Rattle.board_prelude.proofs.Common.{length-drop, length-take-le, take-append-drop, FittedCard}
 use Rattle.byte_fields.proofs.Formats.{IsFormat, fields_format, ◌then◌, ◌&◌, last_field, whole_field, done_format}
 use Rattle.byte_fields.proofs.Formats.{plain_format}
+use Rattle.byte_fields.specs.Loads.{OneSpelling}
+use Rattle.byte_fields.proofs.Loaded.{one_spelling}
 use Rattle.byte_fields.proofs.Loops.{with_front, front_joined}
 use Rattle.byte_fields.proofs.Numbers.{any_byte, any_number, number_to, wide32}
 use Rattle.pci_bars.specs.Cards.{CardBytes}
@@ -56,16 +58,13 @@ bases_format =
 -- ---- a card
 
 most_small : (rom : Option ℕ) → most_rom rom < 2 ^ 32
-most_small None = omega arith
-most_small (Some bits) = omega arith
+most_small rom = grind arith
 
 rom_to : (rom : Option ℕ) (n : ℕ) → n < 2 ^ 32 → (rom ≡ None → n ≡ 0) → n ≤ most_rom rom
-rom_to None n few none = omega (arith, none refl)
-rom_to (Some bits) n few none = omega (arith, few)
+rom_to rom n few none = grind arith
 
 rom_from : (rom : Option ℕ) (n : ℕ) → n ≤ most_rom rom → (n < 2 ^ 32) × (rom ≡ None → n ≡ 0)
-rom_from None n few = (omega (arith, few), λ none. omega (arith, few))
-rom_from (Some bits) n few = (omega (arith, few), λ none. absurd cc)
+rom_from rom n few = grind arith
 
 abbrev IsOwn : FittedCard → CardBytes → Type 0
 IsOwn card regs = (regs.card ≡ card) × IsCardRegs regs
@@ -153,6 +152,9 @@ regs_format fitted =
       },
       rw (take_at t.2.0 t.2.2.2.0 1 t.2.1, drop_at t.2.0 t.2.2.2.0 1 t.2.1) refl,
     )))
+
+pub one_map_regs : (fitted : List FittedCard) → OneSpelling regs_bytes (AreMapRegs fitted)
+one_map_regs fitted = one_spelling (regs_format fitted)
 
 -- ---- the loop over the cards
 

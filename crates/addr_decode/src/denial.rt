@@ -55,6 +55,7 @@ fn rom_denial(xbcs: u8) -> Denial
 }
 
 /// What denies an access that nobody answers.
+#[tactic(auto, using(crate::proofs::MemoryLemmas::denials_in_order))]
 fn abort_denial(regs: &MapRegs, addr: u32) -> Denial
     requires cards { AreFitted regs.now.cards.items }
     ensures denial { (setup : Setup) (bytes : Bytes) → StandsFor setup bytes (map_bytes regs.now)

@@ -79,6 +79,7 @@ pub fn next_edge(regs: &MapRegs, addr: u32) -> Option<u32>
 }
 
 /// The least of the fixed edges above an address. The search skips those that cannot lie above it.
+#[tactic(auto, using(crate::proofs::FixedEdgeLemmas::fixed), unfolding(crate::specs::Edges::fixed_edges))]
 fn fixed_above(addr: u32) -> Option<u32>
     ensures first { result ≡ find (nat_lt addr) fixed_edges }
 {
@@ -170,7 +171,7 @@ impl Nearest {
     }
 
     /// The ends of these bases that hold these values.
-    #[tactic(auto, unfolding(crate::specs::EdgeSearch::nearest))]
+    #[tactic(auto, using(pci_bars::proofs::BaseLemmas::base_within), unfolding(crate::specs::EdgeSearch::nearest))]
     fn see_bases(&mut self, bases: &[BaseSpec], values: &[u32; BASE_COUNT])
         requires bases { All IsBase (map base_of bases.now) }
         requires count { length bases.now ≤ 6 }

@@ -16,6 +16,7 @@ pub fn law_few_edges()
 {}
 
 /// Exactly the bytes that the address map depends on have a name, and each name stands for one register.
+#[tactic(auto, using(crate::proofs::NameLemmas::map_bytes_named, crate::proofs::NameLemmas::names_stand))]
 pub fn law_names()
     ensures named { MapBytesAreNamed }
     ensures one { NamesStandForOne }

@@ -46,6 +46,7 @@ pub fn decode(regs: &MapRegs, addr: u32, kind: Kind, smm: bool) -> (Area, Option
 /// The row of ordinary DRAM at an address, which every kind of access reaches: outside SMRAM, the shadow windows and
 /// the hole. None where there is none.
 #[inline(always)]
+#[tactic(auto, using(crate::proofs::MemoryLemmas::memory_map))]
 pub fn plain_row(regs: &MapRegs, addr: u32) -> Option<u8>
     ensures area { IfSome result (λ row. (setup : Setup) (bytes : Bytes) (kind : Kind) (smm : Bool)
         → StandsFor setup bytes (map_bytes regs.now) → area_of setup bytes addr kind smm ≡ Dram row) }
@@ -140,6 +141,7 @@ fn row_area(regs: &MapRegs, row: u8, addr: u32, kind: Kind, smm: bool) -> Option
 }
 
 /// What a read and a write reach at an address of a shadow window, where what answers beside DRAM is known.
+#[tactic(auto, using(crate::proofs::MemoryLemmas::memory_map))]
 pub(crate) fn shadow_areas(regs: &MapRegs, addr: u32, beside: Area) -> (Area, Area)
     requires window { is_shadow_range addr ≡ true }
     requires beside { (setup : Setup) (bytes : Bytes) → StandsFor setup bytes (map_bytes regs.now)

@@ -128,6 +128,7 @@ impl MapRegs {
 
     /// The name of a register that its function has: that of the one register to which a store of one byte goes. None
     /// where the address map does not depend on it.
+    #[tactic(auto, using(std::proofs::lemmas::Bool::Decides::nat_tests), unfolding(crate::specs::MapRegister::map_register))]
     pub fn name_of(&self, register: &ConfigRegister) -> Option<MapRegister>
         requires function { HasRegister self.now.cards.items register.now.function register.now.reg }
         ensures named { result ∷ [] ≡ names_from (cards_of self.now.cards.items) register.now.reg One }
@@ -191,6 +192,7 @@ fn in_device(cards: &[CardRegs], dev: u8, off: u8) -> Option<MapRegister>
 }
 
 /// The name of a register of the card at a place in the list.
+#[tactic(auto, using(crate::proofs::NameLemmas::at_place), unfolding(crate::specs::MapRegister::map_register))]
 fn named_at(cards: &[CardRegs], place: usize, reg: Reg) -> Option<MapRegister>
     requires dev { 2 ≤ reg.dev }
     requires fun { reg.fun ≡ 0 }

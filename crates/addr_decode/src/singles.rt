@@ -27,6 +27,7 @@ pub const SINGLE_COUNT: usize = 3;
 pub type Singles = [u8; SINGLE_COUNT];
 
 /// What they hold after a reset.
+#[tactic(auto, using(crate::proofs::SingleLemmas::singles_are), unfolding(board_spec::specs::RegisterTable::reset_byte, board_spec::specs::RegisterTable::host_bridge, board_spec::specs::RegisterTable::isa_bridge))]
 pub(crate) fn reset_singles() -> Singles
     ensures reset { (setup : Setup) → AreSinglesOf (reset_byte setup) result }
 {

@@ -193,6 +193,7 @@ impl MapRegs {
 }
 
 /// Of each list of cards, one state has one spelling, and one spelling is of one state.
+#[tactic(auto, using(crate::proofs::StateFormat::one_map_regs))]
 pub fn law_one_map_regs()
     ensures one { (fitted : List FittedCard) → OneSpelling regs_bytes (AreMapRegs fitted) }
 {}

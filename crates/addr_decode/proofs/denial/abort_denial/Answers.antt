@@ -8,29 +8,6 @@ returns-in-Some c = record {
       rw (← c.top_of.ensures.top bytes stands.rows, denials_in_order, ← c.in-Some.ensures.denial) refl;
 }
 
-pub returns-in-Some-shut_mem : goal.returns-in-Some-shut_mem
-returns-in-Some-shut_mem c = record {
-  denial = λ setup bytes stands.
-      rw (
-        ← c.top_of.ensures.top bytes stands.rows,
-        denials_in_order,
-        ← c.in_default.ensures.denial,
-        ← c.in-Some-shut_mem.ensures.shut setup bytes (rw c.deref.ensures.0 stands.cards),
-      ) c.card_command.ensures.register;
-}
-
-pub returns-in-Some-unselected_rom : goal.returns-in-Some-unselected_rom
-returns-in-Some-unselected_rom c = record {
-  denial = λ setup bytes stands.
-      rw (
-        ← c.top_of.ensures.top bytes stands.rows,
-        denials_in_order,
-        ← c.in_default.ensures.denial,
-        ← c.in_default-shut_mem.ensures.shut setup bytes (rw c.deref.ensures.0 stands.cards),
-        ← c.in-Some-unselected_rom.ensures.unselected setup bytes (rw c.deref-2.ensures.0 stands.cards),
-      ) c.expansion_rom.ensures.register;
-}
-
 pub returns-in-None : goal.returns-in-None
 returns-in-None c = record {
   denial = λ setup bytes stands.

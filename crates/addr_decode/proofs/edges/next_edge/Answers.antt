@@ -18,7 +18,7 @@ seen c =
     c.see_rows.ensures.nearest)
 
 found : (c : goal.After-see_rows) (setup : _) (bytes : _) → StandsFor setup bytes (map_bytes c.args.regs.now) →
-    IsLeast c.args.addr (edges_of setup bytes) c.see_rows.new.self.edge
+    IsLeast c.args.addr (edges_of setup bytes) None c.see_rows.new.self.edge
 found c setup bytes stands =
     let eight : length c.args.regs.now.drb ≡ 8 = search rules in
     edges_seen setup bytes c.args.regs.now.drb c.args.regs.now.cards.items c.args.addr _ eight stands.rows
