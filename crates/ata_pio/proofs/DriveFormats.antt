@@ -1,8 +1,8 @@
 -- The state of the drive is spelled and read back.
 use Rattle.board_base.proofs.Common.{nat_tests, nil_from_length}
-use Rattle.device_spec.specs.Common.{w32, to_le_bytes, Activity}
+use Rattle.device_spec.specs.Common.{w32, to_le_bytes}
 use Rattle.std.proofs.Common.{◌≡◌, ℕ, ◌-◌, ◌^◌, ◌<◌, ◌≤◌, Bool, List, ◌∷◌, ◌++◌, length, refl, arith, nat_lt}
-use Rattle.byte_fields.specs.Fields.{plain, bound_where}
+use Rattle.byte_fields.specs.Fields.{bound_where}
 use Rattle.byte_fields.proofs.Formats.{IsFormat, format_as, fields_format, ◌then◌, ◌&◌, last_field, plain_format}
 use Rattle.byte_fields.proofs.Numbers.{any_byte, byte_to, number_to, wide32, flag_format, bound_where-small}
 use Rattle.ata_pio.specs.DriveState.{AreRegisters, registers_bytes, registers_fields, IsActivity, number_of, sector_of}
@@ -33,17 +33,6 @@ registers_format =
 
 -- ---- what is under way
 
--- the numbers of what is under way lie in their ranges, and say it
-abbrev AreNumbers : (sectors : ℕ) → Activity → Type 0
-AreNumbers sectors a =
-    (number_of a ≤ 4) × (sector_of a ≤ bound_where (nat_lt 2 (number_of a)) (sectors - 1))
-    × (next_word_of a ≤ bound_where (nat_lt 1 (number_of a)) 255)
-    × (length (came_of a) ≡ came_size (number_of a) (next_word_of a))
-    × (a ≡ activity_with (number_of a) (sector_of a) (next_word_of a) (came_of a))
-
-activity_to : (sectors : ℕ) (a : Activity) → IsActivity sectors a → AreNumbers sectors a
-activity_to sectors a is = grind (arith, nat_tests)
-
 abbrev spelled : (number sector word : ℕ) → List ℕ → List ℕ
 spelled number sector word came = number ∷ (to_le_bytes w32 sector ++ (word ∷ came))
 
@@ -63,13 +52,6 @@ activity_from sectors number sector word came some few at_most small long =
 sector_small : (there : Bool) (bound : ℕ) → bound < 2 ^ 32 → bound_where there bound < 2 ^ 32
 sector_small there bound few = grind (arith, nat_tests)
 
--- so many bytes that came
-came_format : (number word : ℕ) → number ≤ 4 → word ≤ bound_where (nat_lt 1 number) 255 →
-    IsFormat 512 (plain (came_size number word)) (λ bytes. bytes) (λ bytes. length bytes ≡ came_size number word)
-came_format number word few small =
-    format_as _ (λ bytes. bytes) (λ bytes. length bytes ≡ came_size number word) (plain_format (came_size number word))
-    (grind (arith, nat_tests)) (λ bytes long. long) (λ bytes long. long) (λ bytes long. refl)
-
 activity_format : (sectors : ℕ) → 0 < sectors → sectors ≤ 65536 →
     IsFormat 518 (activity_fields sectors) activity_bytes (IsActivity sectors)
 unfolding activity_fields
@@ -79,10 +61,14 @@ activity_format sectors some few =
     number_to wide32 (bound_where (nat_lt 2 number) (sectors - 1))
     (sector_small (nat_lt 2 number) (sectors - 1) (omega (arith, few))) then λ sector good.
     byte_to (bound_where (nat_lt 1 number) 255) (bound_where-small (nat_lt 1 number)) then λ word few_word.
-    last_field _ (came_format number word few_number few_word))
-    (λ a is.
-    let are = activity_to sectors a is in
-    ((number_of a, are.0) & (sector_of a, are.1) & (next_word_of a, are.2) & (came_of a, are.3), are.4))
+    last_field _ (format_as 512 (λ bytes. bytes) (λ bytes. length bytes ≡ came_size number word)
+    (plain_format (came_size number word)) (grind (arith, nat_tests, few_number, few_word)) (λ bytes long. long)
+    (λ bytes long. long) (λ bytes long. refl)))
+    (λ a is. (
+      (number_of a, (grind (arith, nat_tests))) & (sector_of a, (grind (arith, nat_tests, is)))
+          & (next_word_of a, (grind (arith, nat_tests, is))) & (came_of a, (grind (arith, nat_tests, is))),
+      grind (arith, nat_tests, is),
+    ))
     (λ t. activity_from sectors t.0 t.2.0 t.2.2.0 t.2.2.2.0 some t.1 t.2.1 t.2.2.1 t.2.2.2.1)
 
 -- ---- the drive
