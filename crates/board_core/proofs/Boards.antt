@@ -1,9 +1,8 @@
 -- A board that is fresh, and after a step.
-use Rattle.std.proofs.Common.{◌≡◌, Bool, not, ℕ, ◌+◌, ◌^◌, ◌<◌, List, ◌∷◌, length, refl, sym, ◌∙◌, ap, subst, arith}
-use Rattle.std.proofs.Common.{◌↔◌, Result, Ok, Err, ◌==◌, slice_index, slice_set}
+use Rattle.std.proofs.Common.{◌≡◌, ℕ, ◌+◌, ◌<◌, List, ◌∷◌, length, refl, sym, ◌∙◌, ap, subst, arith, ◌↔◌, Result, Ok}
+use Rattle.std.proofs.Common.{Err, slice_index, slice_set}
 use Rattle.board_prelude.proofs.Common.{nat_tests, Entry, Setup, IsSetup, IsLegal, version_of, IsAnswer, entry_limit}
 use Rattle.std.proofs.lemmas.Grind.{elements}
-use Rattle.std.proofs.lemmas.List.Filters.{length-filter_both}
 use Rattle.board_chipset.specs.Common.{Running, IsLeftBy, version_count}
 use Rattle.board_chipset.proofs.Common.{few_entries, state_of}
 use Rattle.board_core.specs.Kept.{Playing, HasPlayed}
@@ -13,25 +12,12 @@ use Rattle.board_core.specs.Kept.{Playing, HasPlayed}
 -- two values that were made meet no refusal
 pub not_refused : {A B E : Type 0} {a : A} {b : B} {fault : E} {P : Type 0} →
     (◌≡◌ {A = Result A E} (Ok a) (Err fault)) ↔ P → (◌≡◌ {A = Result B E} (Ok b) (Err fault)) ↔ P
-not_refused {A} {B} {E} {a} {b} {fault} (to, from) = (
-  λ is. absurd (cc),
-  λ holds. let no = from holds in absurd (cc),
-)
+not_refused (to, from) = (λ is. absurd cc, λ holds. let no = from holds in absurd cc)
 
 -- ---- what a board is fitted with
 
 pub fitted : {replay : Playing} {history : List Entry} → HasPlayed replay history → IsSetup replay.chipset.setup
 fitted played = (state_of refl played.left).fits
-
--- ---- the numbers of entries
-
--- a processor has no more entries than the history
-pub count_fits : {replay : Playing} {history : List Entry} {actor at : ℕ} → at ≡ actor → actor < 256 →
-    HasPlayed replay history → slice_index replay.counts at + 1 < 2 ^ 32
-count_fits {history = history} {actor} same below played =
-    let own : Entry → Bool = λ entry. entry.actor == actor in
-    let parts = length-filter_both own (λ entry. not (own entry)) (λ entry. refl) history in
-    rw same (omega (arith, played.counted actor below, parts, played.few))
 
 -- ---- a step
 

@@ -1,13 +1,18 @@
-use Rattle.std.proofs.Common.{◌+◌, ◌∷◌, List, refl, arith, get_or-set_same, slice_index, slice_set}
+use Rattle.std.proofs.Common.{Bool, not, ◌==◌, ◌+◌, ◌∷◌, List, refl, arith, get_or-set_same, slice_index, slice_set}
 use Rattle.board_prelude.proofs.Common.{Entry}
+use Rattle.std.proofs.lemmas.List.Filters.{length-filter_both}
 use Rattle.board_core.specs.Kept.{HasPlayed}
-use Rattle.board_core.proofs.Boards.{few_versions, count_fits, stepped}
+use Rattle.board_core.proofs.Boards.{few_versions, stepped}
 use Rattle.board_core.proofs.replay.Replay.answer.Goals.{After-from-2}
 use Rattle.board_core.proofs.replay.Replay.answer.Goals as goal
 
 pub overflow_add-seq : goal.overflow_add-seq
 overflow_add-seq c =
-    let fits = count_fits c.from.ensures (omega arith) c.self.invariant.1 in omega (arith, fits)
+    let own : Entry → Bool = λ entry. entry.actor == c.args.actor in
+    let parts = length-filter_both own (λ entry. not (own entry)) (λ entry. refl) c.self.invariant.0 in
+    let played = c.self.invariant.1 in
+    let counted = played.counted c.args.actor (omega arith) in
+    rw (c.from.ensures) (omega (arith, counted, parts, played.few))
 
 -- the entry that is new, and the replay that has played it
 abbrev entry : After-from-2 → Entry
