@@ -1,10 +1,7 @@
 -- What a bus master reaches has the bytes that it asks for.
-use Rattle.board_base.specs.declared.target.Area.TheVariants.{Rom as RomArea, Card as CardArea, Rom as RomArea}
-use Rattle.board_base.specs.declared.target.Area.TheVariants.{Card as CardArea, Rom as RomArea, Card as CardArea}
-use Rattle.board_base.specs.declared.target.Area.TheVariants.{Rom as RomArea, Card as CardArea, Rom as RomArea}
-use Rattle.board_base.specs.declared.target.Area.TheVariants.{Card as CardArea}
-use Rattle.board_prelude.proofs.Common.{nat_tests, bytes_of, Kind, Width, Area, Target, Dram, Shadow, Smram, Card}
-use Rattle.board_prelude.proofs.Common.{Setup, Bytes, memory_claim, target_at, Cell}
+use Rattle.board_base.specs.declared.target.Area.TheVariants.{Rom as RomArea, Card as CardArea}
+use Rattle.board_prelude.proofs.Common.{nat_tests, bytes_of, Kind, Width, Area, Target, Setup, Bytes, memory_claim}
+use Rattle.board_prelude.proofs.Common.{target_at, Cell}
 use Rattle.std.proofs.Common.{◌≡◌, ℕ, ◌%◌, List, sym, refl, arith}
 use Rattle.pci_bars.specs.Cards.{AreFitted}
 use Rattle.pci_bars.proofs.WindowLemmas.{IsSized, memory_claim_sized, lies_in_window}
@@ -47,11 +44,7 @@ module _ {setup : Setup} {bytes : Bytes} {store : Store} (is : IsStoreOf setup b
 value_same : (setup : Setup) (rom : List ℕ) (contents : List (List ℕ)) (cells other : Cells) (target : Target)
     (addr : ℕ) (width : Width) → ((cell : Cell) → IsCell cell → cells cell ≡ other cell) →
     IsHeld rom contents target width → value_in setup cells target addr width ≡ value_in setup other target addr width
-value_same setup rom contents cells other (Dram row) addr width same held = grind (arith, nat_tests)
-value_same setup rom contents cells other (Shadow row) addr width same held = grind (arith, nat_tests)
-value_same setup rom contents cells other Smram addr width same held = grind (arith, nat_tests)
-value_same setup rom contents cells other (Card dev base off) addr width same held = grind (arith, nat_tests)
-value_same setup rom contents cells other _ addr width same held = refl
+value_same setup rom contents cells other target addr width same held = grind (arith, nat_tests)
 
 pub master_value_same : {setup : Setup} {bytes : Bytes} {store : Store} → IsStoreOf setup bytes store →
     (cells other : Cells) (addr : ℕ) (width : Width) → addr % bytes_of width ≡ 0 →

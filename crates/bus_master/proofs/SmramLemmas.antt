@@ -1,7 +1,7 @@
 -- A bus master never reaches SMRAM: it changes no byte of it, and does the same whatever stands there.
-use Rattle.std.proofs.Common.{◌≡◌, ℕ, ◌+◌, ◌*◌, ◌%◌, ◌<◌, ◌≤◌, ◌⊎◌, true, false, Option, None, refl, ◌∙◌, arith}
-use Rattle.board_prelude.proofs.Common.{cases_Bool, nat_tests, Width, Area, Target, bytes_of, Medium, Setup, Bytes}
-use Rattle.board_prelude.proofs.Common.{is_smram_range, target_at, Cell, DramCell, byte_put}
+use Rattle.std.proofs.Common.{◌≡◌, ℕ, ◌+◌, ◌*◌, ◌%◌, ◌<◌, ◌≤◌, ◌⊎◌, true, false, Option, refl, ◌∙◌, arith}
+use Rattle.board_prelude.proofs.Common.{cases_Bool, nat_tests, Width, Area, bytes_of, Medium, Setup, Bytes}
+use Rattle.board_prelude.proofs.Common.{is_smram_range, target_at, Cell, DramCell}
 use Rattle.board_base.specs.declared.access.Width.TheVariants.{Two, Four}
 use Rattle.bus_master.specs.declared.done.End.{End}
 use Rattle.bus_master.specs.declared.direction.Direction.{Direction}
@@ -13,18 +13,13 @@ use Rattle.bus_master.proofs.Relations.{Keeps, with_cells, words_hold}
 
 -- ---- a write leaves SMRAM
 
-none_put : (setup : Setup) (target : Target) (addr value s : ℕ) (cells : Cells) →
-    byte_put target addr Two value (DramCell s) ≡ None →
-    put_in setup target addr Two value cells (DramCell s) ≡ cells (DramCell s)
-none_put setup target addr value s cells none = grind (arith, nat_tests)
+off_put : (setup : Setup) (area : Area) (addr value s : ℕ) (cells : Cells) → IsOffDram area →
+    put_in setup (target_at setup area addr) addr Two value cells (DramCell s) ≡ cells (DramCell s)
+off_put setup area addr value s cells off = grind (arith, nat_tests)
 
-off_put : (setup : Setup) (area : Area) (addr value s : ℕ) → IsOffDram area →
-    byte_put (target_at setup area addr) addr Two value (DramCell s) ≡ None
-off_put setup area addr value s off = grind (arith, nat_tests)
-
-apart_put : (setup : Setup) (area : Area) (addr value s : ℕ) → (s < addr) ⊎ (addr + 2 ≤ s) →
-    byte_put (target_at setup area addr) addr Two value (DramCell s) ≡ None
-apart_put setup area addr value s apart = grind (arith, nat_tests)
+apart_put : (setup : Setup) (area : Area) (addr value s : ℕ) (cells : Cells) → (s < addr) ⊎ (addr + 2 ≤ s) →
+    put_in setup (target_at setup area addr) addr Two value cells (DramCell s) ≡ cells (DramCell s)
+apart_put setup area addr value s cells apart = grind (arith, nat_tests)
 
 -- an even address outside lies wholly outside
 apart : (addr s : ℕ) → addr % 2 ≡ 0 → is_smram_range addr ≡ false → is_smram_range s ≡ true →
@@ -80,7 +75,7 @@ module _ (setup : Setup) (bytes : Bytes) (lba : ℕ) (start : Cells) where
     evens = omega (arith, is.evens);
     fours = is.fours;
     kept = λ addr inside.
-        (grind (arith, nat_tests, none_put, cases_Bool, off_put, off_dram, apart_put, apart, is.evens))
+        (grind (arith, nat_tests, cases_Bool, off_put, off_dram, apart_put, apart, is.evens))
         ∙ is.kept addr inside;
     alike = λ cell out. rw (is.alike cell out) refl;
     same = refl;

@@ -23,11 +23,7 @@ pub stands_skipped : {store : Store} {place : TransferPlace} {moving : Moving} {
 stands_skipped step is = grind (arith, nat_tests)
 
 module _ {store : Store} {place : TransferPlace} {moving : Moving} (is : StandsAt moving store place None) where
-  -- ---- the table and the sector
-
-  table_goes_on : (is_used_up place && place.is_last) ≡ false → StandsAt (table_tested moving) store place None
-  unfolding table_tested
-  table_goes_on over = grind (arith, nat_tests)
+  -- ---- the sector
 
   module _ (lba : ℕ) where
     pub sector_within : place.moved % 2 ≡ 0 → place.moved % 512 ≢ 0 →
@@ -72,37 +68,21 @@ module _ {store : Store} {place : TransferPlace} {moving : Moving} (is : StandsA
 
     -- ---- the three tests one after another
 
-    module _ (lba : ℕ) where
-      pub ready_over : (is_used_up place && place.is_last) ≡ true →
-          StandsAt (ready_for setup bytes lba moving) store place (Some Shorter)
-      unfolding ready_for table_tested
-      ready_over over = grind (arith, nat_tests)
+    pub ready_over : (lba : ℕ) → (is_used_up place && place.is_last) ≡ true →
+        StandsAt (ready_for setup bytes lba moving) store place (Some Shorter)
+    unfolding ready_for table_tested
+    ready_over lba over = grind (arith, nat_tests)
 
-      module _ (over : (is_used_up place && place.is_last) ≡ false) where
-        pub ready_misses : (end : End) →
-            ((tested : Moving) → StandsAt tested store place None →
-            StandsAt (sector_tested lba tested) store place (Some end)) →
-            StandsAt (ready_for setup bytes lba moving) store place (Some end)
-        unfolding ready_for
-        ready_misses end misses =
-            let goes = table_goes_on over in
-            let missed = misses (table_tested moving) goes in
-            grind (arith, nat_tests)
+    pub ready_is : (lba : ℕ) → (is_used_up place && place.is_last) ≡ false →
+        ready_for setup bytes lba moving ≡ (sector_tested lba moving and_then region_found setup bytes)
+    unfolding ready_for table_tested
+    ready_is lba over = grind (arith, nat_tests)
 
-        module _ (there : (tested : Moving) → StandsAt tested store place None →
-            StandsAt (sector_tested lba tested) store place None) where
-          pub ready_in_use : place.left ≢ 0 → StandsAt (ready_for setup bytes lba moving) store place None
-          unfolding ready_for region_found
-          ready_in_use left =
-              let goes = table_goes_on over in let found = there (table_tested moving) goes in grind (arith, nat_tests)
+    pub found_in_use : place.left ≢ 0 → (moving and_then region_found setup bytes) ≡ moving
+    unfolding region_found
+    found_in_use left = grind (arith, nat_tests)
 
-          pub ready_read : place.left ≡ 0 → (after : TransferPlace) (end : Option End) →
-              ((tested : Moving) → StandsAt tested store place None →
-              StandsAt (descriptor_read setup bytes tested) store after end) →
-              StandsAt (ready_for setup bytes lba moving) store after end
-          unfolding ready_for region_found
-          ready_read used after end read =
-              let goes = table_goes_on over in
-              let found = there (table_tested moving) goes in
-              let next = read (sector_tested lba (table_tested moving)) found in
-              grind (arith, nat_tests)
+    pub found_used_up : place.left ≡ 0 →
+        (moving and_then region_found setup bytes) ≡ descriptor_read setup bytes moving
+    unfolding region_found
+    found_used_up used = grind (arith, nat_tests)

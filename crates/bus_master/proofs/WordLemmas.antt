@@ -104,15 +104,12 @@ module _ (setup : Setup) (bytes : Bytes) (direction : Direction) (lba : ℕ) whe
         (Some end) →
         words + most ≤ total → StandsAt (words_moved setup bytes direction lba total moving) store new (Some end)
     came_to_end total end on few =
-        let count : total ≡ total - (on.words + words) + (on.words + words) = omega (arith, on.few) in
+        let far = total - (on.words + words) in
+        let count : total ≡ far + (on.words + words) = omega (arith, on.few) in
         let here =
         words_moved setup bytes direction lba on.words (words_moved setup bytes direction lba words moving) in
-        rw (
-          count,
-          words_add (total - (on.words + words)) (on.words + words) moving,
-          words_add on.words words moving,
-          words_stay (total - (on.words + words)) here end on.stands.ends,
-        ) on.stands
+        rw (count, words_add far (on.words + words) moving)
+        (rw (words_add on.words words moving, words_stay far here end on.stands.ends) on.stands)
 
   -- ---- words of one stretch
 
@@ -135,12 +132,8 @@ module _ (setup : Setup) (bytes : Bytes) (direction : Direction) (lba : ℕ) whe
           StandsAt (reached_by moving) store place end
       unfolding reached_by
       reached_stands end ends =
-          grind (
-            arith,
-            nat_tests,
-            answered_stands ready _ _ _
-                _ _ (ends ∙ ap (λ (p : TransferPlace). abort_at setup bytes (kind_of direction) p.addr) ready.come),
-          )
+          let here = ap (λ (p : TransferPlace). abort_at setup bytes (kind_of direction) p.addr) ready.come in
+          grind (arith, nat_tests, answered_stands ready _ _ _ _ _ (ends ∙ here))
 
       pub ends_unanswered : {end : End} → Some end ≡ abort_at setup bytes (kind_of direction) place.addr →
           StandsAt (words_moved setup bytes direction lba 1 moving) store place (Some end)
@@ -177,25 +170,19 @@ module _ (setup : Setup) (bytes : Bytes) (direction : Direction) (lba : ℕ) whe
     abbrev after : ℕ → Moving
     after words = copied setup bytes direction lba words moving
 
-    copied_place : (words : ℕ) → (after (suc words)).place ≡ went_on (suc words) moving.place
+    copied_to : {place : TransferPlace} → place ≡ moving.place → None ≡ moving.end → (words : ℕ) →
+        ((after (suc words)).place ≡ went_on (suc words) place) × ((after (suc words)).end ≡ None)
     unfolding copied word_moved
-    copied_place zero = grind (arith, nat_tests)
-    copied_place (suc words) =
-        (grind (arith, nat_tests)) ∙ ap moved_on (copied_place words)
-        ∙ (grind arith)
-
-    copied_end : (words : ℕ) → (after words).end ≡ moving.end
-    unfolding copied word_moved
-    copied_end zero = refl
-    copied_end (suc words) = (grind (arith, nat_tests)) ∙ copied_end words
+    copied_to come ends zero = grind (arith, nat_tests)
+    copied_to come ends (suc words) =
+        let so_far = copied_to come ends words in
+        (ap moved_on so_far.0 ∙ (grind arith), (grind (arith, nat_tests, so_far.1)))
 
     pub copied_is : {place : TransferPlace} → place ≡ moving.place → None ≡ moving.end → (words : ℕ) → 1 ≤ words →
         after words
         ≡ record { cells = (after words).cells; medium = (after words).medium; place = went_on words place; end = None }
     copied_is come ends zero some = absurd (omega arith)
-    copied_is come ends (suc words) some =
-        rw (sym (copied_place words ∙ sym (ap (went_on (suc words)) come)), sym (copied_end (suc words) ∙ sym ends))
-        refl
+    copied_is come ends (suc words) some = let to = copied_to come ends words in rw (← to.0, ← to.1) refl
 
   -- the first word is reached at once, and nothing comes before a later one
   module _ (moving : Moving) {place : TransferPlace} (come : place ≡ (reached_by moving).place)
