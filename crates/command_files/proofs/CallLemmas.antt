@@ -1,6 +1,7 @@
 -- The calls that were made, one after another, and the fetches of one file.
 use Rattle.std.proofs.Common.{◌≡◌, ◌≢◌, ℕ, ◌≤◌, ◌+◌, List, [], ◌∷◌, ◌++◌, Option, Some, None, refl, sym, ap, ◌∙◌}
 use Rattle.std.proofs.Common.{append_assoc, arith, Result, Ok, Err}
+use Rattle.board_prelude.proofs.Common.{nat_tests}
 use Rattle.board_outside.specs.Outside.{Fetch, Made}
 use Rattle.command_files.specs.Calls.{OfCalls, count_come, place_after, BroughtBytes, FoundEnd, IsReading, FetchesOnce}
 use Rattle.command_files.specs.Calls.{ReadsBy}
@@ -9,13 +10,11 @@ use Rattle.command_files.specs.Calls.{ReadsBy}
 
 -- no call was made
 pub none_made : {Call : Type 0} (told : Option (List Call)) (P : List Call → Type 0) → P [] → OfCalls told told P
-none_made None P none = tt
-none_made (Some before) P none = record { made = []; told = refl; holds = none }
+none_made told P none = grind (arith, nat_tests)
 
 pub calls_hold : {Call : Type 0} (before now : Option (List Call)) (P Q : List Call → Type 0) →
     ((made : List Call) → P made → Q made) → OfCalls before now P → OfCalls before now Q
-calls_hold None now P Q each is = tt
-calls_hold (Some before) now P Q each is = record { made = is.made; told = is.told; holds = each is.made is.holds }
+calls_hold before now P Q each is = grind (arith, nat_tests)
 
 pub none_told : {A : Type 0} (x : A) → None ≡ Some x → ⊥
 none_told x is = absurd cc
@@ -24,13 +23,7 @@ none_told x is = absurd cc
 pub call_more : {Call : Type 0} (before between now : Option (List Call)) (call : Call) (P Q : List Call → Type 0) →
     ((made : List Call) → P made → Q (call ∷ made)) → OfCalls before between P → Made between now call →
     OfCalls before now Q
-call_more None between now call P Q each is made = tt
-call_more (Some before) None now call P Q each is made = absurd (none_told (is.made ++ before) is.told)
-call_more (Some before) (Some between) now call P Q each is made = record {
-  made = call ∷ is.made;
-  told = cc (made, is.told);
-  holds = each is.made is.holds;
-}
+call_more before between now call P Q each is made = grind (arith, nat_tests)
 
 -- these calls, and then those
 pub record Both {Call : Type 0} (P Q : List Call → Type 0) (made : List Call) : Type 0 where

@@ -1,12 +1,10 @@
 -- The words and the files ask for at most one status: what was read before a file is determined, and so is what is said
 -- of it.
 use Rattle.std.proofs.Common.{◌≡◌, ℕ, ◌<◌, ◌≤◌, ◌++◌, ◌⊎◌, inl, inr, List, [], ◌∷◌, length, reverse, Option, Some, None}
-use Rattle.std.proofs.Common.{refl, ap, sym, ◌∙◌, subst, append_assoc, append-nil}
-use Rattle.std.proofs.Math.Nat.{not-le_of_lt}
-use Rattle.board_prelude.proofs.Common.{reverse-append, reverse-reverse}
+use Rattle.std.proofs.Common.{arith, refl, ap, sym, ◌∙◌, subst, append_assoc, append-nil}
+use Rattle.board_prelude.proofs.Common.{nat_tests, reverse-append, reverse-reverse}
 use Rattle.script_spec.specs.Common.{IsScriptBad}
 use Rattle.script_spec.proofs.Common.{same_some, not_both, one_refusal, one_script, one_difference}
-use Rattle.script_spec.specs.Boards.{IsForBoard}
 use Rattle.board_image.specs.Common.{Saved, OneSpelling}
 use Rattle.command_words.specs.Words.{Command, Check, Resume}
 use Rattle.command_files.specs.declared.status.Which.{Which}
@@ -14,9 +12,9 @@ use Rattle.command_files.specs.declared.status.Which.TheVariants.{Script, Rom, D
 use Rattle.command_files.specs.declared.status.Status.{Status}
 use Rattle.command_files.specs.declared.status.Status.TheVariants.{Done, TooLong, BadScript, BadImage, Differs}
 use Rattle.command_files.specs.declared.status.Status.TheVariants.{OtherBoard}
-use Rattle.command_files.specs.Common.{OfImage, files_of, limit_of, Files, Known, nothing_known, file_name, Learns}
-use Rattle.command_files.specs.Common.{Passes, AreReadAs, ComesTo, board_of, IsNoImage, LogIsLegal, LogDiffers}
-use Rattle.command_files.specs.Common.{BoardsAgree, BoardsDiffer, EndsWith, AsksFor, OneStatus}
+use Rattle.command_files.specs.Common.{files_of, limit_of, Files, Known, nothing_known, file_name, Learns, Passes}
+use Rattle.command_files.specs.Common.{AreReadAs, ComesTo, board_of, IsNoImage, LogIsLegal, LogDiffers, BoardsAgree}
+use Rattle.command_files.specs.Common.{BoardsDiffer, EndsWith, AsksFor, OneStatus}
 
 -- at most one status holds
 abbrev IsOne : (Status → Type 0) → Type 0
@@ -69,15 +67,10 @@ one_learned spelling known _ bytes now other one two = one ∙ sym two
 
 -- only `check` compares logs, and only `resume` boards
 log_apart : (known : Known) (line : ℕ) → LogDiffers known line → LogIsLegal known → ⊥
-log_apart known line differs legal =
-    differs.2.other (rw (same_some legal.0 differs.0 (sym legal.1 ∙ differs.1)) at legal.2)
+log_apart known line differs legal = grind (arith, nat_tests)
 
 boards_apart : (known : Known) → BoardsDiffer known → BoardsAgree known → ⊥
-boards_apart known differ agree =
-    let images : OfImage known (λ image. IsForBoard image.setup differ.0) =
-    rw (same_some agree.0 differ.0 (sym agree.1 ∙ differ.1)) at agree.2 in
-    let same = same_some images.0 differ.2.0 (sym images.1 ∙ differ.2.1) in
-    differ.2.2 (subst (λ (image : Saved). IsForBoard image.setup differ.0) same images.2)
+boards_apart known differ agree = grind (arith, nat_tests)
 
 one_with : (command : Command) (known : Known) → IsOne (EndsWith command known)
 one_with (Check script log) known Done (Differs line) one two = absurd (log_apart known line two one)
@@ -115,16 +108,9 @@ EndsAt command files known (which ∷ later) status =
 module _ (spelling : OneSpelling) (files : Files) (known : Known) (which : Which) (name : List ℕ)
     (Later : Known → Status → Type 0) (later : (now : Known) → IsOne (Later now)) where
   one_named : IsOne (Stage files known which (Some name) Later)
-  one_named status other (inl one) (inl two) = one.1 ∙ sym two.1
-  one_named status other (inl one) (inr (inl two)) = absurd (not-le_of_lt one.0 two.0)
-  one_named status other (inl one) (inr (inr two)) = absurd (not-le_of_lt one.0 two.0)
-  one_named status other (inr (inl one)) (inl two) = absurd (not-le_of_lt two.0 one.0)
-  one_named status other (inr (inl one)) (inr (inl two)) = one_refused which (files name) status other one.1 two.1
-  one_named status other (inr (inl one)) (inr (inr two)) = absurd (apart _ _ _ _ _ one.1 two.1.1)
-  one_named status other (inr (inr one)) (inl two) = absurd (not-le_of_lt two.0 one.0)
-  one_named status other (inr (inr one)) (inr (inl two)) = absurd (apart _ _ _ _ _ two.1 one.1.1)
-  one_named status other (inr (inr one)) (inr (inr two)) =
-      later two.1.0 status other (rw (one_learned spelling _ _ _ _ _ one.1.1 two.1.1) at one.1.2) two.1.2
+  one_named status other one two =
+      let learned = one_learned spelling in
+      grind (arith, nat_tests, one_refused, apart, learned, later)
 
 one_stage : OneSpelling → (files : Files) (known : Known) (which : Which) (name : Option (List ℕ))
     (Later : Known → Status → Type 0) → ((now : Known) → IsOne (Later now)) → IsOne (Stage files known which name Later)
@@ -143,8 +129,7 @@ one_end spelling command files known (which ∷ later) =
 passed : (files : Files) (before now : Known) (which : Which) (name : Option (List ℕ)) (Later : Known → Status → Type 0)
     (status : Status) → Passes files before which name now → Later now status →
     Stage files before which name Later status
-passed files before now which None Later status passes ends = rw passes at ends
-passed files before now which (Some name) Later status passes ends = inr (inr (passes.0, (now, passes.1, ends)))
+passed files before now which name Later status passes ends = grind (arith, nat_tests)
 
 reverse_on : (before later : List Which) (which : Which)
     → reverse before ++ which ∷ later ≡ reverse (which ∷ before) ++ later

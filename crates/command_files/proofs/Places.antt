@@ -1,8 +1,8 @@
 -- A command at a place of its table: what its status is there, and which fetches it made.
 use Rattle.std.proofs.Common.{◌≡◌, ◌≢◌, ℕ, suc, ◌+◌, ◌<◌, ◌⊎◌, inl, inr, List, [], ◌∷◌, ◌++◌, length, take, drop}
 use Rattle.std.proofs.Common.{reverse, get_or, Option, Some, None, refl, sym, ap, ◌∙◌, subst, append_assoc, Result, Ok}
-use Rattle.std.proofs.Common.{OnOk}
-use Rattle.board_prelude.proofs.Common.{reverse-append, reverse-reverse, append-nil}
+use Rattle.std.proofs.Common.{OnOk, arith}
+use Rattle.board_prelude.proofs.Common.{nat_tests, reverse-append, reverse-reverse, append-nil}
 use Rattle.board_outside.specs.Outside.{Rose, OfFile, Fetch}
 use Rattle.std.proofs.Math.Seq.{split_at}
 use Rattle.script_spec.specs.ScriptText.{IsScriptBad}
@@ -30,8 +30,7 @@ AreTaken command told (which ∷ before) known =
 
 passed_as : (files : Files) (before : Known) (which : Which) (name : Option (List ℕ)) (now : Known) →
     IsPassed (Some files) before which name now → Passes files before which name now
-passed_as files before which None now is = is
-passed_as files before which (Some name) now is = rw (← is.whole) (is.fits, is.learns)
+passed_as files before which name now is = grind (arith, nat_tests)
 
 taken_as : (command : Command) (files : Files) (whiches : List Which) (known : Known) →
     AreTaken command (Some files) whiches known → AreReadAs command files whiches known
@@ -52,8 +51,7 @@ are_read command (Some files) whiches known is = taken_as command files whiches 
 -- a name in the words is the name
 in_words : (command : Command) (known : Known) (which : Which) (name other : List ℕ) →
     file_name command known which ≡ Some name → name_in_words command which ≡ Some other → other ≡ name
-in_words command known Script name other named is = cc
-in_words command known _ name other named is = cc
+in_words command known which name other named is = grind (arith, nat_tests)
 
 -- the fetches of these files, the latest first, read each to its end, whatever is read later
 abbrev pub WholeBefore : Command → Option Files → List Which → List Fetch → Type 0

@@ -1,12 +1,12 @@
 -- What holds where the shelf tells its files, and of a result that is an error.
-use Rattle.std.proofs.Common.{◌≡◌, ℕ, List, Option, Some, None, refl, Result, Err, IfErr}
+use Rattle.std.proofs.Common.{◌≡◌, ℕ, List, Option, Some, Result, Err, IfErr, arith}
+use Rattle.board_prelude.proofs.Common.{nat_tests}
 use Rattle.board_outside.specs.Outside.{OfFile}
 use Rattle.command_files.specs.Common.{Files, OfFiles}
 
 pub of_files : (told : Option Files) (P : Files → Type 0) → ((files : Files) → told ≡ Some files → P files)
     → OfFiles told P
-of_files None P each = tt
-of_files (Some files) P each = each files refl
+of_files told P each = grind (arith, nat_tests)
 
 pub at_files : (told : Option Files) (files : Files) (P : Files → Type 0) → told ≡ Some files → OfFiles told P → P files
 at_files told files P is holds = rw is at holds
@@ -16,8 +16,7 @@ pub at_file : (told : Option Files) (files : Files) (name : List ℕ) (P : List 
 at_file told files name P is holds = rw is at holds
 
 pub any_file : (told : Option Files) (name : List ℕ) (P : Type 0) → P → OfFile told name (λ file. P)
-any_file None name P holds = tt
-any_file (Some files) name P holds = holds
+any_file told name P holds = grind (arith, nat_tests)
 
 -- this holds of a result that is this error, where it holds of the error
 pub holds_of_error :
