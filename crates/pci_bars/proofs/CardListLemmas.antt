@@ -1,10 +1,9 @@
 -- The cards in a list by their device numbers.
-use Rattle.std.proofs.Common.{◌≡◌, ℕ, Bor, get_or, List, [], ◌∷◌, length, ◌++◌, ◌+◌, Option, Some, None, inl, inr, ◌∙◌}
-use Rattle.std.proofs.Common.{refl, sym, ap, arith, ◌==◌, All, find, option_map, nat_lt, is_some, slice_get}
+use Rattle.std.proofs.Common.{◌≡◌, ℕ, Bor, get_or, List, [], ◌∷◌, length, ◌++◌, ◌+◌, Option, Some, None, refl, arith}
+use Rattle.std.proofs.Common.{◌==◌, All, find, option_map, nat_lt, is_some, slice_get}
 use Rattle.std.specs.Option.{IfSome}
-use Rattle.board_prelude.proofs.Common.{position, position_or_len, cases_Bool, cases_lt, nat_tests, eqb-true, lt-ltb}
-use Rattle.board_prelude.proofs.Common.{le-ltb, All-nil, All-cons, All-append, All-head, All-tail, length-append}
-use Rattle.board_prelude.proofs.Common.{map-append, FittedCard, Setup, card_at}
+use Rattle.board_prelude.proofs.Common.{position, position_or_len, nat_tests, All-nil, All-cons, All-append, All-head}
+use Rattle.board_prelude.proofs.Common.{All-tail, length-append, map-append, FittedCard, Setup, card_at}
 use Rattle.std.proofs.lemmas.List.Folds.{find_at}
 use Rattle.std.proofs.lemmas.Option.{slice_get_past, slice_get-get_or}
 use Rattle.pci_bars.specs.declared.regs.CardRegs.{CardRegs}
@@ -14,8 +13,7 @@ use Rattle.pci_bars.specs.Cards.{CardBytes, IsCardAdded, AreReset, IsReset, card
 pub find-cards : (cards : List CardBytes) (dev : ℕ) → option_map (λ card. card.card)
     (find (λ card. card.card.dev == dev) cards) ≡ find (λ card. card.dev == dev) (cards_of cards)
 find-cards [] dev = refl
-find-cards (card ∷ later) dev =
-    elim (cases_Bool (card.card.dev == dev)) [ inl here ↦ rw here refl | inr apart ↦ rw apart (find-cards later dev) ]
+find-cards (card ∷ later) dev = let rest = find-cards later dev in grind arith
 
 pub card_is :
     (setup : Setup) (cards : List CardBytes) (dev : ℕ) (found : Option CardBytes) → setup.cards ≡ cards_of cards →
@@ -27,47 +25,35 @@ pub found : (P : CardBytes → Type 0) (cards : List CardBytes) (dev : ℕ) (car
     find (λ card. card.card.dev == dev) cards ≡ Some card → P card × (card.card.dev ≡ dev)
 found P [] dev card each is = absurd (cc)
 found P (first ∷ later) dev card each is =
-    elim (cases_Bool (first.card.dev == dev)) [
-      | inl here ↦
-          let same : Some first ≡ Some card = rw here at is in
-          let first_is : first ≡ card = cc in
-          rw (← first_is) (All-head P first later each, eqb-true _ _ here)
-      | inr apart ↦ found P later dev card (All-tail P first later each) (rw apart at is)
-    ]
+    let here = All-head P first later each in
+    let rest = found P later dev card (All-tail P first later each) in
+    grind (arith, nat_tests, here, rest)
 
 -- ---- by the place in the list
 
 pub at_position : (cards : List CardBytes) (dev i : ℕ) → Some i ≡ position (λ card. card.card.dev == dev) cards →
     slice_get cards i ≡ find (λ card. card.card.dev == dev) cards
-at_position cards dev i is =
-    rw (find_at (λ card. card.card.dev == dev) cards)
-    (elim (cases_lt (position_or_len (λ card. card.card.dev == dev) cards) (length cards)) [
-      | inl within ↦ let here = rw (lt-ltb _ _ within) at is in cc
-      | inr past ↦ let none = rw (le-ltb _ _ past) at is in absurd (cc)
-    ])
+at_position cards dev i is = rw (find_at (λ card. card.card.dev == dev) cards) (grind (arith, nat_tests))
 
 pub no_position : (cards : List CardBytes) (dev : ℕ) → None ≡ position (λ card. card.card.dev == dev) cards →
     None ≡ find (λ card. card.card.dev == dev) cards
 no_position cards dev is =
-    rw (find_at (λ card. card.card.dev == dev) cards)
-    (elim (cases_lt (position_or_len (λ card. card.card.dev == dev) cards) (length cards)) [
-      | inl within ↦ let some = rw (lt-ltb _ _ within) at is in absurd (cc)
-      | inr past ↦ sym (slice_get_past cards (position_or_len (λ card. card.card.dev == dev) cards) past)
-    ])
+    let past = slice_get_past cards (position_or_len (λ card. card.card.dev == dev) cards) in
+    rw (find_at (λ card. card.card.dev == dev) cards) (grind (arith, nat_tests))
 
 -- the card at a place of the list
 pub at_index :
     (cards : List CardBytes) (i : ℕ) (lent : Option (Bor CardRegs)) → is_some lent ≡ nat_lt i (length cards) →
     IfSome lent (λ card. card.now ≡ get_or cards i card.now) → option_map (λ card. card.now) lent ≡ slice_get cards i
-at_index cards i None within is = sym (slice_get_past cards i (grind (arith, nat_tests)))
-at_index cards i (Some card) within is =
-    ap (λ (it : CardBytes). Some it) is ∙ sym (slice_get-get_or cards i card.now (grind (arith, nat_tests)))
+at_index cards i lent within is =
+    let past = slice_get_past cards i in
+    let here = slice_get-get_or cards i in
+    grind (arith, nat_tests)
 
 pub map_twice : (lent : Option (Bor CardRegs)) →
     option_map (λ card. card.now.card) lent
     ≡ option_map (λ (card : CardBytes). card.card) (option_map (λ card. card.now) lent)
-map_twice None = refl
-map_twice (Some card) = refl
+map_twice lent = grind arith
 
 -- ---- one card more
 

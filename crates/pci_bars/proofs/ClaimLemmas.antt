@@ -1,10 +1,9 @@
 -- Claims of the cards' registers are those of the windows that a board's registers make.
-use Rattle.std.proofs.Common.{◌≡◌, ℕ, ◌+◌, ◌<◌, ◌≤◌, Bool, true, List, [], ◌∷◌, ◌++◌, length, Option, Some, None, ◌∙◌}
-use Rattle.std.proofs.Common.{refl, sym, ap, arith, lit<, ◌==◌, ◌&&◌, All, flat_map, option_map, if◌then◌else◌}
-use Rattle.std.proofs.Common.{slice_index}
+use Rattle.std.proofs.Common.{◌≡◌, ℕ, ◌+◌, ◌<◌, ◌≤◌, Bool, List, [], ◌∷◌, ◌++◌, length, Option, Some, None, ◌∙◌, refl}
+use Rattle.std.proofs.Common.{sym, ap, arith, lit<, ◌==◌, ◌&&◌, All, flat_map, option_map, if◌then◌else◌, slice_index}
 use Rattle.board_prelude.proofs.Common.{enumerate_from, option_or, append-nil, All-head, All-tail, find-append, Base}
-use Rattle.board_prelude.proofs.Common.{IoBase, FittedCard, Setup, IsCard, is_bit, Bytes, Window, is_covered}
-use Rattle.board_prelude.proofs.Common.{base_value, memory_window, rom_window_of, io_window, is_rom_on, vga_window}
+use Rattle.board_prelude.proofs.Common.{FittedCard, Setup, IsCard, is_bit, Bytes, Window, is_covered, base_value}
+use Rattle.board_prelude.proofs.Common.{memory_window, rom_window_of, io_window, is_rom_on, vga_window}
 use Rattle.board_prelude.proofs.Common.{unselected_windows, io_windows, is_enabled_for, first_window}
 use Rattle.pci_bars.specs.declared.claims.Gate.{Gate}
 use Rattle.pci_bars.specs.declared.claims.Windows.{Windows}
@@ -25,12 +24,7 @@ pick counts place windows = named (first_window counts place windows)
 pick-append : (counts : ℕ → Bool) (place : ℕ) (xs ys : List Window) →
     pick counts place (xs ++ ys) ≡ option_or (pick counts place xs) (pick counts place ys)
 pick-append counts place xs ys =
-    ap named (find-append (λ window. counts window.dev && is_covered place window) xs ys)
-    ∙ named_or (first_window counts place xs) (first_window counts place ys)
-  where
-    named_or : (a b : Option Window) → named (option_or a b) ≡ option_or (named a) (named b)
-    named_or None b = refl
-    named_or (Some x) b = refl
+    let found = find-append (λ window. counts window.dev && is_covered place window) xs ys in grind arith
 
 -- a base of a device, if the device counts
 abbrev claimed : Bool → ℕ → Option ℕ → Option (ℕ × ℕ)
@@ -38,8 +32,7 @@ claimed counted dev base = if counted then option_map (λ base. (dev, base)) bas
 
 claimed_or : (counted : Bool) (dev : ℕ) (a b : Option ℕ) →
     option_or (claimed counted dev a) (claimed counted dev b) ≡ claimed counted dev (option_or a b)
-claimed_or true dev None b = refl
-claimed_or _ dev _ b = refl
+claimed_or counted dev a b = grind arith
 
 -- ---- the windows of one card
 
@@ -94,10 +87,7 @@ module _ (counts : ℕ → Bool) (bytes : Bytes) (place : ℕ) where
       base_value bytes dev k ≡ held → Claims rest dev later →
       Claims (window_in windows bytes dev k base ++ rest) dev
       (if base_covers windows base held place then Some k else later)
-  pick_base Memory dev k held (IoBase bits) rest later same is = is
-  pick_base Memory dev k held base rest later same is = first_of dev k _ _ held rest later same is
-  pick_base Ports dev k held (IoBase bits) rest later same is = first_of dev k bits _ held rest later same is
-  pick_base _ dev k held _ rest later same is = is
+  pick_base windows dev k held base rest later same is = grind arith
 
   pick_bases : (windows : Windows) (dev : ℕ) (values : List ℕ) →
       ((k : ℕ) → k < 6 → base_value bytes dev k ≡ slice_index values k) → (k : ℕ) (bases : List Base) →
@@ -107,25 +97,18 @@ module _ (counts : ℕ → Bool) (bytes : Bytes) (place : ℕ) where
       pick_base windows dev k (slice_index values k) base _ _ (same k (omega arith))
       (pick_bases windows dev values same (k + 1) later (omega arith))
 
-  rom_chosen : (windows : Windows) (dev register bits : ℕ) → HoldsRom bytes dev register (Some bits) →
-      Claims (rom_windows windows bytes dev (Some bits)) dev (rom_claim windows (Some bits) register place)
-  rom_chosen Ports dev register bits held = none dev
-  rom_chosen windows dev register bits held =
-      let selected : is_rom_on bytes dev ≡ is_bit register 0 =
-      ap (λ n. is_bit n 0) (held.each 0 (lit< tt)) ∙ ap (λ b. b == 1) (omega arith) in
-      let window = first_of dev 6 bits _ register [] None held.number (none dev) in
-      grind arith
-
   pick_rom : (windows : Windows) (dev register : ℕ) (rom : Option ℕ) → HoldsRom bytes dev register rom →
       Claims (rom_windows windows bytes dev rom) dev (rom_claim windows rom register place)
-  pick_rom Ports dev register rom held = none dev
-  pick_rom _ dev register None held = grind arith
-  pick_rom windows dev register (Some bits) held = rom_chosen windows dev register bits held
+  pick_rom windows dev register None held = grind arith
+  pick_rom windows dev register (Some bits) held =
+      let selected : is_rom_on bytes dev ≡ is_bit register 0 =
+      ap (λ n. is_bit n 0) (held.each 0 (lit< tt)) ∙ ap (λ b. b == 1) (omega arith) in
+      let number = held.number in
+      grind arith
 
   pick_vga : (windows : Windows) (card : FittedCard) →
       Claims (vga_windows windows card) card.dev (vga_claim windows card.vga place)
-  pick_vga Memory card = grind arith
-  pick_vga _ card = none card.dev
+  pick_vga windows card = grind arith
 
   pick_card : (windows : Windows) (setup : Setup) (card : CardBytes) → IsCard card.card → DecodesAs setup bytes card →
       Claims (windows_in windows bytes card.card) card.card.dev (covering_base windows place card)
@@ -161,8 +144,7 @@ enable_bit _ = 1
 
 enabled_is : (windows : Windows) (setup : Setup) (bytes : Bytes) (card : CardBytes) → DecodesAs setup bytes card →
     is_enabled_for (enable_bit windows) bytes card.card.dev ≡ is_enabled windows card
-enabled_is Ports setup bytes card is = ap (λ command. is_bit command 0) is.command
-enabled_is _ setup bytes card is = ap (λ command. is_bit command 1) is.command
+enabled_is windows setup bytes card is = grind (arith, is.command)
 
 -- cards have no ROM and no VGA window among the ports
 pub io_windows_are : (bytes : Bytes) (card : FittedCard) → windows_in Ports bytes card ≡ io_windows bytes card
@@ -180,12 +162,11 @@ rom_windows_are bytes card = rw (no_bases 0 card.bases) (append-nil (unselected_
 flat_map-same : (f g : FittedCard → List Window) → ((card : FittedCard) → f card ≡ g card) → (cards : List FittedCard) →
     flat_map f cards ≡ flat_map g cards
 flat_map-same f g same [] = refl
-flat_map-same f g same (card ∷ later) = rw (same card, flat_map-same f g same later) refl
+flat_map-same f g same (card ∷ later) = let rest = flat_map-same f g same later in grind (arith, same card)
 
 device_alone : (found : Option Window) →
     option_map {T = ℕ × ℕ} (λ named. named.0) (named found) ≡ option_map (λ window. window.dev) found
-device_alone None = refl
-device_alone (Some window) = refl
+device_alone found = grind arith
 
 module _ (setup : Setup) (bytes : Bytes) (cards : List CardBytes) (place : ℕ) (fit : AreCards cards)
     (are : AreDecoded setup bytes cards) (windows : Windows) (gate : Gate) (windows_of : FittedCard → List Window)

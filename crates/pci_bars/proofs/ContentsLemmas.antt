@@ -1,12 +1,12 @@
 -- The bytes behind the bases: as they begin, and after a write.
 use Rattle.std.proofs.Common.{◌≡◌, ◌≢◌, ℕ, ◌+◌, ◌-◌, ◌/◌, ◌%◌, ◌<◌, ◌≤◌, List, [], ◌∷◌, map, Vec, Global, length}
 use Rattle.std.proofs.Common.{get_or, set, take, drop, ◌++◌, replicate, inl, inr, ◌∙◌, refl, sym, ap, arith}
-use Rattle.std.proofs.Common.{get_or-set_same, get_or-set_other, length-append, length-drop, length-take-le, ◌==◌, find}
-use Rattle.std.proofs.Common.{slice_index, unwrap_or, vec_len}
+use Rattle.std.proofs.Common.{get_or-set_other, length-append, length-drop, length-take-le, ◌==◌, find, slice_index}
+use Rattle.std.proofs.Common.{unwrap_or, vec_len}
 use Rattle.board_prelude.proofs.Common.{with_items, cases_lt, cases_eq, nat_tests, get_or_past, length-replicate}
 use Rattle.board_prelude.proofs.Common.{length-map, map-set, get_or-map, with_items_is, Width, Card, bytes_of, Entry}
 use Rattle.board_prelude.proofs.Common.{FittedCard, Setup, card_at, kept_size, CardCell, byte_put, card_byte, entry_put}
-use Rattle.board_prelude.proofs.Common.{stored_of, expansion_byte, get_or-set_at}
+use Rattle.board_prelude.proofs.Common.{stored_of, get_or-set_at}
 use Rattle.std.proofs.lemmas.List.{set_past}
 use Rattle.board_base.proofs.ZeroLemmas.{zero_at}
 use Rattle.board_spec.proofs.WideLemmas.{put_byte}
@@ -66,10 +66,6 @@ abbrev pub written_byte : (dev base off : ℕ) → Width → (value : ℕ) → (
 written_byte dev base off width value d b at old =
     unwrap_or (byte_put (Card dev base off) 0 width value (CardCell d b at)) old
 
-written_elsewhere : (dev base off : ℕ) (width : Width) (value d b at old : ℕ) → base ≢ 6 → (dev ≡ d → base ≡ b → ⊥) →
-    written_byte dev base off width value d b at old ≡ old
-written_elsewhere dev base off width value d b at old kept apart = grind (arith, nat_tests)
-
 pub same_slot : {dev base d b : ℕ} → IsBaseNumber dev base → IsBaseNumber d b → slot_number d b ≡ slot_number dev base →
     (d ≡ dev) × (b ≡ base)
 same_slot {dev} {base} {d} {b} place other same =
@@ -89,36 +85,15 @@ module _ (old : List (List ℕ)) (dev base off : ℕ) (width : Width) (value : �
     (long : length new ≡ length (held old dev base))
     (put : (k : ℕ) → k < length (held old dev base) →
     slice_index new k ≡ put_byte (held old dev base) off (bytes_of width) value k) where
-  in_lists :
-      (d b at : ℕ) → IsBaseNumber d b → at < length (held old d b) →
-      slice_index (held (set old (slot_number dev base) new) d b) at
-      ≡ written_byte dev base off width value d b at (slice_index (held old d b) at)
-  in_lists d b at other within =
-      elim (cases_eq (slot_number d b) (slot_number dev base)) [
-        | inl same ↦
-            let both = same_slot number other same in
-            let inside : at < length (held old dev base) = rw (both.0, both.1) at within in
-            rw (both.0, both.1, get_or-set_same old (slot_number dev base) new [] there)
-            (put at inside ∙ sym (grind (arith, nat_tests)))
-        | inr apart ↦
-            rw (get_or-set_other old (slot_number dev base) (slot_number d b) new [] apart)
-            (sym (written_elsewhere dev base off width value d b at (slice_index (held old d b) at) kept
-            (λ same_dev same_base. apart (rw (same_dev, same_base) refl))))
-      ]
-
   pub written : IsWritten old dev base off width value (set old (slot_number dev base) new)
   written = record {
     sizes = λ d b. sizes_stay old (slot_number dev base) new (slot_number d b) long;
-    bytes = λ d b at other within. elim (cases_eq b 6) [
-      | inl rom ↦
-          rw rom
-          (sym (written_elsewhere dev base off width value d 6 at (expansion_byte d at) kept (λ _ same. kept same)))
-      | inr held_b ↦
-          let stay = sizes_stay old (slot_number dev base) new (slot_number d b) long in
-          rw (held_within old d b at held_b within)
-          (held_within (set old (slot_number dev base) new) d b at held_b (omega arith)
-          ∙ in_lists d b at other within)
-    ];
+    bytes = λ d b at other within.
+        let both = same_slot number other in
+        let here = get_or-set_at old (slot_number dev base) (slot_number d b) new [] in
+        let apart = get_or-set_other old (slot_number dev base) (slot_number d b) new [] in
+        let byte = put at in
+        grind (arith, nat_tests, both, here, apart, byte);
   }
 
 -- a write to an expansion ROM leaves all

@@ -1,8 +1,8 @@
 -- The bytes behind the bases are spelled base by base, and read back.
-use Rattle.std.proofs.Common.{◌≡◌, ℕ, zero, suc, ◌+◌, ◌-◌, ◌/◌, ◌%◌, ◌≤◌, ◌<◌, inl, inr, List, [], ◌∷◌, ◌++◌, Vec}
-use Rattle.std.proofs.Common.{Global, length, drop, get_or, Option, Some, None, Result, refl, sym, ◌∙◌, append_assoc}
-use Rattle.std.proofs.Common.{arith, All, find, ◌==◌, slice_get}
-use Rattle.board_prelude.proofs.Common.{append-nil, flat_map-cons, drop_more, drop_all, cases_Bool, All-head, All-tail}
+use Rattle.std.proofs.Common.{◌≡◌, ℕ, zero, suc, ◌+◌, ◌-◌, ◌/◌, ◌%◌, ◌≤◌, ◌<◌, List, [], ◌∷◌, ◌++◌, Vec, Global, length}
+use Rattle.std.proofs.Common.{drop, get_or, Option, Some, None, Result, refl, sym, ◌∙◌, append_assoc, arith, All, find}
+use Rattle.std.proofs.Common.{◌==◌, slice_get}
+use Rattle.board_prelude.proofs.Common.{append-nil, flat_map-cons, drop_more, drop_all, All-head, All-tail}
 use Rattle.board_prelude.proofs.Common.{option_map_or, Base, OutsideBase, IsBase, FittedCard, IsCard, kept_of_base}
 use Rattle.board_prelude.proofs.Common.{kept_size}
 use Rattle.std.proofs.Math.Pow.{pow_mono}
@@ -35,10 +35,9 @@ kept_few : (cards : List FittedCard) (dev base : ℕ) → All IsCard cards →
     kept_size (find (λ card. card.dev == dev) cards) base ≤ 0x100_0000
 kept_few [] dev base each = omega arith
 kept_few (card ∷ later) dev base each =
-    elim (cases_Bool (card.dev == dev)) [
-      | inl here ↦ rw here (card_few card base (All-head IsCard card later each))
-      | inr apart ↦ rw apart (kept_few later dev base (All-tail IsCard card later each))
-    ]
+    let here = card_few card base (All-head IsCard card later each) in
+    let rest = kept_few later dev base (All-tail IsCard card later each) in
+    grind arith
 
 -- ---- base after base
 

@@ -1,9 +1,9 @@
 -- The window that claims a place has the size of its base, and an access that it claims lies in its contents.
 use Rattle.std.proofs.Common.{◌≡◌, ◌≢◌, ◌⊎◌, ℕ, suc, ◌+◌, ◌-◌, ◌*◌, ◌%◌, ◌^◌, ◌<◌, ◌≤◌, Bool, true, false, List, []}
-use Rattle.std.proofs.Common.{◌∷◌, ◌++◌, if◌then◌else◌, length, Option, None, Some, inl, inr, ◌∙◌, refl, ap, subst}
-use Rattle.std.proofs.Common.{arith, lit<, lit≤, ◌==◌, All, find, flat_map, slice_get, ne_eqb, pow-add, pow_pos}
+use Rattle.std.proofs.Common.{◌∷◌, ◌++◌, if◌then◌else◌, length, Option, None, Some, inl, inr, ◌∙◌, refl, ap, arith}
+use Rattle.std.proofs.Common.{lit<, lit≤, ◌==◌, All, find, flat_map, slice_get, ne_eqb, pow-add, pow_pos}
 use Rattle.board_prelude.proofs.Common.{cases_Bool, nil_from_length, All-nil, All-cons, All-head, All-tail, All-append}
-use Rattle.board_prelude.proofs.Common.{Base, IoBase, FittedCard, Setup, IsBase, IsExpansionRom, IsCard, card_at}
+use Rattle.board_prelude.proofs.Common.{base_value, Base, FittedCard, Setup, IsBase, IsExpansionRom, IsCard, card_at}
 use Rattle.board_prelude.proofs.Common.{kept_size, Width, bytes_of, window_bits, bits_of_base, Bytes, Window}
 use Rattle.board_prelude.proofs.Common.{rom_window_of, is_rom_on, io_windows, memory_claim, io_claim}
 use Rattle.std.proofs.lemmas.Nat.{mod-pow-add}
@@ -30,37 +30,39 @@ pub All-find : (P : Window → Type 0) (test : Window → Bool) (windows : List 
     find test windows ≡ Some window → P window
 All-find P test [] window each found = absurd (cc)
 All-find P test (first ∷ later) window each found =
-    elim (cases_Bool (test first)) [
-      | inl hit ↦ let same : Some first ≡ Some window = rw hit at found in subst P (cc) (All-head P first later each)
-      | inr miss ↦ All-find P test later window (All-tail P first later each) (rw miss at found)
-    ]
+    let here = All-head P first later each in
+    let rest = All-find P test later window (All-tail P first later each) in
+    grind (arith, here, rest)
 
 pub least_bits : (base : Base) → IsBase base → 2 ≤ bits_of_base (Some base)
 least_bits base fit = grind arith
 
-module _ (setup : Setup) where
-  no_windows : All (IsSized setup) []
-  no_windows = All-nil (IsSized setup)
+pub record AreSized (setup : Setup) (windows : List Window) : Type 0 where
+  pub each : All (IsSized setup) windows
 
-  one_sized : {window : Window} → IsSized setup window → All (IsSized setup) (window ∷ [])
-  one_sized {window} is = All-cons (IsSized setup) window [] is no_windows
+no_windows : {setup : Setup} → AreSized setup []
+no_windows {setup} = record { each = All-nil (IsSized setup) }
 
-  either : (b : Bool) (xs ys : List Window) → All (IsSized setup) xs → All (IsSized setup) ys →
-      All (IsSized setup) (if b then xs else ys)
-  either true xs ys first later = first
-  either false xs ys first later = later
+one_sized : {setup : Setup} {window : Window} → IsSized setup window → AreSized setup (window ∷ [])
+one_sized {setup} {window} is = record { each = All-cons (IsSized setup) window [] is (All-nil (IsSized setup)) }
+
+both_sized : {setup : Setup} {xs ys : List Window} → AreSized setup xs → AreSized setup ys → AreSized setup (xs ++ ys)
+both_sized {setup} {xs} {ys} first later = record { each = All-append (IsSized setup) xs ys first.each later.each }
+
+either_sized : {setup : Setup} {xs ys : List Window} (b : Bool) → AreSized setup xs → AreSized setup ys →
+    AreSized setup (if b then xs else ys)
+either_sized true first later = first
+either_sized false first later = later
 
 module _ (setup : Setup) (bytes : Bytes) (card : FittedCard) (fit : IsCard card)
     (fitted : card_at setup card.dev ≡ Some card) where
   -- a window of base number k of a card
-  sized :
-      (k value : ℕ) (base : Base) → k < 6 → slice_get card.bases k ≡ Some base →
-      All (IsSized setup)
-      (record { dev = card.dev; base = k; inside = value; bits = bits_of_base (Some base) } ∷ [])
+  sized : (k value : ℕ) (base : Base) → k < 6 → slice_get card.bases k ≡ Some base →
+      AreSized setup (record { dev = card.dev; base = k; inside = value; bits = bits_of_base (Some base) } ∷ [])
   sized k value base below at =
       let not_vga : (k == 7) ≡ false = ne_eqb k 7 (λ e. omega arith) in
       let not_rom : (k == 6) ≡ false = ne_eqb k 6 (λ e. omega arith) in
-      one_sized setup (record {
+      one_sized (record {
         number = record { first = fit.first; last = fit.last; below = omega arith };
         least = least_bits base (is_base card.bases k base fit.each at);
         bits = rw (not_vga, not_rom, fitted, at) refl;
@@ -68,76 +70,74 @@ module _ (setup : Setup) (bytes : Bytes) (card : FittedCard) (fit : IsCard card)
       })
 
   sized_base : (windows : Windows) (k : ℕ) (base : Base) → k < 6 → slice_get card.bases k ≡ Some base →
-      All (IsSized setup) (window_in windows bytes card.dev k base)
-  sized_base Memory k (IoBase bits) below at = no_windows setup
-  sized_base Memory k base below at = sized k _ base below at
-  sized_base Ports k (IoBase bits) below at = sized k _ (IoBase bits) below at
-  sized_base _ k _ below at = no_windows setup
+      AreSized setup (window_in windows bytes card.dev k base)
+  sized_base windows k base below at =
+      let one = sized k (base_value bytes card.dev k) base below at in
+      let none = no_windows {setup = setup} in
+      grind (arith, one, none)
 
   sized_bases : (windows : Windows) (k : ℕ) (bases : List Base) → k + length bases ≤ 6 →
-      ((i : ℕ) → slice_get card.bases (k + i) ≡ slice_get bases i) → All (IsSized setup)
-      (base_windows windows bytes card.dev k bases)
-  sized_bases windows k [] few same = no_windows setup
+      ((i : ℕ) → slice_get card.bases (k + i) ≡ slice_get bases i) →
+      AreSized setup (base_windows windows bytes card.dev k bases)
+  sized_bases windows k [] few same = no_windows
   sized_bases windows k (base ∷ later) few same =
-      All-append (IsSized setup) (window_in windows bytes card.dev k base) (base_windows windows bytes card.dev (k + 1)
-      later) (sized_base windows k _ (omega arith) (ap (slice_get card.bases) (omega arith) ∙ same 0)) (sized_bases
-      windows (k + 1) later (omega arith)
-      (λ i. ap (slice_get card.bases) (omega arith) ∙ same (suc i)))
+      both_sized (sized_base windows k base (omega arith) (ap (slice_get card.bases) (omega arith) ∙ same 0))
+      (sized_bases windows (k + 1) later (omega arith) (λ i. ap (slice_get card.bases) (omega arith) ∙ same (suc i)))
 
-  sized_vga : (windows : Windows) → All (IsSized setup) (vga_windows windows card)
+  sized_vga : (windows : Windows) → AreSized setup (vga_windows windows card)
   sized_vga Memory =
       elim (cases_Bool card.vga) [
         | inl vga ↦
-            rw vga (one_sized setup (record {
+            rw vga (one_sized (record {
               number = record { first = fit.first; last = fit.last; below = lit< tt };
               least = lit≤ tt;
               bits = refl;
               size = λ _. rw (fitted, vga) (inr refl);
             }))
-        | inr plain ↦ rw plain (no_windows setup)
+        | inr plain ↦ rw plain no_windows
       ]
-  sized_vga _ = no_windows setup
+  sized_vga _ = no_windows
 
-  sized_rom_of :
-      (rom : Option ℕ) → card.rom ≡ rom → IsExpansionRom rom → All (IsSized setup) (rom_window_of bytes card.dev rom)
-  sized_rom_of None none size = no_windows setup
+  sized_rom_of : (rom : Option ℕ) → card.rom ≡ rom → IsExpansionRom rom →
+      AreSized setup (rom_window_of bytes card.dev rom)
+  sized_rom_of None none size = no_windows
   sized_rom_of (Some bits) some size =
-      one_sized setup (record {
+      one_sized (record {
         number = record { first = fit.first; last = fit.last; below = lit< tt };
         least = omega (arith, size.0);
         bits = rw (fitted, some) refl;
         size = λ not_rom. absurd (not_rom refl);
       })
 
-  sized_rom : (windows : Windows) → All (IsSized setup) (rom_windows windows bytes card.dev card.rom)
-  sized_rom Ports = no_windows setup
-  sized_rom Memory = either _ (is_rom_on bytes card.dev) _ [] (sized_rom_of _ refl fit.rom) (no_windows setup)
-  sized_rom UnselectedRom = either _ (is_rom_on bytes card.dev) [] _ (no_windows setup) (sized_rom_of _ refl fit.rom)
+  sized_rom : (windows : Windows) → AreSized setup (rom_windows windows bytes card.dev card.rom)
+  sized_rom Ports = no_windows
+  sized_rom Memory = either_sized (is_rom_on bytes card.dev) (sized_rom_of _ refl fit.rom) no_windows
+  sized_rom UnselectedRom = either_sized (is_rom_on bytes card.dev) no_windows (sized_rom_of _ refl fit.rom)
 
-  sized_card : (windows : Windows) → All (IsSized setup) (windows_in windows bytes card)
+  sized_card : (windows : Windows) → AreSized setup (windows_in windows bytes card)
   sized_card windows =
       let few = fit.count in
-      All-append (IsSized setup) (base_windows windows bytes card.dev 0 card.bases ++ rom_windows windows bytes card.dev
-      card.rom) _ (All-append (IsSized setup) (base_windows windows bytes card.dev 0 card.bases) _ (sized_bases windows
-      0 _ (omega arith) (λ i. ap (slice_get card.bases) (omega arith))) (sized_rom windows))
-      (sized_vga windows)
+      both_sized
+      (both_sized (sized_bases windows 0 card.bases (omega arith) (λ i. ap (slice_get card.bases) (omega arith)))
+      (sized_rom windows)) (sized_vga windows)
 
 module _ (setup : Setup) (bytes : Bytes) where
   sized_cards : (windows : Windows) (cards : List CardBytes) → AreCards cards → All (DecodesAs setup bytes) cards →
-      All (IsSized setup) (flat_map (windows_in windows bytes) (cards_of cards))
-  sized_cards windows [] fit are = no_windows setup
+      AreSized setup (flat_map (windows_in windows bytes) (cards_of cards))
+  sized_cards windows [] fit are = no_windows
   sized_cards windows (card ∷ later) fit are =
-      All-append (IsSized setup) (windows_in windows bytes card.card) _ (sized_card _ bytes _
-      (All-head (λ card. IsCard card.card) card later fit) (All-head (DecodesAs setup bytes) card later are).fitted
-      windows) (sized_cards windows later (All-tail (λ card. IsCard card.card) card later fit) (All-tail
-      (DecodesAs setup bytes) card later are))
+      both_sized
+      (sized_card setup bytes card.card (All-head (λ card. IsCard card.card) card later fit)
+      (All-head (DecodesAs setup bytes) card later are).fitted windows)
+      (sized_cards windows later (All-tail (λ card. IsCard card.card) card later fit)
+      (All-tail (DecodesAs setup bytes) card later are))
 
   -- the window that claims an address is that of a base
   pub memory_claim_sized : (cards : List CardBytes) (addr : ℕ) (window : Window) → AreCards cards →
       AreDecoded setup bytes cards → memory_claim setup bytes addr ≡ Some window → IsSized setup window
   unfolding memory_claim
   memory_claim_sized cards addr window fit are found =
-      All-find (IsSized setup) _ _ window (sized_cards Memory cards fit are.1) (rw are.0 at found)
+      All-find (IsSized setup) _ _ window (sized_cards Memory cards fit are.1).each (rw are.0 at found)
 
   -- and so is the window that claims a port
   pub io_claim_sized : (cards : List CardBytes) (port : ℕ) (window : Window) → AreCards cards →
@@ -146,7 +146,7 @@ module _ (setup : Setup) (bytes : Bytes) where
   io_claim_sized cards port window fit are found =
       All-find (IsSized setup) _ _ window
       (rw (windows_are setup bytes cards port fit are Ports Open (io_windows bytes) (io_windows_are bytes)) at
-      (sized_cards Ports cards fit are.1)) found
+      (sized_cards Ports cards fit are.1).each) found
 
 -- ---- an aligned access in a window
 

@@ -174,6 +174,7 @@ fn base_at(card: &CardRegs, windows: Windows, place: u32) -> Option<u8>
 }
 
 /// The number of the first base that covers a place.
+#[tactic(auto, using(crate::proofs::BaseLemmas::base_within))]
 fn first_covering(
     bases: &[BaseSpec],
     values: &[u32; BASE_COUNT],

@@ -88,6 +88,7 @@ impl CardRegs {
     }
 
     /// The register at an offset. What the card does not have reads 0.
+    #[tactic(auto, using(crate::proofs::CardLemmas::reads))]
     pub fn read(&self, off: u8) -> u8
         requires card { IsCard self.now.card }
         ensures byte { (setup : Setup) (bytes : Bytes) → IsCardOf setup bytes self.now

@@ -169,6 +169,7 @@ impl CardSpec {
     }
 
     /// The bits of a base address register that can be written. None of them where the card has no base.
+    #[tactic(auto, using(crate::proofs::BaseLemmas::found_base))]
     pub(crate) fn writable(&self, index: usize) -> u32
         requires card { IsCard self.now }
         ensures writable { result ≡ of_base base_writable self.now.bases index }
@@ -181,6 +182,7 @@ impl CardSpec {
 
     /// The bits of the register of the expansion ROM that can be written: those that place it, and bit 0. None
     /// of them where the card has no ROM.
+    #[tactic(auto, using(std::proofs::lemmas::Bool::Decides::nat_tests))]
     pub(crate) fn rom_writable(&self) -> u32
         requires card { IsCard self.now }
         ensures writable { result ≡ rom_writable self.now.rom }
@@ -193,6 +195,7 @@ impl CardSpec {
 
     /// How many bytes are kept of a base, by its number: 0 to 5, or 7 for the VGA window. 0 where it does not
     /// exist, of an outside base, and of an expansion ROM, whose bytes are fixed.
+    #[tactic(auto, using(crate::proofs::BaseLemmas::found_base))]
     pub(crate) fn kept_size(&self, base: u8) -> usize
         requires card { IsCard self.now }
         ensures size { result ≡ kept_size (Some self.now) base }
@@ -208,6 +211,7 @@ impl CardSpec {
 
     /// log2 of the size of a base in bytes or ports. 0 where it does not exist. Base 6 is the expansion ROM, and
     /// base 7 the VGA window.
+    #[tactic(auto, using(crate::proofs::BaseLemmas::found_base))]
     pub(crate) fn window_bits(&self, base: u8) -> u8
         requires card { IsCard self.now }
         ensures bits { result ≡ bits_in (Some self.now) base }
