@@ -1,16 +1,16 @@
 -- The last covers of a store, register by register.
-use Rattle.std.proofs.Common.{◌≡◌, ℕ, zero, suc, ◌+◌, ◌<◌, ◌≤◌, Bool, true, false, ◌||◌, ◌&&◌, List, [], ◌∷◌, length}
-use Rattle.std.proofs.Common.{take, refl, arith, ◌==◌, nat_le, nat_lt, Option, Some, None, is_some, find}
-use Rattle.std.proofs.Common.{slice_index_or, replicate, option_and_then, if◌then◌else◌}
+use Rattle.std.proofs.Common.{◌≡◌, ℕ, zero, suc, ◌+◌, ◌<◌, ◌≤◌, Bool, true, false, ◌&&◌, List, [], ◌∷◌, length, take}
+use Rattle.std.proofs.Common.{refl, arith, ◌==◌, nat_le, nat_lt, Option, Some, None, is_some, find, slice_index_or}
+use Rattle.std.proofs.Common.{replicate, if◌then◌else◌}
 use Rattle.board_prelude.proofs.Common.{option_or, AllByRecursion, list_any, false≢true, or-false, nat_tests}
 use Rattle.board_prelude.proofs.Common.{get_or-take, length-take, recursion_from_All, list_any_at, Width, One, Reg}
-use Rattle.board_prelude.proofs.Common.{MapChange, Store, Reset, FittedCard, Setup, IsCard, IsCardList, card_at}
-use Rattle.board_prelude.proofs.Common.{is_within, covers, has_rom, is_map_byte, touches_map}
+use Rattle.board_prelude.proofs.Common.{MapChange, Store, Reset, FittedCard, Setup, IsCard, IsCardList, card_at, covers}
+use Rattle.board_prelude.proofs.Common.{has_rom, is_map_byte, touches_map}
 use Rattle.std.specs.Bool.{then_some}
 use Rattle.std.proofs.lemmas.List.Folds.{list_any_more}
 use Rattle.addr_decode.proofs.NameLemmas.{offsets, offset_at}
 use Rattle.map_blame.specs.declared.covers.Covers.{Covers}
-use Rattle.map_blame.specs.Common.{last_cover, first_lock, locks, AreCoversOf, is_placed, place_of, number_at}
+use Rattle.map_blame.specs.Common.{last_cover, first_lock, locks, AreCoversOf, is_placed, number_at}
 
 -- the first bytes of a store, so many, cover a register
 abbrev pub covers_first : (at : Reg) (count : ℕ) (reg : Reg) → Bool
@@ -21,17 +21,11 @@ covers_first at count reg =
 
 none_at : (count place : ℕ) → slice_index_or (replicate {A = Option ℕ} count None) place None ≡ None
 none_at zero place = refl
-none_at (suc count) zero = refl
-none_at (suc count) (suc place) = none_at count place
-
-none_found : (count : ℕ) (place : Option ℕ) →
-    option_and_then (λ place. slice_index_or (replicate {A = Option ℕ} count None) place None) place ≡ None
-none_found count None = refl
-none_found count (Some place) = none_at count place
+none_at (suc count) place = grind (arith, nat_tests, none_at count)
 
 pub covers_of_none : (count : ℕ) → AreCoversOf [] (record { last = replicate count None; lock = None })
 unfolding last_cover first_lock
-covers_of_none count = record { last = λ reg placed. none_found count (place_of reg); lock = refl }
+covers_of_none count = grind (arith, nat_tests, none_at count)
 
 -- ---- of one change more
 
@@ -51,16 +45,6 @@ covers_of_store at width value number changes old new is are last lock = grind (
 
 -- ---- the registers that the map depends on have a place
 
-placed_by : (dev fun off : ℕ) (some rom : Bool) → (some ≡ true → dev < 10) → (rom ≡ true → some ≡ true) →
-    (dev == 0 && fun == 0 && (is_within 0x59 0x68 off || off == 0x72)
-    || (dev == 1 && fun == 0 && off == 0x4E)
-    || some && fun == 0 && (off == 0x04 || is_within 0x10 0x27 off)
-    || rom && fun == 0 && is_within 0x30 0x33 off) ≡ true →
-    (nat_lt dev 10 && fun == 0 && nat_lt off 256) ≡ true
-placed_by dev fun off true rom device fitted is = let below : dev < 10 = device refl in grind (arith, nat_tests)
-placed_by dev fun off false true device fitted is = absurd (false≢true (fitted refl))
-placed_by dev fun off false false device fitted is = grind (arith, nat_tests)
-
 found_below : (cards : List FittedCard) (dev : ℕ) → AllByRecursion IsCard cards →
     is_some (find (λ card. card.dev == dev) cards) ≡ true → dev < 10
 found_below [] dev each is = absurd (false≢true is)
@@ -72,8 +56,8 @@ rom_fitted card is = grind (arith, nat_tests)
 pub map_byte_placed : (setup : Setup) (reg : Reg) → IsCardList setup.cards → is_map_byte setup reg ≡ true →
     is_placed reg ≡ true
 map_byte_placed setup reg cards is =
-    placed_by _ _ _ _ _ (found_below setup.cards reg.dev (recursion_from_All IsCard setup.cards cards.each))
-    (rom_fitted (card_at setup reg.dev)) is
+    let fitted = found_below setup.cards reg.dev (recursion_from_All IsCard setup.cards cards.each) in
+    grind (arith, nat_tests, fitted, rom_fitted (card_at setup reg.dev))
 
 -- ---- the bytes of a store
 

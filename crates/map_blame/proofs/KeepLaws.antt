@@ -1,10 +1,10 @@
 -- The kept changes alone leave each map byte as all changes do.
-use Rattle.std.proofs.Common.{◌≡◌, ℕ, ◌+◌, ◌-◌, ◌<◌, ◌≤◌, ◌⊎◌, inl, inr, Bool, true, false, ◌||◌, List, [], ◌∷◌, length}
-use Rattle.std.proofs.Common.{refl, sym, ap, ◌∙◌, arith, Option, Some, None, bit_and, bit_or, if◌then◌else◌, is_some}
-use Rattle.board_prelude.proofs.Common.{option_or, and_zero_r, cases_Bool, cases_lt, false≢true, nat_tests, Width, Reg}
-use Rattle.board_prelude.proofs.Common.{MapChange, Store, Reset, Setup, bit, is_bit, byte, merged, smram, is_same}
-use Rattle.board_prelude.proofs.Common.{writable_bits, covers, smram_after, changed_byte, is_map_byte, registers_after}
-use Rattle.board_prelude.proofs.Common.{reset_byte, host_bridge}
+use Rattle.std.proofs.Common.{◌≡◌, ℕ, ◌+◌, ◌-◌, ◌<◌, ◌≤◌, inl, inr, Bool, true, false, ◌||◌, List, [], ◌∷◌, length}
+use Rattle.std.proofs.Common.{refl, sym, ap, ◌∙◌, arith, Some, bit_and, bit_or, is_some}
+use Rattle.board_prelude.proofs.Common.{and_zero_r, cases_Bool, cases_lt, nat_tests, Width, Reg, MapChange, Store}
+use Rattle.board_prelude.proofs.Common.{Reset, Setup, bit, is_bit, byte, merged, smram, is_same, writable_bits, covers}
+use Rattle.board_prelude.proofs.Common.{smram_after, changed_byte, is_map_byte, registers_after, reset_byte}
+use Rattle.board_prelude.proofs.Common.{host_bridge}
 use Rattle.std.specs.Int.Bits.{and_self}
 use Rattle.std.proofs.lemmas.Nat.{or_comm, and_assoc, and_or_apart}
 use Rattle.std.proofs.lemmas.Grind.{and-not_self}
@@ -55,9 +55,6 @@ reset_among [] = omega arith
 reset_among (Reset ∷ before) = omega arith
 reset_among (Store at width value ∷ before) = omega (arith, reset_among before)
 
-pub some_is : (a b : ℕ) → Some a ≡ Some b → a ≡ b
-some_is a b e = cc
-
 -- the number of a change after the last reset
 pub record IsNumber (changes : List MapChange) (number : ℕ) : Type 0 where
   pub after : reset_number changes < number
@@ -68,43 +65,17 @@ pub cover_number : (changes : List MapChange) (reg : Reg) (number : ℕ) → las
 unfolding last_cover
 cover_number [] reg number is = cc
 cover_number (Reset ∷ before) reg number is = cc
-cover_number (Store at width value ∷ before) reg number is = elim (cases_Bool (covers at width reg)) [
-  | inl covered ↦
-      let last : length before + 1 ≡ number = some_is _ _ (rw covered at is) in omega (arith, reset_among before)
-  | inr other ↦ let earlier = cover_number before reg number (rw other at is) in omega arith
-]
-
-pub or_cases : (earlier later : Option ℕ) (number : ℕ) → option_or earlier later ≡ Some number →
-    (earlier ≡ Some number) ⊎ ((earlier ≡ None) × (later ≡ Some number))
-or_cases None later number is = inr (refl, is)
-or_cases (Some earlier) later number is = inl is
-
-pub where_true : (b : Bool) (number other : ℕ) → (if b then Some number else None) ≡ Some other →
-    (b ≡ true) × (number ≡ other)
-where_true true number other is = (refl, some_is number other is)
-where_true false number other is = cc
+cover_number (Store at width value ∷ before) reg number is =
+    grind (arith, nat_tests, reset_among before, cover_number before reg number)
 
 pub lock_number : (changes : List MapChange) (number : ℕ) → first_lock changes ≡ Some number → IsNumber changes number
 unfolding first_lock
 lock_number [] number is = cc
 lock_number (Reset ∷ before) number is = cc
-lock_number (Store at width value ∷ before) number is = elim (or_cases (first_lock before) _ number is) [
-  | inl is_earlier ↦ let earlier = lock_number before number is_earlier in omega arith
-  | inr here ↦
-      let last = (where_true (locks (Store at width value)) (length before + 1) number here.1).1 in
-      omega (arith, reset_among before)
-]
+lock_number (Store at width value ∷ before) number is =
+    grind (arith, nat_tests, reset_among before, lock_number before number)
 
 -- ---- numbers that choose changes
-
--- a change that is not chosen locks nothing that was open
-lock_left : (old : Option ℕ) (sets : Bool) (number : ℕ) → (old ≡ None → sets ≡ true → ⊥) →
-    is_some old ≡ is_some (option_or old (if sets then Some number else None))
-lock_left old sets number not = grind (arith, nat_tests)
-
-some_or : (old : Option ℕ) (sets : Bool) (number : ℕ) →
-    is_some (option_or old (if sets then Some number else None)) ≡ (is_some old || sets)
-some_or old sets number = grind (arith, nat_tests)
 
 module _ (setup : Setup) (keep : List ℕ) where
   -- no change up to the last reset is chosen
@@ -208,29 +179,28 @@ module _ (setup : Setup) (keep : List ℕ) where
   locked_is [] = refl
   locked_is (Reset ∷ before) = refl
   locked_is (Store at width value ∷ before) =
-      is_locked_after at width value (value_after before smram)
-      ∙ ap (λ old. old || locks (Store at width value)) (locked_is before)
-      ∙ sym (some_or (first_lock before) (locks (Store at width value)) (length before + 1))
+      grind (arith, nat_tests, is_locked_after at width value (value_after before smram), locked_is before)
 
   -- the first lock is chosen
   abbrev HasLock : List MapChange → Type 0
   HasLock changes = (number : ℕ) → first_lock changes ≡ Some number → is_among number keep ≡ true
 
+  -- and so a change that is not chosen locks nothing that was open
   lock_same : (changes : List MapChange) → Since changes → HasLock changes →
-      is_some (first_lock (chosen keep changes)) ≡ is_some (first_lock changes)
-  unfolding first_lock chosen
+      is_locked (value_after (chosen keep changes) smram) ≡ is_locked (value_after changes smram)
+  unfolding registers_after first_lock chosen
   lock_same [] since has = refl
-  lock_same (Reset ∷ before) since has = ap (λ changes. is_some (first_lock changes)) (none_of_reset _ since)
+  lock_same (Reset ∷ before) since has = rw (none_of_reset before since) refl
   lock_same (Store at width value ∷ before) since has =
-      let sets : Bool = locks (Store at width value) in
-      let number : ℕ = length before + 1 in
       let rest = lock_same before since (λ number is. has number (rw is refl)) in
-      elim (cases_Bool (is_among number keep)) [
+      let after = is_locked_after at width value in
+      elim (cases_Bool (is_among (length before + 1) keep)) [
         | inl among ↦
-            rw among (some_or (first_lock (chosen keep before)) sets _ ∙ ap (λ old. old || sets) rest
-            ∙ sym (some_or (first_lock before) sets number))
+            rw among (after _ ∙ ap (λ old. old || locks (Store at width value)) rest ∙ sym (after _))
         | inr none ↦
-            rw none (rest ∙ lock_left _ _ number (λ free set. false≢true (sym none ∙ has number (rw (free, set) refl))))
+            let alone = after (value_after before smram) in
+            let lock = has (length before + 1) in
+            rw none (rest ∙ grind (arith, nat_tests, alone, locked_is before, lock))
       ]
 
   smram_same : (changes : List MapChange) → Since changes → HasLast smram changes → HasLock changes →
@@ -243,8 +213,7 @@ module _ (setup : Setup) (keep : List ℕ) where
       elim (cases_Bool (covers at width smram)) [
         | inl covered ↦
             ap (λ changes. value_after changes smram) (last_chosen smram at width value before covered has)
-            ∙ rw covered (write_same _ _ (byte value (smram.off - at.off))
-            (locked_is (chosen keep before) ∙ lock_same before since has_lock ∙ sym (locked_is before)))
+            ∙ rw covered (write_same _ _ (byte value (smram.off - at.off)) (lock_same before since has_lock))
         | inr other ↦
             left_alone (λ old. old) smram at width value before (λ old. rw other refl)
             (smram_same before since (λ number is. has number (rw other is)) has_lock)

@@ -1,9 +1,9 @@
 -- The kept changes as they are found, one after another.
 use Rattle.std.proofs.Common.{◌≡◌, ℕ, suc, ◌+◌, ◌-◌, ◌<◌, ◌≤◌, ◌⊎◌, inl, inr, Bool, true, false, ◌||◌, List, [], ◌∷◌}
 use Rattle.std.proofs.Common.{◌++◌, length, get_or, reverse, take, refl, sym, ap, ◌∙◌, arith, ◌==◌, Option, Some, None}
-use Rattle.board_prelude.proofs.Common.{AllPairs, cases_Bool, cases_lt, eq-eqb, eqb-true, and_parts, and_from}
-use Rattle.board_prelude.proofs.Common.{false≢true, nat_tests, get_or_default, length-reverse, list_any_at, One, Reg}
-use Rattle.board_prelude.proofs.Common.{bytes_of, bytes_few, MapChange, Store, Reset, Setup, IsCardList, bridge, covers}
+use Rattle.board_prelude.proofs.Common.{AllPairs, cases_Bool, eq-eqb, eqb-true, and_parts, and_from, false≢true}
+use Rattle.board_prelude.proofs.Common.{nat_tests, get_or_default, length-reverse, list_any_at, One, Reg, bytes_of}
+use Rattle.board_prelude.proofs.Common.{bytes_few, MapChange, Store, Reset, Setup, IsCardList, bridge, covers}
 use Rattle.board_prelude.proofs.Common.{is_map_byte, reg_after, or_right, or-false}
 use Rattle.std.proofs.lemmas.List.{get_or-reverse}
 use Rattle.std.proofs.lemmas.List.Folds.{list_any-append, Any-from_list_any}
@@ -14,7 +14,7 @@ use Rattle.map_blame.specs.declared.covers.Covers.{Covers}
 use Rattle.map_blame.specs.Common.{last_cover, is_among, IsLastCover, RestsOn, IsKeep, AreCoversOf, is_number}
 use Rattle.map_blame.specs.Common.{number_at, is_last_at, is_last_of, is_kept_of}
 use Rattle.map_blame.proofs.CoverLemmas.{map_byte_placed, any_at}
-use Rattle.map_blame.proofs.KeepLaws.{some_is, IsNumber, cover_number, lock_number}
+use Rattle.map_blame.proofs.KeepLaws.{IsNumber, cover_number, lock_number}
 
 -- ---- the change of a number
 
@@ -44,7 +44,7 @@ cover_covers [] reg number is = cc
 cover_covers (Reset ∷ before) reg number is = cc
 cover_covers (Store at width value ∷ before) reg number is = elim (cases_Bool (covers at width reg)) [
   | inl covered ↦
-      let last : length before + 1 ≡ number = some_is _ _ (rw covered at is) in
+      let last : length before + 1 ≡ number = grind (arith, nat_tests) in
       let here : length (Store at width value ∷ before) - number ≡ 0 = omega (arith, last) in
       rw here covered
   | inr other ↦
@@ -150,21 +150,18 @@ kept_pushed setup changes count keep kept are = record {
       (λ k d below.
       let among = list_any_at (λ other. other == get_or keep k d) keep k d below (eq-eqb _ _ refl) in
       omega (arith, are.most (get_or keep k d) among));
-  most = λ number among. elim (among_either number (count + 1) keep among) [
-    | inl earlier ↦ omega (arith, are.most number earlier)
-    | inr same ↦ omega (arith, same)
-  ];
-  only = λ number among. elim (among_either number (count + 1) keep among) [
-    | inl earlier ↦ are.only number earlier
-    | inr same ↦ rw same at kept
-  ];
-  each = λ number most is. among_pushed number (count + 1) keep
-      ∙ elim (cases_lt count number) [
-        | inl last ↦
-            let same : count + 1 ≡ number = omega (arith, most, last) in
-            or_right (is_among number keep) _ (eq-eqb (count + 1) number same)
-        | inr earlier ↦ rw (are.each number earlier is) refl
-      ];
+  most = λ number among.
+      let either = among_either number (count + 1) keep among in
+      let most = are.most number in
+      grind (arith, either, most);
+  only = λ number among.
+      let either = among_either number (count + 1) keep among in
+      let only = are.only number in
+      grind (arith, either, only);
+  each = λ number most is.
+      let pushed = among_pushed number (count + 1) keep in
+      let each = are.each number in
+      grind (arith, nat_tests, pushed, each);
 }
 
 pub all_kept : (setup : Setup) (changes : List MapChange) (keep : List ℕ) →

@@ -1,8 +1,8 @@
 -- What is known of a range that is watched, before and after a change, and of lists of such ranges.
-use Rattle.board_prelude.proofs.Common.{nat_tests, cases_lt, false≢true, take_more, reverse-append, MapChange, Setup}
-use Rattle.board_prelude.proofs.Common.{IsCardList, Bytes, top_of, reset_byte, host_bridge, registers_after, MapRange}
-use Rattle.board_prelude.proofs.Common.{IsRight, six_areas, get_or_default, get_or-map, length-map, All-nil, All-cons}
-use Rattle.board_prelude.proofs.Common.{Tiles, IsFlatMapOf}
+use Rattle.board_prelude.proofs.Common.{nat_tests, cases_lt, take_more, reverse-append, MapChange, Setup, IsCardList}
+use Rattle.board_prelude.proofs.Common.{Bytes, top_of, reset_byte, host_bridge, registers_after, MapRange, IsRight}
+use Rattle.board_prelude.proofs.Common.{six_areas, get_or_default, get_or-map, length-map, All-nil, All-cons, Tiles}
+use Rattle.board_prelude.proofs.Common.{IsFlatMapOf}
 use Rattle.std.proofs.Common.{◌≡◌, ℕ, suc, ◌+◌, ◌-◌, ◌<◌, ◌≤◌, ◌⊎◌, inl, inr, Bool, true, false, List, [], ◌∷◌, length}
 use Rattle.std.proofs.Common.{get_or, take, reverse, refl, sym, ◌∙◌, arith, set, map, All, get_or-set_same}
 use Rattle.std.proofs.Common.{get_or-set_other, ext_get_or}
@@ -35,12 +35,8 @@ module _ (setup : Setup) (range : MapRange) where
   stands_on : (change : MapChange) (before : List MapChange) (since : ℕ) → since ≤ length before + 1 →
       ((count : ℕ) → since ≤ count → count ≤ length before → IsRightAfter setup before range count) →
       RightNow (change ∷ before) → StandsFrom setup (change ∷ before) range since
-  stands_on change before since most earlier now count from few = elim (cases_lt (length before) count) [
-    | inl last ↦
-        let all : count ≡ length (change ∷ before) = omega (arith, few, last) in
-        rw (all, all_changes (change ∷ before)) now
-    | inr not_last ↦ rw (earlier_changes change before count not_last) (earlier count from not_last)
-  ]
+  stands_on change before since most earlier now count from few =
+      grind (arith, nat_tests, all_changes (change ∷ before), earlier_changes change before count, earlier count)
 
 -- ---- the changes up to an index of a list with the oldest first
 
@@ -75,14 +71,9 @@ watched_same : (setup : Setup) (change : MapChange) (before : List MapChange) (s
     IsWatched setup before self → IsWatched setup (change ∷ before) (record { blamed = self.blamed; stands = stands })
 watched_same setup change before self stands stood right other watched =
     let range : MapRange = range_of self.blamed.range in
-    record {
-      standing = λ is_true. stands_on setup range change before self.blamed.since (omega (arith, watched.most))
-          (watched.standing (stood is_true)) (right is_true);
-      fallen = λ is_false now. other is_false (rw (all_changes (change ∷ before)) at now);
-      before = λ some right. watched.before some
-          (rw (earlier_changes change before (self.blamed.since - 1) (omega (arith, watched.most))) at right);
-      most = omega (arith, watched.most);
-    }
+    let on = stands_on setup range change before self.blamed.since in
+    let before_same = earlier_changes change before (self.blamed.since - 1) in
+    grind (arith, nat_tests, on, all_changes (change ∷ before), before_same)
 
 -- by the map after it
 module _ (map : Mapped) (bounds : Changed) (number : ℕ) (self : Watched) (is : IsInterval self.blamed.range) where
@@ -112,15 +103,10 @@ module _ (map : Mapped) (bounds : Changed) (number : ℕ) (self : Watched) (is :
       range = refl;
       watched = λ setup before change count after hold watched.
           let range : MapRange = range_of self.blamed.range in
-          let last : number - 1 ≡ length before = omega (arith, count) in
-          record {
-            standing = λ is_true. stands_on setup range change before number (omega (arith, count))
-                (λ k from few. absurd (omega (arith, count, from, few))) (right is_true setup _ after);
-            fallen = λ is_false. absurd (false≢true (sym is_false ∙ stands_now));
-            before = λ some right. watched.fallen fell
-                (rw last at (rw (earlier_changes change before (number - 1) (omega (arith, last))) at right));
-            most = omega (arith, count);
-          };
+          let on = stands_on setup range change before number in
+          let now = right stands_now setup (registers_after setup (change ∷ before)) after in
+          let before_same = earlier_changes change before (length before) in
+          grind (arith, nat_tests, on, now, before_same, watched.fallen);
     }
 
     -- it goes on to stand, or does not stand
