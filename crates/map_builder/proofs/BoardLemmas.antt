@@ -6,6 +6,7 @@ use Rattle.std.proofs.Common.{eq-eqb, ne_eqb, ◌≡◌, ℕ, zero, suc, ◌+◌
 use Rattle.std.proofs.Common.{length, get_or, Option, Some, None, refl, ◌∙◌, arith, ◌==◌, nat_lt, if◌then◌else◌, false}
 use Rattle.std.proofs.Common.{◌&&◌, All, find, is_some, slice_index}
 use Rattle.pci_bars.specs.Cards.{CardBytes, HoldsLong, HoldsRom, DecodesAs, AreFitted, cards_of}
+use Rattle.std.proofs.lemmas.List.Elements.{All-map}
 use Rattle.pci_bars.proofs.CardListLemmas.{find-cards}
 use Rattle.addr_decode.specs.Common.{MapBytes, StandsFor, AreSinglesOf, single_number}
 use Rattle.addr_decode.proofs.SingleLemmas.{numbered, block_unnumbered, card_unnumbered}
@@ -124,10 +125,7 @@ overlaid_stands setup regs others same fitted doublewords = record {
 fitted_cards : (regs : MapBytes) → length regs.cards ≤ 8 → AreFitted regs.cards → IsCardList (cards_of regs.cards)
 fitted_cards regs few fitted = record {
   count = omega (arith, length-map regs.cards (λ (it : CardBytes). it.card));
-  each = λ k d within.
-      let card : CardBytes = record { card = d; command = 0; line = 0; bases = []; rom = 0 } in
-      let below : k < length regs.cards = omega (arith, length-map regs.cards (λ (it : CardBytes). it.card)) in
-      rw (get_or-map (λ (it : CardBytes). it.card) regs.cards k card d below) (fitted.each k card below);
+  each = All-map IsCard (λ (it : CardBytes). it.card) regs.cards fitted.each;
   rises = fitted.rises;
 }
 

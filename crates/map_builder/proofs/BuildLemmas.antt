@@ -12,6 +12,8 @@ use Rattle.pci_bars.specs.Cards.{AreFitted}
 use Rattle.addr_decode.proofs.Common.{contains_cases, no_more, few_edges_after, areas_change_at_edges}
 use Rattle.map_ranges.specs.declared.range.Range.{Range}
 
+pub ruleset build_steps = (nat_tests, common_steps, length-map)
+
 abbrev pub range : ℕ → ℕ → List Area → MapRange
 range lo hi areas = record { lo = lo; hi = hi; areas = areas }
 

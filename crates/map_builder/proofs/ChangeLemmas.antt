@@ -1,21 +1,23 @@
 -- After a change the ranges of a map are right again for each address outside the bounds of the changed windows.
-use Rattle.std.proofs.Common.{◌≡◌, ℕ, ◌+◌, ◌<◌, ◌≤◌, Bool, true, false, List, [], ◌∷◌, ◌++◌, Option, Some, refl, sym}
-use Rattle.std.proofs.Common.{◌∙◌, ap, arith, IfSome, ◌||◌, not, flat_map, is_some, map, subst, true≢false, append-nil}
+use Rattle.std.proofs.Common.{◌≡◌, ℕ, ◌<◌, ◌≤◌, Bool, true, false, List, [], ◌∷◌, ◌++◌, Option, Some, refl, sym, ◌∙◌}
+use Rattle.std.proofs.Common.{ap, arith, IfSome, ◌||◌, not, flat_map, is_some, map, subst, true≢false, append-nil}
 use Rattle.board_prelude.proofs.Common.{list_any, Width, One, Reg, MapChange, Store, Reset, FittedCard, Setup}
 use Rattle.board_prelude.proofs.Common.{touches_map, Bytes, address_count, six_areas, MapRange, nat_tests, false≢true}
+use Rattle.board_prelude.proofs.Common.{reg_after}
 use Rattle.pci_bars.specs.Cards.{CardBytes, AreFitted, cards_of}
 use Rattle.addr_decode.proofs.Common.{no_low_card, names_touch}
 use Rattle.addr_decode.specs.declared.register.MapRegister.{MapRegister}
 use Rattle.addr_decode.specs.declared.register.MapRegister.TheVariants.{Card}
 use Rattle.addr_decode.specs.Common.{is_of_card, names_from, names_of, MapBytes, StandsFor, edges_after}
 use Rattle.map_builder.specs.Common.{Changed, IsOfSomeBoard, IsMapOf, IsMapWhere, IsBeside, sorted, Rise, rows_in}
-use Rattle.map_builder.specs.Common.{AreChanged, after, bounds, rest_on_registers, name_windows, windows_covered}
+use Rattle.map_builder.specs.Common.{AreChanged, after, rest_on_registers, name_windows, windows_covered}
 use Rattle.map_builder.specs.Common.{changed_windows, most_rows, AreMoved, IsHeldAt, IsSameByte, Mapped}
-use Rattle.map_builder.specs.Changed.{register_windows}
-use Rattle.map_builder.proofs.BoundsLemmas.{covered_ordered, changed_ordered, bounds_twice}
+use Rattle.map_builder.specs.Changed.{is_card_name, register_windows, windows_of}
+use Rattle.addr_decode.specs.MapRegister.{map_register}
+use Rattle.map_builder.proofs.BoundsLemmas.{covered_ordered, changed_ordered}
 use Rattle.map_builder.proofs.SortedLemmas.{rise_sorted, outside_sorted, beside_sorted, rows_few, sorted_twice}
-use Rattle.map_builder.proofs.MovedRows.{covers_rows, rows_keep, moved_within}
-use Rattle.map_builder.proofs.KeptLemmas.{same_bytes, unchanged_keep, top_after, changes_keep}
+use Rattle.map_builder.proofs.MovedRows.{CoversRows, rows_keep, moved_within}
+use Rattle.map_builder.proofs.KeptLemmas.{same_bytes, top_after, changes_keep}
 use Rattle.map_builder.proofs.WindowLemmas.{covered_by_names}
 use Rattle.map_builder.proofs.SameBoards.{boards_same, untouched_areas}
 use Rattle.map_builder.proofs.RebuildLemmas.{all_right, range_below}
@@ -73,48 +75,42 @@ module _ {old new : MapBytes} (change : MapChange) (next : Next old new change) 
         few = is_map.few;
       }
 
--- a register keeps its byte, on each board that has the registers before, and on each that has those after
-pub record KeepsByte (old new : MapBytes) (change : MapChange) : Type 0 where
-  pub byte : ℕ
-  pub before : (setup : Setup) (bytes : Bytes) → StandsFor setup bytes old → IsHeldAt change bytes byte
-  pub later : (setup : Setup) (bytes : Bytes) → StandsFor setup bytes new → IsHeldAt change bytes byte
+-- each register keeps its byte, on each board that has the registers before
+abbrev pub Idle : (old : MapBytes) → MapChange → Type 0
+Idle old change = (setup : Setup) (bytes : Bytes) → StandsFor setup bytes old → after setup change bytes ≡ bytes
 
-pub keeps_byte : (old new : MapBytes) (change : MapChange) (before later : Option ℕ) → IsSameByte before later →
+pub keeps_byte : {old new : MapBytes} (change : MapChange) {before later : Option ℕ} → Next old new change →
+    IsSameByte before later →
     ((setup : Setup) (bytes : Bytes) → StandsFor setup bytes old → IfSome before (IsHeldAt change bytes)) →
     ((setup : Setup) (bytes : Bytes) → StandsFor setup bytes new → IfSome later (IsHeldAt change bytes)) →
-    KeepsByte old new change
-keeps_byte old new change before later same held held' = record {
-  byte = same.byte;
-  before = λ setup bytes stands. rw same.before_is at (held setup bytes stands);
-  later = λ setup bytes stands. rw same.later_is at (held' setup bytes stands);
-}
+    Idle old change
+keeps_byte change next same held held' setup bytes stands =
+    let each = same_bytes setup bytes change same.byte (rw same.before_is at (held setup bytes stands))
+    (rw same.later_is at (held' setup _ (next setup bytes stands))) in
+    λ i reg. each reg i
 
 -- ---- the windows that were found
 
--- they have the bounds of those that change, and are the same when sorted
-pub record AreFound (setup : Setup) (bytes : Bytes) (change : MapChange) (all : List Changed) : Type 0 where
-  pub bounds_same : bounds all ≡ bounds (changed_windows setup bytes change)
-  pub sorted_same : sorted all ≡ sorted (changed_windows setup bytes change)
+-- those of registers of the bridges rest on nothing
+name_fixed : (setup setup' : Setup) (bytes bytes' : Bytes) (name : Option MapRegister) → is_card_name name ≡ false →
+    name_windows setup bytes name ≡ name_windows setup' bytes' name
+name_fixed setup setup' bytes bytes' (Some (Card dev register)) bridge = absurd (true≢false bridge)
+name_fixed setup setup' bytes bytes' _ bridge = refl
 
--- those of registers of the bridges do not rest on what the registers hold
-names_fixed : (setup : Setup) (bytes bytes' : Bytes) (names : List (Option MapRegister)) →
-    rest_on_registers names ≡ false → flat_map (name_windows setup bytes) names
-    ≡ flat_map (name_windows setup bytes') names
-names_fixed setup bytes bytes' [] bridges = refl
-names_fixed setup bytes bytes' (Some (Card dev register) ∷ later) bridges = absurd (true≢false bridges)
-names_fixed setup bytes bytes' (name ∷ later) bridges = rw (names_fixed setup bytes bytes' later bridges) refl
+names_fixed : (setup : Setup) (bytes bytes' : Bytes) (reg : Reg) (ks : List ℕ) →
+    rest_on_registers (map (λ k. map_register setup.cards (reg_after reg k)) ks) ≡ false →
+    flat_map (λ k. windows_of setup bytes (reg_after reg k)) ks
+    ≡ flat_map (λ k. windows_of setup bytes' (reg_after reg k)) ks
+names_fixed setup bytes bytes' reg [] bridges = refl
+names_fixed setup bytes bytes' reg (k ∷ later) bridges =
+    grind (arith, nat_tests, name_fixed setup setup bytes bytes', names_fixed setup bytes bytes' reg later)
 
 fixed_same : (setup : Setup) (bytes bytes' : Bytes) (change : MapChange) →
     rest_on_registers (names_of setup.cards change) ≡ false →
     windows_covered setup bytes change ≡ windows_covered setup bytes' change
 unfolding windows_covered
 fixed_same setup bytes bytes' Reset fixed = refl
-fixed_same setup bytes bytes' (Store reg width value) fixed =
-    let change : MapChange = Store reg width value in
-    let names : List (Option MapRegister) = names_of setup.cards change in
-    sym (covered_by_names setup bytes change reg width value setup.cards names refl refl refl)
-    ∙ names_fixed setup bytes bytes' names fixed
-    ∙ covered_by_names setup bytes' change reg width value setup.cards names refl refl refl
+fixed_same setup bytes bytes' (Store reg width value) fixed = names_fixed setup bytes bytes' reg _ fixed
 
 module _ (setup : Setup) (bytes : Bytes) (change : MapChange) where
   abbrev covered : Bytes → List Changed
@@ -124,38 +120,24 @@ module _ (setup : Setup) (bytes : Bytes) (change : MapChange) where
   abbrev pub AreSame : Type 0
   AreSame = covered (after setup change bytes) ≡ covered bytes
 
-  pub kept_same : (old new : MapBytes) → StandsFor setup bytes old → StandsFor setup (after setup change bytes) new →
-      KeepsByte old new change → AreSame
-  kept_same old new stands now byte =
-      let each = same_bytes setup bytes change byte.byte (byte.before setup bytes stands)
-      (byte.later setup (after setup change bytes) now) in
-      ap covered (λ i reg. each reg i)
+  -- when sorted they are those that change
+  abbrev pub AreFound : List Changed → Type 0
+  AreFound all = sorted all ≡ sorted (changed_windows setup bytes change)
 
   -- once is then as good as twice
-  found_once : {all : List Changed} → all ≡ covered bytes → AreSame → AreFound setup bytes change all
-  found_once once same = record {
-    bounds_same = rw (once, same) (sym (bounds_twice (covered bytes)));
-    sorted_same = rw (once, same) (sym (sorted_twice (covered bytes) (covered_ordered setup bytes change)));
-  }
+  found_once : {all : List Changed} → all ≡ covered bytes → AreSame → AreFound all
+  found_once once same = rw (once, same) (sym (sorted_twice (covered bytes) (covered_ordered setup bytes change)))
 
   -- as they are pushed: by what the registers held, and again by what they hold, unless that is known to be the same
   pub pushed_found : {first all : List Changed} (kept same : Bool) → (kept ≡ true → AreSame) →
       same ≡ (kept || not (rest_on_registers (names_of setup.cards change))) → first ≡ covered bytes →
-      (same ≡ true → all ≡ first) → (same ≡ false → all ≡ first ++ covered (after setup change bytes)) →
-      AreFound setup bytes change all
-  pushed_found kept false keeps same_is is once twice =
-      record { bounds_same = rw (twice refl, is) refl; sorted_same = rw (twice refl, is) refl }
+      (same ≡ true → all ≡ first) → (same ≡ false → all ≡ first ++ covered (after setup change bytes)) → AreFound all
+  pushed_found kept false keeps same_is is once twice = rw (twice refl, is) refl
   pushed_found true true keeps same_is is once twice = found_once (once refl ∙ is) (keeps refl)
   pushed_found false true keeps same_is is once twice =
       found_once (once refl ∙ is) (fixed_same setup (after setup change bytes) bytes change (grind (arith, nat_tests)))
 
--- those of one register of a bridge rest on nothing, so that they are the same on each board, before the change and
--- after
-bridge_windows : (setup setup' : Setup) (bytes bytes' : Bytes) (register : MapRegister) → is_of_card register ≡ false →
-    register_windows setup bytes register ≡ register_windows setup' bytes' register
-bridge_windows setup setup' bytes bytes' (Card dev register) bridge = absurd (true≢false bridge)
-bridge_windows setup setup' bytes bytes' _ bridge = refl
-
+-- so they are the same on each board, before the change and after
 pub bridge_found : (setup setup' : Setup) (bytes bytes' : Bytes) (reg : Reg) (value : ℕ) (register : MapRegister)
     (cards : List FittedCard) →
     is_of_card register ≡ false → setup'.cards ≡ cards → Some register ∷ [] ≡ names_of cards (Store reg One value) →
@@ -164,9 +146,10 @@ bridge_found setup setup' bytes bytes' reg value register cards bridge same name
     let change : MapChange = Store reg One value in
     let bridges : rest_on_registers (names_of setup'.cards change) ≡ false =
     rw same (subst (λ (names : List (Option MapRegister)). rest_on_registers names ≡ false) named (rw bridge refl)) in
+    let here = name_fixed setup setup' bytes bytes' (Some register) bridge in
     let covered = covered_by_names setup' bytes' _ _ _ _ _ _ refl same named in
-    (found_once setup' _ change (bridge_windows setup setup' bytes bytes' _ bridge ∙ sym (append-nil _) ∙ covered)
-    (fixed_same setup' (after setup' change bytes') bytes' _ bridges)).sorted_same
+    found_once setup' _ change (here ∙ sym (append-nil _) ∙ covered)
+    (fixed_same setup' (after setup' change bytes') bytes' _ bridges)
 
 -- ---- the windows that are built anew
 
@@ -183,33 +166,33 @@ pub record Chosen {old : MapBytes} (board : IsOfSomeBoard old) (change : MapChan
 module _ {old new : MapBytes} (change : MapChange) (next : Next old new change) (board : IsOfSomeBoard old)
     {windows : List Changed} where
   -- none, where the register keeps its byte; what moves of them, where rows alone are stored; else those that change
-  pub chosen : (all : List Changed) (kept alone : Bool) → (alone ≡ true → covers_rows change ≡ true) →
+  pub chosen : (all : List Changed) (kept alone : Bool) → (alone ≡ true → CoversRows (cards_of old.cards) change) →
       ((setup : Setup) (bytes : Bytes) → StandsFor setup bytes old →
       sorted all ≡ sorted (changed_windows setup bytes change)) →
-      (kept ≡ true → KeepsByte old new change) → (kept ≡ true → windows ≡ []) →
+      (kept ≡ true → Idle old change) → (kept ≡ true → windows ≡ []) →
       (kept ≡ false → alone ≡ false → windows ≡ sorted all) →
       (kept ≡ false → alone ≡ true → AreMoved old.drb new.drb windows) → Chosen board change windows
   chosen all true alone is_rows all_is same none others rows =
-      let byte = same refl in
       rw (none refl) (record {
         rise = tt;
         few = λ setup bytes stands. omega arith;
-        keeps = λ addr address out. unchanged_keep board.setup board.bytes change addr byte.byte board.cards
-            (byte.before board.setup board.bytes board.stands) (byte.later board.setup _
-            (next board.setup board.bytes board.stands));
+        keeps = λ addr address out.
+            ap (λ it. six_areas board.setup it addr) (same refl board.setup board.bytes board.stands);
         within = λ setup bytes addr stands out. tt;
       })
   chosen all false true is_rows all_is same none others rows =
       let moved = rows refl refl in
-      let within = λ (setup : Setup) (bytes : Bytes).
-      moved_within setup bytes (after setup change bytes) change windows (is_rows refl) moved in
+      let rows = λ (setup : Setup) (bytes : Bytes) (stands : StandsFor setup bytes old).
+      subst (λ cards. CoversRows cards change) (sym stands.cards.0) (is_rows refl) in
+      let within = λ (setup : Setup) (bytes : Bytes) (stands : StandsFor setup bytes old).
+      moved_within setup bytes (after setup change bytes) change windows (rows setup bytes stands) moved in
       record {
-        rise = (within board.setup board.bytes).0;
-        few = λ setup bytes stands. (within setup bytes).1;
+        rise = (within board.setup board.bytes board.stands).0;
+        few = λ setup bytes stands. (within setup bytes stands).1;
         keeps = λ addr address out.
-            rows_keep old new board.setup board.bytes change addr (is_rows refl) board.cards board.stands
-            (next board.setup board.bytes board.stands) (moved.beside addr out);
-        within = λ setup bytes addr stands out. (within setup bytes).2 addr out;
+            rows_keep old new board.setup board.bytes change addr (rows board.setup board.bytes board.stands)
+            board.cards board.stands (next board.setup board.bytes board.stands) (moved.beside addr out);
+        within = λ setup bytes addr stands out. (within setup bytes stands).2 addr out;
       }
   chosen all false false is_rows all_is same none others rows =
       let is : (setup : Setup) (bytes : Bytes) → StandsFor setup bytes old →

@@ -1,21 +1,20 @@
 -- The card that answers at an address is the same before and after a change that moves no window round it.
-use Rattle.board_prelude.proofs.Common.{common_steps, AllByRecursion, cases_Bool, nat_tests, recursion_from_All}
+use Rattle.board_prelude.proofs.Common.{option_map_or, common_steps, AllByRecursion, nat_tests, recursion_from_All}
 use Rattle.board_prelude.proofs.Common.{find-append, Reg, Base, IoBase, FittedCard, Setup, IsCard, IsCardList, card_at}
-use Rattle.board_prelude.proofs.Common.{is_bit, Bytes, Window, base_value, is_covered, rom_window, rom_window_of}
-use Rattle.board_prelude.proofs.Common.{is_rom_on, vga_window, memory_windows, memory_window, is_enabled_for}
-use Rattle.board_prelude.proofs.Common.{memory_claim, card_register}
-use Rattle.std.proofs.Common.{◌≡◌, ℕ, zero, suc, ◌+◌, ◌-◌, ◌*◌, ◌/◌, ◌<◌, ◌≤◌, ◌⊎◌, inl, inr, Bool, false, List, []}
-use Rattle.std.proofs.Common.{◌∷◌, ◌++◌, length, map, get_or, Option, Some, None, refl, sym, ◌∙◌, ap, arith, ◌&&◌, All}
-use Rattle.std.proofs.Common.{find, flat_map, slice_get, if◌then◌else◌, is_some, option_map, lit<, below_more}
+use Rattle.board_prelude.proofs.Common.{is_bit, Bytes, Window, base_value, is_covered, rom_window, is_rom_on}
+use Rattle.board_prelude.proofs.Common.{vga_window, memory_windows, memory_window, is_enabled_for, memory_claim}
+use Rattle.board_prelude.proofs.Common.{card_register}
+use Rattle.std.proofs.Common.{◌≡◌, ℕ, zero, suc, ◌+◌, ◌-◌, ◌*◌, ◌/◌, ◌<◌, ◌≤◌, ◌⊎◌, inl, inr, Bool, List, [], ◌∷◌, ◌++◌}
+use Rattle.std.proofs.Common.{length, map, get_or, Option, Some, None, refl, sym, ◌∙◌, ap, arith, ◌&&◌, All, find}
+use Rattle.std.proofs.Common.{flat_map, slice_get, if◌then◌else◌, lit<, below_more}
 use Rattle.std.proofs.lemmas.Option.{slice_get_within}
 use Rattle.addr_decode.specs.declared.register.CardRegister.{CardRegister}
-use Rattle.addr_decode.specs.declared.register.CardRegister.TheVariants.{Command, Base as BaseByte, ExpansionRom}
-use Rattle.addr_decode.specs.declared.register.MapRegister.TheVariants.{Card}
-use Rattle.addr_decode.specs.MapRegister.{in_card}
+use Rattle.addr_decode.specs.declared.register.CardRegister.TheVariants.{Base as BaseByte}
+use Rattle.addr_decode.specs.MapRegister.{in_card, map_register}
 use Rattle.addr_decode.proofs.CardLemmas.{find_at}
-use Rattle.map_builder.specs.Common.{decoded, base_windows, card_windows, name_windows, windows_of, held_by, Changed}
-use Rattle.map_builder.proofs.BoundsLemmas.{Outside, none_covered, outside_decoded}
-use Rattle.map_builder.proofs.WindowLemmas.{from_base, one_held, windows_of_card}
+use Rattle.map_builder.specs.Common.{decoded, base_windows, card_windows, windows_of, held_by, Changed}
+use Rattle.map_builder.proofs.BoundsLemmas.{Outside, none_covered}
+use Rattle.map_builder.proofs.WindowLemmas.{from_base, one_held}
 
 -- a register keeps its byte, or an address lies outside the windows that it governs, by what the registers held before
 -- and hold after
@@ -37,22 +36,9 @@ each_or P Q (suc n) each =
           ]
     ]
 
--- ---- the names of a card's registers
-
-named_rom : (card : FittedCard) (off : ℕ) → 0x30 ≤ off → off ≤ 0x33 →
-    in_card off card ≡ (if is_some card.rom then Some (ExpansionRom (off - 0x30)) else None)
-named_rom card off from to = grind (arith, nat_tests)
-
-no_rom_window : (bytes : Bytes) (dev : ℕ) (rom : Option ℕ) → is_some rom ≡ false →
-    map decoded (rom_window_of bytes dev rom) ≡ []
-no_rom_window bytes dev None none = refl
-no_rom_window bytes dev (Some bits) none = absurd (cc)
-
 -- the expansion ROM where it is selected
 abbrev rom_part : Bytes → FittedCard → List Window
 rom_part bytes card = if is_rom_on bytes card.dev then rom_window bytes card else []
-
--- ---- cards of a list by their device numbers
 
 record IsFitted (setup : Setup) (card : FittedCard) : Type 0 where
   pub at : card_at setup card.dev ≡ Some card
@@ -69,33 +55,12 @@ module _ (setup : Setup) (bytes new : Bytes) (addr : ℕ)
   abbrev claims : Bytes → Window → Bool
   claims registers = λ window. is_enabled_for 1 registers window.dev && is_covered addr window
 
-  -- an address lies outside windows before and after
-  abbrev pub OutsideBoth : (Bytes → List Changed) → Type 0
-  OutsideBoth windows = Outside addr (windows bytes) × Outside addr (windows new)
-
-  abbrev pub BaseKept : ℕ → ℕ → Base → Type 0
-  BaseKept dev k base =
-      (base_value new dev k ≡ base_value bytes dev k)
-      ⊎ OutsideBoth (λ registers. held_by base (base_value registers dev k))
-
-  windows_at : (registers : Bytes) (card : FittedCard) (off : ℕ) (named : Option CardRegister) → IsFitted setup card →
-      in_card off card ≡ named → windows_of setup registers (card_register card.dev off)
-      ≡ name_windows setup registers (option_map (Card card.dev) named)
-  windows_at registers card off named is name =
-      windows_of_card setup registers (card_register card.dev off) (omega (arith, is.first)) (omega (arith, is.first))
-      refl
-      ∙ rw (is.at, name) refl
-
-  windows_named : (registers : Bytes) (card : FittedCard) (off : ℕ) (register : CardRegister) → IsFitted setup card →
-      in_card off card ≡ Some register →
-      windows_of setup registers (card_register card.dev off) ≡ card_windows registers register card
-  windows_named registers card off register is name = windows_at registers _ _ _ is name ∙ rw is.at refl
-
-  -- the four registers of the expansion ROM
-  rom_governed : (registers : Bytes) (card : FittedCard) (off : ℕ) → IsFitted setup card → 0x30 ≤ off → off ≤ 0x33 →
-      windows_of setup registers (card_register card.dev off) ≡ map decoded (rom_window registers card)
-  rom_governed registers card off is from to =
-      grind (arith, nat_tests, common_steps, cases_Bool, is_some, named_rom, windows_named, windows_at, no_rom_window)
+  -- the windows that a register of a fitted card governs, by its name
+  governed : (registers : Bytes) (card : FittedCard) (off : ℕ) (name : Option CardRegister) → IsFitted setup card →
+      in_card off card ≡ name → windows_of setup registers (card_register card.dev off)
+      ≡ option_map_or (λ register. card_windows registers register card) name []
+  unfolding map_register
+  governed registers card off name is named = grind (arith, nat_tests, is.at, is.first)
 
   base_governed : (registers : Bytes) (card : FittedCard) (k j : ℕ) (base : Base) → IsFitted setup card → j < 4 →
       k < 6 → slice_get card.bases k ≡ Some base →
@@ -104,7 +69,7 @@ module _ (setup : Setup) (bytes new : Bytes) (addr : ℕ)
   base_governed registers card k j base is few below at =
       let off : ℕ = 0x10 + 4 * k + j in
       let number : (off - 0x10) / 4 ≡ k = omega arith in
-      windows_named registers card off (BaseByte (off - 0x10)) is (grind (arith, nat_tests))
+      governed registers card off (Some (BaseByte (off - 0x10))) is (grind (arith, nat_tests))
       ∙ rw (number, one_held registers card.dev k k 0 card.bases (omega arith), at) refl
 
   -- four registers keep their bytes, or the address lies outside the windows that they govern
@@ -112,7 +77,7 @@ module _ (setup : Setup) (bytes new : Bytes) (addr : ℕ)
       ((registers : Bytes) (j : ℕ) → j < 4 →
       windows_of setup registers (card_register dev (first + j)) ≡ windows registers) →
       ((j : ℕ) → j < 4 → new (card_register dev (first + j)) ≡ bytes (card_register dev (first + j)))
-      ⊎ OutsideBoth windows
+      ⊎ (Outside addr (windows bytes) × Outside addr (windows new))
   four_kept dev first windows above govern =
       each_or (λ j. new (card_register dev (first + j)) ≡ bytes (card_register dev (first + j))) _ 4 (λ j few.
       elim (kept dev (first + j) above) [
@@ -120,44 +85,33 @@ module _ (setup : Setup) (bytes new : Bytes) (addr : ℕ)
         | inr out ↦ inr (rw (govern bytes j few) at out.0, rw (govern new j few) at out.1)
       ])
 
-  base_kept : (card : FittedCard) (k : ℕ) (base : Base) → IsFitted setup card → k < 6 →
-      slice_get card.bases k ≡ Some base → BaseKept card.dev k base
-  base_kept card k base is below at =
+  base_same : (card : FittedCard) (k : ℕ) (base : Base) → IsFitted setup card → k < 6 →
+      slice_get card.bases k ≡ Some base → is_enabled_for 1 new card.dev ≡ is_enabled_for 1 bytes card.dev →
+      find (claims new) (memory_window new card.dev k base) ≡ find (claims bytes) (memory_window bytes card.dev k base)
+  base_same card k (IoBase bits) is below at enabled = refl
+  base_same card k base is below at enabled =
       let first : 0x10 + 4 * k + 0 ≡ 0x10 + 4 * k = omega arith in
-      elim (four_kept card.dev (0x10 + 4 * k) (λ registers. held_by base (base_value registers card.dev k)) is.first
-      (λ registers j few. base_governed registers card k j base is few below at)) [
-        | inr out ↦ inr out
+      elim (four_kept card.dev (0x10 + 4 * k) (λ it. held_by base (base_value it card.dev k)) is.first
+      (λ it j few. base_governed it card k j base is few below at)) [
+        | inr out ↦
+            none_covered addr (memory_window new card.dev k base) (λ dev. is_enabled_for 1 new dev) out.1
+            ∙ sym (none_covered addr (memory_window bytes card.dev k base) (λ dev. is_enabled_for 1 bytes dev) out.0)
         | inl same ↦
             let b0 = rw first at (same 0 (lit< tt)) in
-            inl (rw (b0, same 1 (lit< tt), same 2 (lit< tt), same 3 (lit< tt)) refl)
+            rw (b0, same 1 (lit< tt), same 2 (lit< tt), same 3 (lit< tt), enabled) refl
       ]
 
-  base_same : (dev k : ℕ) (base : Base) → is_enabled_for 1 new dev ≡ is_enabled_for 1 bytes dev →
-      BaseKept dev k base →
-      find (claims new) (memory_window new dev k base) ≡ find (claims bytes) (memory_window bytes dev k base)
-  base_same dev k (IoBase bits) enabled here = refl
-  base_same dev k base enabled (inl same) = rw (same, enabled) refl
-  base_same dev k base enabled (inr out) =
-      none_covered addr (memory_window new dev k base) (λ dev. is_enabled_for 1 new dev) out.1
-      ∙ sym (none_covered addr (memory_window bytes dev k base) (λ dev. is_enabled_for 1 bytes dev) out.0)
-
-  bases_same : (dev first : ℕ) (bases : List Base) → is_enabled_for 1 new dev ≡ is_enabled_for 1 bytes dev →
-      ((j : ℕ) (base : Base) → slice_get bases j ≡ Some base → BaseKept dev (first + j) base) →
+  bases_same : (dev first : ℕ) (bases : List Base) →
+      ((j : ℕ) (base : Base) → slice_get bases j ≡ Some base →
+      find (claims new) (memory_window new dev (first + j) base)
+      ≡ find (claims bytes) (memory_window bytes dev (first + j) base)) →
       find (claims new) (from_base new dev first bases) ≡ find (claims bytes) (from_base bytes dev first bases)
-  bases_same dev first [] enabled each = refl
-  bases_same dev first (base ∷ later) enabled each =
+  bases_same dev first [] each = refl
+  bases_same dev first (base ∷ later) each =
       let here : first + 0 ≡ first = omega arith in
-      let rest = bases_same dev (first + 1) later enabled
+      let rest = bases_same dev (first + 1) later
       (λ j other at. let place : first + suc j ≡ first + 1 + j = omega arith in rw place at (each (suc j) other at)) in
-      simp find-append (rw (base_same dev first base enabled (rw here at (each 0 base refl)), rest) refl)
-
-  -- the registers of the expansion ROM are the same, or the address lies outside it
-  rom_kept : (card : FittedCard) → IsFitted setup card →
-      ((j : ℕ) → j < 4 → new (card_register card.dev (0x30 + j)) ≡ bytes (card_register card.dev (0x30 + j)))
-      ⊎ OutsideBoth (λ it. map decoded (rom_window it card))
-  rom_kept card is =
-      four_kept card.dev 0x30 (λ registers. map decoded (rom_window registers card)) is.first
-      (λ registers j few. rom_governed registers card (0x30 + j) is (omega arith) (omega arith))
+      simp find-append (rw (rw here at (each 0 base refl), rest) refl)
 
   -- an address outside the expansion ROM is not answered by it
   rom_outside : (registers : Bytes) (card : FittedCard) → Outside addr (map decoded (rom_window registers card)) →
@@ -166,41 +120,31 @@ module _ (setup : Setup) (bytes new : Bytes) (addr : ℕ)
       let none = none_covered addr (rom_window registers card) (λ dev. is_enabled_for 1 registers dev) out in
       grind (arith, nat_tests)
 
-  rom_alike : (dev : ℕ) (rom : Option ℕ) → is_enabled_for 1 new dev ≡ is_enabled_for 1 bytes dev →
-      find (claims new) (rom_window_of bytes dev rom) ≡ find (claims bytes) (rom_window_of bytes dev rom)
-  rom_alike dev None enabled = refl
-  rom_alike dev (Some bits) enabled = rw enabled refl
-
-  rom_windows : (dev : ℕ) (rom : Option ℕ) →
-      ((j : ℕ) → j < 4 → new (card_register dev (0x30 + j)) ≡ bytes (card_register dev (0x30 + j))) →
-      rom_window_of new dev rom ≡ rom_window_of bytes dev rom
-  rom_windows dev None same = refl
-  rom_windows dev (Some bits) same = rw (same 0 (lit< tt), same 1 (lit< tt), same 2 (lit< tt), same 3 (lit< tt)) refl
-
   rom_same : (card : FittedCard) → IsFitted setup card →
       is_enabled_for 1 new card.dev ≡ is_enabled_for 1 bytes card.dev →
       find (claims new) (rom_part new card) ≡ find (claims bytes) (rom_part bytes card)
   rom_same card is enabled =
-      grind (arith, nat_tests, common_steps, rom_kept, rom_outside, rom_windows, lit<, cases_Bool, is_rom_on, rom_alike)
+      elim (four_kept card.dev 0x30 (λ it. map decoded (rom_window it card)) is.first
+      (λ it j few. grind (arith, nat_tests, governed it card (0x30 + j) _ is refl))) [
+        | inr out ↦ rom_outside new card out.1 ∙ sym (rom_outside bytes card out.0)
+        | inl same ↦
+            grind (arith, nat_tests, same 0 (lit< tt), same 1 (lit< tt), same 2 (lit< tt), same 3 (lit< tt), enabled)
+      ]
 
   vga_same : (card : FittedCard) → is_enabled_for 1 new card.dev ≡ is_enabled_for 1 bytes card.dev →
       find (claims new) (vga_window card) ≡ find (claims bytes) (vga_window card)
-  vga_same card enabled = elim (cases_Bool card.vga) [ inr plain ↦ rw plain refl | inl vga ↦ rw (vga, enabled) refl ]
+  vga_same card enabled = grind (arith, nat_tests)
 
   -- the windows of a card of which its command is none
   command_outside : (registers : Bytes) (card : FittedCard) → IsFitted setup card →
       Outside addr (windows_of setup registers (card_register card.dev 0x04)) →
       find (claims registers) (memory_windows registers card) ≡ None
   command_outside registers card is out =
-      let counts : ℕ → Bool = λ dev. is_enabled_for 1 registers dev in
-      let bases : List Window = base_windows registers card in
-      let rom : List Window = rom_window registers card in
-      let all = rw (windows_named registers card 0x04 Command is refl) at out in
-      let parts = outside_decoded addr (bases ++ rom) (vga_window card) all in
-      let first = outside_decoded addr bases rom parts.0 in
-      let no_base = none_covered addr bases counts first.0 in
-      let no_vga = none_covered addr (vga_window card) counts parts.1 in
-      simp find-append (rw (no_base, rom_outside registers card first.1, no_vga) refl)
+      let all = base_windows registers card ++ rom_window registers card ++ vga_window card in
+      let none = none_covered addr all (λ dev. is_enabled_for 1 registers dev)
+      (rw (governed registers card 0x04 _ is refl) at out) in
+      let each = simp find-append at none in
+      simp find-append (grind (arith, nat_tests, each))
 
   card_same : (card : FittedCard) → IsFitted setup card →
       find (claims new) (memory_windows new card) ≡ find (claims bytes) (memory_windows bytes card)
@@ -209,10 +153,11 @@ module _ (setup : Setup) (bytes new : Bytes) (addr : ℕ)
         | inr out ↦ command_outside new card is out.1 ∙ sym (command_outside bytes card is out.0)
         | inl same ↦
             let enabled = ap (λ (command : ℕ). is_bit command 1) same in
-            let bases = bases_same card.dev 0 card.bases enabled
+            let bases = bases_same card.dev 0 card.bases
             (λ j base at.
             let place : j ≡ 0 + j = omega arith in
-            rw place at (base_kept card j base is (omega (arith, slice_get_within card.bases j base at, is.few)) at)) in
+            rw place at (base_same card j base is (omega (arith, slice_get_within card.bases j base at, is.few)) at
+            enabled)) in
             simp find-append (rw (bases, rom_same card is enabled, vga_same card enabled) refl)
       ]
 

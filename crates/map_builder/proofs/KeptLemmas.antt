@@ -1,48 +1,35 @@
 -- The areas of an address are the same before and after a change that moves nothing round it.
 use Rattle.board_prelude.proofs.Common.{common_steps, cases_Bool, ne_eqb, nat_tests, Kind, Reg, Setup, IsCardList}
-use Rattle.board_prelude.proofs.Common.{is_within, Bytes, top_of, row_of, is_in, hole_of, is_high_window, nibble}
-use Rattle.board_prelude.proofs.Common.{is_open, is_shadow_range, is_shadowed, is_smram_range, is_rom_selected}
-use Rattle.board_prelude.proofs.Common.{pam_register, area_of, bridge, isa, card_register, six_areas, each_below}
-use Rattle.board_prelude.proofs.Common.{recursion_from_All, Width, bytes_of, MapChange, Store, Reset, byte, host_bridge}
-use Rattle.board_prelude.proofs.Common.{reset_byte, writable_bits, covers, byte_after, reg_after, address_count}
-use Rattle.board_prelude.proofs.Common.{merged-all, One, FittedCard}
+use Rattle.board_prelude.proofs.Common.{is_within, Bytes, top_of, row_of, is_in, hole_of, is_shadow_range, is_shadowed}
+use Rattle.board_prelude.proofs.Common.{is_smram_range, is_rom_selected, pam_register, area_of, bridge, isa}
+use Rattle.board_prelude.proofs.Common.{card_register, six_areas, each_below, recursion_from_All, Width, bytes_of}
+use Rattle.board_prelude.proofs.Common.{MapChange, Store, Reset, byte, host_bridge, reset_byte, writable_bits, covers}
+use Rattle.board_prelude.proofs.Common.{reg_after, address_count, merged-all, One, FittedCard}
 use Rattle.std.proofs.Common.{◌≡◌, ℕ, ◌+◌, ◌-◌, ◌/◌, ◌<◌, ◌≤◌, ◌⊎◌, inl, inr, Bool, true, false, [], ◌∷◌, None, refl}
-use Rattle.std.proofs.Common.{sym, ◌∙◌, ap, arith, ◌==◌, ◌&&◌, nat_le, nat_lt, if◌then◌else◌, find, List, zero, suc}
-use Rattle.std.proofs.Common.{map, slice_index, rules, length, get_or, take, flat_map, Option, IfSome, subst}
+use Rattle.std.proofs.Common.{sym, ◌∙◌, arith, ◌==◌, ◌&&◌, nat_le, nat_lt, if◌then◌else◌, find, List, zero, suc, map}
+use Rattle.std.proofs.Common.{slice_index, rules, length, get_or, take, flat_map, Option, IfSome}
 use Rattle.addr_decode.specs.MapRegister.{map_register, names_of}
-use Rattle.map_builder.specs.Changed.{from_to, pam_windows, windows_of}
+use Rattle.map_builder.specs.Changed.{from_to, windows_of}
 use Rattle.map_builder.proofs.BoundsLemmas.{Outside, outside_bounds, outside_parts}
 use Rattle.map_builder.proofs.KeptCards.{Kept, claim_same, each_or}
 use Rattle.map_builder.specs.Common.{is_below, Changed, windows_covered, after, changed_windows, WindowsHoldChanges}
 use Rattle.map_builder.specs.Common.{BoundsHoldChanges, IsHeldAt}
-use Rattle.addr_decode.proofs.NameLemmas.{offsets, covered_offset}
+use Rattle.addr_decode.proofs.NameLemmas.{offsets}
 use Rattle.addr_decode.proofs.StoreLemmas.{same_register}
 use Rattle.addr_decode.specs.declared.register.MapRegister.{MapRegister}
 
 -- ---- the windows of PAM
 
-pam_offset : ℕ → ℕ
-pam_offset addr = if nat_le 0xF_0000 addr then 0x59 else 0x5A + (addr - 0xC_0000) / 0x8000
-
-pam_is : (addr : ℕ) → bridge (pam_offset addr) ≡ pam_register addr
-unfolding pam_offset
-pam_is addr = elim (cases_Bool (nat_le 0xF_0000 addr)) [ inl high ↦ rw high refl | inr low ↦ rw low refl ]
-
-pam_window : (setup : Setup) (bytes : Bytes) (off : ℕ) → 0x59 ≤ off → off ≤ 0x5F →
-    windows_of setup bytes (bridge off) ≡ pam_windows (off - 0x59) ∷ []
-unfolding map_register
-pam_window setup bytes off from to = let within : is_within 0x59 0x5F off ≡ true = grind (arith, nat_tests) in
-    rw within refl
-
-pam_window_low : (number addr : ℕ) → number ≡ 1 + (addr - 0xC_0000) / 0x8000 → 0xC_0000 ≤ addr → addr < 0xF_0000 →
-    Outside addr (pam_windows number ∷ []) → ⊥
-pam_window_low number addr is above below out = grind (arith, nat_tests)
-
 in_pam_window : (setup : Setup) (bytes : Bytes) (addr : ℕ) → is_shadow_range addr ≡ true →
-    Outside addr (windows_of setup bytes (bridge (pam_offset addr))) → ⊥
-unfolding pam_offset
+    Outside addr (windows_of setup bytes (pam_register addr)) → ⊥
+unfolding map_register
 in_pam_window setup bytes addr shadow out =
-    grind (arith, nat_tests, common_steps, cases_Bool, nat_le, pam_window, pam_window_low)
+    elim (cases_Bool (nat_le 0xF_0000 addr)) [
+      | inl high ↦ let here = rw high at out in grind (arith, nat_tests)
+      | inr low ↦
+          let within : is_within 0x59 0x5F (0x5A + (addr - 0xC_0000) / 0x8000) ≡ true = grind (arith, nat_tests) in
+          let here = rw (low, within) at out in grind (arith, nat_tests)
+    ]
 
 -- ---- rows of DRAM
 
@@ -91,8 +78,7 @@ is_boundary reg = reg.dev == 0 && is_within 0x60 0x67 reg.off
 not_of_card : (dev off : ℕ) → 2 ≤ dev → is_boundary (card_register dev off) ≡ false
 not_of_card dev off above = let not : (dev == 0) ≡ false = ne_eqb dev 0 (omega arith) in rw not refl
 
-not_of_pam : (addr : ℕ) → is_shadow_range addr ≡ true → is_boundary (bridge (pam_offset addr)) ≡ false
-unfolding pam_offset
+not_of_pam : (addr : ℕ) → is_shadow_range addr ≡ true → is_boundary (pam_register addr) ≡ false
 not_of_pam addr shadow = grind (arith, nat_tests)
 
 -- where the row of an address stays, and every other register is kept
@@ -113,16 +99,8 @@ module _ (setup : Setup) (bytes new : Bytes) (addr : ℕ) (kept : (reg : Reg) �
 
   shadow_same : (kind : Kind) → is_shadowed new addr kind ≡ is_shadowed bytes addr kind
   shadow_same kind =
-      elim (cases_Bool (is_shadow_range addr)) [
-        | inr beside ↦ rw beside refl
-        | inl within ↦
-            elim (kept (bridge (pam_offset addr)) (not_of_pam addr within)) [
-              | inl same ↦
-                  let here = rw (pam_is addr) at same in
-                  rw within (ap (λ pam. is_open (nibble pam (is_high_window addr)) kind) here)
-              | inr out ↦ absurd (in_pam_window setup bytes addr within out.0)
-            ]
-      ]
+      let at = kept (pam_register addr) in
+      grind (arith, nat_tests, cases_Bool (is_shadow_range addr), at, not_of_pam addr, in_pam_window setup bytes addr)
 
   module _ (list : IsCardList setup.cards) where
     area_same : (kind : Kind) (smm : Bool) → area_of setup new addr kind smm ≡ area_of setup bytes addr kind smm
@@ -130,28 +108,16 @@ module _ (setup : Setup) (bytes new : Bytes) (addr : ℕ) (kept : (reg : Reg) �
     area_same kind smm =
         let claim = claim_same setup bytes new addr
         (λ dev off first. kept (card_register dev off) (not_of_card dev off first)) list in
-        elim smram_same [
-          | inl same ↦ rw (row_same, same, shadow_same kind, hole_same, rom_same, claim) refl
-          | inr beside ↦ rw (row_same, beside, shadow_same kind, hole_same, rom_same, claim) refl
-        ]
+        grind (arith, nat_tests, smram_same, row_same, shadow_same kind, hole_same, rom_same, claim)
 
     pub areas_same : six_areas setup new addr ≡ six_areas setup bytes addr
     areas_same = grind (arith, nat_tests, common_steps, area_same)
 
 -- ---- the registers that a store covers
 
-outside_at : (addr : ℕ) (windows : ℕ → List Changed) (xs : List ℕ) (k : ℕ) → k < length xs →
-    Outside addr (flat_map windows xs) → Outside addr (windows (get_or xs k 0))
-outside_at addr windows [] k within out = absurd (omega arith)
-outside_at addr windows (x ∷ xs) zero within out = (outside_parts addr (windows x) (flat_map windows xs) out).0
-outside_at addr windows (x ∷ xs) (suc k) within out =
-    outside_at addr windows xs k (omega arith) (outside_parts addr (windows x) (flat_map windows xs) out).1
-
 outside_of : (addr : ℕ) (windows : ℕ → List Changed) (width : Width) (k : ℕ) → k < bytes_of width →
     Outside addr (flat_map windows (take (bytes_of width) offsets)) → Outside addr (windows k)
-outside_of addr windows width k below out =
-    let place = covered_offset width k below in
-    rw place.1 at (outside_at addr windows (take (bytes_of width) offsets) k place.0 out)
+outside_of addr windows width k below out = grind (arith, nat_tests, outside_parts addr)
 
 -- a store that covers a register covers it at one of its bytes
 pub covered_at : (at : Reg) (width : Width) (reg : Reg) → covers at width reg ≡ true →
@@ -167,36 +133,21 @@ store_keeps : (setup : Setup) (bytes : Bytes) (at : Reg) (width : Width) (value 
     Kept setup bytes (after setup (Store at width value) bytes) addr reg
 unfolding windows_covered
 store_keeps setup bytes at width value addr out reg =
-    elim (cases_Bool (covers at width reg)) [
-      | inr beside ↦ inl (rw beside refl)
-      | inl over ↦
-          let is = covered_at at width reg over in
-          let change : MapChange = Store at width value in
-          let new : Bytes = after setup change bytes in
-          let parts = outside_parts addr (windows_covered setup bytes change) (windows_covered setup new change) out in
-          inr (
-            rw is.2 at (outside_of addr (λ k. windows_of setup bytes (reg_after at k)) width is.0 is.1 parts.0),
-            rw is.2 at (outside_of addr (λ k. windows_of setup new (reg_after at k)) width is.0 is.1 parts.1),
-          )
-    ]
+    let new : Bytes = after setup (Store at width value) bytes in
+    let parts = outside_parts addr (windows_covered setup bytes (Store at width value)) _ out in
+    let covered = covered_at at width reg in
+    let old = outside_of addr (λ k. windows_of setup bytes (reg_after at k)) width in
+    let later = outside_of addr (λ k. windows_of setup new (reg_after at k)) width in
+    grind (arith, nat_tests, cases_Bool (covers at width reg), covered, parts.0, parts.1, old, later)
 
 -- ---- the top of DRAM
 
--- a stored byte is a byte
-last_row_after : (setup : Setup) (old written : ℕ) → written < 256 →
-    byte_after setup (bridge 0x67) old written ≡ written
-unfolding writable_bits host_bridge
-last_row_after setup old written below = merged-all old written below
-
-last_row_at_reset : (setup : Setup) → reset_byte setup (bridge 0x67) ≡ 1
-unfolding reset_byte host_bridge
-last_row_at_reset setup = refl
-
 pub top_after : (setup : Setup) (bytes : Bytes) (change : MapChange) → top_of bytes ≤ 0x7F80_0000 →
     top_of (after setup change bytes) ≤ 0x7F80_0000
-top_after setup bytes Reset top = rw (last_row_at_reset setup) (omega arith)
+unfolding writable_bits host_bridge reset_byte
+top_after setup bytes Reset top = omega arith
 top_after setup bytes (Store at width value) top =
-    grind (arith, nat_tests, common_steps, cases_Bool, covers, bridge, last_row_after, byte)
+    grind (arith, nat_tests, common_steps, cases_Bool, covers, bridge, merged-all, byte)
 
 -- outside all changed windows nothing changes
 pub changes_keep : (setup : Setup) (bytes : Bytes) (change : MapChange) (addr : ℕ) → IsCardList setup.cards →
@@ -223,20 +174,8 @@ bounds_hold_changes setup bytes change addr list top address out =
 pub same_bytes : (setup : Setup) (bytes : Bytes) (change : MapChange) (held : ℕ) → IsHeldAt change bytes held →
     IsHeldAt change (after setup change bytes) held → (reg : Reg) → after setup change bytes reg ≡ bytes reg
 same_bytes setup bytes (Store at One value) held before later reg =
-    elim (cases_Bool (covers at One reg)) [
-      | inr beside ↦ rw beside refl
-      | inl over ↦
-          let same = same_register at reg (grind (arith, nat_tests)) (grind (arith, nat_tests))
-          (grind (arith, nat_tests)) in
-          subst (λ (other : Reg). after setup (Store at One value) bytes other ≡ bytes other) same (sym later ∙ before)
-    ]
+    grind (arith, nat_tests, cases_Bool (covers at One reg), same_register at reg)
 same_bytes setup bytes _ held before later reg = absurd before
-
-pub unchanged_keep : (setup : Setup) (bytes : Bytes) (change : MapChange) (addr held : ℕ) → IsCardList setup.cards →
-    IsHeldAt change bytes held → IsHeldAt change (after setup change bytes) held →
-    six_areas setup (after setup change bytes) addr ≡ six_areas setup bytes addr
-unchanged_keep setup bytes change addr held list before later =
-    grind (arith, nat_tests, common_steps, same_bytes, areas_same, row_stays, bridge)
 
 -- the byte of the one register that a change names is the byte that it stores to
 pub held_alone : (bytes : Bytes) (change : MapChange) (cards : List FittedCard) (names : List (Option MapRegister))

@@ -1,6 +1,6 @@
 -- What stays of a map that differs in some windows alone: the ranges below them, between them and above them.
-use Rattle.board_prelude.proofs.Common.{nat_tests, get_or-map, length-map, length-drop, drop_more, drop_all, append-nil}
-use Rattle.board_prelude.proofs.Common.{map-append, take_all, take_more, cases_lt}
+use Rattle.board_prelude.proofs.Common.{nat_tests, common_steps, get_or-map, length-map, length-drop, drop_more}
+use Rattle.board_prelude.proofs.Common.{drop_all, append-nil, map-append, take_all, take_more, cases_lt}
 use Rattle.board_spec.specs.Common.{Area, Setup, Bytes, address_count, MapRange, NeighboursDiffer, IsFlatMapOf, Tiles}
 use Rattle.std.proofs.Common.{◌≡◌, ◌≢◌, ℕ, zero, suc, ◌+◌, ◌-◌, ◌<◌, ◌≤◌, inl, inr, List, [], ◌∷◌, ◌++◌, length, map}
 use Rattle.std.proofs.Common.{take, drop, get_or, refl, sym, ap, subst, arith, ◌∙◌, append_assoc}
@@ -94,13 +94,9 @@ module _ {regs : MapBytes} (after until : ℕ) (address : until < address_count)
       (inr ((λ alike. differ_at old k agrees.least holds.within (alike ∙ same)), rw end refl, refl)) built
 
   -- each later range ends later
-  ends_after : (k c : ℕ) → k + c < length old → after ≤ (range_at old k).hi → after ≤ (range_at old (k + c)).hi
-  ends_after k zero within from = let place : k + 0 ≡ k = omega arith in rw place from
-  ends_after k (suc c) within from =
-      let place : k + suc c ≡ k + c + 1 = omega arith in
-      let next = is.next (k + c) (omega arith) in
-      let whole = is.whole (k + c + 1) (omega arith) in
-      rw place (omega (arith, ends_after k c (omega arith) from))
+  ends_after : (c k n : ℕ) → k + c ≡ n → n < length old → (range_at old k).hi ≤ (range_at old n).hi
+  ends_after zero k n at within = let same : k ≡ n = omega arith in rw same (omega arith)
+  ends_after (suc c) k n at within = grind (arith, nat_tests, is.whole, is.next, ends_after c (k + 1) n)
 
   -- and so do some ranges and one more
   pub copied : (k : ℕ) {ranges : List MapRange} {last : MapRange} (c hi : ℕ) → Holds old (k + c + 1) hi → hi ≤ until →
@@ -116,13 +112,12 @@ module _ {regs : MapBytes} (after until : ℕ) (address : until < address_count)
       let there = rw place at holds in
       let next = is.next (k + c + 1) there.within in
       let whole = is.whole (k + c + 1) (omega arith) in
-      let later : k + (c + 1) ≡ k + c + 1 = omega arith in
-      let after_this = rw later at (ends_after k (c + 1) (omega arith) from) in
+      let later = ends_after (c + 1) k (k + c + 1) (omega arith) (omega arith) in
       let front : List MapRange = ranges ++ range last.lo (range_at old k).hi last.areas ∷ [] in
       let inner = copied k c (range_at old (k + c + 1)).hi (omega arith) (omega arith) from same built in
       let swapped : k + 1 + c ≡ k + c + 1 = omega arith in
       rw (place, taken_more old (k + 1) c (omega arith), swapped, ← append_assoc front _ _)
-      (next_kept (k + c + 1) there within after_this refl inner)
+      (next_kept (k + c + 1) there within (omega arith) refl inner)
 
 -- ---- below the first window
 
@@ -251,6 +246,8 @@ pub sweep_end : {regs : MapBytes} {ranges before : List MapRange} {last : MapRan
     IsMapWhere regs (IsBetween hi 0xFFFF_FFFF) before
 sweep_end windows k past sweep =
     let none = rw (drop_all k windows past) at sweep in fewer_where (λ addr between. (between.0, tt)) none.left
+
+pub ruleset sweep_steps = (nat_tests, common_steps, order_at, above)
 
 -- the rows of the windows from one on
 pub rows_at : (edges_above : ℕ → ℕ) (windows : List Changed) (k : ℕ) → k < length windows →

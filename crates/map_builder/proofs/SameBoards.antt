@@ -1,9 +1,9 @@
 -- Boards that have the same registers have the same areas at each address.
 use Rattle.std.proofs.Common.{◌≡◌, ℕ, ◌+◌, ◌*◌, ◌/◌, ◌%◌, ◌<◌, ◌≤◌, Bool, false, true, Option, Some, None, refl, sym}
 use Rattle.std.proofs.Common.{◌∙◌, arith, ◌==◌, is_some, find, lit<}
-use Rattle.board_prelude.proofs.Common.{common_steps, false≢true, nat_tests, ne_eqb, Kind, Fetch, Read, Write, Reg}
-use Rattle.board_prelude.proofs.Common.{Setup, IsCardList, Bytes, memory_claim, area_of, card_register, six_areas}
-use Rattle.board_prelude.proofs.Common.{touches_map, MapChange, untouched, SameMapBytes, map_bytes_decide, is_map_byte}
+use Rattle.board_prelude.proofs.Common.{common_steps, false≢true, nat_tests, ne_eqb, Kind, Reg, Setup, IsCardList}
+use Rattle.board_prelude.proofs.Common.{Bytes, memory_claim, area_of, card_register, six_areas, touches_map, MapChange}
+use Rattle.board_prelude.proofs.Common.{untouched, SameMapBytes, map_bytes_decide, is_map_byte}
 use Rattle.map_builder.specs.Changed.{after}
 use Rattle.pci_bars.specs.Cards.{CardBytes, HoldsRom, DecodesAs}
 use Rattle.pci_bars.proofs.CardListLemmas.{found, card_is}
@@ -15,12 +15,6 @@ use Rattle.addr_decode.specs.MapRegister.{place_of, offset_of, IsNumbered, IsCar
 use Rattle.addr_decode.specs.MapRegs.{MapBytes, StandsFor}
 use Rattle.addr_decode.proofs.CardLemmas.{no_low_fitted}
 use Rattle.addr_decode.proofs.NameLemmas.{is_name, named}
-
-six_same : (setup setup' : Setup) (bytes bytes' : Bytes) (addr : ℕ) →
-    ((kind : Kind) (smm : Bool) → area_of setup bytes addr kind smm ≡ area_of setup' bytes' addr kind smm) →
-    six_areas setup bytes addr ≡ six_areas setup' bytes' addr
-six_same setup setup' bytes bytes' addr same =
-    rw (same Fetch false, same Read false, same Write false, same Fetch true, same Read true, same Write true) refl
 
 module _ {regs : MapBytes} {setup setup' : Setup} {bytes bytes' : Bytes} (stands : StandsFor setup bytes regs)
     (stands' : StandsFor setup' bytes' regs) where
@@ -89,11 +83,11 @@ module _ {regs : MapBytes} {setup setup' : Setup} {bytes bytes' : Bytes} (stands
         ∙ rw (stands.cards.0 ∙ sym stands'.cards.0) refl
 
     pub boards_same : six_areas setup bytes addr ≡ six_areas setup' bytes' addr
-    boards_same = six_same setup setup' bytes bytes' addr area_same
+    boards_same = grind (arith, nat_tests, common_steps, area_same)
 
 -- a change that covers no byte on which the map depends keeps every area
 pub untouched_areas : (setup : Setup) (bytes : Bytes) (change : MapChange) → IsCardList setup.cards →
     touches_map setup change ≡ false →
     (addr : ℕ) → six_areas setup (after setup change bytes) addr ≡ six_areas setup bytes addr
 untouched_areas setup bytes change list not addr =
-    grind (arith, nat_tests, common_steps, six_same, map_bytes_decide, untouched)
+    grind (arith, nat_tests, common_steps, map_bytes_decide, untouched)

@@ -2,13 +2,13 @@
 use Rattle.board_prelude.proofs.Common.{common_steps, AllByRecursion, list_any, cases_Bool, cases_lt, false≢true}
 use Rattle.board_prelude.proofs.Common.{nat_tests, Setup, Bytes, each_below}
 use Rattle.std.proofs.Common.{◌≡◌, ℕ, ◌+◌, ◌<◌, ◌≤◌, inl, inr, Bool, true, false, List, [], ◌∷◌, ◌++◌, length, refl}
-use Rattle.std.proofs.Common.{arith, nat_lt, min, max, filter, rules}
+use Rattle.std.proofs.Common.{arith, nat_lt, min, max, filter, rules, Some}
 use Rattle.addr_decode.specs.Edges.{edges_of, edges_after}
 use Rattle.addr_decode.specs.Common.{single_count, map_register, fixed_edges}
-use Rattle.map_builder.specs.Common.{Changed, both, is_above_first, is_inside, edges_inside, is_window, count_of}
-use Rattle.map_builder.specs.Common.{IsOutside, with_window, sorted, AreAbove, Rise, rows_in, windows_covered}
-use Rattle.map_builder.specs.Common.{RowsAreFew}
-use Rattle.map_builder.specs.Changed.{single_windows}
+use Rattle.map_builder.specs.Common.{Changed, both, is_inside, edges_inside, is_window, count_of, IsOutside, bounds}
+use Rattle.map_builder.specs.Common.{with_window, sorted, AreAbove, Rise, rows_in, windows_covered, RowsAreFew}
+use Rattle.addr_decode.proofs.Common.{no_more}
+use Rattle.map_builder.specs.Changed.{joined, single_windows}
 use Rattle.map_builder.proofs.BoundsLemmas.{Outside, Misses, misses_both, Ordered}
 use Rattle.board_spec.specs.RegisterTable.{reset_byte, host_bridge}
 
@@ -34,10 +34,7 @@ module _ (P : Changed → Type 0) (joins : Joins P) where
   unfolding with_window
   each_with window [] here each = (here, tt)
   each_with window (other ∷ later) here each =
-      with_step (AllByRecursion P) window other later
-      (λ behind. (each.0, each_with window later here each.1))
-      (λ before. (here, each_with other later each.0 each.1))
-      (λ low high. each_with (both other window) later (joins other window low high each.0 here) each.1)
+      let rest = λ (it : Changed). each_with it later in grind (arith, nat_tests, each.0, each.1, joins, rest)
 
   each_sorted : (windows : List Changed) → AllByRecursion P windows → AllByRecursion P (sorted windows)
   unfolding sorted
@@ -57,12 +54,9 @@ rise_with : (window : Changed) (windows : List Changed) → window.lo ≤ window
 unfolding with_window
 rise_with window [] order rise = (order, tt, tt)
 rise_with window (other ∷ later) order rise =
-    with_step Rise window other later
-    (λ behind. (rise.0, above_with other.hi window later behind rise.1, rise_with window later order rise.2))
-    (λ before.
-    let lower = above_lower window.hi other.hi later (omega (arith, rise.0)) rise.1 in
-    (order, above_with window.hi other later before lower, rise_with other later rise.0 rise.2))
-    (λ low high. rise_with (both other window) later (omega (arith, rise.0)) rise.2)
+    let rest = λ (it : Changed). rise_with it later in
+    let above = λ (addr : ℕ) (it : Changed). above_with addr it later in
+    grind (arith, nat_tests, rise.0, rise.1, rise.2, above, above_lower window.hi other.hi later, rest)
 
 pub rise_sorted : (windows : List Changed) → Ordered windows → Rise (sorted windows)
 unfolding sorted
@@ -72,6 +66,19 @@ rise_sorted (window ∷ later) ordered = rise_with window (sorted later) ordered
 -- an address beside windows is beside them when they are sorted
 pub beside_sorted : (addr : ℕ) (windows : List Changed) → Outside addr windows → Outside addr (sorted windows)
 beside_sorted addr = each_sorted (IsOutside addr) (λ other window low high one two. grind (arith, nat_tests))
+
+-- they have the same bounds
+bounds_with : (window : Changed) (windows : List Changed) →
+    bounds (with_window window windows) ≡ Some (joined window (bounds windows))
+unfolding with_window bounds
+bounds_with window [] = refl
+bounds_with window (other ∷ later) =
+    grind (arith, nat_tests, bounds_with window later, bounds_with other later, bounds_with (both other window) later)
+
+pub bounds_sorted : (windows : List Changed) → bounds (sorted windows) ≡ bounds windows
+unfolding sorted bounds
+bounds_sorted [] = refl
+bounds_sorted (window ∷ later) = rw (bounds_with window (sorted later), bounds_sorted later) refl
 
 -- where the interval of two has it, both have
 abbrev Parts : (Changed → Type 0) → Type 0
@@ -83,13 +90,7 @@ module _ (P : Changed → Type 0) (parts : Parts P) where
   unfolding with_window
   parts_with window [] each = each
   parts_with window (other ∷ later) each =
-      with_step (λ made. AllByRecursion P made → P window × (P other × AllByRecursion P later)) window other later
-      (λ behind made. let rest = parts_with window later made.1 in (rest.0, (made.0, rest.1)))
-      (λ before made. (made.0, parts_with other later made.1))
-      (λ low high made.
-      let rest = parts_with (both other window) later made in
-      let two = parts other window rest.0 in
-      (two.1, (two.0, rest.1))) each
+      let rest = λ (it : Changed). parts_with it later in grind (arith, nat_tests, parts other window, rest)
 
   parts_sorted : (windows : List Changed) → AllByRecursion P (sorted windows) → AllByRecursion P windows
   unfolding sorted
@@ -100,24 +101,19 @@ module _ (P : Changed → Type 0) (parts : Parts P) where
 pub outside_sorted : (addr : ℕ) (windows : List Changed) → Outside addr (sorted windows) → Outside addr windows
 outside_sorted addr = parts_sorted (IsOutside addr) (λ other window. misses_both other window)
 
--- an address is inside none, or at the first address of one
-abbrev IsNotIn : ℕ → Changed → Type 0
-IsNotIn addr window = is_above_first addr window ≡ false
+inside_with : (addr : ℕ) (window : Changed) (windows : List Changed) → is_inside (window ∷ windows) addr ≡ false →
+    is_inside (with_window window windows) addr ≡ false
+unfolding with_window
+inside_with addr window [] none = none
+inside_with addr window (other ∷ later) none =
+    let rest = λ (it : Changed). inside_with addr it later in grind (arith, nat_tests, rest)
 
-not_inside : (addr : ℕ) (windows : List Changed) → AllByRecursion (IsNotIn addr) windows →
-    is_inside windows addr ≡ false
-not_inside addr [] each = refl
-not_inside addr (window ∷ later) each = rw each.0 (not_inside addr later each.1)
-
-each_not_in : (addr : ℕ) (windows : List Changed) → is_inside windows addr ≡ false →
-    AllByRecursion (IsNotIn addr) windows
-each_not_in addr [] none = tt
-each_not_in addr (window ∷ later) none =
-    let here : is_above_first addr window ≡ false = grind (arith, nat_tests) in
-    (here, each_not_in addr later (rw here at none))
-
-not_in_both : (addr : ℕ) → Joins (IsNotIn addr)
-not_in_both addr other window low high one two = grind (arith, nat_tests)
+inside_sorted : (addr : ℕ) (windows : List Changed) → is_inside windows addr ≡ false →
+    is_inside (sorted windows) addr ≡ false
+unfolding sorted
+inside_sorted addr [] none = refl
+inside_sorted addr (window ∷ later) none =
+    inside_with addr window (sorted later) (grind (arith, nat_tests, inside_sorted addr later))
 
 -- ---- how many they are
 
@@ -125,10 +121,7 @@ length_with : (window : Changed) (windows : List Changed) → length (with_windo
 unfolding with_window
 length_with window [] = omega arith
 length_with window (other ∷ later) =
-    with_step (λ made. length made ≤ length (other ∷ later) + 1) window other later
-    (λ behind. omega (arith, length_with window later))
-    (λ before. omega (arith, length_with other later))
-    (λ low high. omega (arith, length_with (both other window) later))
+    grind (arith, nat_tests, length_with window later, length_with other later, length_with (both other window) later)
 
 -- a window lies in one of some windows, which do not all miss its first or its last address
 abbrev Covers : Changed → List Changed → Type 0
@@ -170,16 +163,10 @@ with_covered window (other ∷ later) order rise covers =
     with_step (λ made. made ≡ other ∷ later) window other later
     (λ behind. rw (with_covered window later order rise.2 (λ each. covers (inr (omega arith), each))) refl)
     (λ before. absurd (omega (arith, rise.0, missed (inl (omega (arith, rise.0))))))
-    (λ start end. elim (cases_lt window.lo other.lo) [
-      | inl below ↦ absurd (omega (arith, missed (inl below)))
-      | inr from ↦ elim (cases_lt other.hi window.hi) [
-        | inl above ↦ absurd (omega (arith, missed (inr above)))
-        | inr to ↦
-            let low : min other.lo window.lo ≡ other.lo = omega arith in
-            let high : max other.hi window.hi ≡ other.hi = omega arith in
-            rw (low, high) (with_first other later rise.0 rise.1 rise.2)
-      ]
-    ])
+    (λ start end.
+    let low : min other.lo window.lo ≡ other.lo = grind (arith, missed) in
+    let high : max other.hi window.hi ≡ other.hi = grind (arith, missed) in
+    rw (low, high) (with_first other later rise.0 rise.1 rise.2))
 
 -- one that is there again adds none
 length_sorted : (windows : List Changed) → Ordered windows → length (sorted windows) ≤ count_of windows
@@ -213,32 +200,26 @@ pub filter_more : (p q : ℕ → Bool) (xs : List ℕ) → ((x : ℕ) → q x �
 filter_more p q [] more = omega arith
 filter_more p q (x ∷ xs) more = grind (arith, nat_tests, filter_more p q xs more, more x)
 
--- the edges above the first address of a window lie in it or above it
-pub one_window : (window : Changed) (edges : List ℕ) →
-    length (filter (nat_lt window.lo) edges) ≤ length (filter (λ edge. is_above_first edge window) edges)
-    + length (filter (nat_lt window.hi) edges)
-one_window window [] = omega arith
-one_window window (edge ∷ later) = grind (arith, nat_tests, one_window window later)
-
 none_inside : (addr edge : ℕ) (windows : List Changed) → edge ≤ addr → AreAbove addr windows →
     is_inside windows edge ≡ false
 none_inside addr edge [] low above = refl
 none_inside addr edge (window ∷ later) low above =
     grind (arith, nat_tests, none_inside addr edge later low above.1, above.0)
 
-two_counts : (window : Changed) (windows : List Changed) (edges : List ℕ) → AreAbove window.hi windows →
-    length (filter (λ edge. is_above_first edge window) edges) + length (filter (is_inside windows) edges)
-    ≤ length (filter (is_inside (window ∷ windows)) edges)
-two_counts window windows [] above = omega arith
-two_counts window windows (edge ∷ later) above =
-    grind (arith, nat_tests, two_counts window windows later above, none_inside window.hi edge windows)
+-- the edges above the first address of a window lie in it or above it
+edges_left : (window : Changed) (windows : List Changed) (edges : List ℕ) → AreAbove window.hi windows →
+    length (filter (nat_lt window.lo) edges) + length (filter (is_inside windows) edges)
+    ≤ length (filter (is_inside (window ∷ windows)) edges) + length (filter (nat_lt window.hi) edges)
+edges_left window windows [] above = omega arith
+edges_left window windows (edge ∷ later) above =
+    grind (arith, nat_tests, edges_left window windows later above, none_inside window.hi edge windows)
 
-rows_rise : (windows : List Changed) (edges : List ℕ) → Rise windows →
+pub rows_rise : (windows : List Changed) (edges : List ℕ) → Rise windows →
     rows_in (λ addr. length (filter (nat_lt addr) edges)) windows
     ≤ length windows + length (filter (is_inside windows) edges)
 rows_rise [] edges rise = omega arith
 rows_rise (window ∷ later) edges rise =
-    omega (arith, rows_rise later edges rise.2, one_window window edges, two_counts window later edges rise.1)
+    omega (arith, rows_rise later edges rise.2, edges_left window later edges rise.1, no_more _ _ edges rise.0)
 
 -- no more than for each different window, and for each edge inside
 pub rows_few : (setup : Setup) (bytes : Bytes) (windows : List Changed) → Ordered windows →
@@ -246,7 +227,7 @@ pub rows_few : (setup : Setup) (bytes : Bytes) (windows : List Changed) → Orde
 rows_few setup bytes windows ordered =
     let rows = rows_rise (sorted windows) (edges_of setup bytes) (rise_sorted windows ordered) in
     let fewer = filter_more (is_inside (sorted windows)) (is_inside windows) (edges_of setup bytes)
-    (λ addr none. grind (arith, nat_tests, common_steps, not_inside, each_sorted, not_in_both, each_not_in)) in
+    (λ addr. inside_sorted addr windows) in
     omega (arith, length_sorted windows ordered)
 
 -- ---- those that rise already

@@ -1,6 +1,6 @@
 -- The state of a map is spelled and read back, and gives the map with its ranges.
 use Rattle.std.proofs.Common.{◌≡◌, ℕ, ◌+◌, List, [], ◌∷◌, length, Result, Ok, Err, IfOk, refl, ap, subst, ◌∙◌, arith}
-use Rattle.std.proofs.Common.{flat_map}
+use Rattle.std.proofs.Common.{flat_map, ◌↔◌}
 use Rattle.std.proofs.lemmas.List.Elements.{All-from_recursion}
 use Rattle.board_prelude.proofs.Common.{AllByRecursion, recursion_from_All, FittedCard, MapRange, OneFlatMap}
 use Rattle.byte_fields.specs.declared.fault.Bad.{Bad}
@@ -11,7 +11,7 @@ use Rattle.byte_fields.proofs.Formats.{last_field}
 use Rattle.byte_fields.proofs.Loaded.{one_spelling, loads}
 use Rattle.byte_fields.proofs.Loops.{IsLoop}
 use Rattle.byte_fields.proofs.Numbers.{any_number, wide32, byte_to}
-use Rattle.addr_decode.specs.MapRegs.{StandsFor, map_bytes}
+use Rattle.addr_decode.specs.MapRegs.{StandsFor}
 use Rattle.addr_decode.proofs.StateFormat.{regs_format, regs_size}
 use Rattle.map_ranges.specs.declared.range.Changed.{Changed}
 use Rattle.map_builder.specs.Map.{Mapped, IsMapOf}
@@ -39,13 +39,10 @@ windows_loop = record { none = λ s bytes. refl; more = λ s n bytes. refl }
 abbrev IsOne : Unit {0} → Changed → Type 0
 IsOne none window = IsWindow window
 
-good_windows : (windows : List Changed) → AllByRecursion IsWindow windows → AreGood past_window IsOne tt windows
-good_windows [] all = tt
-good_windows (window ∷ later) all = (all.0, good_windows later all.1)
-
-windows_good : (windows : List Changed) → AreGood past_window IsOne tt windows → AllByRecursion IsWindow windows
-windows_good [] good = tt
-windows_good (window ∷ later) good = (good.0, windows_good later good.1)
+good_windows : (windows : List Changed) → AllByRecursion IsWindow windows ↔ AreGood past_window IsOne tt windows
+good_windows [] = ((λ all. tt), (λ good. tt))
+good_windows (window ∷ later) =
+    let rest = good_windows later in ((λ all. (all.0, rest.0 all.1)), (λ good. (good.0, rest.1 good.1)))
 
 windows_format : IsFormat 513 windows_fields windows_bytes AreWindows
 unfolding windows_fields
@@ -56,17 +53,13 @@ windows_format =
     (many_format windows_loop (λ s. window_format) tt count) (omega (arith, few)) (λ windows are. are)
     (λ windows good. good) (λ windows good. refl)))
     (λ windows are.
-    let good = good_windows windows (recursion_from_All IsWindow windows are.each) in
+    let good = (good_windows windows).0 (recursion_from_All IsWindow windows are.each) in
     ((length windows, are.count) & (windows, (refl, good)), refl))
     (λ t.
-    let each = All-from_recursion IsWindow t.2.0 (windows_good t.2.0 t.2.1.1) in
+    let each = All-from_recursion IsWindow t.2.0 ((good_windows t.2.0).1 t.2.1.1) in
     (record { count = rw t.2.1.0 t.1; each = each }, rw t.2.1.0 refl))
 
 -- ---- a map without ranges
-
-bare_same : (map : Mapped) → map.ranges ≡ [] →
-    map ≡ record { regs = map_bytes (regs_of map.regs); ranges = []; version = map.version; changed = map.changed }
-bare_same map none = ap (λ (ranges : List MapRange). record map { ranges = ranges }) none
 
 abbrev pub most_mapped : List FittedCard → ℕ
 most_mapped fitted = 517 + regs_size fitted
@@ -81,7 +74,7 @@ mapped_format fitted =
     any_number wide32 (omega arith) then λ version below.
     last_field _ windows_format)
     (λ m is.
-    let same = bare_same m is.ranges in
+    let same = ap (λ (ranges : List MapRange). record m { ranges = ranges }) is.ranges in
     ((regs_of m.regs, is.saved.regs) & (m.version, is.saved.version) & (m.changed, is.saved.changed), same))
     (λ t. (record { saved = record { regs = t.1; version = t.2.1; changed = t.2.2.1 }; ranges = refl }, refl)))
     (omega arith) (λ m is. is) (λ m is. is) (λ m is. refl)

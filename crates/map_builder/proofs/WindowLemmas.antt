@@ -1,19 +1,19 @@
 -- The windows that registers govern, as the code finds them.
-use Rattle.board_prelude.proofs.Common.{common_steps, nat_tests, option_map_or, take_more, card_at, div-lt_iff_lt-mul}
-use Rattle.board_prelude.proofs.Common.{Width, Reg, FittedCard, Setup, Bytes, MapChange, Store, enumerate_from}
-use Rattle.board_prelude.proofs.Common.{cases_Bool, eq-eqb, ne_eqb, map-append, Base, IoBase, IsCard, Window}
-use Rattle.board_prelude.proofs.Common.{base_value, memory_window, rom_window_of, vga_window}
+use Rattle.board_prelude.proofs.Common.{append-nil, common_steps, nat_tests, option_map_or, take_more, card_at}
+use Rattle.board_prelude.proofs.Common.{div-lt_iff_lt-mul, Width, Reg, FittedCard, Setup, Bytes, MapChange, Store}
+use Rattle.board_prelude.proofs.Common.{enumerate_from, cases_Bool, map-append, Base, IsCard, Window, base_value}
+use Rattle.board_prelude.proofs.Common.{memory_window, rom_window_of, vga_window}
 use Rattle.std.proofs.Common.{pow-add, pow_pos, ◌≡◌, ℕ, zero, suc, ◌+◌, ◌-◌, ◌*◌, ◌/◌, ◌^◌, ◌<◌, ◌≤◌, List, [], ◌∷◌}
 use Rattle.std.proofs.Common.{◌++◌, length, map, get_or, refl, sym, ◌∙◌, ap, arith, mul_comm, Option, None, slice_get}
-use Rattle.std.proofs.Common.{slice_index, flat_map, take, ◌≢◌, inl, inr, Bool, filter, Some, ◌==◌, find, option_map}
+use Rattle.std.proofs.Common.{slice_index, flat_map, take, inl, inr, Bool, filter, Some, ◌==◌, find, option_map}
 use Rattle.std.proofs.lemmas.Option.{slice_get-map, slice_get_past, slice_get-get_or}
 use Rattle.std.proofs.lemmas.Nat.{mul-add-lt}
 use Rattle.pci_bars.specs.declared.spec.BaseSpec.{BaseSpec}
 use Rattle.pci_bars.specs.Bases.{base_of}
 use Rattle.map_builder.specs.Common.{Changed, name_windows, windows_covered, held_by, held_at, decoded, card_windows}
-use Rattle.map_builder.specs.Common.{windows_of, held_from, rom_held, vga_held, card_held, device_held}
+use Rattle.map_builder.specs.Common.{held_from, rom_held, vga_held, card_held, device_held}
 use Rattle.addr_decode.specs.declared.register.MapRegister.{MapRegister}
-use Rattle.addr_decode.specs.MapRegister.{names_of, IsCardNumber, in_device, map_register}
+use Rattle.addr_decode.specs.MapRegister.{names_of, IsCardNumber}
 use Rattle.std.proofs.lemmas.List.{flat_map_more}
 use Rattle.pci_bars.specs.Cards.{CardBytes, HoldsRom, DecodesAs, AreCards, AreDecoded}
 use Rattle.pci_bars.proofs.CardListLemmas.{found, find-cards}
@@ -63,6 +63,8 @@ pub held_past : (values : List ℕ) (bases : List BaseSpec) (k : ℕ) → length
     held_at values (map base_of bases) k ≡ []
 held_past values bases k past = rw (slice_get-map base_of bases k, slice_get_past bases k past) refl
 
+pub ruleset base_steps = (nat_tests, common_steps, append-nil, held_here, held_past)
+
 -- ---- those of a card, by the values of its bases
 
 -- the windows of bases, the first of them base number `first`
@@ -88,10 +90,8 @@ rom_is bytes dev register (Some bits) holds = rw holds.number refl
 all_held : (bytes : Bytes) (dev : ℕ) (values : List ℕ) (first : ℕ) (bases : List Base) → Hold bytes dev values →
     first + length bases ≤ 6 → map decoded (from_base bytes dev first bases) ≡ held_from values first bases
 all_held bytes dev values first [] hold few = refl
-all_held bytes dev values first (IoBase bits ∷ later) hold few =
-    all_held bytes dev values (first + 1) later hold (omega arith)
 all_held bytes dev values first (base ∷ later) hold few =
-    rw (hold first (omega arith), all_held bytes dev values (first + 1) later hold (omega arith)) refl
+    grind (arith, nat_tests, hold first, all_held bytes dev values (first + 1) later hold)
 
 vga_is : (card : FittedCard) → map decoded (vga_window card) ≡ vga_held card.vga
 vga_is card = elim (cases_Bool card.vga) [ inl on ↦ rw on refl | inr off ↦ rw off refl ]
@@ -104,22 +104,17 @@ numbered k window = window.base == k
 none_below : (bytes : Bytes) (dev k first : ℕ) (bases : List Base) → k < first →
     filter (numbered k) (from_base bytes dev first bases) ≡ []
 none_below bytes dev k first [] below = refl
-none_below bytes dev k first (IoBase bits ∷ later) below = none_below bytes dev k (first + 1) later (omega arith)
 none_below bytes dev k first (base ∷ later) below =
-    rw (ne_eqb first k (omega arith)) (none_below bytes dev k (first + 1) later (omega arith))
+    grind (arith, nat_tests, none_below bytes dev k (first + 1) later)
 
 pub one_held : (bytes : Bytes) (dev k j first : ℕ) (bases : List Base) → first + j ≡ k →
     map decoded (filter (numbered k) (from_base bytes dev first bases))
     ≡ option_map_or (λ base. held_by base (base_value bytes dev k)) (slice_get bases j) []
 one_held bytes dev k j first [] at = refl
-one_held bytes dev k zero first (IoBase bits ∷ later) at =
-    rw (none_below bytes dev k (first + 1) later (omega arith)) refl
 one_held bytes dev k zero first (base ∷ later) at =
-    let here : first ≡ k = omega arith in
-    rw (here, eq-eqb k k refl, none_below bytes dev k (k + 1) later (omega arith)) refl
-one_held bytes dev k (suc j) first (IoBase bits ∷ later) at = one_held bytes dev k j (first + 1) later (omega arith)
+    grind (arith, nat_tests, none_below bytes dev k (first + 1) later)
 one_held bytes dev k (suc j) first (base ∷ later) at =
-    rw (ne_eqb first k (omega arith)) (one_held bytes dev k j (first + 1) later (omega arith))
+    grind (arith, nat_tests, one_held bytes dev k j (first + 1) later)
 
 -- ---- a card
 
@@ -149,12 +144,3 @@ module _ (setup : Setup) (bytes : Bytes) (cards : List CardBytes) (dev : ℕ) (r
 
   pub device_is : option_map_or (card_windows bytes register) (card_at setup dev) [] ≡ device_held dev register cards
   device_is = rw (are.0, ← find-cards cards dev) (found_is _ refl)
-
--- ---- a register of a card
-
--- of a card that is fitted, by its offset
-pub windows_of_card : (setup : Setup) (bytes : Bytes) (reg : Reg) → reg.dev ≢ 0 → reg.dev ≢ 1 → reg.fun ≡ 0 →
-    windows_of setup bytes reg ≡ name_windows setup bytes (in_device setup.cards reg.dev reg.off)
-unfolding map_register
-windows_of_card setup bytes reg first second function =
-    rw (ne_eqb reg.dev 0 first, ne_eqb reg.dev 1 second, function) refl

@@ -37,6 +37,7 @@ pub fn choose_in_bridge(
 }
 
 /// Adds to no windows those that `choose_in_bridge` chooses.
+#[tactic(auto, using(std::proofs::lemmas::Bool::Decides::nat_tests, std::proofs::lemmas::Grind::common_steps, crate::proofs::SortedLemmas::one_sorted))]
 fn choose_windows_of(chosen: &mut Windows, register: MapRegister, old: &[u8; 8], new: &[u8; 8])
     requires none { chosen.old.items ≡ [] }
     requires number { IsNumbered register }

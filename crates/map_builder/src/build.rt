@@ -68,7 +68,7 @@ pub fn rebuild<L: Ledger>(
 }
 
 /// Builds the ranges inside the windows anew, and takes those outside from `before`, the map as it was.
-#[tactic(auto, using(std::proofs::lemmas::Bool::Decides::nat_tests))]
+#[tactic(auto, using(crate::proofs::RebuildLemmas::sweep_steps))]
 fn sweep<L: Ledger>(
     ranges: &mut Ranges,
     before: &[Range],
@@ -117,6 +117,7 @@ fn first_range<L: Ledger>(regs: &MapRegs, steps: &mut Steps<L>) -> Range
 
 /// Keeps of the ranges those below the address `lo`, and returns the open range that has `lo`. `from` is the index of
 /// the range that has the address below `lo`.
+#[tactic(auto, using(crate::proofs::BuildLemmas::build_steps))]
 fn cut_below<L: Ledger>(
     ranges: &mut Ranges,
     before: &[Range],
@@ -145,6 +146,7 @@ fn cut_below<L: Ledger>(
 }
 
 /// Builds on with the row of an address, where the ranges are built up to the address below it. Returns the open range.
+#[tactic(auto, using(crate::proofs::BuildLemmas::build_steps))]
 fn row_at<L: Ledger>(
     ranges: &mut Ranges,
     last: Range,
@@ -164,6 +166,7 @@ fn row_at<L: Ledger>(
 
 /// Builds on with the ranges of the map as it was, for the addresses above `after` up to `until`. Returns the open
 /// range. In `before`, the range at index `from` begins at `after` or below.
+#[tactic(auto, using(crate::proofs::BuildLemmas::build_steps, crate::proofs::RebuildLemmas::begins_next, map_ranges::proofs::FindLemmas::placed))]
 fn keep(
     ranges: &mut Ranges,
     last: Range,
@@ -203,6 +206,7 @@ fn keep(
 
 /// Builds on to the last address with the ranges of the map as it was, for all addresses above `after`. In `before`,
 /// the range at index `from` begins at `after` or below.
+#[tactic(auto, using(crate::proofs::BuildLemmas::build_steps))]
 fn finish(ranges: &mut Ranges, last: Range, before: &[Range], from: usize, after: u32)
     requires tiles { Tiles 0 (map range_of before.now) }
     requires from { BeginsBelow before.now from after }
@@ -229,6 +233,7 @@ fn finish(ranges: &mut Ranges, last: Range, before: &[Range], from: usize, after
 
 /// The index of the range that has an address, searched from index `from` on, whose range begins at the address or
 /// below.
+#[tactic(auto, using(std::proofs::lemmas::Bool::Decides::nat_tests, std::proofs::lemmas::Grind::common_steps, crate::proofs::RebuildLemmas::begins_next, map_ranges::proofs::FindLemmas::placed))]
 fn index_from(ranges: &[Range], from: usize, addr: u32) -> usize
     requires tiles { Tiles 0 (map range_of ranges.now) }
     requires from { BeginsBelow ranges.now from addr }

@@ -297,7 +297,7 @@ fn push_base_of(windows: &mut Covered, card: &CardRegs, index: usize)
 
 /// Adds the addresses of the base at an index, where it exists and is for memory. The registers of the bases have these
 /// values.
-#[tactic(auto, using(pci_bars::proofs::BaseLemmas::base_within))]
+#[tactic(auto, using(pci_bars::proofs::BaseLemmas::base_within, crate::proofs::WindowLemmas::base_steps))]
 fn push_base_at(windows: &mut Covered, bases: &[BaseSpec], values: &[u32; 6], index: usize)
     requires bases { All IsBase (map base_of bases.now) }
     requires index { index < 6 }

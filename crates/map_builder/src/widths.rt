@@ -37,11 +37,13 @@ fn is_doubleword(value: u32)
 {}
 
 /// Does nothing: its clause says that each of the values is below 2^8.
+#[tactic(auto, using(std::proofs::lemmas::Bool::Decides::nat_tests))]
 fn are_bytes(values: &[u8])
     ensures bytes { (k : ℕ) → slice_index values.now k < 2 ^ 8 }
 {}
 
 /// Does nothing: its clause says that each of the values is below 2^32.
+#[tactic(auto, using(std::proofs::lemmas::Bool::Decides::nat_tests))]
 fn are_doublewords(values: &[u32])
     ensures doublewords { (k : ℕ) → slice_index values.now k < 2 ^ 32 }
 {}

@@ -1,10 +1,6 @@
-use Rattle.std.proofs.Common.{arith, sym}
-use Rattle.board_prelude.proofs.Common.{common_steps, nat_tests}
-use Rattle.map_builder.proofs.SortedLemmas.{one_sorted, singles_sorted}
+use Rattle.std.proofs.Common.{sym}
+use Rattle.map_builder.proofs.SortedLemmas.{singles_sorted}
 use Rattle.map_builder.proofs.bridge.choose_windows_of.Goals as goal
-
-pub returns-in-Pam-clause-others : goal.returns-in-Pam-clause-others
-returns-in-Pam-clause-others c = grind (arith, nat_tests, common_steps, one_sorted)
 
 pub returns-in-Single-clause-others : goal.returns-in-Single-clause-others
 returns-in-Single-clause-others c =

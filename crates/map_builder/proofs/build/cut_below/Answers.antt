@@ -1,10 +1,6 @@
-use Rattle.board_prelude.proofs.Common.{common_steps, nat_tests, length-take}
 use Rattle.std.proofs.Common.{arith}
 use Rattle.map_builder.proofs.RebuildLemmas.{built_to_interval}
 use Rattle.map_builder.proofs.build.cut_below.Goals as goal
-
-pub range_at-requires-clause-room : goal.range_at-requires-clause-room
-range_at-requires-clause-room g c = grind (arith, nat_tests, common_steps, length-take)
 
 pub returns : goal.returns
 returns g c =

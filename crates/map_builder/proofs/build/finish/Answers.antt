@@ -23,9 +23,6 @@ pub range_at-last-requires-clause-room : goal.range_at-last-requires-clause-room
 range_at-last-requires-clause-room c =
     omega (arith, c.requires.kept.built.few c.requires.kept.board, length-map c.args.ranges.now.items range_of)
 
-pub index_from-index-requires-clause-from : goal.index_from-index-requires-clause-from
-index_from-index-requires-clause-from c = omega arith
-
 whole : (c : After-range_at-last) (kept : IsBuiltUpTo (map range_of c.args.ranges.now.items) (range_of c.args.last)
     (map range_of c.args.before.now) c.args.after 0xFFFF_FFFF) →
     IsWhole kept.regs ((c.range_at-last.new.ranges.items ++ record c.range_at-last.result {

@@ -1,16 +1,8 @@
-use Rattle.std.proofs.Common.{◌≡◌, ◌+◌, arith, lit<}
+use Rattle.std.proofs.Common.{◌+◌, arith, lit<}
 use Rattle.board_prelude.proofs.Common.{length-map, length-append}
 use Rattle.map_builder.specs.Common.{range_of}
-use Rattle.map_ranges.proofs.FindLemmas.{placed}
-use Rattle.map_builder.proofs.RebuildLemmas.{begins_next, kept_first, kept_later}
+use Rattle.map_builder.proofs.RebuildLemmas.{kept_first, kept_later}
 use Rattle.map_builder.proofs.build.keep.Goals as goal
-
-pub returns-then-after-until : goal.returns-then-after-until
-returns-then-after-until c =
-    let all : c.args.after ≡ c.args.until = omega arith in record { built = λ regs first agrees. rw all at first }
-
-pub index_from-index-requires-clause-from : goal.index_from-index-requires-clause-from
-index_from-index-requires-clause-from c = omega arith
 
 pub range_at-last-requires-clause-room : goal.range_at-last-requires-clause-room
 range_at-last-requires-clause-room c =
@@ -30,10 +22,6 @@ push-requires c =
     c.index_from-index.ensures.holds c.range_at-last.ensures.goes_on kept.built (c.args.after + 1) (omega arith)
     (omega (arith, c.requires.order)) c.index_from-index.ensures.holds.below in
     (lit< tt, omega (arith, built.few kept.board, length-map c.range_at-last.new.ranges.items range_of))
-
-pub index_from-end-requires-clause-from : goal.index_from-end-requires-clause-from
-index_from-end-requires-clause-from c =
-    begins_next (placed 0 _ (omega arith) c.requires.tiles) (omega arith) (omega arith) (omega arith)
 
 pub extend-requires : goal.extend-requires
 extend-requires c =

@@ -1,4 +1,4 @@
-use Rattle.std.proofs.Common.{[], arith, map}
+use Rattle.std.proofs.Common.{arith, map}
 use Rattle.std.proofs.lemmas.Bool.Decides.{nat_tests}
 use Rattle.std.proofs.lemmas.List.{nil_from_length}
 use Rattle.addr_decode.specs.MapRegs.{map_bytes}

@@ -9,9 +9,6 @@ pub range_at-requires-clause-room : goal.range_at-requires-clause-room
 range_at-requires-clause-room g c =
     omega (arith, c.requires.built.few c.requires.board, length-map c.args.ranges.now.items range_of)
 
-pub range_at-requires-clause-above : goal.range_at-requires-clause-above
-range_at-requires-clause-above g c = omega (arith, c.requires.built.built.begun, c.requires.above)
-
 pub returns : goal.returns
 returns g c = record {
   built = built_step _ (omega (arith, c.requires.above)) (omega arith) (one_address (map_bytes c.args.regs.now) _ _

@@ -13,9 +13,6 @@ cut_below-cut-requires-clause-holds g c = rw c.saturating_sub.ensures at c.index
 pub cut_below-cut-requires-clause-below : goal.cut_below-cut-requires-clause-below
 cut_below-cut-requires-clause-below g c = first_below _ c.requires.some c.requires.rise c.requires.beside
 
-pub rows_in-last-requires-clause-order : goal.rows_in-last-requires-clause-order
-rows_in-last-requires-clause-order g c = order_at c.args.windows.now 0 c.requires.some c.requires.rise
-
 pub loop-index-init : goal.loop-index-init
 loop-index-init g c = record {
   sweep = sweep_first c.args.windows.now c.requires.some c.requires.rise c.requires.beside c.rows_in-last.ensures.fits
@@ -27,10 +24,6 @@ loop-index-init g c = record {
   from = omega (arith, c.saturating_sub.ensures, order_at c.args.windows.now 0 c.requires.some c.requires.rise);
 }
 
-pub keep-last-requires-clause-order : goal.keep-last-requires-clause-order
-keep-last-requires-clause-order g c =
-    omega (arith, above c.args.windows.now c.loop-index.index (omega arith) c.loop-index.invariant.sweep)
-
 pub keep-last-requires-clause-kept : goal.keep-last-requires-clause-kept
 keep-last-requires-clause-kept g c = record {
   regs = map_bytes c.args.regs.now;
@@ -39,18 +32,10 @@ keep-last-requires-clause-kept g c = record {
   agrees = sweep_agrees c.args.windows.now c.loop-index.index (omega arith) c.loop-index.invariant.sweep;
 }
 
-pub row_at-last-requires-clause-above : goal.row_at-last-requires-clause-above
-row_at-last-requires-clause-above g c =
-    omega (arith, above c.args.windows.now c.loop-index.index (omega arith) c.loop-index.invariant.sweep)
-
 pub row_at-last-requires-clause-built : goal.row_at-last-requires-clause-built
 row_at-last-requires-clause-built g c =
     c.keep-last.ensures.built (map_bytes c.args.regs.now) c.loop-index.invariant.sweep.built
     (sweep_agrees c.args.windows.now c.loop-index.index (omega arith) c.loop-index.invariant.sweep)
-
-pub rows_in-last-requires-in-loop-index-clause-order : goal.rows_in-last-requires-in-loop-index-clause-order
-rows_in-last-requires-in-loop-index-clause-order g c =
-    order_at c.args.windows.now c.loop-index.index (omega arith) c.loop-index.invariant.sweep.rise
 
 pub loop-index-preserved : goal.loop-index-preserved
 loop-index-preserved g c = record {

@@ -1,12 +1,12 @@
-use Rattle.std.proofs.Common.{◌≡◌, true, ap, arith, Option, unwrap_or, refl}
+use Rattle.std.proofs.Common.{◌≡◌, true, ap, arith, refl}
 use Rattle.board_prelude.proofs.Common.{length-map, Setup, Bytes, MapChange}
 use Rattle.pci_bars.specs.Cards.{cards_of}
 use Rattle.addr_decode.specs.Common.{names_of, StandsFor, map_bytes}
-use Rattle.map_builder.specs.Common.{Changed, range_of, after, from_to, stores_rows}
+use Rattle.map_builder.specs.Common.{range_of, after, stores_rows, windows_covered}
 use Rattle.map_builder.proofs.BuildLemmas.{are_map_of}
-use Rattle.map_builder.proofs.ChangeLemmas.{board_after, where_kept, are_changed, keeps_byte, kept_same, pushed_found}
-use Rattle.map_builder.proofs.ChangeLemmas.{AreFound, KeepsByte, Chosen, chosen}
-use Rattle.map_builder.proofs.MovedRows.{rows_by_names}
+use Rattle.map_builder.proofs.ChangeLemmas.{board_after, where_kept, are_changed, keeps_byte, pushed_found, AreFound}
+use Rattle.map_builder.proofs.ChangeLemmas.{Idle, Chosen, chosen}
+use Rattle.map_builder.proofs.SortedLemmas.{bounds_sorted}
 use Rattle.map_builder.proofs.flat_map.FlatMap.apply_named.Given.{Over}
 use Rattle.map_builder.proofs.flat_map.FlatMap.apply_named.Goals.{After-choose_windows}
 use Rattle.map_builder.proofs.flat_map.FlatMap.apply_named.Goals as goal
@@ -17,11 +17,11 @@ module _ (g : Over) (c : After-choose_windows g) where
   named = rw (← c.self.view_is) at c.requires.names
 
   -- where the registers are known to keep what they hold, they do
-  keeps : c.is_same_byte-kept.result ≡ true →
-      KeepsByte (map_bytes c.self.inside.regs) (map_bytes c.apply_named.new.self) c.args.change.now
+  keeps : c.is_same_byte-kept.result ≡ true → Idle (map_bytes c.self.inside.regs) c.args.change.now
   keeps kept =
-      keeps_byte _ _ _ _ _ (c.is_same_byte-kept.ensures.same kept) (c.byte_alone-before.ensures.held c.args.change.now
-      named) (c.byte_alone.ensures.held c.args.change.now (rw c.apply_named.ensures.same_cards named))
+      keeps_byte _ c.apply_named.ensures.stands (c.is_same_byte-kept.ensures.same kept)
+      (c.byte_alone-before.ensures.held c.args.change.now named)
+      (c.byte_alone.ensures.held c.args.change.now (rw c.apply_named.ensures.same_cards named))
 
   -- the windows that were pushed are those that change, of each board that has the registers
   found : (setup : Setup) (bytes : Bytes) → StandsFor setup bytes (map_bytes c.self.inside.regs) →
@@ -30,7 +30,7 @@ module _ (g : Over) (c : After-choose_windows g) where
       let change : MapChange = c.args.change.now in
       let now = c.apply_named.ensures.stands setup bytes stands in
       pushed_found setup bytes change c.is_same_byte-kept.result c.keeps_windows-same.result
-      (λ is. kept_same setup bytes change _ _ stands now (keeps is))
+      (λ is. ap (λ it. windows_covered setup it change) (keeps is setup bytes stands))
       (rw (stands.cards.0, ← named) c.keeps_windows-same.ensures.keeps)
       (rw c.truncate.ensures.items at (c.push_covered.ensures.windows setup bytes stands)) c.push_again.ensures.same
       (λ move. c.push_again.ensures.windows move setup (after setup change bytes) now)
@@ -39,8 +39,7 @@ module _ (g : Over) (c : After-choose_windows g) where
   choice : Chosen c.self.invariant.board c.args.change.now c.choose_windows.new.chosen.items
   choice = chosen c.args.change.now c.apply_named.ensures.stands c.self.invariant.board c.as_slice.result.now
       c.is_same_byte-kept.result (stores_rows c.args.names.now)
-      (λ is. rows_by_names (cards_of c.self.inside.regs.cards.items) c.args.change.now (rw named at is))
-      (λ setup bytes stands. rw c.as_slice.ensures.items (found setup bytes stands).sorted_same) keeps
+      (λ is. rw named at is) (λ setup bytes stands. rw c.as_slice.ensures.items (found setup bytes stands)) keeps
       c.choose_windows.ensures.none c.choose_windows.ensures.others c.choose_windows.ensures.rows
 
 pub rebuild-requires : goal.rebuild-requires
@@ -68,8 +67,16 @@ returns-clause-applied g c =
       same_cards = c.apply_named.ensures.same_cards;
       version = refl;
       map = c.rebuild.ensures.map;
-      changed = λ setup bytes stands. rw (c.unwrap_or.ensures, c.bounds_of.ensures.bounds, c.as_slice-3.ensures.items)
-          (ap (λ (it : Option Changed). unwrap_or it (from_to 0 0)) (found g chosen setup bytes stands).bounds_same);
+      changed = λ setup bytes stands.
+          rw (
+            c.unwrap_or.ensures,
+            c.bounds_of.ensures.bounds,
+            c.as_slice-3.ensures.items,
+            ← bounds_sorted,
+            found g chosen
+                setup bytes stands,
+            bounds_sorted,
+          ) refl;
       windows = are_changed c.args.change.now c.apply_named.ensures.stands c.self.invariant.board (choice g chosen);
     })
 

@@ -8,7 +8,6 @@ use Rattle.map_builder.specs.Common.{range_of, is_row_name, stores_rows}
 use Rattle.map_builder.proofs.BuildLemmas.{are_map_of}
 use Rattle.map_builder.proofs.ChangeLemmas.{board_after, bridge_found, where_kept, are_changed, keeps_byte, Chosen}
 use Rattle.map_builder.proofs.ChangeLemmas.{chosen}
-use Rattle.map_builder.proofs.MovedRows.{rows_by_names}
 use Rattle.map_builder.proofs.flat_map.FlatMap.store_in_bridge.Given.{Over}
 use Rattle.map_builder.proofs.flat_map.FlatMap.store_in_bridge.Goals.{After-choose_in_bridge}
 use Rattle.addr_decode.specs.declared.register.MapRegister.{MapRegister}
@@ -28,13 +27,13 @@ module _ (g : Over) (c : After-choose_in_bridge g) where
       let board = c.self.invariant.board in
       chosen store c.apply_named.ensures.stands board (register_windows board.setup board.bytes c.args.register)
       c.is_same_byte-kept.result (is_row_name (Some c.args.register))
-      (λ is. rows_by_names (cards_of c.self.inside.regs.cards.items) store
-      (subst (λ (names : List (Option MapRegister)). stores_rows names ≡ true) named (rw is refl)))
+      (λ is. subst (λ (names : List (Option MapRegister)). stores_rows names ≡ true) named (rw is refl))
       (λ setup bytes stands.
       bridge_found board.setup setup board.bytes bytes c.args.reg c.args.value c.args.register
       (cards_of c.self.inside.regs.cards.items) c.requires.bridge stands.cards.0 named)
       (λ kept.
-      keeps_byte _ _ store _ _ (c.is_same_byte-kept.ensures.same kept) (c.byte_alone-before.ensures.held store named)
+      keeps_byte store c.apply_named.ensures.stands (c.is_same_byte-kept.ensures.same kept)
+      (c.byte_alone-before.ensures.held store named)
       (c.byte_alone.ensures.held store (rw c.apply_named.ensures.same_cards named))) c.choose_in_bridge.ensures.none
       (λ moves other. c.choose_in_bridge.ensures.others moves other board.setup board.bytes)
       c.choose_in_bridge.ensures.rows
@@ -70,14 +69,7 @@ invariant_of-self g c =
     c.rebuild.ensures.tiles c.rebuild.ensures.map c.rebuild.ensures.few
 
 pub returns : goal.returns
-returns g c = record {
-  changed = rw (← c.self.view_is) (record {
-    stands = c.apply_named.ensures.stands;
-    cards = c.apply_named.ensures.cards;
-    same_cards = c.apply_named.ensures.same_cards;
-    version = refl;
-    map = c.rebuild.ensures.map;
-    windows = are_changed (Store c.args.reg One c.args.value) c.apply_named.ensures.stands c.self.invariant.board
-        (choice g (goal.at.returns g c).After-choose_in_bridge);
-  });
-}
+returns g c =
+    let are = are_changed (Store c.args.reg One c.args.value) c.apply_named.ensures.stands c.self.invariant.board
+    (choice g (goal.at.returns g c).After-choose_in_bridge) in
+    record { changed = rw (← c.self.view_is) (assumption (c.apply_named.ensures, c.rebuild.ensures.map, are, refl)) }

@@ -1,5 +1,0 @@
-use Rattle.std.proofs.Common.{arith}
-use Rattle.map_builder.proofs.widths.are_bytes.Goals as goal
-
-pub returns : goal.returns
-returns c = record { bytes = λ k. omega (arith, c.type_inv.values k) }
