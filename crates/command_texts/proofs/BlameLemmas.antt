@@ -1,6 +1,7 @@
 -- The numbers of a report are those of changes.
-use Rattle.std.proofs.Common.{◌≡◌, ℕ, ◌-◌, ◌≤◌, true, List, length, get_or, sym, subst, arith, refl, All, ◌==◌, ◌++◌}
-use Rattle.std.proofs.Common.{flat_map, Result, Ok, Err, IfOk}
+use Rattle.std.proofs.lemmas.Bool.Decides.{nat_tests}
+use Rattle.std.proofs.Common.{◌≡◌, ℕ, ◌-◌, ◌≤◌, true, List, length, get_or, subst, arith, refl, All, ◌==◌, ◌++◌}
+use Rattle.std.proofs.Common.{flat_map, Result, IfOk}
 use Rattle.board_prelude.proofs.Common.{eq-eqb, length-map, list_any_at, MapChange, Setup, Entry, IsReplayOf}
 use Rattle.board_prelude.proofs.Common.{map_writes_of, registers_after, IsRight}
 use Rattle.std.proofs.Math.ListN.{get_or-map}
@@ -34,13 +35,4 @@ pub blame_text : {E : Type 0} (result : Result (List ℕ) E) (old new : Setup) (
     IsBlame new changes ranges keep →
     IfOk result (λ text. text ≡ flat_map (blamed_text new history) ranges ++ flat_map (keep_text new history) keep) →
     IfOk result (λ text. IsBlameText old script text)
-blame_text (Ok text) old new script history changes ranges keep same writes replay is lines =
-    subst (λ (setup : Setup). IsBlameText setup script text) same (record {
-      history = history;
-      ranges = ranges;
-      keep = keep;
-      replay = subst (λ (setup : Setup). IsReplayOf setup (statements_in script) history) (sym same) replay;
-      blame = subst (λ (changes : List MapChange). IsBlame new changes ranges keep) writes is;
-      lines = lines;
-    })
-blame_text (Err fault) old new script history changes ranges keep same writes replay is lines = tt
+blame_text result old new script history changes ranges keep same writes replay is lines = grind (arith, nat_tests)

@@ -1,6 +1,7 @@
 -- What happens to a board with a serial port, one thing after another.
-use Rattle.std.proofs.Common.{◌≡◌, ℕ, Bool, List, [], ◌∷◌, ◌++◌, length, map, reverse, inl, inr, refl, sym, ap, subst}
+use Rattle.std.proofs.Common.{arith, ◌≡◌, ℕ, Bool, List, [], ◌∷◌, ◌++◌, length, map, reverse, inl, inr, refl, sym, ap}
 use Rattle.std.proofs.Common.{◌∙◌, append-nil, append_assoc}
+use Rattle.std.proofs.lemmas.Bool.Decides.{nat_tests}
 use Rattle.board_spec.proofs.OrderLawProofs.{statements-append}
 use Rattle.board_prelude.proofs.Common.{cases_Bool, length-map, length-reverse, nil_from_length, Event, Line, Entry}
 use Rattle.board_prelude.proofs.Common.{Statement, IsAnswer, reset_control, is_hard_reset, statement_of, statements_of}
@@ -9,9 +10,9 @@ use Rattle.uart_16550.specs.declared.com1.Happening.{Happening}
 use Rattle.uart_16550.specs.declared.com1.Happening.TheVariants.{Comes, Happens}
 use Rattle.uart_16550.specs.Common.{received, differ, com1_actor, com1_at_reset, com1_irq, level_of, line_steps}
 use Rattle.uart_16550.specs.Common.{change_steps, com1_after, board_steps, Serial, GoesOnBy, IsLeftAt, IsLeftAfter}
-use Rattle.uart_16550.specs.Common.{Sending, sending_after, sent_by, bytes_sent, steps_for, after_all}
+use Rattle.uart_16550.specs.Common.{Sending, sending_after, bytes_sent, after_all}
 use Rattle.uart_16550.proofs.Common.{control_follows}
-use Rattle.command_texts.specs.Common.{steps_for_all, IsStanding, Happened, port_of}
+use Rattle.command_texts.specs.Common.{steps_for_all, IsStanding, Happened}
 
 -- ---- lists of happenings, cut
 
@@ -24,18 +25,14 @@ pub sent-append : (port : Sending) (first second : List Happening) →
     bytes_sent port (first ++ second) ≡ bytes_sent port first ++ bytes_sent (after_all port first) second
 sent-append port [] second = refl
 sent-append port (happening ∷ first) second =
-    rw (sent-append (sending_after port happening) first second)
-    (sym (append_assoc (sent_by port happening) (bytes_sent (sending_after port happening) first)
-    (bytes_sent (after_all (sending_after port happening) first) second)))
+    simp (append_assoc, sent-append (sending_after port happening) first second)
 
 pub steps-append : (actor : ℕ) (port : Sending) (first second : List Happening) →
     steps_for_all actor port (first ++ second)
     ≡ steps_for_all actor port first ++ steps_for_all actor (after_all port first) second
 steps-append actor port [] second = refl
 steps-append actor port (happening ∷ first) second =
-    rw (steps-append actor (sending_after port happening) first second)
-    (sym (append_assoc (steps_for actor port happening) (steps_for_all actor (sending_after port happening) first)
-    (steps_for_all actor (after_all (sending_after port happening) first) second)))
+    simp (append_assoc, steps-append actor (sending_after port happening) first second)
 
 -- bytes that come send none
 pub none_sent : (port : Sending) (bytes : List ℕ) → bytes_sent port (map Comes bytes) ≡ []
@@ -55,15 +52,11 @@ IsAfterHere board level before steps =
 
 now_at : (new : Serial Standing) (before : List Entry) (steps : List Statement) →
     IsAfterHere new.board (level_of new.com1) before steps → IsStanding new × GoesOnBy before steps new.board.entries
-now_at new before steps after = (
-  subst (IsLeftHere new.board (level_of new.com1)) (sym after.left_at.left) after.left_at,
-  subst (GoesOnBy before steps) (sym after.left_at.left) after.goes_on,
-)
+now_at new before steps after = grind (arith, nat_tests)
 
 steps_added : (before after : List Entry) (steps : List Statement) → GoesOnBy before steps after →
     statements_of after ≡ statements_of before ++ steps
-steps_added before after steps goes_on =
-    rw (goes_on.grows, statements-append goes_on.more before, goes_on.same) refl
+steps_added before after steps goes_on = grind (arith, nat_tests, statements-append)
 
 -- ---- the reset control register
 
@@ -90,16 +83,10 @@ pub byte_came : (actor byte : ℕ) (old new : Serial Standing) →
     IsAfterHere new.board (level_of new.com1) old.board.entries (change_steps old.com1 new.com1) →
     Happened actor old (Comes byte ∷ []) new
 byte_came actor byte old new setup com1 after =
-    let steps = change_steps old.com1 new.com1 in
-    let now = now_at new old.board.entries steps after in
-    record {
-      setup = setup;
-      standing = now.0;
-      port = rw (com1, line_leaves old.board.entries new.board.entries (level_of old.com1) (level_of new.com1) now.1)
-          refl;
-      steps =
-          rw append-nil (rw com1 at (steps_added old.board.entries new.board.entries steps now.1));
-    }
+    let now = now_at new old.board.entries (change_steps old.com1 new.com1) after in
+    let left = line_leaves old.board.entries new.board.entries (level_of old.com1) (level_of new.com1) now.1 in
+    let added = steps_added old.board.entries new.board.entries (change_steps old.com1 new.com1) now.1 in
+    grind (arith, nat_tests, append-nil)
 
 pub event_done : (actor : ℕ) (event : Event) (old new : Serial Standing) →
     new.board.setup ≡ old.board.setup →
@@ -110,27 +97,13 @@ pub event_done : (actor : ℕ) (event : Event) (old new : Serial Standing) →
 event_done actor event old new setup com1 after =
     let steps = board_steps actor (is_hard_reset old.board.entries event) event old.com1 in
     let now = now_at new old.board.entries steps after in
-    record {
-      setup = setup;
-      standing = now.0;
-      port = rw (com1, control_follows old.board.entries new.board.entries actor event old.com1 now.1) refl;
-      steps = rw append-nil (steps_added old.board.entries new.board.entries steps now.1);
-    }
+    let follows = control_follows old.board.entries new.board.entries actor event old.com1 now.1 in
+    let added = steps_added old.board.entries new.board.entries steps now.1 in
+    grind (arith, nat_tests, append-nil)
 
 -- ---- and then more
 
 pub happened_twice : (actor : ℕ) (old middle new : Serial Standing) (first second : List Happening) →
     Happened actor old first middle → Happened actor middle second new → Happened actor old (first ++ second) new
-happened_twice actor old middle new first second one two = record {
-  setup = two.setup ∙ one.setup;
-  standing = two.standing;
-  port = cc (two.port, one.port, after_all-append (port_of old) first second);
-  steps = cc (
-    two.steps,
-    one.steps,
-    one.port,
-    steps-append actor (port_of old) first second,
-    append_assoc (statements_of old.board.entries) (steps_for_all actor (port_of old) first)
-        (steps_for_all actor (port_of middle) second),
-  );
-}
+happened_twice actor old middle new first second one two =
+    grind (arith, nat_tests, after_all-append, steps-append, append_assoc)

@@ -1,16 +1,16 @@
 -- A replay on a board with a serial port: one statement after another, and what was sent in all.
-use Rattle.std.proofs.Common.{◌≡◌, ℕ, ◌+◌, ◌*◌, ◌<◌, ◌≤◌, List, [], ◌∷◌, ◌++◌, length, map, take, get_or, refl, ◌∙◌}
-use Rattle.std.proofs.Common.{append-nil, append_assoc, length-append, arith, true, All, sym, slice_index}
-use Rattle.board_prelude.proofs.Common.{take_more, length-take-le, Statement, statements_of, Setup, reset_control}
-use Rattle.board_prelude.proofs.Common.{IsLegal, LegalKeepsLock}
+use Rattle.std.proofs.lemmas.Bool.Decides.{nat_tests}
+use Rattle.std.proofs.Common.{◌≡◌, ℕ, ◌+◌, ◌*◌, ◌<◌, ◌≤◌, List, [], ◌∷◌, ◌++◌, length, map, take, get_or, refl}
+use Rattle.std.proofs.Common.{append-nil, append_assoc, length-append, arith, true, All, slice_index}
+use Rattle.board_prelude.proofs.Common.{take_more, length-take-le, Statement, Setup, reset_control, IsLegal}
+use Rattle.board_prelude.proofs.Common.{LegalKeepsLock}
 use Rattle.std.proofs.Math.Nat.{le-add_right}
 use Rattle.board_core.specs.Kept.{Standing}
 use Rattle.uart_16550.specs.declared.com1.Happening.TheVariants.{Comes, Happens}
 use Rattle.uart_16550.specs.Common.{Serial, Sending, sent_by, bytes_sent, after_all, Uart, has_room, com1_at_reset}
 use Rattle.uart_16550.specs.Common.{sending_at_reset}
-use Rattle.command_texts.specs.Common.{bytes_before, left_after, happenings_of, happenings_in, steps_for_all, steps_in}
-use Rattle.command_texts.specs.Common.{sent_in, IsStanding, Happened, SerialPlace, WentOn, port_of, IsSerialText}
-use Rattle.command_texts.specs.Common.{IsForPort}
+use Rattle.command_texts.specs.Common.{bytes_before, left_after, happenings_of, happenings_in, steps_in, sent_in}
+use Rattle.command_texts.specs.Common.{IsStanding, Happened, SerialPlace, WentOn, port_of, IsSerialText, IsForPort}
 use Rattle.command_texts.proofs.Happenings.{sent-append, none_sent, happened_twice}
 use Rattle.script_spec.specs.Common.{Script as Said, IsInRangeScript, statements_in}
 
@@ -18,10 +18,7 @@ use Rattle.script_spec.specs.Common.{Script as Said, IsInRangeScript, statements
 sent_of : (port : Sending) (bytes : List ℕ) (statement : Statement) →
     bytes_sent port (happenings_of bytes statement)
     ≡ sent_by (after_all port (map Comes bytes)) (Happens statement.event)
-sent_of port bytes statement =
-    let middle = after_all port (map Comes bytes) in
-    rw (sent-append port (map Comes bytes) (Happens statement.event ∷ []), none_sent port bytes)
-    (append-nil (sent_by middle (Happens statement.event)))
+sent_of port bytes statement = grind (arith, nat_tests, sent-append, none_sent, append-nil)
 
 pub went_nowhere : (place : SerialPlace) → IsStanding place.serial → WentOn place [] place
 went_nowhere place standing = record {
@@ -42,39 +39,13 @@ pub went_on_step : (statement : Statement) (old middle new : Serial Standing) (i
     (record { serial = new; input = left; sent = after })
 unfolding happenings_in steps_in
 went_on_step statement old middle new input left sent after gone received done added one two =
-    let now = happenings_of (bytes_before old.com1.uart input) statement in
-    let rest = left_after old.com1.uart input in
-    let both : Happened statement.actor old now new =
+    let both : Happened statement.actor old (happenings_of (bytes_before old.com1.uart input) statement) new =
     happened_twice _ _ _ _ _ _ received done in
-    let sends : after ≡ sent ++ bytes_sent (port_of old) now =
-    rw (sent_of (port_of old) (bytes_before old.com1.uart input) statement, ← received.port) added in
-    rw gone (record {
-      setup = both.setup;
-      standing = both.standing;
-      sent = λ later. cc (
-        sent-append (port_of old) now (happenings_in (after_all (port_of old) now) rest later),
-        append_assoc sent (bytes_sent (port_of old) now) (sent_in (after_all (port_of old) now) rest later),
-        sends,
-        both.port,
-      );
-      steps = λ later. cc (
-        append_assoc (statements_of old.board.entries) (steps_for_all statement.actor (port_of old) now)
-            (steps_in (after_all (port_of old) now) rest later),
-        both.steps,
-        both.port,
-      );
-      spare = omega (arith, one, two);
-    })
+    grind (arith, nat_tests, sent_of, sent-append, append_assoc)
 
 pub went_on_twice : (old middle new : SerialPlace) (first second : List Statement) →
     WentOn old first middle → WentOn middle second new → WentOn old (first ++ second) new
-went_on_twice old middle new first second one two = record {
-  setup = two.setup ∙ one.setup;
-  standing = two.standing;
-  sent = λ later. rw append_assoc (one.sent (second ++ later) ∙ two.sent later);
-  steps = λ later. rw append_assoc (one.steps (second ++ later) ∙ two.steps later);
-  spare = omega (arith, one.spare, two.spare, length-append first second);
-}
+went_on_twice old middle new first second one two = grind (arith, nat_tests, append_assoc, length-append)
 
 -- one statement more of a list
 pub went_on_more : (statements : List Statement) (i : ℕ) (statement : Statement) (old middle new : SerialPlace) →
@@ -116,18 +87,10 @@ pub serial_told : LegalKeepsLock → (setup : Setup) (script : Said) (fresh last
     text ≡ sent → IsSerialText setup script input text
 serial_told locks setup script fresh last input left sent text fitted none new went legal is =
     let begin = reset_port fresh new none in
-    let all = append-nil (statements_in script) in
+    let steps = went.steps [] in
+    let sends = went.sent [] in
     let later = none_later (port_of last) left in
-    let history = last.board.entries in
-    let steps = rw (begin, none, all, later.1, append-nil (statements_of history)) at (went.steps []) in
-    let sends = rw (begin, all, later.0, append-nil sent) at (went.sent []) in
-    let is_legal : IsLegal setup history = rw (went.setup ∙ fitted) at legal in
-    record {
-      history = history;
-      replay = record { legal = is_legal; same = sym steps };
-      locked = locks setup history is_legal;
-      sent = is ∙ sym sends;
-    }
+    grind (arith, nat_tests, append-nil, locks)
 
 -- the statements of a script are for its port
 pub script_for_port : (setup : Setup) (script : Said) → IsInRangeScript script → setup.cards ≡ script.cards →

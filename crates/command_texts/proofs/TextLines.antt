@@ -1,8 +1,9 @@
 -- Lines of a text, one after another.
-use Rattle.std.proofs.Common.{◌≡◌, ℕ, ◌+◌, ◌-◌, ◌<◌, List, ◌∷◌, ◌++◌, [], take, length, get_or, ap, ◌∙◌, append_assoc}
+use Rattle.board_prelude.proofs.Common.{common_steps, take-append_seam, get_or-append_seam, take_more, map-append}
+use Rattle.board_prelude.proofs.Common.{line_feed, MapRange, range_text, map_text}
+use Rattle.std.proofs.lemmas.Bool.Decides.{nat_tests}
+use Rattle.std.proofs.Common.{◌≡◌, ℕ, ◌+◌, ◌-◌, ◌<◌, List, ◌∷◌, ◌++◌, [], take, length, get_or, append_assoc}
 use Rattle.std.proofs.Common.{length-append, arith, flat_map, slice_index, map}
-use Rattle.board_prelude.proofs.Common.{take-append_seam, get_or-append_seam, take_more, map-append, line_feed}
-use Rattle.board_prelude.proofs.Common.{MapRange, range_text, map_text}
 use Rattle.std.proofs.lemmas.List.{flat_map_more}
 use Rattle.map_builder.specs.Common.{Range, range_of}
 
@@ -10,20 +11,20 @@ use Rattle.map_builder.specs.Common.{Range, range_of}
 pub lines_more : {A : Type 0} (line_of : A → List ℕ) (elements : List A) (i : ℕ) (default : A) → i < length elements →
     (old text new : List ℕ) → text ≡ old ++ flat_map line_of (take i elements) →
     new ≡ text ++ line_of (get_or elements i default) → new ≡ old ++ flat_map line_of (take (i + 1) elements)
-lines_more line_of elements i default inside old text new so_far added =
-    rw (added, so_far, take_more elements i default inside)
-    (flat_map_more line_of old (take i elements) (get_or elements i default))
+lines_more line_of elements i default inside old text new so_far added = grind (arith, nat_tests, common_steps)
 
 -- the text of a line without its last character
 pub last_gone : (old text new line : List ℕ) (size last : ℕ) → text ≡ old ++ (line ++ last ∷ []) → last < 128 →
     size ≡ length text → (0 < size → slice_index text (size - 1) < 128 → new ≡ take (size - 1) text) → new ≡ old ++ line
 last_gone old text new line size last said ascii whole cut =
-    let is : text ≡ (old ++ line) ++ last ∷ [] = rw said (simp append_assoc) in
-    let long : length text ≡ length (old ++ line) + 1 = ap length is ∙ length-append (old ++ line) (last ∷ []) in
-    let place : size - 1 ≡ length (old ++ line) = omega (arith, long, whole) in
-    let there : slice_index text (size - 1) ≡ last = rw (place, is) (get_or-append_seam (old ++ line) last [] 0) in
-    cut (omega (arith, long, whole)) (omega (arith, there, ascii))
-    ∙ rw (place, is) (take-append_seam (old ++ line) (last ∷ []))
+    let is : text ≡ (old ++ line) ++ last ∷ [] = cc (said, append_assoc old line (last ∷ [])) in
+    grind (
+      arith,
+      nat_tests,
+      length-append,
+      get_or-append_seam (old ++ line) last [] 0,
+      take-append_seam (old ++ line) (last ∷ []),
+    )
 
 abbrev line_of : MapRange → List ℕ
 line_of range = range_text range ++ line_feed ∷ []

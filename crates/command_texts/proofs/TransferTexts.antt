@@ -1,4 +1,5 @@
 -- What a transfer tells is that of the definition over what the history left.
+use Rattle.std.proofs.lemmas.Bool.Decides.{nat_tests}
 use Rattle.std.proofs.Common.{ap, add-one, ◌≡◌, ℕ, ◌<◌, List, [], ◌++◌, length, refl, slice_index, Result, Ok, Err}
 use Rattle.std.proofs.Common.{IfOk, zero, suc, ◌+◌, ◌-◌, ◌*◌, ◌≤◌, take, drop, add-suc, add-zero, arith, ◌∷◌}
 use Rattle.std.proofs.Common.{append_assoc, OnOk}
@@ -13,7 +14,7 @@ use Rattle.command_words.specs.declared.transfer.Transfer.{Transfer}
 use Rattle.command_texts.specs.Laws.{RomsAreRead}
 use Rattle.command_texts.specs.Transfers.{AreCellsAfter, HasTransferText, started, sum_below, dram_sum, disk_sum}
 use Rattle.command_texts.specs.Transfers.{ended_line, sums_line}
-use Rattle.std.proofs.Math.Nat.{suc-mul, min-le_left}
+use Rattle.std.proofs.Math.Nat.{min-le_left}
 use Rattle.std.proofs.lemmas.List.{get_or_past, get_or-take, get_or-drop, length-take}
 
 -- ---- sums of bytes, in parts
@@ -50,17 +51,14 @@ pub part_added : (size i : ℕ) (byte_at : ℕ → ℕ) (part : List ℕ) → le
     ((k : ℕ) → k < size → byte_at (i * size + k) ≡ slice_index part k) →
     sum_below (i * size) byte_at + sum_below (length part) (slice_index part) ≡ sum_below ((i + 1) * size) byte_at
 part_added size i byte_at part within same =
-    let room : length part + (size - length part) ≡ size = omega (arith, within) in
-    let kept = rw room at (sum_below-past part (size - length part)) in
+    let past = sum_below-past part (size - length part) in
     let this = sum_below-same size (λ k. byte_at (i * size + k)) (slice_index part) same in
-    rw (add-one i, suc-mul i size) (omega (arith, sum_below-append (i * size) size byte_at, this, kept))
+    grind (arith, nat_tests, sum_below-append (i * size) size byte_at)
 
 -- the bytes of a part that is cut out of a list
 pub cut_byte : (size i k : ℕ) (bytes : List ℕ) → k < size →
     slice_index bytes (i * size + k) ≡ slice_index (take size (drop (size * i) bytes)) k
-cut_byte size i k bytes below =
-    let place : i * size + k ≡ size * i + k = omega arith in
-    rw (get_or-take size (drop (size * i) bytes) k 0 below, get_or-drop (size * i) bytes k 0, place) refl
+cut_byte size i k bytes below = grind (arith, nat_tests, get_or-take, get_or-drop)
 
 pub cut_length : (size i : ℕ) (bytes : List ℕ) → length (take size (drop (size * i) bytes)) ≤ size
 cut_length size i bytes =
@@ -116,5 +114,4 @@ ok_then (Err fault) is more = tt
 pub abort_added : {T E : Type 0} (result : Result T E) (old one two three new first second last : List ℕ) →
     one ≡ old ++ first → two ≡ one ++ second → three ≡ two ++ space ∷ [] → OnOk result (new ≡ three ++ last) →
     OnOk result (new ≡ old ++ (first ++ second ++ space ∷ last))
-abort_added (Ok done) old one two three new first second last a b c d = rw (d, c, b, a) (simp append_assoc)
-abort_added (Err fault) old one two three new first second last a b c d = tt
+abort_added result old one two three new first second last a b c d = grind (arith, nat_tests, append_assoc)

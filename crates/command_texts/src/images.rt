@@ -24,6 +24,7 @@ use std::alloc::Global;
 const LOG_VERSION: u8 = 2;
 
 /// Whether two cards are equal.
+#[tactic(auto, using(crate::proofs::Cards::bases_eq, crate::proofs::Cards::card_same, crate::proofs::Cards::rom_same, std::proofs::lemmas::Bool::Decides::nat_tests))]
 fn is_same_card(card: &CardSpec, other: &CardSpec) -> bool
     ensures same { (result ≡ true) ↔ (card.now ≡ other.now) }
 {

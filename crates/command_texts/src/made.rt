@@ -17,7 +17,7 @@ use script_text::{Script, ScriptFault, read_script};
 use std::alloc::Global;
 
 /// The made script of so many rounds, read from its text.
-#[tactic(auto, using(crate::proofs::MadeScripts::text_is_short))]
+#[tactic(auto, using(crate::proofs::MadeScripts::text_is_short, script_spec::proofs::ReadingLaws::not_both, std::proofs::lemmas::Bool::Decides::nat_tests))]
 fn made_script(alloc: Global, rounds: u32) -> Result<Script, NoMemory>
     requires most { rounds ≤ most_rounds }
     ensures says { IfOk result (λ script. IsScriptText (make_text rounds) (said_of script)) }
@@ -69,6 +69,7 @@ fn summary_of(alloc: Global, board: &Board) -> Result<Text, NoMemory>
 }
 
 /// The summary of the replay of the made script of so many rounds, 1 to 20,000. No file is read.
+#[tactic(auto, using(crate::proofs::MadeScripts::made_result, std::proofs::lemmas::Bool::Decides::nat_tests))]
 pub fn summary_of_made(alloc: Global, rounds: u32) -> Result<Text, NoMemory>
     requires most { rounds ≤ most_rounds }
     ensures text { IfOk result (λ text. IsMakeText rounds text) }

@@ -116,6 +116,7 @@ fn legal_text(alloc: Global, count: u32) -> Result<Text, NoMemory>
 
 /// The text `legal` with the number of a log's entries, where the log is that of a legal and complete history of a
 /// script.
+#[tactic(auto, using(std::proofs::lemmas::Bool::Decides::nat_tests))]
 pub fn verdict_on_log(
     alloc: Global,
     board: &mut Board,

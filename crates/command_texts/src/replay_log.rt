@@ -23,6 +23,7 @@ use std::alloc::Global;
 const LINE_ROOM: usize = 64;
 
 /// Does the statements of a phase in their order, and appends the line of each entry.
+#[tactic(auto, using(crate::proofs::ReplayLogs::log_answered, std::proofs::lemmas::Bool::Decides::nat_tests))]
 fn push_phase(text: &mut String, replay: &mut Replay, phase: &[Statement]) -> Result<(), NoMemory>
     requires in_range { AreInRange replay.old.chipset.setup phase.now }
     requires few { replay.old.count + length phase.now < entry_limit }

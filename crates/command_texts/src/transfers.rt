@@ -54,7 +54,7 @@ fn sum_of(bytes: &[u8]) -> u64
 }
 
 /// The sum of all bytes of a DRAM of so many MiB. Those that are not kept are 0.
-#[tactic(auto, unfolding(crate::specs::Transfers::sum_below))]
+#[tactic(auto, using(crate::proofs::TransferTexts::part_added, std::proofs::lemmas::Bool::Decides::nat_tests), unfolding(crate::specs::Transfers::sum_below))]
 fn dram_sum(dram: &Dram, mib: u32) -> u64
     requires size { length dram.now ≡ mib * bank_size }
     ensures sum { result ≡ sum_below (length dram.now) (slice_index dram.now) }

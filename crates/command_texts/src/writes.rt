@@ -27,6 +27,7 @@ pub(crate) struct MapWrites {
 
 impl MapWrites {
     /// The map writes of a history without entries: none.
+    #[tactic(auto, using(std::proofs::lemmas::Bool::Decides::nat_tests), unfolding(board_spec::specs::MapWrites::map_writes_of))]
     fn new(alloc: Global) -> MapWrites
         ensures none { (setup : Setup) → AreWritesOf setup [] result }
     {

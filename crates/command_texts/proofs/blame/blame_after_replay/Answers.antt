@@ -1,4 +1,5 @@
-use Rattle.std.proofs.Common.{rules, ◌≡◌, length, reverse, sym, ap, ◌∙◌, arith}
+use Rattle.std.proofs.lemmas.Bool.Decides.{nat_tests}
+use Rattle.std.proofs.Common.{rules, length, reverse, sym, ap, ◌∙◌, arith}
 use Rattle.std.proofs.lemmas.List.{length-reverse}
 use Rattle.command_texts.proofs.Done.{length_of_replay}
 use Rattle.command_texts.proofs.MapWrites.{version_is}
@@ -8,13 +9,7 @@ use Rattle.board_chipset.proofs.MapVersions.{few_writes}
 
 pub blame-requires-clause-count : goal.blame-requires-clause-count
 blame-requires-clause-count c =
-    let board = c.replay_noting.new.board in
-    let is = version_is _ _ _ c.in_ok-writes.ensures.writes in
-    let few = few_writes board.setup board.entries in
-    let count = length_of_replay _ _ _ c.in_ok-writes.ensures.replay in
-    let noted : length c.deref-2.result.now ≡ length c.in_ok-writes.writes.changes.items =
-    ap length c.deref-2.ensures.value in
-    omega (arith, is, few, count, noted, c.requires.fresh.in_range.statements)
+    grind (arith, nat_tests, length-reverse, length_of_replay, version_is, all_since, all_kept, blame_text, few_writes)
 
 pub report_text-requires : goal.report_text-requires
 report_text-requires c =

@@ -7,15 +7,15 @@ use Rattle.command_texts.proofs.serial.all_steps.Goals as goal
 pub steps-requires-clause-for_port : goal.steps-requires-clause-for_port
 steps-requires-clause-for_port c =
     rw c.loop-phase.invariant.setup
-    (of_phase (IsForPort c.args.serial.now.board.setup) c.args.phases.now c.loop-phase.phase-index
-    c.phase-item.result _ c.loop-phase-test.true c.phase-item.is c.deref.ensures.value c.requires.for_port)
+    (of_phase (IsForPort c.args.serial.now.board.setup) _ _ _ _
+    c.loop-phase-test.true c.phase-item.is c.deref.ensures.value c.requires.for_port)
 
 pub steps-requires-clause-spare : goal.steps-requires-clause-spare
 steps-requires-clause-spare c =
-    let adds = phase_adds _ _ _ c.deref.result.now c.loop-phase-test.true c.phase-item.is c.deref.ensures.value in
+    let adds = phase_adds c.loop-phase-test.true c.phase-item.is c.deref.ensures.value in
     omega (arith, adds.few, c.requires.spare, c.loop-phase.invariant.spare)
 
 pub loop-phase-preserved : goal.loop-phase-preserved
 loop-phase-preserved c =
-    let adds = phase_adds _ _ _ c.deref.result.now c.loop-phase-test.true c.phase-item.is c.deref.ensures.value in
+    let adds = phase_adds c.loop-phase-test.true c.phase-item.is c.deref.ensures.value in
     rw adds.said (went_on_twice _ _ _ _ _ c.loop-phase.invariant c.in_ok-left.ensures.went_on)

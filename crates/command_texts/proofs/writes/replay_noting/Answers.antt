@@ -1,7 +1,7 @@
+use Rattle.std.proofs.lemmas.Bool.Decides.{nat_tests}
 use Rattle.std.proofs.Common.{ap, ◌∙◌, arith}
 use Rattle.board_prelude.proofs.Common.{take_all, IsInRange}
 use Rattle.board_core.specs.Kept.{Standing}
-use Rattle.script_text.specs.Script.{said_of}
 use Rattle.command_texts.proofs.Statements.{in_range}
 use Rattle.command_texts.proofs.Done.{done_more, done_is_replay, phase_adds, of_phase, none_said}
 use Rattle.command_texts.proofs.writes.replay_noting.Goals as goal
@@ -21,30 +21,20 @@ loop-phase-init c =
 
 pub steps_noting-requires-clause-in_range : goal.steps_noting-requires-clause-in_range
 steps_noting-requires-clause-in_range c =
-    let all = in_range c.args.board.now.setup (said_of c.args.script.now) c.requires.fresh.in_range
-    c.requires.fresh.cards in
-    of_phase (λ statement. IsInRange c.loop-phase.board.setup statement.event) c.deref-phase-items.result.now
-    c.loop-phase.phase-index c.phase-item.result _ c.loop-phase-test.true c.phase-item.is
-    c.deref-in-loop-phase.ensures.value (rw (c.loop-phase.invariant.done.setup, c.deref-phase-items.ensures.value) all)
+    of_phase (λ statement. IsInRange c.loop-phase.board.setup statement.event) _ _ _ _
+    c.loop-phase-test.true c.phase-item.is c.deref-in-loop-phase.ensures.value
+    (rw (c.loop-phase.invariant.done.setup, c.deref-phase-items.ensures.value)
+    (in_range c.args.board.now.setup _ c.requires.fresh.in_range c.requires.fresh.cards))
 
 pub steps_noting-requires-clause-spare : goal.steps_noting-requires-clause-spare
 steps_noting-requires-clause-spare c =
-    let adds = phase_adds _ _ _ _ c.loop-phase-test.true c.phase-item.is c.deref-in-loop-phase.ensures.value in
+    let adds = phase_adds c.loop-phase-test.true c.phase-item.is c.deref-in-loop-phase.ensures.value in
     omega (arith, c.loop-phase.invariant.room, adds.few)
 
 pub loop-phase-preserved : goal.loop-phase-preserved
 loop-phase-preserved c =
-    let adds = phase_adds _ _ _ _ c.loop-phase-test.true c.phase-item.is c.deref-in-loop-phase.ensures.value in
-    record {
-      done = rw adds.said (done_more _ _ _ _ _ c.loop-phase.invariant.done c.in_ok-steps_noting.ensures.done);
-      room = omega (arith, c.loop-phase.invariant.room, c.in_ok-steps_noting.ensures.spare, adds.few, adds.long);
-      writes = c.in_ok-steps_noting.ensures.writes;
-    }
+    let adds = phase_adds c.loop-phase-test.true c.phase-item.is c.deref-in-loop-phase.ensures.value in
+    grind (arith, nat_tests, done_more)
 
 pub returns-clause-replay : goal.returns-clause-replay
-returns-clause-replay c =
-    done_is_replay c.args.board.now c.loop-phase.board _ c.requires.fresh.fresh
-    (rw (
-      take_all c.loop-phase.phase-index c.deref-phase-items.result.now c.loop-phase-test.false,
-      c.deref-phase-items.ensures.value,
-    ) at c.loop-phase.invariant.done)
+returns-clause-replay c = grind (arith, nat_tests, take_all, done_is_replay)
