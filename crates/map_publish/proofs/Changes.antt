@@ -1,10 +1,10 @@
 -- Maps after changes, and the changes of lists.
 use Rattle.std.proofs.Common.{◌≡◌, ◌<◌, ◌≤◌, List, [], ◌∷◌, ◌++◌, length, refl, ◌∙◌, arith, length-append, flat_map}
-use Rattle.board_prelude.proofs.Common.{nat_tests, flat_map-append, reverse-append, MapChange, Setup, registers_after}
+use Rattle.board_prelude.proofs.Common.{flat_map-append, reverse-append, MapChange, Setup, registers_after}
 use mathlib.Core.List.{IsPrefix}
 use Rattle.map_builder.specs.Common.{Mapped, Changed as Bounds, IsApplied}
 use Rattle.map_publish.specs.Common.{bytes_after, IsMapAfter, changes_in, changes_of, opened_of, version_after}
-use Rattle.map_publish.specs.Common.{with_change, IsMapOfLog}
+use Rattle.map_publish.specs.Common.{IsMapOfLog}
 use Rattle.map_publish.specs.declared.mark.Mark.{Mark}
 use Rattle.map_publish.specs.declared.mark.Mark.TheVariants.{Changed}
 
@@ -53,10 +53,6 @@ version_grows front whole some prefix =
 pub opened_changed : (log : List Mark) (change : MapChange) → opened_of (log ++ Changed change ∷ []) ≡ opened_of log
 opened_changed [] change = refl
 opened_changed (first ∷ later) change = refl
-
-pub with_change_below : (log : List Mark) (change : MapChange) → version_after log < 4_000_000
-    → with_change log change ≡ log ++ Changed change ∷ []
-with_change_below log change below = grind (arith, nat_tests)
 
 -- the map of a list with a change made in it is the map of the list with the change at its end
 pub changed_map : (log : List Mark) (change : MapChange) {now next : Mapped} {bounds : Bounds} → IsMapOfLog log now →

@@ -12,7 +12,7 @@ use Rattle.map_publish.specs.declared.shown.Next.{Next}
 use Rattle.map_publish.specs.declared.shown.Next.TheVariants.{Same, Change}
 use Rattle.board_spec.specs.declared.map_change.MapChange.{MapChange}
 use Rattle.map_publish.specs.Common.{version_after, IsMapOfLog, applied, nobody, KnowsBook, AllKnow, LearnsName, Stays}
-use Rattle.map_publish.proofs.Changes.{with_change_below}
+use Rattle.std.proofs.lemmas.Bool.Decides.{nat_tests}
 
 nobody_knows : (shown : Shown) → KnowsBook shown nobody
 nobody_knows shown named = absurd (cc named)
@@ -62,9 +62,7 @@ pub publishes : (seat : ℕ) (given : Name) (shown next : Shown) (change : MapCh
     ops ≡ Change change front ∷ [] → (next.list.log, next.front) ≡ fold applied (shown.list.log, shown.front) ops →
     TurnsAt AllKnow seat given shown next Stays
 publishes seat given shown next change front ops listed room own added is to views holds at =
-    let kept : next.front.seen.book ≡ shown.front.seen.book = grind arith in
-    let map : IsMapOfLog next.front.seen.log next.map = grind (arith, with_change_below) in
-    grind (arith, set_holds, next_known)
+    grind (arith, nat_tests, set_holds, next_known)
 
 -- the first publish names the seat
 pub begins : (seat : ℕ) (given : Name) (shown next : Shown) (ops : List Next) → shown.list.log ≡ shown.front.seen.log →
