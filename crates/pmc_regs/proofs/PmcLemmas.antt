@@ -1,12 +1,13 @@
 -- Stores of one byte to the registers of the host bridge.
 use Rattle.std.proofs.Common.{◌≡◌, ◌≢◌, ℕ, ◌+◌, ◌<◌, ◌⊎◌, List, [], length, set, None, ◌∙◌, refl, sym, ap, arith, inl}
 use Rattle.std.proofs.Common.{inr, get_or-set_other, get_or-set_same}
-use Rattle.board_prelude.proofs.Common.{cases_lt, cases_eq, ne_eqb, One, Store, Setup, merged, reset_byte}
-use Rattle.board_prelude.proofs.Common.{writable_bits, changed_byte, Bytes, bridge, fdhc, merged-all, merged-none}
+use Rattle.board_prelude.proofs.Common.{cases_lt, ne_eqb, One, Store, Setup, merged, reset_byte, writable_bits}
+use Rattle.board_prelude.proofs.Common.{changed_byte, Bytes, bridge, fdhc, merged-all, merged-none}
 use Rattle.board_prelude.proofs.Common.{changed_byte-one_same, changed_byte-one_other}
 use Rattle.pmc_regs.specs.Pmc.{PmcBytes, IsFixedOffset, IsRowsOf, IsPmcOf}
 use Rattle.pmc_regs.proofs.TableLemmas.{header_byte, row_bytes, rows_are, writable_bits-row, reset_byte-header}
 use Rattle.pmc_regs.proofs.TableLemmas.{reset_byte-blank, writable_bits-fixed}
+use Rattle.std.proofs.lemmas.Bool.Decides.{nat_tests}
 
 -- ---- after a reset
 
@@ -49,14 +50,15 @@ IsFixedIn bytes = (setup : Setup) (off : ℕ) → IsFixedOffset off → bytes (b
 
 pub fixed_stay : (setup : Setup) (bytes : Bytes) (off written : ℕ) → written < 256 → IsFixedIn bytes →
     IsFixedIn (after_store setup bytes off written)
-fixed_stay setup bytes off written below fixed other at is_fixed =
-    elim (cases_eq at off) [
-      | inl same ↦
-          rw (← same)
-          (there _ bytes at _ 0 below (omega arith) (writable_bits-fixed setup at is_fixed)
-          ∙ rw (fixed other at is_fixed) (merged-none _ written (reset_byte-small other at is_fixed)))
-      | inr apart ↦ elsewhere setup bytes _ written at apart ∙ fixed other at is_fixed
-    ]
+fixed_stay setup bytes off written below fixed other at is_fixed = grind (
+  arith,
+  nat_tests,
+  there,
+  writable_bits-fixed,
+  merged-none,
+  reset_byte-small,
+  elsewhere,
+)
 
 -- ---- the three kinds of registers
 
@@ -64,18 +66,8 @@ module _ (setup : Setup) (bytes : Bytes) (drb : List ℕ) where
   -- the boundaries after a byte is stored in one of their registers
   pub rows_after_store : (row written : ℕ) → length drb ≡ 8 → row < 8 → written < 256 → IsRowsOf bytes drb →
       IsRowsOf (after_store setup bytes (0x60 + row) written) (set drb row written)
-  rows_after_store row written eight within below is_rows at at_within =
-      elim (cases_eq at row) [
-        | inl same ↦
-            rw same
-            (get_or-set_same drb row written 0 (omega arith)
-            ∙ sym (there setup bytes (0x60 + row) written 0xFF below (omega arith) (writable_bits-row setup row within)
-            ∙ merged-all (bytes (bridge (0x60 + row))) written below))
-        | inr apart ↦
-            get_or-set_other drb row at written 0 apart
-            ∙ is_rows at at_within
-            ∙ sym (elsewhere setup bytes (0x60 + row) written (0x60 + at) (omega arith))
-      ]
+  rows_after_store row written eight within below is_rows at at_within = grind
+      (arith, nat_tests, get_or-set_same, there, writable_bits-row, merged-all, get_or-set_other, elsewhere)
 
   pub stored_row : (hole row off written : ℕ) → 0x60 + row ≡ off → length drb ≡ 8 → row < 8 → written < 256 →
       IsPmcOf bytes (record { drb = drb; fdhc = hole }) →
