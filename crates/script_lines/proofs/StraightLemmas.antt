@@ -4,9 +4,8 @@ use Rattle.std.proofs.Common.{arith, ◌≡◌, ℕ, ◌+◌, ◌*◌, false, Op
 use Rattle.std.proofs.Common.{◌∙◌, IfSome, MatchOption}
 use Rattle.std.proofs.lemmas.List.Splits.{slice_split_none, slice_split_at}
 use Rattle.script_spec.specs.Common.{HasForm, fields_of, parse_size, parse_width, parse_kind, parse_hex, parse_decimal}
-use Rattle.script_spec.specs.Common.{parse_digit, number_after, parse_smm, parse_read, parse_write, parse_in, parse_out}
-use Rattle.script_spec.specs.Common.{parse_look, ask, is_skipped, parse_by_verb, parse_statement_words}
-use Rattle.script_spec.specs.Events.{read_event, write_event, in_event, out_event, look_event}
+use Rattle.script_spec.specs.Common.{parse_digit, number_after, ask, is_skipped, parse_smm, parse_read}
+use Rattle.script_spec.specs.Events.{read_event}
 use Rattle.script_spec.proofs.Chains.{guarded, then_said}
 use Rattle.script_spec.proofs.NumberTexts.{decimal_read}
 use Rattle.script_spec.proofs.LineReading.{read_says}
@@ -14,7 +13,7 @@ use Rattle.script_lines.specs.Straight.{Asks}
 use Rattle.script_spec.proofs.ItemBack.{number_first}
 use Rattle.script_lines.proofs.FieldLemmas.{is_space}
 
-abbrev IsField : List ℕ → Type 0
+abbrev pub IsField : List ℕ → Type 0
 IsField field = All (λ byte. is_space byte ≡ false) field
 
 -- ---- what says something has no space
@@ -30,16 +29,16 @@ number_lacks base high n (byte ∷ rest) e =
     All-cons (λ byte. is_space byte ≡ false) byte rest (grind (arith, nat_tests, k.1))
     (number_lacks base (high * base + k.0) n rest k.2)
 
-hex_lacks : (digits n : ℕ) (field : List ℕ) → parse_hex digits field ≡ Some n → IsField field
+pub hex_lacks : (digits n : ℕ) (field : List ℕ) → parse_hex digits field ≡ Some n → IsField field
 hex_lacks digits n field e = grind (arith, nat_tests, number_lacks, guarded)
 
-size_lacks : (version size bytes : ℕ) → parse_size version (size ∷ []) ≡ Some bytes → is_space size ≡ false
+pub size_lacks : (version size bytes : ℕ) → parse_size version (size ∷ []) ≡ Some bytes → is_space size ≡ false
 size_lacks version size bytes e = grind (arith, nat_tests)
 
-width_lacks : (byte : ℕ) (width : Width) → parse_width (byte ∷ []) ≡ Some width → is_space byte ≡ false
+pub width_lacks : (byte : ℕ) (width : Width) → parse_width (byte ∷ []) ≡ Some width → is_space byte ≡ false
 width_lacks byte width e = grind (arith, nat_tests)
 
-kind_lacks : (byte : ℕ) (kind : Kind) → parse_kind (byte ∷ []) ≡ Some kind → is_space byte ≡ false
+pub kind_lacks : (byte : ℕ) (kind : Kind) → parse_kind (byte ∷ []) ≡ Some kind → is_space byte ≡ false
 kind_lacks byte kind e = grind (arith, nat_tests)
 
 -- ---- fields
@@ -48,16 +47,14 @@ one_byte : (byte : ℕ) (rest : List ℕ) → is_space byte ≡ false
     → fields_of (byte ∷ 32 ∷ rest) ≡ (byte ∷ []) ∷ fields_of rest
 one_byte byte rest lacks = grind (arith, nat_tests)
 
-last_field : (byte : ℕ) (field : List ℕ) → is_space byte ≡ false → IsField field
+pub last_field : (byte : ℕ) (field : List ℕ) → is_space byte ≡ false → IsField field
     → fields_of (byte ∷ 32 ∷ field) ≡ (byte ∷ []) ∷ field ∷ []
 last_field byte field lacks whole = simp (one_byte, slice_split_none, is_space)
 
-last_fields : (byte : ℕ) (text first second : List ℕ) → text ≡ first ++ 32 ∷ second → is_space byte ≡ false →
+pub last_fields : (byte : ℕ) (text first second : List ℕ) → text ≡ first ++ 32 ∷ second → is_space byte ≡ false →
     IsField first → IsField second → fields_of (byte ∷ 32 ∷ text) ≡ (byte ∷ []) ∷ first ∷ second ∷ []
 last_fields byte text first second is lacks one two =
     grind (arith, nat_tests, one_byte, slice_split_at, is_space, slice_split_none)
-
--- ---- events, as what was found says them
 
 pub access_straight : (version size : ℕ) (kind : Kind) (text addr : List ℕ) (found : Option Event)
     → text ≡ size ∷ 32 ∷ addr → found ≡ read_event version kind (size ∷ []) addr false
@@ -66,37 +63,12 @@ unfolding parse_read parse_smm read_event
 access_straight version size kind text addr found is made =
     grind (arith, nat_tests, then_said, last_field, size_lacks, hex_lacks)
 
--- ---- verbs
+-- a statement that is read straight, once its fields are known
+pub ruleset straight =
+    (nat_tests, then_said, last_field, last_fields, size_lacks, width_lacks, kind_lacks, hex_lacks)
 
 pub matched : {A : Type 0} (N : Type 0) (P : A → Type 0) (found : Option A) → MatchOption found N P → IfSome found P
 matched N P found m = grind (arith, nat_tests)
-
-pub write_straight : (version size : ℕ) (words text fields addr value : List ℕ) (found : Option Event)
-    → words ≡ 119 ∷ 32 ∷ text → text ≡ size ∷ 32 ∷ fields → fields ≡ addr ++ 32 ∷ value
-    → found ≡ write_event version (size ∷ []) addr value false → IfSome found (Asks version words)
-unfolding parse_statement_words parse_by_verb parse_write parse_smm write_event
-write_straight version size words text fields addr value found verb is cut made =
-    grind (arith, nat_tests, then_said, last_fields, size_lacks, hex_lacks)
-
-pub in_straight : (version byte : ℕ) (words text port : List ℕ) (found : Option Event) → words ≡ 105 ∷ 110 ∷ 32 ∷ text →
-    text ≡ byte ∷ 32 ∷ port → found ≡ in_event (byte ∷ []) port → IfSome found (Asks version words)
-unfolding parse_statement_words parse_by_verb parse_in in_event
-in_straight version byte words text port found verb is made =
-    grind (arith, nat_tests, then_said, last_field, width_lacks, hex_lacks)
-
-pub out_straight : (version byte : ℕ) (words text fields port value : List ℕ) (found : Option Event)
-    → words ≡ 111 ∷ 117 ∷ 116 ∷ 32 ∷ text → text ≡ byte ∷ 32 ∷ fields → fields ≡ port ++ 32 ∷ value
-    → found ≡ out_event (byte ∷ []) port value → IfSome found (Asks version words)
-unfolding parse_statement_words parse_by_verb parse_out out_event
-out_straight version byte words text fields port value found verb is cut made =
-    grind (arith, nat_tests, then_said, last_fields, width_lacks, hex_lacks)
-
-pub look_straight : (version byte : ℕ) (words text addr : List ℕ) (found : Option Event)
-    → words ≡ 108 ∷ 111 ∷ 111 ∷ 107 ∷ 32 ∷ text → text ≡ byte ∷ 32 ∷ addr → found ≡ look_event (byte ∷ []) addr false
-    → IfSome found (Asks version words)
-unfolding parse_statement_words parse_by_verb parse_look parse_smm look_event
-look_straight version byte words text addr found verb is made =
-    grind (arith, nat_tests, then_said, last_field, kind_lacks, hex_lacks)
 
 -- ---- the line
 

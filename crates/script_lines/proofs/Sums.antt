@@ -67,12 +67,14 @@ sums limit sum high (byte ∷ field) few is =
 
 -- ---- as they are added
 
+sum_is : (field : List ℕ) (sum : ℕ) → IsSmall 1 field → sum_after 0 field ≡ sum →
+    IsSum (grown 1 field) (parse_digits 16 field) sum
+sum_is field sum few same =
+    subst (IsSum (grown 1 field) (parse_digits 16 field)) same (sums 1 0 (Some 0) field few (refl, omega arith))
+
 pub two_added :
     (a b x y : ℕ) → x ≡ summand_of a → y ≡ summand_of b → IsSum 0x100 (parse_digits 16 (a ∷ b ∷ [])) (x * 16 + y)
-two_added a b x y is_x is_y =
-    let same : sum_after 0 (a ∷ b ∷ []) ≡ x * 16 + y = omega arith in
-    subst (IsSum 0x100 (parse_digits 16 (a ∷ b ∷ []))) same
-    (sums 1 0 (Some 0) (a ∷ b ∷ []) (grind arith) (refl, omega arith))
+two_added a b x y is_x is_y = sum_is (a ∷ b ∷ []) (x * 16 + y) (grind arith) (omega arith)
 
 pub four_added : (a b c d x y z w : ℕ) → x ≡ summand_of a → y ≡ summand_of b → z ≡ summand_of c → w ≡ summand_of d →
     (x * 16 + y) * 0x100 + (z * 16 + w) ≡ sum_after 0 (a ∷ b ∷ c ∷ d ∷ [])
@@ -80,16 +82,13 @@ four_added a b c d x y z w is_x is_y is_z is_w = omega arith
 
 pub four_is : (a b c d sum : ℕ) → sum ≡ sum_after 0 (a ∷ b ∷ c ∷ d ∷ []) →
     IsSum 0x1_0000 (parse_digits 16 (a ∷ b ∷ c ∷ d ∷ [])) sum
-four_is a b c d sum is = subst (IsSum 0x1_0000 (parse_digits 16 (a ∷ b ∷ c ∷ d ∷ []))) (sym is)
-    (sums 1 0 (Some 0) (a ∷ b ∷ c ∷ d ∷ []) (grind arith) (refl, omega arith))
+four_is a b c d sum is = sum_is (a ∷ b ∷ c ∷ d ∷ []) sum (grind arith) (sym is)
 
 pub eight_is :
     (a b c d e f g h high low : ℕ) → high ≡ sum_after 0 (a ∷ b ∷ c ∷ d ∷ []) → low ≡ sum_after 0 (e ∷ f ∷ g ∷ h ∷ [])
     → IsSum 0x1_0000_0000 (parse_digits 16 (a ∷ b ∷ c ∷ d ∷ e ∷ f ∷ g ∷ h ∷ [])) (high * 0x1_0000 + low)
 eight_is a b c d e f g h high low is_high is_low =
-    let same : sum_after 0 (a ∷ b ∷ c ∷ d ∷ e ∷ f ∷ g ∷ h ∷ []) ≡ high * 0x1_0000 + low = omega arith in
-    subst (IsSum 0x1_0000_0000 (parse_digits 16 (a ∷ b ∷ c ∷ d ∷ e ∷ f ∷ g ∷ h ∷ []))) same
-    (sums 1 0 (Some 0) (a ∷ b ∷ c ∷ d ∷ e ∷ f ∷ g ∷ h ∷ []) (grind arith) (refl, omega arith))
+    sum_is (a ∷ b ∷ c ∷ d ∷ e ∷ f ∷ g ∷ h ∷ []) (high * 0x1_0000 + low) (grind arith) (omega arith)
 
 -- ---- where the sum is below the limit, and where not
 

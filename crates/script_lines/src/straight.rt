@@ -96,6 +96,7 @@ fn straight_fetch(version: u8, words: &[u8]) -> Option<Event>
     straight_access(version, Kind::Fetch, text)
 }
 
+#[tactic(auto, using(crate::proofs::StraightLemmas::straight), unfolding(script_spec::specs::Items::parse_statement_words, script_spec::specs::Items::parse_by_verb, script_spec::specs::Events::parse_write, script_spec::specs::Events::parse_smm, script_spec::specs::Events::write_event))]
 #[inline(always)]
 fn straight_write(version: u8, words: &[u8]) -> Option<Event>
     ensures event { IfSome result (Asks version words.now) }
@@ -106,6 +107,7 @@ fn straight_write(version: u8, words: &[u8]) -> Option<Event>
     write_event(version, &[size], place, digits, false)
 }
 
+#[tactic(auto, using(crate::proofs::StraightLemmas::straight), unfolding(script_spec::specs::Items::parse_statement_words, script_spec::specs::Items::parse_by_verb, script_spec::specs::Events::parse_in, script_spec::specs::Events::in_event))]
 #[inline(always)]
 fn straight_in(version: u8, words: &[u8]) -> Option<Event>
     ensures event { IfSome result (Asks version words.now) }
@@ -115,6 +117,7 @@ fn straight_in(version: u8, words: &[u8]) -> Option<Event>
     in_event(&[letter], field)
 }
 
+#[tactic(auto, using(crate::proofs::StraightLemmas::straight), unfolding(script_spec::specs::Items::parse_statement_words, script_spec::specs::Items::parse_by_verb, script_spec::specs::Events::parse_out, script_spec::specs::Events::out_event))]
 #[inline(always)]
 fn straight_out(version: u8, words: &[u8]) -> Option<Event>
     ensures event { IfSome result (Asks version words.now) }
@@ -125,6 +128,7 @@ fn straight_out(version: u8, words: &[u8]) -> Option<Event>
     out_event(&[letter], place, digits)
 }
 
+#[tactic(auto, using(crate::proofs::StraightLemmas::straight), unfolding(script_spec::specs::Items::parse_statement_words, script_spec::specs::Items::parse_by_verb, script_spec::specs::Events::parse_look, script_spec::specs::Events::parse_smm, script_spec::specs::Events::look_event))]
 #[inline(always)]
 fn straight_look(version: u8, words: &[u8]) -> Option<Event>
     ensures event { IfSome result (Asks version words.now) }
