@@ -1,39 +1,24 @@
 -- Fields are read as a card exactly where they spell it.
 use Rattle.std.proofs.Common.{◌≡◌, ℕ, ◌<◌, ◌≤◌, ◌⊎◌, inl, inr, Bool, true, false, Some, None, List, [], ◌∷◌, ◌++◌}
-use Rattle.std.proofs.Common.{length, map, All, refl, append_assoc, arith, codes, decimal, eqb, cond, ◌+◌, Option, sym}
-use Rattle.std.proofs.Common.{ap, append-nil, eqb-true, length-append, eq-eqb, lt-ltb}
-use Rattle.board_prelude.proofs.Common.{nat_tests, cases_Bool, option_map, All-nil, All-push, map-append, Base}
-use Rattle.board_prelude.proofs.Common.{MemoryBase, IoBase, FittedCard, All-head, All-tail}
-use Rattle.script_spec.specs.Common.{IsBaseForm, IsRomForm, IsCardForm, parse_decimal, parse_base, Tail, parse_rom_bits}
-use Rattle.script_spec.specs.Common.{with_base, with_rom, with_field, with_fields, no_tail, parse_vga, parse_card}
-use Rattle.script_spec.proofs.Chains.{some_is, guarded, mapped, then_said, then_read, word_is}
-use Rattle.script_spec.proofs.NumberTexts.{decimal_read, decimal_back}
+use Rattle.std.proofs.Common.{length, map, All, refl, append_assoc, arith, codes, decimal, ◌+◌, Option, sym, IfSome, ap}
+use Rattle.std.proofs.Common.{append-nil, length-append, eq-eqb, lt-ltb}
+use Rattle.board_prelude.proofs.Common.{nat_tests, All-nil, All-push, map-append, Base, All-head, All-tail}
+use Rattle.script_spec.specs.Common.{IsBaseForm, IsRomForm, IsCardForm, parse_base, Tail, parse_rom_bits, with_base}
+use Rattle.script_spec.specs.Common.{with_rom, with_field, with_fields, no_tail, parse_vga, parse_card}
+use Rattle.script_spec.proofs.Chains.{some_is, then_said, if_some, word_is}
+use Rattle.script_spec.proofs.NumberTexts.{decimal_if, decimal_back}
 use Rattle.script_spec.proofs.ItemWords.{kind_word, base_word, tail_words, rom_words}
 
-base_read : (field : List ℕ) (base : Base) → parse_base field ≡ Some base → (field ≡ base_word base) × IsBaseForm base
+base_if : (field : List ℕ) → IfSome (parse_base field) (λ base. (field ≡ base_word base) × IsBaseForm base)
 unfolding parse_base
-base_read [] base e = absurd cc
-base_read (letter ∷ digits) base e = elim (cases_Bool (eqb letter 0x6D)) [
-  | inl m ↦
-      let r = mapped (parse_decimal digits) MemoryBase base (rw m at e) in
-      let d = decimal_read digits r.0 r.1 in
-      rw r.2 ((λ i. eqb-true letter 0x6D m i ∷ d.0 i), d.1)
-  | inr m ↦
-      let g = guarded (eqb letter 0x69) (option_map IoBase (parse_decimal digits)) base (rw m at e) in
-      let r = mapped (parse_decimal digits) IoBase base g.1 in
-      let d = decimal_read digits r.0 r.1 in
-      rw r.2 ((λ i. eqb-true letter 0x69 g.0 i ∷ d.0 i), d.1)
-]
+base_if [] = tt
+base_if (letter ∷ digits) = grind (arith, nat_tests, decimal_if digits)
 
-rom_read : (version : ℕ) (field : List ℕ) (bits : ℕ) → parse_rom_bits version field ≡ Some bits
-    → (field ≡ codes "x" ++ decimal bits) × IsRomForm version (Some bits)
+rom_if : (version : ℕ) (field : List ℕ) → IfSome (parse_rom_bits version field)
+    (λ bits. (field ≡ codes "x" ++ decimal bits) × IsRomForm version (Some bits))
 unfolding parse_rom_bits
-rom_read version [] bits e = absurd cc
-rom_read version (letter ∷ digits) bits e =
-    let v = guarded (eqb version 2) (cond (eqb letter 0x78) (parse_decimal digits) None) bits e in
-    let g = guarded (eqb letter 0x78) (parse_decimal digits) bits v.1 in
-    let d = decimal_read digits bits g.1 in
-    ((λ i. eqb-true letter 0x78 g.0 i ∷ d.0 i), (eqb-true version 2 v.0, d.1))
+rom_if version [] = tt
+rom_if version (letter ∷ digits) = grind (arith, nat_tests, decimal_if digits)
 
 abbrev pub fresh : List Base → Tail
 fresh before = record { bases = before; rom = None }
@@ -73,10 +58,10 @@ tail_read version before (field ∷ fields) tail few each e =
     elim (field_read version before field s.0 s.1) [
       | inl rom ↦
           let end = ended version before fields rom.0 tail (rw rom.2 at s.2) in
-          let read = rom_read version field rom.0 rom.1 in
+          let read = rw rom.1 at (rom_if version field) in
           rw (← end.1, end.0, read.0) (record { words = refl; each = each; rom = read.1; count = few })
       | inr base ↦
-          let read = base_read field base.0 base.1 in
+          let read = rw base.1 at (base_if field) in
           let later = tail_read version (before ++ base.0 ∷ []) fields tail
           (omega (arith, length-append before (base.0 ∷ []), base.3))
           (All-push IsBaseForm before base.0 each read.1) (rw base.2 at s.2) in
@@ -88,23 +73,17 @@ tail_read version before (field ∷ fields) tail few each e =
           }
     ]
 
-vga_read : (field : List ℕ) (vga : Bool) → parse_vga field ≡ Some vga → field ≡ kind_word vga
-vga_read field true e = grind (arith, nat_tests, word_is)
-vga_read field false e = grind (arith, nat_tests, word_is)
+vga_if : (field : List ℕ) → IfSome (parse_vga field) (λ vga. field ≡ kind_word vga)
+vga_if field = grind (arith, nat_tests, word_is)
 
-pub card_read : (version : ℕ) (words : List (List ℕ)) (card : FittedCard) → parse_card version words ≡ Some card
-    → (words ≡ decimal card.dev ∷ kind_word card.vga ∷ tail_words card.bases card.rom) × IsCardForm version card
+pub card_if : (version : ℕ) (words : List (List ℕ)) → IfSome (parse_card version words)
+    (λ card. (words ≡ decimal card.dev ∷ kind_word card.vga ∷ tail_words card.bases card.rom) × IsCardForm version card)
 unfolding parse_card
-card_read version (dev ∷ kind ∷ fields) card e =
-    let d = then_read (parse_decimal dev) _ card (decimal_read dev) e in
-    let v = then_read (parse_vga kind) _ card (vga_read kind) d.2 in
-    let t = then_read (with_fields version no_tail fields) _ card
-    (λ tail e. tail_read version [] fields tail (omega arith) (All-nil IsBaseForm) e) v.2 in
-    rw (← some_is _ card t.2) (
-      (λ i. d.1.0 i ∷ v.1 i ∷ t.1.words i),
-      record { dev = d.1.1; count = t.1.count; each = t.1.each; rom = t.1.rom },
-    )
-card_read version _ card e = absurd cc
+card_if version (dev ∷ kind ∷ fields) =
+    let tail = if_some (with_fields version no_tail fields) (IsTail version [] fields)
+    (λ tail. tail_read version [] fields tail (omega arith) (All-nil IsBaseForm)) in
+    grind (arith, decimal_if dev, vga_if kind)
+card_if version _ = tt
 
 no_rom : (version : ℕ) (base : Base) → parse_rom_bits version (base_word base) ≡ None
 unfolding parse_rom_bits

@@ -1,8 +1,7 @@
 -- Parts of a chain that said something, and fields that spell words.
-use Rattle.board_prelude.proofs.Common.{nat_tests, option_and_then, option_map, AllZip, join_with_byte}
-use Rattle.board_prelude.proofs.Common.{bytes_eq-Decides, space}
-use Rattle.std.proofs.Common.{arith, ◌≡◌, Bool, true, cond, Option, Some, None, suc, List, [], ◌∷◌, length, get_or, ap}
-use Rattle.std.proofs.Common.{unwrap_or, ℕ, ◌++◌, inl, refl, subst, bytes_eq}
+use Rattle.board_prelude.proofs.Common.{nat_tests, option_and_then, AllZip, join_with_byte, bytes_eq-Decides, space}
+use Rattle.std.proofs.Common.{arith, ◌≡◌, Bool, true, cond, Option, Some, None, List, [], ◌∷◌, get_or, ap, ℕ, IfSome}
+use Rattle.std.proofs.Common.{◌++◌, inl, refl, subst, bytes_eq}
 use Rattle.script_spec.specs.Common.{StandsFor}
 
 pub some_is : {A : Type 0} (x y : A) → ◌≡◌ {A = Option A} (Some x) (Some y) → x ≡ y
@@ -15,23 +14,18 @@ pub then_said : {A B : Type 0} (said : Option A) (f : A → Option B) (y : B) �
     → (x : A) × (said ≡ Some x) × (f x ≡ Some y)
 then_said said f y e = grind (arith, nat_tests)
 
-pub mapped : {A B : Type 0} (said : Option A) (f : A → B) (y : B) → option_map f said ≡ Some y
-    → (x : A) × (said ≡ Some x) × (y ≡ f x)
-mapped said f y e = grind (arith, nat_tests)
+-- what is found holds something
+pub if_some : {A : Type 0} (found : Option A) (P : A → Type 0) → ((x : A) → found ≡ Some x → P x) → IfSome found P
+if_some None P each = tt
+if_some (Some x) P each = each x refl
 
 -- a field that says something, where more is said after it
-pub then_read : {A B : Type 0} {P : A → Type 0} (said : Option A) (f : A → Option B) (y : B)
-    → ((x : A) → said ≡ Some x → P x) → option_and_then f said ≡ Some y → (x : A) × P x × (f x ≡ Some y)
+pub then_read : {A B : Type 0} {P : A → Type 0} (said : Option A) (f : A → Option B) (y : B) →
+    ((x : A) → said ≡ Some x → P x) → option_and_then f said ≡ Some y → (x : A) × P x × (f x ≡ Some y)
 then_read said f y read e = let s = then_said said f y e in (s.0, read s.0 s.1, s.2)
 
 pub same_head : {X : Type 0} (x y : X) (xs ys : List X) → x ∷ xs ≡ y ∷ ys → x ≡ y
 same_head x y xs ys e = ap (λ l. get_or l 0 x) e
-
-pub not_nil : {X : Type 0} (x : X) (xs : List X) → [] ≡ x ∷ xs → ⊥
-not_nil x xs e = let lengths : 0 ≡ suc (length xs) = ap length e in omega (arith, lengths)
-
-pub same_some : {X : Type 0} (x y : X) → Some x ≡ Some y → x ≡ y
-same_some x y e = ap (λ o. unwrap_or o x) e
 
 -- ---- fields that spell words
 
@@ -69,3 +63,7 @@ pub by_word : {A : Type 0} (P : List ℕ → Type 0) (field word : List ℕ) (on
     → (one ≡ Some found → P word) → (other ≡ Some found → P field)
     → cond (bytes_eq field word) one other ≡ Some found → P field
 by_word P field word one other found here there e = grind (arith, nat_tests, word_is)
+
+pub by_word_if : {A : Type 0} (P : List ℕ → A → Type 0) (field word : List ℕ) (one other : Option A) →
+    IfSome one (P word) → IfSome other (P field) → IfSome (cond (bytes_eq field word) one other) (P field)
+by_word_if P field word one other here there = grind (arith, nat_tests, word_is)

@@ -4,8 +4,9 @@ use Rattle.board_prelude.proofs.Common.{All-head, All-tail, line_feed}
 use Rattle.std.proofs.Common.{arith, ℕ, ◌≡◌, ◌≢◌, ◌+◌, ◌⊎◌, true, List, [], ◌∷◌, ◌++◌, length, All, refl, sym, ap, ◌∙◌}
 use Rattle.std.proofs.Common.{inl, inr, append_assoc}
 use Rattle.script_spec.specs.Common.{text_of_lines, IsOneLine, AreBegun, LeavesAt, IsSomeLog, IsLogOf, OneBadLog}
-use Rattle.script_spec.specs.Common.{OneDifference}
-use Rattle.script_spec.proofs.Digits.{lacks, front, back, front-field, back-field, lacks-first, lacks-later}
+use Rattle.script_spec.specs.Common.{OneDifference, cut}
+use Rattle.std.proofs.lemmas.Option.{some_pair_parts}
+use Rattle.script_spec.proofs.Digits.{lacks, lacks-first, lacks-later, cut_field}
 
 pub lacks-line : (line : List ℕ) → IsOneLine line → lacks line_feed line ≡ true
 lacks-line [] each = refl
@@ -44,15 +45,13 @@ compared (line ∷ lines) rest [] after each all same =
     let text = sym same ∙ line_parts line (text_of_lines lines) rest in
     inr (inr (record { this = line; more = lines; is = refl; one = All-head IsOneLine line lines each; whole = text }))
 compared (line ∷ lines) rest (other ∷ others) after each all same =
-    let cut = rw (line_parts line (text_of_lines lines) rest, line_parts other (text_of_lines others) after) at same in
+    let text = rw (line_parts line (text_of_lines lines) rest, line_parts other (text_of_lines others) after) at same in
     let lack = lacks-line line (All-head IsOneLine line lines each) in
     let lacking = lacks-line other (All-head IsOneLine other others all) in
-    let first =
-    rw (front-field line_feed line _ lack, front-field line_feed other _ lacking) at (ap (front line_feed) cut) in
-    let later =
-    rw (back-field line_feed line _ lack, back-field line_feed other _ lacking) at (ap (back line_feed) cut) in
-    rw first (compared_more other lines rest others after
-    (compared lines rest others after (All-tail IsOneLine line lines each) (All-tail IsOneLine other others all) later))
+    let parts = some_pair_parts _ _ _ _ (sym (cut_field line_feed line _ lack) ∙ ap (cut line_feed) text
+    ∙ cut_field line_feed other _ lacking) in
+    rw parts.0 (compared_more other lines rest others after (compared lines rest others after
+    (All-tail IsOneLine line lines each) (All-tail IsOneLine other others all) parts.1))
 
 module _ (IsText : List ℕ → Type 0) where
   -- where longer lines begin a text, so do their first ones

@@ -1,12 +1,12 @@
 -- What a text says is found line by line: the items of a script, or the first bad line and the least reason.
 use Rattle.board_prelude.proofs.Common.{nat_tests, digits, lt-ltb, le-ltb, bytes_eq-Decides}
-use Rattle.std.proofs.Common.{ℕ, ◌≡◌, ◌⊎◌, ◌+◌, false, Option, Some, None, Result, Ok, Err, List, [], ◌∷◌, ◌++◌, length}
-use Rattle.std.proofs.Common.{refl, ap, ◌∙◌, inl, inr, append-nil, arith, nat_lt, if◌then◌else◌, bytes_eq, ◌≤◌}
+use Rattle.std.proofs.Common.{sym, ℕ, ◌≡◌, ◌⊎◌, ◌+◌, false, Option, Some, None, Result, Ok, Err, List, [], ◌∷◌, ◌++◌}
+use Rattle.std.proofs.Common.{length, refl, ap, ◌∙◌, inl, inr, append-nil, arith, nat_lt, if◌then◌else◌, bytes_eq, ◌≤◌}
 use Rattle.script_spec.specs.Common.{lines_of, Item, HasForm, parse_line, lacks_setup, least_reason, most_bytes}
 use Rattle.script_spec.specs.Common.{is_skipped, IsBadLine, AreRead, EndsBadly, IsVersion, first_line, BeginsBadly}
 use Rattle.script_spec.specs.Common.{IsBadLater, Script, IsScriptText}
 use Rattle.script_spec.proofs.LineReading.{read_says, nothing_said}
-use Rattle.script_spec.proofs.Chains.{same_head, not_nil}
+use Rattle.script_spec.proofs.Chains.{same_head}
 use Rattle.script_spec.proofs.ItemBack.{line_back}
 
 -- ---- one line, after the items before it
@@ -19,7 +19,7 @@ abbrev pub judged_form : List Item → Option Item → Result (List Item) ℕ
 judged_form before None = Err 3
 judged_form before (Some item) = judged_item before item (least_reason before item)
 
-abbrev pub judged_line : (version : ℕ) → List Item → List ℕ → Result (List Item) ℕ
+unfoldable pub judged_line : (version : ℕ) → List Item → List ℕ → Result (List Item) ℕ
 judged_line version before line =
     if nat_lt most_bytes (length line) then Err 2 else
     if is_skipped line then Ok before else judged_form before (parse_line version line)
@@ -38,6 +38,7 @@ reason_is version before line item short read e (Some why) least =
 
 line_is : (version : ℕ) (before : List Item) (line : List ℕ)
     → IsLine version before line (judged_line version before line)
+unfolding judged_line
 line_is version before line = grind (arith, nat_tests, lt-ltb, le-ltb, nothing_said, reason_is)
 
 -- ---- the lines after the first, of which the next has this number
@@ -79,19 +80,12 @@ later_are version number line later before items one (Err end) stops = record {
   place = let e : end.0 ≡ length stops.good + (number + 1) = stops.place in omega (arith, e);
 }
 
-next_are : (version number : ℕ) (line : List ℕ) (later : List (List ℕ)) (before : List Item)
-    (next : List Item → Result (List Item) (ℕ × ℕ)) (result : Result (List Item) ℕ) →
-    IsLine version before line result → ((items : List Item) → AreLines version items later (number + 1) (next items)) →
-    AreLines version before (line ∷ later) number (goes_on result number next)
-next_are version number line later before next result one rest = grind (arith, nat_tests, later_are)
-
 lines_are : (version number : ℕ) (lines : List (List ℕ)) (before : List Item) →
     AreLines version before lines number (judged_lines version before number lines)
 unfolding judged_lines
 lines_are version number [] before = grind (arith, nat_tests)
 lines_are version number (line ∷ later) before =
-    next_are _ _ _ _ _ (λ items. judged_lines version items (number + 1) later) _ (line_is version before line)
-    (λ items. lines_are version (number + 1) later items)
+    grind (arith, nat_tests, later_are, line_is version before line, lines_are version (number + 1) later)
 
 -- ---- the whole
 
@@ -124,18 +118,14 @@ version_is : (version : ℕ) (first : List ℕ) (later : List (List ℕ)) → Is
 version_is version first later known is result all = grind (arith, nat_tests)
 
 pub judged_is : (lines : List (List ℕ)) → AreJudged lines (judged lines)
-judged_is lines = grind (arith, nat_tests, not_nil, version_is, bytes_eq-Decides, lines_are, same_head)
+judged_is lines = grind (arith, nat_tests, version_is, bytes_eq-Decides, lines_are, same_head)
 
 -- ---- what holds is decided so
 
-read_so : (version : ℕ) (before : List Item) (line : List ℕ) → length line ≤ most_bytes → is_skipped line ≡ false →
-    judged_line version before line ≡ judged_form before (parse_line version line)
-read_so version before line short read = rw (le-ltb most_bytes (length line) short, read) refl
-
-item_so : (version : ℕ) (before : List Item) (line : List ℕ) (item : Item) → length line ≤ most_bytes →
-    is_skipped line ≡ false → HasForm version line item →
-    judged_line version before line ≡ judged_item before item (least_reason before item)
-item_so version before line item short read has = grind (arith, nat_tests, read_so, line_back)
+good_line : (version : ℕ) (before items : List Item) (line : List ℕ) → AreRead version before (line ∷ []) items →
+    judged_line version before line ≡ Ok items
+unfolding judged_line
+good_line version before items line read = grind (arith, nat_tests, le-ltb, line_back)
 
 -- a line of which nothing is read has no form
 no_form : (version : ℕ) (line : List ℕ) (found : Option Item) → parse_line version line ≡ found →
@@ -143,71 +133,63 @@ no_form : (version : ℕ) (line : List ℕ) (found : Option Item) → parse_line
 no_form version line None e none = refl
 no_form version line (Some item) e none = absurd (none item (read_says version line item e))
 
-line_decided : (version : ℕ) (before items : List Item) (line : List ℕ) → AreRead version before (line ∷ []) items →
-    judged_line version before line ≡ Ok items
-line_decided version before items line (inl skipped) = grind (arith, nat_tests)
-line_decided version before items line (inr one) =
-    rw (item_so version before line one.0 one.1.short one.1.read one.1.has, one.1.none, one.2) refl
-
 bad_line : (version : ℕ) (before : List Item) (line : List ℕ) (why : ℕ) → IsBadLine version before line why →
     judged_line version before line ≡ Err why
+unfolding judged_line
 bad_line version before line why (inl long) = rw (lt-ltb most_bytes (length line) long.0, long.1) refl
-bad_line version before line why (inr (inl none)) =
-    let absent = no_form version line (parse_line version line) refl none.0.none in
-    rw (read_so version before line none.0.short none.0.read, absent, none.1) refl
-bad_line version before line why (inr (inr refused)) =
-    rw (item_so version before line refused.item refused.short refused.read refused.has, refused.least) refl
+bad_line version before line why (inr (inl formless)) =
+    let absent = no_form version line (parse_line version line) refl formless.0.none in
+    grind (arith, nat_tests, le-ltb)
+bad_line version before line why (inr (inr refused)) = grind (arith, nat_tests, le-ltb, line_back)
 
--- a line that is read first
-first_read : (version : ℕ) (line : List ℕ) (later : List (List ℕ)) (before items : List Item) →
-    AreRead version before (line ∷ later) items →
-    (next : List Item) × AreRead version before (line ∷ []) next × AreRead version next later items
-first_read version line later before items given = grind (arith, nat_tests)
-
--- the lines that are read first leave the rest to be judged
-front_decided : (version number : ℕ) (good rest : List (List ℕ)) (before items : List Item) →
-    AreRead version before good items →
-    judged_lines version before number (good ++ rest) ≡ judged_lines version items (number + length good) rest
+-- the lines that are read first leave the rest to be judged, from this number on
+front_so : (version number place : ℕ) (good rest : List (List ℕ)) (before items : List Item) →
+    AreRead version before good items → place ≡ length good + number →
+    judged_lines version before number (good ++ rest) ≡ judged_lines version items place rest
 unfolding judged_lines
-front_decided version number [] rest before items read = grind (arith, nat_tests)
-front_decided version number (line ∷ good) rest before items read =
-    let one = first_read version line good before items read in
-    let e : number + 1 + length good ≡ number + length (line ∷ good) = omega arith in
-    rw (line_decided version before one.0 line one.1)
-    (front_decided version (number + 1) good rest one.0 items one.2 ∙ ap (λ n. judged_lines version items n rest) e)
+front_so version number place [] rest before items read is = grind (arith, nat_tests)
+front_so version number place (line ∷ good) rest before items (inl skipped) is =
+    rw (good_line version before before line (inl (skipped.0, refl)))
+    (front_so version (number + 1) place good rest before items skipped.1 (omega (arith, is)))
+front_so version number place (line ∷ good) rest before items (inr one) is =
+    rw (good_line version before (one.0 ∷ before) line (inr (one.0, one.1, refl)))
+    (front_so version (number + 1) place good rest (one.0 ∷ before) items one.2 (omega (arith, is)))
 
-end_decided : (version number : ℕ) (items : List Item) (rest : List (List ℕ)) (why : ℕ) →
+end_so : (version number : ℕ) (items : List Item) (rest : List (List ℕ)) (why : ℕ) →
     EndsBadly version items rest why → judged_lines version items number rest ≡ Err (number, why)
 unfolding judged_lines
-end_decided version number items rest why bad = grind (arith, nat_tests, bad_line)
+end_so version number items rest why bad = grind (arith, nat_tests, bad_line)
 
 -- the version of a first line
-first_decided : (version : ℕ) (later : List (List ℕ)) → IsVersion version →
+first_so : (version : ℕ) (later : List (List ℕ)) → IsVersion version →
     judged (first_line version ∷ later) ≡ with_version version (judged_lines version [] 2 later)
 unfolding digits
-first_decided version later (inl one) = rw one refl
-first_decided version later (inr two) = rw two refl
+first_so version later (inl one) = rw one refl
+first_so version later (inr two) = rw two refl
 
-pub text_decided : (bytes : List ℕ) (script : Script) → (text : IsScriptText bytes script) →
-    judged (lines_of bytes) ≡ Ok (script.version, text.items)
-unfolding judged_lines
-text_decided bytes script text =
-    let front = front_decided script.version 2 text.later [] [] text.items text.read in
-    let whole = rw (append-nil text.later, text.whole) at front in
-    ap judged text.lines ∙ first_decided script.version text.later text.version
-    ∙ ap (with_version script.version) whole
-
--- lines of no version
 begins_badly : (lines : List (List ℕ)) → BeginsBadly lines → judged lines ≡ Err (1, 1)
 begins_badly lines none = grind (arith, nat_tests, bytes_eq-Decides)
 
-pub bad_decided : (lines : List (List ℕ)) (line why : ℕ) →
-    (BeginsBadly lines × (line ≡ 1) × (why ≡ 1)) ⊎ IsBadLater lines line why → judged lines ≡ Err (line, why)
-bad_decided lines line why (inl bad) = begins_badly lines bad.0 ∙ rw (bad.1, bad.2) refl
-bad_decided lines line why (inr bad) =
-    let place : 2 + length bad.good ≡ line = let e : line ≡ length bad.good + 2 = bad.place in omega (arith, e) in
-    ap judged bad.cut ∙ first_decided bad.version (bad.good ++ bad.rest) bad.known
-    ∙ ap (with_version bad.version)
-    (front_decided bad.version 2 bad.good bad.rest [] bad.items bad.read
-    ∙ end_decided bad.version (2 + length bad.good) bad.items bad.rest why bad.bad
-    ∙ ap (λ n. Err (n, why)) place)
+pub judged_so : (lines : List (List ℕ)) (result : Result (ℕ × List Item) (ℕ × ℕ)) → AreJudged lines result →
+    judged lines ≡ result
+unfolding judged_lines
+judged_so lines (Ok found) good =
+    let front = front_so found.0 2 (length good.later + 2) good.later [] [] found.1 good.read refl in
+    let whole = rw (append-nil good.later, good.whole) at front in
+    rw (good.cut, first_so found.0 good.later good.known) (ap (with_version found.0) whole)
+judged_so lines (Err end) (inl bad) =
+    let first : ◌≡◌ {A = ℕ × ℕ} (1, 1) end = λ i. (sym bad.1 i, sym bad.2 i) in begins_badly lines bad.0 ∙ ap Err first
+judged_so lines (Err end) (inr bad) =
+    let front = front_so bad.version 2 end.0 bad.good bad.rest [] bad.items bad.read bad.place in
+    let whole = front ∙ end_so bad.version end.0 bad.items bad.rest end.1 bad.bad in
+    rw (bad.cut, first_so bad.version (bad.good ++ bad.rest) bad.known) (ap (with_version bad.version) whole)
+
+pub text_so : (bytes : List ℕ) (script : Script) → (text : IsScriptText bytes script) →
+    judged (lines_of bytes) ≡ Ok (script.version, text.items)
+text_so bytes script text = judged_so (lines_of bytes) (Ok (script.version, text.items)) (record {
+  known = text.version;
+  later = text.later;
+  cut = text.lines;
+  read = text.read;
+  whole = text.whole;
+})

@@ -1,23 +1,23 @@
 -- Fields are read as an event exactly where they spell it.
 use Rattle.std.proofs.Common.{◌≡◌, ℕ, ◌*◌, ◌^◌, ◌<◌, Bool, true, false, Some, List, [], ◌∷◌, refl, ap, arith, codes}
-use Rattle.std.proofs.Common.{decimal, if◌then◌else◌}
+use Rattle.std.proofs.Common.{IfSome, decimal, if◌then◌else◌}
 use Rattle.board_prelude.proofs.Common.{nat_tests, option_map, Kind, Write, Width, Moment, bytes_of, Event, Memory}
 use Rattle.board_prelude.proofs.Common.{Wide, Port, Ack, Time, Pulses, Wire, Line, BadSector, Stimulus, stimulus_form}
 use Rattle.board_prelude.proofs.Common.{applied, event_applied, is_write, FitsBytes, hex_number, size_text, width_text}
 use Rattle.board_prelude.proofs.Common.{kind_text, moment_text}
 use Rattle.board_spec.specs.declared.event.Event.TheVariants.{Look as LookAt}
 use Rattle.board_spec.specs.declared.stimulus.Stimulus.TheVariants as stimuli
-use Rattle.script_spec.specs.Common.{Item, IsDecimal, IsMomentForm, IsEventForm, IsSize, parse_size, parse_width}
-use Rattle.script_spec.specs.Common.{parse_kind, parse_smm, memory_event, parse_read, parse_write, parse_in, parse_out}
-use Rattle.script_spec.specs.Common.{parse_look, parse_ack, parse_number, parse_two_numbers, parse_given}
-use Rattle.script_spec.specs.Common.{parse_stimulus_item, ask, parse_only_moment, parse_time_item, parse_by_verb}
-use Rattle.script_spec.specs.Common.{parse_statement_words, parse_hex, parse_decimal}
+use Rattle.script_spec.specs.Common.{Item, IsDecimal, IsMomentForm, IsEventForm, IsSize, parse_hex, parse_size}
+use Rattle.script_spec.specs.Common.{parse_width, parse_kind, parse_smm, memory_event, parse_read, parse_write}
+use Rattle.script_spec.specs.Common.{parse_in, parse_out, parse_look, parse_ack, parse_number, parse_two_numbers}
+use Rattle.script_spec.specs.Common.{parse_given, parse_stimulus_item, ask, parse_only_moment, parse_time_item}
+use Rattle.script_spec.specs.Common.{parse_by_verb, parse_statement_words}
 use Rattle.script_spec.specs.Events.{read_event, write_event, in_event, out_event, look_event}
 use Rattle.script_spec.proofs.Chains.{some_is, then_read, Spells, Reads, same, same_as, word_is}
 use Rattle.script_spec.proofs.Digits.{digits_of_decimal}
-use Rattle.script_spec.proofs.NumberTexts.{decimal_read, hex_read, is_plain, plain_is, plain-digits, decimal_back}
+use Rattle.script_spec.proofs.NumberTexts.{hex_read, decimal_if, hex_if, is_plain, plain_is, plain-digits, decimal_back}
 use Rattle.script_spec.proofs.NumberTexts.{hex_back}
-use Rattle.script_spec.proofs.Moments.{moment_back, plain_moment, moment_read}
+use Rattle.script_spec.proofs.Moments.{moment_back, plain_moment, moment_if}
 use Rattle.script_spec.proofs.Words.{smm_words, written_words, access_words, applied_words, event_words, zero_text}
 use Rattle.script_spec.proofs.Words.{one_text}
 
@@ -27,15 +27,15 @@ size_back : (version bytes : ℕ) (field : List ℕ) → IsSize version bytes �
     → parse_size version field ≡ Some bytes
 size_back version bytes field size spells = grind (arith, nat_tests, plain_is)
 
-size_read : (version : ℕ) (field : List ℕ) (bytes : ℕ) → parse_size version field ≡ Some bytes
-    → (field ≡ size_text bytes) × IsSize version bytes
+size_read : (version : ℕ) (field : List ℕ) (bytes : ℕ) → parse_size version field ≡ Some bytes →
+    (field ≡ size_text bytes) × IsSize version bytes
 size_read version field bytes e = grind (arith, nat_tests, word_is)
 
 width_back : (width : Width) (field : List ℕ) → Spells field (width_text width) → parse_width field ≡ Some width
 width_back width field spells = grind (arith, nat_tests, plain_is)
 
-width_read : (field : List ℕ) (width : Width) → parse_width field ≡ Some width → field ≡ width_text width
-width_read field width e = grind (arith, nat_tests, word_is)
+width_if : (field : List ℕ) → IfSome (parse_width field) (λ width. field ≡ width_text width)
+width_if field = grind (arith, nat_tests, word_is)
 
 kind_back : (kind : Kind) (field : List ℕ) → Spells field (kind_text kind) → parse_kind field ≡ Some kind
 kind_back kind field spells = grind (arith, nat_tests, plain_is)
@@ -168,60 +168,42 @@ access_read : (version : ℕ) (kind : Kind) (bytes addr value : ℕ) (smm : Bool
 access_read version kind bytes addr value smm fields size small fits reads =
     grind (arith, nat_tests, access_is, access_form)
 
-pub read_read : (version : ℕ) (kind : Kind) (words : List (List ℕ)) (event : Event) → is_write kind ≡ false
-    → parse_read version kind words ≡ Some event → IsRead version (kind_text kind ∷ words) event
+pub read_read : (version : ℕ) (kind : Kind) (words : List (List ℕ)) → is_write kind ≡ false → (event : Event) →
+    parse_read version kind words ≡ Some event → IsRead version (kind_text kind ∷ words) event
 unfolding parse_read read_event
-read_read version kind (size ∷ addr ∷ flags) event reads e =
+read_read version kind (size ∷ addr ∷ flags) reads event e =
     let s = then_read (parse_smm flags) _ event (smm_read flags) e in
     let b = then_read (parse_size version size) _ event (size_read version size) s.2 in
     let a = then_read (parse_hex 8 addr) _ event (hex_read 4 addr) b.2 in
-    rw (← some_is _ event a.2)
-    (access_read version kind b.0 a.0 0 s.0 (kind_text kind ∷ size ∷ addr ∷ flags) b.1.1 (omega (arith, a.1.1))
-    (rw reads refl)
-    (rw reads (same _, (same_as _ _ b.1.0, (a.1.0, s.1)))))
-read_read version kind _ event reads e = absurd cc
+    rw (← some_is _ event a.2) (access_read version kind b.0 a.0 0 s.0 (kind_text kind ∷ size ∷ addr ∷ flags) b.1.1
+    (omega (arith, a.1.1)) (rw reads refl) (rw reads (same _, (same_as _ _ b.1.0, (a.1.0, s.1)))))
+read_read version kind _ reads event e = absurd cc
 
-pub write_read : (version : ℕ) (words : List (List ℕ)) (event : Event)
-    → parse_write version words ≡ Some event → IsRead version (codes "w" ∷ words) event
+pub write_read : (version : ℕ) (words : List (List ℕ)) (event : Event) → parse_write version words ≡ Some event →
+    IsRead version (codes "w" ∷ words) event
 unfolding parse_write write_event
 write_read version (size ∷ addr ∷ value ∷ flags) event e =
     let s = then_read (parse_smm flags) _ event (smm_read flags) e in
     let b = then_read (parse_size version size) _ event (size_read version size) s.2 in
     let a = then_read (parse_hex 8 addr) _ event (hex_read 4 addr) b.2 in
     let v = then_read (parse_hex (2 * b.0) value) _ event (hex_read b.0 value) a.2 in
-    rw (← some_is _ event v.2)
-    (access_read version Write b.0 a.0 v.0 s.0 (codes "w" ∷ size ∷ addr ∷ value ∷ flags) b.1.1 (omega (arith, a.1.1))
-    v.1.1
-    (same (codes "w"), (same_as _ _ b.1.0, (a.1.0, (v.1.0, s.1)))))
+    rw (← some_is _ event v.2) (access_read version Write b.0 a.0 v.0 s.0 (codes "w" ∷ size ∷ addr ∷ value ∷ flags)
+    b.1.1 (omega (arith, a.1.1)) v.1.1 (same (codes "w"), (same_as _ _ b.1.0, (a.1.0, (v.1.0, s.1)))))
 write_read version _ event e = absurd cc
 
-pub in_read : (version : ℕ) (words : List (List ℕ)) (event : Event) → parse_in words ≡ Some event
-    → IsRead version (codes "in" ∷ words) event
+pub in_if : (version : ℕ) (words : List (List ℕ)) → IfSome (parse_in words) (IsRead version (codes "in" ∷ words))
 unfolding parse_in in_event
-in_read version (width ∷ port ∷ []) event e =
-    let w = then_read (parse_width width) _ event (width_read width) e in
-    let p = then_read (parse_hex 4 port) _ event (hex_read 2 port) w.2 in
-    rw (← some_is _ event p.2) (
-      (same (codes "in"), (same_as _ _ w.1, (p.1.0, tt))),
-      record { port = omega (arith, p.1.1); value = refl },
-    )
-in_read version _ event e = absurd cc
+in_if version (width ∷ port ∷ []) = grind (arith, width_if width, hex_if 2 port, same, same_as)
+in_if version _ = tt
 
-pub out_read : (version : ℕ) (words : List (List ℕ)) (event : Event) → parse_out words ≡ Some event
-    → IsRead version (codes "out" ∷ words) event
+pub out_if : (version : ℕ) (words : List (List ℕ)) → IfSome (parse_out words) (IsRead version (codes "out" ∷ words))
 unfolding parse_out out_event
-out_read version (width ∷ port ∷ value ∷ []) event e =
-    let w = then_read (parse_width width) _ event (width_read width) e in
-    let p = then_read (parse_hex 4 port) _ event (hex_read 2 port) w.2 in
-    let v = then_read (parse_hex (2 * bytes_of w.0) value) _ event (hex_read (bytes_of w.0) value) p.2 in
-    rw (← some_is _ event v.2) (
-      (same (codes "out"), (same_as _ _ w.1, (p.1.0, (v.1.0, tt)))),
-      record { port = omega (arith, p.1.1); value = v.1.1 },
-    )
-out_read version _ event e = absurd cc
+out_if version (width ∷ port ∷ value ∷ []) =
+    grind (arith, width_if width, hex_if 2 port, hex_if 1 value, hex_if 2 value, hex_if 4 value, same, same_as)
+out_if version _ = tt
 
-pub look_read : (version : ℕ) (words : List (List ℕ)) (event : Event) → parse_look words ≡ Some event
-    → IsRead version (codes "look" ∷ words) event
+pub look_read : (version : ℕ) (words : List (List ℕ)) (event : Event) → parse_look words ≡ Some event →
+    IsRead version (codes "look" ∷ words) event
 unfolding parse_look look_event
 look_read version (kind ∷ addr ∷ flags) event e =
     let s = then_read (parse_smm flags) _ event (smm_read flags) e in
@@ -230,27 +212,22 @@ look_read version (kind ∷ addr ∷ flags) event e =
     rw (← some_is _ event a.2) ((same (codes "look"), (same_as _ _ k.1, (a.1.0, s.1))), omega (arith, a.1.1))
 look_read version _ event e = absurd cc
 
-pub time_read : (version : ℕ) (words : List (List ℕ)) (moment : Moment) → parse_only_moment words ≡ Some moment
-    → IsRead version (codes "moment" ∷ words) (Time moment)
+pub time_if : (version : ℕ) (words : List (List ℕ)) →
+    IfSome (parse_only_moment words) (λ m. IsRead version (codes "moment" ∷ words) (Time m))
 unfolding parse_only_moment
-time_read version (field ∷ []) moment e =
-    let m = moment_read field moment e in
-    ((same (codes "moment"), (same_as _ _ m.0, tt)), m.1)
-time_read version _ moment e = absurd cc
+time_if version (field ∷ []) = grind (arith, moment_if field, same (codes "moment"), same_as field)
+time_if version _ = tt
 
 -- ---- numbers, and levels
 
 -- the only field is a decimal
-pub number_read : (words : List (List ℕ)) (n : ℕ) → parse_number words ≡ Some n → (words ≡ decimal n ∷ []) × IsDecimal n
+pub number_if : (words : List (List ℕ)) → IfSome (parse_number words) (λ n. (words ≡ decimal n ∷ []) × IsDecimal n)
 unfolding parse_number
-number_read (field ∷ []) n e = let d = decimal_read field n e in (ap (λ (f : List ℕ). f ∷ []) d.0, d.1)
-number_read _ n e = absurd cc
+number_if (field ∷ []) = grind (arith, decimal_if field)
+number_if _ = tt
 
-pub two_read : (words : List (List ℕ)) (p : ℕ × ℕ) → parse_two_numbers words ≡ Some p
-    → (words ≡ decimal p.0 ∷ decimal p.1 ∷ []) × (IsDecimal p.0 × IsDecimal p.1)
+pub two_if : (words : List (List ℕ)) →
+    IfSome (parse_two_numbers words) (λ p. (words ≡ decimal p.0 ∷ decimal p.1 ∷ []) × IsDecimal p.0 × IsDecimal p.1)
 unfolding parse_two_numbers
-two_read (first ∷ second ∷ []) p e =
-    let a = then_read (parse_decimal first) _ p (decimal_read first) e in
-    let b = then_read (parse_decimal second) _ p (decimal_read second) a.2 in
-    rw (← some_is _ p b.2) ((λ i. a.1.0 i ∷ b.1.0 i ∷ []), (a.1.1, b.1.1))
-two_read _ p e = absurd cc
+two_if (first ∷ second ∷ []) = grind (arith, decimal_if first, decimal_if second)
+two_if _ = tt

@@ -2,7 +2,7 @@
 use Rattle.board_prelude.proofs.Common.{nat_tests, digits, false≢true, All-nil, All-cons, weekday_of, days_since_1980}
 use Rattle.board_prelude.proofs.Common.{days_of_years, days_of_months, IsPermutation, option_map, Rises, find}
 use Rattle.std.proofs.Common.{ℕ, ◌≡◌, ◌<◌, Bool, true, false, List, [], ◌∷◌, map, All, Result, Ok, Err, refl, arith}
-use Rattle.std.proofs.Common.{subst, sym, Some, ap, drop}
+use Rattle.std.proofs.Common.{subst, Some, ap, drop}
 use Rattle.script_spec.specs.Common.{is_cpus, is_memory, is_rom, is_disk, SetCpus, SetMemory, SetRom, SetDisk, cards_of}
 use Rattle.script_spec.specs.Common.{phase_items, lines_of, text_of_lines, Item, number_after, parse_two_digits}
 use Rattle.script_spec.specs.Common.{after_mark, parse_moment_part, parse_year, parse_date, parse_time, whole_moment}
@@ -11,14 +11,14 @@ use Rattle.script_spec.specs.Common.{with_fields, parse_card, parse_smm, memory_
 use Rattle.script_spec.specs.Common.{parse_in, parse_out, parse_look, parse_ack, parse_number, parse_two_numbers}
 use Rattle.script_spec.specs.Common.{parse_only_moment, parse_time_item, parse_stimulus_item, parse_given}
 use Rattle.script_spec.specs.Common.{parse_by_verb, parse_statement_words, is_name, parse_name, parse_phase}
-use Rattle.script_spec.specs.Common.{parse_statement, parse_by_key, parse_item, least_reason, Script, IsSaidBy}
-use Rattle.script_spec.specs.Common.{IsScriptText, IsScriptBad, BadText, IsBadText, bad_texts, AreBad, Bound, with_line}
-use Rattle.script_spec.specs.Common.{IsBound, bounds, AreBounds, TwoProcessors, TwoOrders, WideScript}
+use Rattle.script_spec.specs.Common.{parse_statement, parse_by_key, parse_item, least_reason, Script, IsScriptText}
+use Rattle.script_spec.specs.Common.{IsScriptBad, IsBadText, bad_texts, AreBad, Bound, with_line, IsBound, bounds}
+use Rattle.script_spec.specs.Common.{AreBounds, TwoProcessors, TwoOrders, WideScript}
 use Rattle.script_spec.proofs.ReadingExists.{run_of, text_said}
 use Rattle.std.proofs.lemmas.List.Sorted.{IsPermutation-refl}
 use Rattle.script_spec.specs.Events.{read_event, write_event, in_event, out_event, look_event}
 use Rattle.script_spec.proofs.Chains.{same_head}
-use Rattle.script_spec.proofs.Decision.{judged, judged_lines, AreJudged, judged_is}
+use Rattle.script_spec.proofs.Decision.{judged, judged_line, judged_lines, AreGoodLines, AreJudged, judged_is}
 use Rattle.script_spec.specs.ExampleEntries.{NameBorders, EntryBorders}
 
 abbrev Judged : Type 0
@@ -27,88 +27,81 @@ Judged = Result (ℕ × List Item) (ℕ × ℕ)
 abbrev judge : List ℕ → Judged
 judge bytes = judged (lines_of bytes)
 
-is_bad : (bytes : List ℕ) (line why : ℕ) → judge bytes ≡ Err (line, why) → IsScriptBad bytes line why
-is_bad bytes line why e = subst (AreJudged (lines_of bytes)) e (judged_is (lines_of bytes))
-
--- ---- bad texts
-
-each_bad : (texts : List BadText) →
-    map (λ text. judge (text_of_lines text.lines)) texts ≡ map (λ text. Err (text.line, text.why)) texts
-    → All IsBadText texts
-each_bad [] e = All-nil IsBadText
-each_bad (text ∷ texts) e =
-    All-cons IsBadText text texts (is_bad _ text.line _ (same_head _ _ _ _ e)) (each_bad texts (ap (λ l. drop 1 l) e))
-
--- ---- the numbers of a script
-
 abbrev is_good : Judged → Bool
 is_good (Ok found) = true
 is_good (Err end) = false
+
+is_bad : (bytes : List ℕ) (line why : ℕ) → judge bytes ≡ Err (line, why) → IsScriptBad bytes line why
+is_bad bytes line why e = subst (AreJudged (lines_of bytes)) e (judged_is (lines_of bytes))
 
 some_script : (bytes : List ℕ) (result : Judged) → AreJudged (lines_of bytes) result → is_good result ≡ true →
     (script : Script) × IsScriptText bytes script
 some_script bytes (Ok found) good e = text_said bytes found.0 found.1 good
 some_script bytes (Err end) bad e = absurd (false≢true e)
 
-each_bound : (rows : List Bound) →
-    map (λ row. is_good (judge (text_of_lines (with_line row.place row.good)))) rows ≡ map (λ row. true) rows →
-    map (λ row. judge (text_of_lines (with_line row.place row.bad))) rows ≡ map (λ row. Err (row.place, row.why)) rows →
-    All IsBound rows
-each_bound [] good bad = All-nil IsBound
-each_bound (row ∷ rows) good bad =
+-- what computes to what it should be in each row
+each : {X Y : Type 0} (P : X → Type 0) (has is : X → Y) → ((x : X) → has x ≡ is x → P x) → (rows : List X) →
+    map has rows ≡ map is rows → All P rows
+each P has is so [] e = All-nil P
+each P has is so (row ∷ rows) e =
+    All-cons P row rows (so row (same_head _ _ _ _ e)) (each P has is so rows (ap (λ l. drop 1 l) e))
+
+abbrev judge_at : (place : ℕ) → List ℕ → Judged
+judge_at place line = judge (text_of_lines (with_line place line))
+
+abbrev bound_judged : Bound → Bool × Judged
+bound_judged row = (is_good (judge_at row.place row.good), judge_at row.place row.bad)
+
+abbrev bound_is : Bound → Bool × Judged
+bound_is row = (true, Err (row.place, row.why))
+
+bound_so : (row : Bound) → bound_judged row ≡ bound_is row → IsBound row
+bound_so row e =
     let bytes : List ℕ = text_of_lines (with_line row.place row.good) in
-    All-cons IsBound row rows
-    (record {
-      good = some_script bytes (judge bytes) (judged_is (lines_of bytes)) (same_head _ _ _ _ good);
-      bad = is_bad (text_of_lines (with_line row.place row.bad)) row.place row.why (same_head _ _ _ _ bad);
-    })
-    (each_bound rows (ap (λ l. drop 1 l) good) (ap (λ l. drop 1 l) bad))
+    record {
+      good = some_script bytes (judge bytes) (judged_is (lines_of bytes)) (ap (λ p. p.0) e);
+      bad = is_bad (text_of_lines (with_line row.place row.bad)) row.place row.why (ap (λ p. p.1) e);
+    }
 
--- ---- good texts
-
-abbrev items_in : Judged → List Item
-items_in (Ok found) = found.1
-items_in (Err end) = []
-
-abbrev version_in : Judged → ℕ
-version_in (Ok found) = found.0
-version_in (Err end) = 0
-
-judged_so : (bytes : List ℕ) (script : Script) (result : Judged) → AreJudged (lines_of bytes) result →
-    is_good result ≡ true → version_in result ≡ script.version → IsSaidBy script (items_in result)
-    → IsScriptText bytes script
-judged_so bytes script (Ok found) good e same said = grind (arith, nat_tests)
-judged_so bytes script (Err end) bad e same said = absurd (false≢true e)
-
-says : (bytes : List ℕ) (script : Script) (items : List Item) → is_good (judge bytes) ≡ true
-    → version_in (judge bytes) ≡ script.version → items_in (judge bytes) ≡ items
-    → find is_cpus items ≡ Some (SetCpus script.cpus) → find is_memory items ≡ Some (SetMemory script.mib)
-    → find is_rom items ≡ Some (SetRom script.rom) → find is_disk items ≡ option_map SetDisk script.disk
-    → cards_of items ≡ script.cards → Rises script.cards → run_of items ≡ phase_items script.phases
-    → IsScriptText bytes script
-says bytes script items good version is cpus memory rom disk cards rises phases =
-    judged_so bytes script (judge bytes) (judged_is (lines_of bytes)) good version (subst (IsSaidBy script) (sym is)
-    (assumption (subst (IsPermutation (cards_of items)) cards (IsPermutation-refl (cards_of items)))))
+says : (bytes : List ℕ) (script : Script) (items : List Item) → judge bytes ≡ Ok (script.version, items) →
+    find is_cpus items ≡ Some (SetCpus script.cpus) → find is_memory items ≡ Some (SetMemory script.mib) →
+    find is_rom items ≡ Some (SetRom script.rom) → find is_disk items ≡ option_map SetDisk script.disk →
+    cards_of items ≡ script.cards → Rises script.cards → run_of items ≡ phase_items script.phases →
+    IsScriptText bytes script
+says bytes script items e cpus memory rom disk cards rises phases =
+    let good : AreGoodLines (lines_of bytes) script.version items =
+    subst (AreJudged (lines_of bytes)) e (judged_is (lines_of bytes)) in
+    let same = subst (IsPermutation (cards_of items)) cards (IsPermutation-refl (cards_of items)) in
+    record {
+      version = good.known;
+      later = good.later;
+      lines = good.cut;
+      items = items;
+      read = good.read;
+      whole = good.whole;
+      said = assumption same;
+    }
 
 -- ---- the worked texts
 
 pub worked : AreBad × AreBounds × TwoProcessors × TwoOrders × WideScript
-unfolding AreBad AreBounds TwoProcessors TwoOrders WideScript bad_texts bounds lines_of digits judged_lines number_after
-    parse_two_digits after_mark parse_moment_part parse_year parse_date parse_time whole_moment parse_moment parse_base
-    parse_rom_bits with_base with_rom with_field with_fields parse_card parse_smm memory_event read_event write_event
-    in_event out_event look_event parse_read parse_write parse_in parse_out parse_look parse_ack parse_number
-    parse_two_numbers parse_only_moment parse_time_item parse_stimulus_item parse_given parse_by_verb
-    parse_statement_words is_name parse_name parse_phase parse_statement parse_by_key parse_item least_reason weekday_of
-    days_since_1980 days_of_years days_of_months
+unfolding AreBad AreBounds TwoProcessors TwoOrders WideScript bad_texts bounds lines_of digits judged_line
+    judged_lines number_after parse_two_digits after_mark parse_moment_part parse_year parse_date parse_time
+    whole_moment parse_moment parse_base parse_rom_bits with_base with_rom with_field with_fields parse_card parse_smm
+    memory_event read_event write_event in_event out_event look_event parse_read parse_write parse_in parse_out
+    parse_look parse_ack parse_number parse_two_numbers parse_only_moment parse_time_item parse_stimulus_item
+    parse_given parse_by_verb parse_statement_words is_name parse_name parse_phase parse_statement parse_by_key
+    parse_item least_reason weekday_of days_since_1980 days_of_years days_of_months
 worked = (
-  each_bad bad_texts refl,
-  each_bound bounds refl refl,
-  says _ _ _ refl refl refl refl refl refl refl refl (
+  each IsBadText (λ text. judge (text_of_lines text.lines)) (λ text. Err (text.line, text.why))
+      (λ text. is_bad (text_of_lines text.lines) text.line text.why) bad_texts refl,
+  each IsBound bound_judged bound_is bound_so bounds refl,
+  says _ _ _ refl refl refl refl refl refl (
     All-cons (λ other. 2 < other.dev) _ [] (omega arith) (All-nil (λ other. 2 < other.dev)),
     (All-nil (λ other. 3 < other.dev), tt),
   ) refl,
-  says _ _ _ refl refl refl refl refl refl refl refl (tt {0}) refl,
-  says _ _ _ refl refl refl refl refl refl refl refl (All-nil (λ other. 2 < other.dev), tt) refl,
+  says _ _ _ refl refl refl refl refl refl (tt {0}) refl,
+  says _ _ _ refl refl refl refl refl refl (All-nil (λ other. 2 < other.dev), tt) refl,
 )
 
 -- ---- the borders of what a log can say

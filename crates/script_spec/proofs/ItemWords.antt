@@ -6,8 +6,7 @@ use Rattle.board_prelude.proofs.Common.{Event, Ack, stimulus_form, space}
 use Rattle.script_spec.specs.Common.{Item, SetCpus, SetMemory, SetRom, SetDisk, FitCard, BeginPhase, Ask, AskLevel}
 use Rattle.script_spec.specs.Common.{IsForm, Says, base_text, rom_text, card_text, item_text, fields_of}
 use Rattle.script_spec.proofs.Chains.{Reads, joined}
-use Rattle.script_spec.proofs.Splits.{split, split_exact}
-use Rattle.script_spec.proofs.PlainText.{is_word, are_words, decimal_word, name_word}
+use Rattle.script_spec.proofs.PlainText.{split, split_exact, is_word, are_words, decimal_word, name_word}
 use Rattle.script_spec.proofs.Words.{spaced, line_spaced, event_words, event_joined, event_are}
 
 -- ---- cards
@@ -71,16 +70,13 @@ item_joined (Ask statement) = rw (event_after, event_joined) refl
 item_joined (AskLevel actor one number level) = simp append_assoc
 item_joined _ = refl
 
-base_is : (base : Base) → is_word (base_word base) ≡ true
-base_is base = grind (arith, nat_tests, decimal_word)
-
 vga_is : (vga : Bool) → is_word (kind_word vga) ≡ true
 vga_is true = refl
 vga_is false = refl
 
 tail_are : (bases : List Base) (rom : Option ℕ) → are_words (tail_words bases rom) ≡ true
 tail_are [] rom = grind (arith, nat_tests, decimal_word)
-tail_are (base ∷ bases) rom = grind (arith, nat_tests, base_is, tail_are bases rom)
+tail_are (base ∷ bases) rom = grind (arith, nat_tests, decimal_word, tail_are bases rom)
 
 item_are : (version : ℕ) (item : Item) → IsForm version item → are_words (item_words item) ≡ true
 item_are version (FitCard card) form =

@@ -7,7 +7,6 @@ pub mod EventTexts
 pub mod Moments
 pub mod CardTexts
 pub mod PlainText
-pub mod Splits
 pub mod ItemBack
 pub mod LineReading
 pub mod Decision

@@ -1,17 +1,16 @@
 -- A line of the log is taken apart and says its entry, and a log says its version and its history.
-use Rattle.board_prelude.proofs.Common.{nat_tests, common_steps, digits, flat_map-append, map-append, reverse-append}
-use Rattle.board_prelude.proofs.Common.{reverse-reverse, All-nil, All-head, All-tail, All-push, Pit, Ack, Entry}
-use Rattle.board_prelude.proofs.Common.{outside_answer, space, line_feed, line_text, lines_text, log_text, lt-ltb}
-use Rattle.board_prelude.proofs.Common.{Event, Statement, event_text, value_bytes, reply_text}
-use Rattle.std.proofs.Common.{ℕ, ◌≡◌, ◌+◌, Option, Some, None, List, [], ◌∷◌, ◌++◌, length, map, reverse, All, refl}
-use Rattle.std.proofs.Common.{sym, ap, ◌∙◌, inl, inr, append_assoc, append-nil, arith, decimal, ◌<◌, codes}
+use Rattle.board_prelude.proofs.Common.{nat_tests, common_steps, digits, flat_map-append, reverse-append}
+use Rattle.board_prelude.proofs.Common.{reverse-reverse, All-nil, All-head, All-tail, All-push, Entry, space, line_feed}
+use Rattle.board_prelude.proofs.Common.{line_text, lines_text, log_text, lt-ltb, Event, Statement, event_text}
+use Rattle.board_prelude.proofs.Common.{value_bytes, reply_text}
+use Rattle.std.proofs.Common.{ℕ, ◌≡◌, ◌+◌, Option, Some, None, List, [], ◌∷◌, ◌++◌, length, reverse, All, refl}
+use Rattle.std.proofs.Common.{flat_map, sym, ap, ◌∙◌, inl, inr, append_assoc, append-nil, arith, decimal, ◌<◌, codes}
 use Rattle.std.proofs.lemmas.Fmt.{decimal_injective}
 use Rattle.script_spec.specs.Common.{text_of_lines, IsOneLine, IsVersion, IsWellFormed, LineSaysEntry, LogSaysAll}
 use Rattle.script_spec.specs.Common.{but_last, Item, Ask, HasForm, item_text, fields_of, ◌>>=◌, ask, parse_line}
 use Rattle.script_spec.specs.Common.{parse_spaced_reply, Pieces, parse_pieces, parse_actor}
 use Rattle.script_spec.proofs.Digits.{front, front-field, lacks-append, lacks-decimal, cut_field}
 use Rattle.script_spec.proofs.Chains.{some_is, same}
-use Rattle.script_spec.proofs.ReadingLaws.{not_nil}
 use Rattle.script_spec.proofs.CheckLaws.{one_line, compared}
 use Rattle.script_spec.proofs.PlainText.{lacks-word, lacks-plain, decimal_word}
 use Rattle.script_spec.proofs.Words.{event_plain, reply_plain}
@@ -122,8 +121,8 @@ lines_whole [] = All-nil IsOneLine
 lines_whole (entry ∷ before) = grind (arith, nat_tests, common_steps, All-push, line_whole, lines_whole before)
 
 pub nothing_more : (this after : List ℕ) → [] ≡ this ++ line_feed ∷ after → ⊥
-nothing_more [] after e = not_nil line_feed after e
-nothing_more (c ∷ cs) after e = not_nil c (cs ++ line_feed ∷ after) e
+nothing_more [] after e = cc
+nothing_more (c ∷ cs) after e = cc
 
 -- whole lines say where they are cut
 same_lines : (lines others : List (List ℕ)) → All IsOneLine lines → All IsOneLine others →
@@ -134,30 +133,25 @@ same_lines lines others each all same = elim (compared lines [] others [] each a
   | inr (inr on) ↦ absurd (nothing_more on.this _ on.whole)
 ]
 
--- the entry of a line that has one
-abbrev from_some : Option Entry → Entry
-from_some (Some entry) = entry
-from_some None = record { actor = 0; seq = 0; event = Ack; reply = outside_answer Pit }
-
-abbrev entry_of : (version : ℕ) → List ℕ → Entry
-entry_of version line = from_some (entry_in version line)
+-- what the lines say, where they say something
+abbrev listed : Option Entry → List Entry
+listed None = []
+listed (Some entry) = entry ∷ []
 
 history_read : (version : ℕ) (history : List Entry) → All (IsWellFormed version) history →
-    map (entry_of version) (log_lines history) ≡ reverse history
+    flat_map (λ line. listed (entry_in version line)) (log_lines history) ≡ reverse history
 history_read version [] each = refl
 history_read version (entry ∷ before) each =
-    let this = ap from_some (entry_read _ (length before + 1) _ (All-head (IsWellFormed version) entry before each)) in
+    let this = entry_read version (length before + 1) entry (All-head (IsWellFormed version) entry before each) in
     let rest = history_read version before (All-tail (IsWellFormed version) entry before each) in
-    simp (map-append, reverse-append (entry ∷ []) before, rest, this)
+    simp (flat_map-append, reverse-append (entry ∷ []) before, rest, this)
 
 same_history : (version : ℕ) (left right : List Entry) → All (IsWellFormed version) left →
     All (IsWellFormed version) right → lines_text left ≡ lines_text right → left ≡ right
 same_history version left right one two same =
     let lines = same_lines (log_lines left) (log_lines right) (lines_whole left) (lines_whole right)
     (sym (lines_joined left) ∙ same ∙ lines_joined right) in
-    let read = sym (history_read version left one) ∙ ap (map (entry_of version)) lines
-    ∙ history_read version right two in
-    sym (reverse-reverse left) ∙ ap reverse read ∙ reverse-reverse right
+    cc (history_read version left one, history_read version right two, reverse-reverse left, reverse-reverse right)
 
 versions_differ : (left right : List Entry) → log_text 1 left ≡ log_text 2 right → ⊥
 unfolding digits

@@ -1,8 +1,8 @@
 -- Fields are read as numbers exactly where they spell them.
-use Rattle.script_spec.proofs.Chains.{then_read, some_is, guarded, Spells}
+use Rattle.script_spec.proofs.Chains.{then_read, some_is, guarded, if_some, Spells}
 use Rattle.std.proofs.Common.{Bool, true, ◌≡◌, ℕ, zero, suc, ◌+◌, ◌*◌, ◌/◌, ◌%◌, ◌^◌, ◌<◌, ◌≤◌, false, not, eqb, ◌&&◌}
 use Rattle.std.proofs.Common.{Some, List, [], ◌∷◌, length, refl, sym, ap, ◌∙◌, arith, pow-suc, lit<, decimal, ◌-◌}
-use Rattle.std.proofs.Common.{subst, leb-true, eqb-true, lt-ltb, le-leb, eq-eqb}
+use Rattle.std.proofs.Common.{IfSome, subst, leb-true, eqb-true, lt-ltb, le-leb, eq-eqb}
 use Rattle.board_prelude.proofs.Common.{nat_tests, AllZip, AllDigits, digits_value, pow-le-pow_right, byte, hex_digit}
 use Rattle.board_prelude.proofs.Common.{hex_number, list_all, and_parts, is_within}
 use Rattle.std.specs.Char.{digit_value as value_of_digit}
@@ -13,7 +13,7 @@ use Rattle.std.proofs.lemmas.Fmt.{decimal_nonempty, decimal_digit}
 use Rattle.std.proofs.lemmas.Int.Digits.{digits_value-lt}
 use Rattle.board_spec.proofs.PartLawProofs.{some_power}
 use Rattle.script_spec.specs.Common.{IsDecimal, StandsFor, parse_digit, number_after, parse_digits, parse_hex}
-use Rattle.script_spec.specs.Common.{has_leading_zero, parse_decimal}
+use Rattle.script_spec.specs.Common.{parse_decimal}
 use Rattle.script_spec.proofs.Digits.{own, digits_of_decimal}
 use Rattle.std.proofs.lemmas.List.Elements.{length_all_zip}
 use Rattle.std.proofs.Math.Nat.{div-eq_of_lt}
@@ -44,6 +44,9 @@ decimal_read field n e =
     (omega (arith, small)) in
     (sym text ∙ ap decimal read.1, rw read.1 at small)
 
+pub decimal_if : (field : List ℕ) → IfSome (parse_decimal field) (λ n. (field ≡ decimal n) × IsDecimal n)
+decimal_if field = if_some (parse_decimal field) _ (decimal_read field)
+
 -- ---- hexadecimal numbers
 
 digit_stands : (c d : ℕ) → parse_digit 16 c ≡ Some d → StandsFor c (hex_digit d) × (d < 16)
@@ -52,7 +55,7 @@ digit_stands c d e = grind (arith, nat_tests)
 -- two digits are a byte
 two_digits : (h a b q : ℕ) → a < 16 → b < 16 → q ≡ (h * 16 + a) * 16 + b
     → (q / 256 ≡ h) × ((q % 256 / 16 % 16 ≡ a) × (q % 256 % 16 ≡ b))
-two_digits h a b q la lb is = (omega arith, (omega arith, omega arith))
+two_digits h a b q la lb is = omega arith
 
 pub digit_again : (n d : ℕ) → n % 16 ≡ d → hex_digit n ≡ hex_digit d
 digit_again n d is = let e : d % 16 ≡ d = omega (arith, is) in rw (is, e) refl
@@ -85,6 +88,10 @@ hex_read k field n e =
     let read = hex_digits k 0 n field long g.1 in
     (read.1, grind (arith, nat_tests, some_power k, read.0))
 
+pub hex_if : (k : ℕ) (field : List ℕ) →
+    IfSome (parse_hex (2 * k) field) (λ n. Spells field (hex_number k n) × (n < 256 ^ k))
+hex_if k field = if_some (parse_hex (2 * k) field) _ (hex_read k field)
+
 -- ---- texts without capitals A to F stand for themselves alone
 
 abbrev pub is_plain : List ℕ → Bool
@@ -111,26 +118,19 @@ unfolding number_after
 digits_read high [] digits = refl
 digits_read high (c ∷ cs) digits = grind (arith, nat_tests, digits_read (high * 10 + value_of_digit c) cs digits.1)
 
-no_leading : (n : ℕ) → IsDecimal n → has_leading_zero (decimal n) ≡ false
-no_leading n small = grind (arith, nat_tests, decimal_digit, first_decimal)
-
 pub decimal_back : (n : ℕ) → IsDecimal n → parse_decimal (decimal n) ≡ Some n
 decimal_back n small =
     let read : parse_digits 10 (decimal n) ≡ Some n =
     digits_read 0 (decimal n) (digits_of_decimal n small)
     ∙ ap (λ (x : ℕ). Some x) (digits_value-decimal own n (omega (arith, small))) in
-    let some = decimal_nonempty n (omega (arith, small)) in
     let few = length-decimal-le 9 n (lit< tt) small (omega (arith, small)) in
-    rw (le-leb 1 (length (decimal n)) (omega arith), le-leb (length (decimal n)) 9 few, no_leading n small) read
+    grind (arith, nat_tests, decimal_nonempty, decimal_digit, first_decimal)
 
 -- ---- hexadecimal numbers
 
 -- what stands for a digit of so much is read as so much
 pub hex_digit_read : (c d : ℕ) → d < 16 → StandsFor c (hex_digit d) → parse_digit 16 c ≡ Some d
 hex_digit_read c d small stands = grind (arith, nat_tests)
-
-next_value : (q high b : ℕ) → high ≡ q / 256 → b ≡ q % 256 → (high * 16 + b / 16) * 16 + b % 16 ≡ q
-next_value q high b one two = omega (arith, one, two)
 
 -- after the digits that made what stands above so many bytes
 pub hex_after : (k high n : ℕ) (field : List ℕ) → high ≡ n / 256 ^ k → Spells field (hex_number k n)
@@ -148,7 +148,7 @@ hex_after (suc k) high n (c ∷ d ∷ cs) is spells =
     let low : hex_digit b ≡ hex_digit (b % 16) = digit_again b _ refl in
     let second : parse_digit 16 d ≡ Some (b % 16) = hex_digit_read d _ (omega arith)
     (subst (StandsFor d) low spells.1.0) in
-    rw (first, second) (hex_after k ((high * 16 + b / 16) * 16 + b % 16) n cs (next_value _ _ b above refl) spells.1.1)
+    rw (first, second) (hex_after k ((high * 16 + b / 16) * 16 + b % 16) n cs (omega (arith, above)) spells.1.1)
 
 hex_length : (k n : ℕ) → length (hex_number k n) ≡ 2 * k
 hex_length zero n = refl

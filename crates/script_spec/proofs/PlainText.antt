@@ -1,15 +1,18 @@
 -- The bytes of the log's words: spaces, letters, digits and a few marks, but no line feed and no `=`.
 use Rattle.std.proofs.Common.{ℕ, zero, suc, ◌≡◌, ◌/◌, ◌%◌, Bool, true, false, ◌||◌, eqb, Option, List, [], ◌∷◌, ◌++◌}
-use Rattle.std.proofs.Common.{refl, ◌∙◌, arith, decimal}
+use Rattle.std.proofs.Common.{refl, ◌∙◌, arith, decimal, All}
 use Rattle.board_prelude.proofs.Common.{nat_tests, digits, list_all, and_from, and_parts, Reg, Area, Target, Denial}
 use Rattle.board_prelude.proofs.Common.{byte, is_within, space, hex_number, hex_offset, register_text, base_text}
 use Rattle.board_prelude.proofs.Common.{area_text, target_text, denial_text, Moment, moment_text, two_digits}
-use Rattle.board_prelude.proofs.Common.{value_text}
+use Rattle.board_prelude.proofs.Common.{value_text, common_steps, join_with_byte, All-nil, All-cons}
 use Rattle.script_spec.specs.Grammar.{is_name_byte}
 use Rattle.std.specs.Fmt.{digits_onto, digit_glyph}
 use Rattle.std.proofs.lemmas.List.Folds.{list_all-append}
 use Rattle.board_base.specs.declared.target.Target.TheVariants as targets
-use Rattle.script_spec.proofs.Digits.{lacks}
+use Rattle.script_spec.proofs.Digits.{lacks, lacks-first, lacks-later}
+use Rattle.std.proofs.lemmas.List.Splits.{slice_split_none, slice_split_at}
+use Rattle.script_spec.specs.Common.{fields_of, StandsFor}
+use Rattle.script_spec.proofs.Chains.{Spells, Reads}
 
 abbrev pub is_word_byte : ℕ → Bool
 is_word_byte byte = is_within 0x2D 0x3A byte || is_within 0x41 0x7A byte
@@ -100,3 +103,33 @@ lacks-plain mark [] outside plain = refl
 lacks-plain mark (c ∷ cs) outside plain =
     let parts = and_parts (eqb c space || is_word_byte c) (is_plain cs) plain in
     grind (arith, nat_tests, lacks-plain mark cs outside parts.1)
+
+-- ---- a line that spells words has just those fields
+
+abbrev is_space : ℕ → Bool
+is_space byte = eqb byte 32
+
+-- a line that spells a text has as many fields, which spell those of the text
+stands_space : (c t : ℕ) → StandsFor c t → is_space c ≡ is_space t
+stands_space c t stands = grind (arith, nat_tests)
+
+spelled_fields : (line text : List ℕ) → Spells line text → Reads (fields_of line) (fields_of text)
+spelled_fields [] [] spells = (tt, tt)
+spelled_fields (c ∷ cs) (t ∷ ts) spells =
+    let later = spelled_fields cs ts spells.1 in grind (arith, nat_tests, stands_space)
+spelled_fields _ _ spells = grind arith
+
+-- ---- a line that is words joined
+
+own_bytes : (word : List ℕ) → is_word word ≡ true → All (λ byte. is_space byte ≡ false) word
+own_bytes word is = grind (arith, nat_tests, common_steps, All-nil, All-cons, lacks-first, lacks-later, lacks-word)
+
+pub split_exact : (word : List ℕ) (words : List (List ℕ)) → are_words (word ∷ words) ≡ true
+    → fields_of (join_with_byte space (word ∷ words)) ≡ word ∷ words
+split_exact word [] are = slice_split_none is_space word (own_bytes word (and_parts (is_word word) _ are).0)
+split_exact word (next ∷ words) are =
+    grind (arith, nat_tests, slice_split_at, own_bytes, split_exact next words (and_parts (is_word word) _ are).1)
+
+pub split : (line word : List ℕ) (words : List (List ℕ)) → are_words (word ∷ words) ≡ true →
+    Spells line (join_with_byte space (word ∷ words)) → Reads (fields_of line) (word ∷ words)
+split line word words are spells = rw (split_exact word words are) at (spelled_fields line _ spells)

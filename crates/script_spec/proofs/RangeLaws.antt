@@ -4,9 +4,9 @@ use Rattle.board_prelude.proofs.Common.{or_parts, or_right, and_parts, All-nil, 
 use Rattle.board_prelude.proofs.Common.{All-append, sum_by-cons, sum_by-append, All-permutation, Statement, Setup}
 use Rattle.board_prelude.proofs.Common.{FittedCard, IsExpansionRom, IsCard, Rises, memory_size, memory_of_cards}
 use Rattle.board_prelude.proofs.Common.{IsScripted, is_rom_in_range, Event, card_at, IsInRange}
-use Rattle.std.proofs.Common.{ℕ, ◌≡◌, ◌+◌, ◌-◌, ◌*◌, ◌<◌, ◌≤◌, Bool, true, false, not, ◌&&◌, cond, Option, Some, None}
-use Rattle.std.proofs.Common.{List, [], ◌∷◌, ◌++◌, length, map, reverse, All, filter, flat_map, refl, sym, ap, ◌∙◌}
-use Rattle.std.proofs.Common.{get_or, arith, is_some, ◌==◌, sum_by}
+use Rattle.std.proofs.Common.{ℕ, ◌≡◌, ◌+◌, ◌*◌, ◌<◌, ◌≤◌, Bool, true, false, not, cond, Option, Some, None, List, []}
+use Rattle.std.proofs.Common.{◌∷◌, ◌++◌, length, map, reverse, All, filter, flat_map, refl, sym, ◌∙◌, arith, is_some}
+use Rattle.std.proofs.Common.{◌==◌, sum_by}
 use Rattle.std.proofs.lemmas.List.Elements.{All-filter}
 use Rattle.std.proofs.lemmas.List.Sums.{length-filter}
 use Rattle.std.proofs.lemmas.List.Sorted.{IsPermutation-reverse, sum_by-IsPermutation, list_any-IsPermutation}
@@ -17,7 +17,6 @@ use Rattle.script_spec.specs.Common.{is_cpus_above, has_card, cards_of, pulses_o
 use Rattle.script_spec.specs.Common.{phase_items, IsSaidBy, IsDiskName, statements_in, IsInRangeScript}
 use Rattle.script_spec.specs.Common.{ScriptsAreInRange, IsEventForm, is_event_in_range, is_event_placed}
 use Rattle.script_spec.proofs.GoodItems.{NoReason, AreGood, read_good, found_good, IsWithinLimits, within_limits}
-use Rattle.script_spec.proofs.ScriptLaws.{count_of}
 
 -- the cards of the items before are those of the setup
 abbrev pub HasCards : List Item → Setup → Type 0
@@ -39,9 +38,8 @@ any_cpus actor (item ∷ before) any = any_cpus actor before any
 cpus_above : (version actor cpus : ℕ) (items : List Item) → AreGood version items →
     find is_cpus items ≡ Some (SetCpus cpus) → list_any (is_cpus_above actor) items ≡ true → actor < cpus
 cpus_above version actor cpus [] good found any = absurd (false≢true any)
-cpus_above version actor cpus (SetCpus count ∷ before) good found any =
-    grind (arith, nat_tests, any_cpus actor before, good.1.first, ap count_of found)
-cpus_above version actor cpus (item ∷ before) good found any = cpus_above version actor cpus before good.2 found any
+cpus_above version actor cpus (item ∷ before) good found any =
+    grind (arith, nat_tests, any_cpus actor before, good.1.first, cpus_above version actor cpus before good.2)
 
 -- ---- statements
 
@@ -49,30 +47,35 @@ abbrev pub OnAsk : (Statement → Type 0) → Item → Type 0
 OnAsk P (Ask statement) = P statement
 OnAsk P _ = Unit {0}
 
-scripted : (version cpus : ℕ) (setup : Setup) (before : List Item) (item : Item) →
-    ((actor : ℕ) → list_any (is_cpus_above actor) before ≡ true → actor < cpus) → HasCards before setup →
-    IsForm version item → NoReason before item → OnAsk (IsScripted setup version cpus) item
-scripted version cpus setup before (Ask statement) above cards form none =
-    let there = and_parts (list_any (is_cpus_above statement.actor) before) (is_card_there before statement.event)
-    none.there in
-    record {
-      actor = above statement.actor there.0;
-      event = event_in_range version setup before statement.event form.1 none.range none.aligned there.1 cards;
-      sector = grind (arith, nat_tests, none.range);
-      said = grind (arith, nat_tests, form.1);
-    }
-scripted version cpus setup before _ above cards form none = tt
+module _ (version cpus : ℕ) (setup : Setup) where
+  -- the processors and the cards that items name are there
+  abbrev AreThere : List Item → Type 0
+  AreThere items =
+      ((actor : ℕ) → list_any (is_cpus_above actor) items ≡ true → actor < cpus) × HasCards items setup
 
-all_scripted : (version cpus : ℕ) (setup : Setup) (items : List Item) →
-    ((actor : ℕ) → list_any (is_cpus_above actor) items ≡ true → actor < cpus) → HasCards items setup →
-    AreGood version items → All (OnAsk (IsScripted setup version cpus)) items
-all_scripted version cpus setup [] above cards good = All-nil (OnAsk (IsScripted setup version cpus))
-all_scripted version cpus setup (item ∷ before) above cards good =
-    let above_before = λ (actor : ℕ) (any : list_any (is_cpus_above actor) before ≡ true).
-    above actor (or_right (is_cpus_above actor item) (list_any (is_cpus_above actor) before) any) in
-    let cards_before : HasCards before setup = λ dev has. cards dev (grind (arith, nat_tests)) in
-    All-cons (OnAsk (IsScripted setup version cpus)) item before (scripted _ _ _ _ _ above_before cards_before good.0
-    good.1) (all_scripted version cpus setup before above_before cards_before good.2)
+  scripted : (before : List Item) (item : Item) → AreThere before → IsForm version item → NoReason before item →
+      OnAsk (IsScripted setup version cpus) item
+  scripted before (Ask statement) are form none =
+      let there = and_parts (list_any (is_cpus_above statement.actor) before) (is_card_there before statement.event)
+      none.there in
+      record {
+        actor = are.0 statement.actor there.0;
+        event = event_in_range version setup before statement.event form.1 none.range none.aligned there.1 are.1;
+        sector = grind (arith, nat_tests, none.range);
+        said = grind (arith, nat_tests, form.1);
+      }
+  scripted before _ are form none = tt
+
+  all_scripted : (items : List Item) → AreThere items → AreGood version items →
+      All (OnAsk (IsScripted setup version cpus)) items
+  all_scripted [] are good = All-nil (OnAsk (IsScripted setup version cpus))
+  all_scripted (item ∷ before) are good =
+      let earlier : AreThere before = (
+        λ actor any. are.0 actor (or_right (is_cpus_above actor item) (list_any (is_cpus_above actor) before) any),
+        λ dev has. are.1 dev (grind (arith, nat_tests)),
+      ) in
+      All-cons (OnAsk (IsScripted setup version cpus)) item before (scripted before item earlier good.0 good.1)
+      (all_scripted before earlier good.2)
 
 -- what holds of each statement of the items holds of each statement of the phases
 phase_asks : (P : Statement → Type 0) (phase : List Statement) (later : List Item) → All (OnAsk P)
@@ -107,27 +110,25 @@ has_cards items cards setup same is dev has =
 rom_there : (rom : Option ℕ) → is_rom_in_range rom ≡ true → IsExpansionRom rom
 rom_there rom test = grind (arith, nat_tests)
 
-three : (a b c : Bool) → (a && b && c) ≡ true → (a ≡ true) × (b ≡ true) × (c ≡ true)
-three a b c test = grind (arith, nat_tests)
-
 all_cards : (version : ℕ) (items : List Item) → AreGood version items → All IsCard (cards_of items)
 all_cards version [] good = All-nil IsCard
 all_cards version (FitCard card ∷ before) good =
     let rest = all_cards version before good.2 in
-    grind (arith, nat_tests, common_steps, three, is_within_parts, All-nil, All-cons, rom_there, and_parts)
+    grind (arith, nat_tests, common_steps, is_within_parts, All-nil, All-cons, rom_there, and_parts)
 all_cards version (_ ∷ before) good = all_cards version before good.2
 
--- devices that rise up to 9 are few
-few_cards : (low : ℕ) (cards : List FittedCard) → low ≤ 10 → Rises cards → All (λ card. low ≤ card.dev) cards →
-    All IsCard cards → length cards ≤ 10 - low
-few_cards low [] below rises from each = omega arith
-few_cards low (card ∷ later) below rises from each =
-    let first : low ≤ card.dev = All-head (λ card. low ≤ card.dev) card later from in
-    let last : card.dev ≤ 9 = (All-head IsCard card later each).last in
-    let rest = few_cards (card.dev + 1) later (omega arith) rises.1
-    (λ k d at_k. let up : card.dev < (get_or later k d).dev = rises.0 k d at_k in omega arith)
-    (All-tail IsCard card later each) in
-    omega (arith, rest)
+-- devices that rise from 2 to 9 are few
+few_after : (first : FittedCard) (later : List FittedCard) → Rises (first ∷ later) → All IsCard (first ∷ later) →
+    first.dev + length later ≤ 9
+few_after first [] rises each = omega (arith, (All-head IsCard first [] each).last)
+few_after first (next ∷ later) rises each =
+    let up = All-head (λ card. first.dev < card.dev) next later rises.0 in
+    omega (arith, few_after next later rises.1 (All-tail IsCard first (next ∷ later) each))
+
+few_cards : (cards : List FittedCard) → Rises cards → All IsCard cards → length cards ≤ 8
+few_cards [] rises each = omega arith
+few_cards (first ∷ later) rises each =
+    omega (arith, few_after first later rises each, (All-head IsCard first later each).first)
 
 sum_of_cards : (cards : List FittedCard) → memory_of_cards cards ≡ sum_by (λ card. sum_by memory_size card.bases) cards
 sum_of_cards [] = refl
@@ -165,15 +166,13 @@ sum_items : (f : Item → ℕ) (items : List Item) (phases : List (List Statemen
     reverse (filter (λ item. not (is_setup item)) items) ≡ phase_items phases → sum_by f items
     ≡ length phases * f BeginPhase + sum_by (λ statement. f (Ask statement)) (flat_map (λ phase. phase) phases)
 sum_items f items phases none is =
-    let kept : List Item = filter (λ item. not (is_setup item)) items in
-    sym (sum_kept f items none)
-    ∙ sym (sum_by-IsPermutation f kept (reverse kept) (IsPermutation-reverse kept))
-    ∙ ap (sum_by f) is
-    ∙ sum_phases f phases
+    let kept = filter (λ item. not (is_setup item)) items in
+    let turned = sum_by-IsPermutation f kept (reverse kept) (IsPermutation-reverse kept) in
+    grind (arith, sum_kept f items none, sum_phases f phases)
 
-sum_of_same : {X : Type 0} (n : ℕ) (xs : List X) → sum_by (λ x. n) xs ≡ length xs * n
-sum_of_same n [] = omega arith
-sum_of_same n (x ∷ xs) = omega (arith, sum_by-cons (λ y. n) x xs, sum_of_same n xs)
+sum_of_ones : (statements : List Statement) → sum_by (λ statement. 1) statements ≡ length statements
+sum_of_ones [] = refl
+sum_of_ones (x ∷ xs) = omega (arith, sum_by-cons (λ statement. 1) x xs, sum_of_ones xs)
 
 -- ---- the whole
 
@@ -208,22 +207,23 @@ in_range items script good version said =
       rom = (found is_rom (SetRom script.rom) good said.rom).0;
       disk = disk_name script.version items script.disk good said.disk;
       cards = record {
-        count = few_cards 2 script.cards (omega arith) said.rises (λ k d below. (cards k d below).first) cards;
+        count = omega (arith, few_cards script.cards said.rises cards);
         each = cards;
         rises = said.rises;
       };
       windows = omega (arith, same_memory (cards_of items) script.cards said.cards, limits.memory);
       each = λ setup is.
           let P : Statement → Type 0 = IsScripted setup script.version script.cpus in
-          let all = all_scripted script.version script.cpus setup items
-          (λ actor any. cpus_above script.version actor script.cpus items good said.cpus any)
-          (has_cards items script.cards setup said.cards is) good in
+          let all = all_scripted script.version script.cpus setup items (
+            λ actor. cpus_above script.version actor script.cpus items good said.cpus,
+            has_cards items script.cards setup said.cards is,
+          ) good in
           let turned : All (OnAsk P) (reverse kept) =
           All-permutation (OnAsk P) kept (reverse kept) (IsPermutation-reverse kept)
           (All-filter (λ item. not (is_setup item)) (OnAsk P) items all) in
           all_asks P phases (rw said.phases at turned);
-      statements = omega (arith, length-filter is_statement items, sum_of_same 1 (statements_in script));
-      phases = omega (arith, length-filter is_phase items, sum_of_same 0 (statements_in script));
+      statements = omega (arith, length-filter is_statement items, sum_of_ones (statements_in script));
+      phases = omega (arith, length-filter is_phase items);
       pulses = omega arith;
     }
 

@@ -10,8 +10,7 @@ use Rattle.std.proofs.lemmas.List.Sorted.{IsPermutation-refl, IsPermutation-tran
 use Rattle.std.proofs.lemmas.List.Sorted.{IsPermutation-insert}
 use Rattle.script_spec.specs.Common.{lines_of, Item, SetCpus, SetMemory, SetRom, SetDisk, FitCard, BeginPhase, Ask}
 use Rattle.script_spec.specs.Common.{AskLevel, is_phase, is_setup, is_cpus, is_memory, is_rom, is_disk, cards_of}
-use Rattle.script_spec.specs.Common.{has_card, has_setup, lacks_setup, Script, phase_items, IsSaidBy, IsScriptText}
-use Rattle.script_spec.specs.Common.{SomeReading}
+use Rattle.script_spec.specs.Common.{has_card, lacks_setup, Script, phase_items, IsSaidBy, IsScriptText, SomeReading}
 use Rattle.script_spec.proofs.GoodItems.{NoReason, AreGood, read_good}
 use Rattle.script_spec.proofs.RangeLaws.{none_any}
 use Rattle.script_spec.proofs.ScriptLaws.{count_of, name_of}
@@ -21,14 +20,10 @@ use Rattle.script_spec.proofs.Decision.{AreGoodLines, judged_is}
 
 -- by the first phase the setup is whole
 whole_setup : (version : ℕ) (items : List Item) → AreGood version items → lacks_setup items ≡ false →
-    has_setup items ≡ true
+    (list_any is_cpus items ≡ true) × (list_any is_memory items ≡ true) × (list_any is_rom items ≡ true)
 whole_setup version [] good whole = absurd (true≢false whole)
 whole_setup version (item ∷ before) good whole =
     let front = whole_setup version before good.2 in grind (arith, nat_tests, good.1.begun)
-
-whole_parts : (items : List Item) → has_setup items ≡ true
-    → (list_any is_cpus items ≡ true) × (list_any is_memory items ≡ true) × (list_any is_rom items ≡ true)
-whole_parts items whole = grind (arith, nat_tests)
 
 -- what is found of a kind
 found : {X : Type 0} (test : Item → Bool) (make : X → Item) (of : Option Item → X) (items : List Item)
@@ -131,13 +126,15 @@ pub phases_more : (front : List (List Statement)) (last : List Statement) →
     phase_items (front ++ last ∷ []) ≡ phase_items front ++ (BeginPhase ∷ map Ask last)
 phases_more front last = simp (flat_map-append, append-nil)
 
+phases_there : (items : List Item) → Run items → (phases : List (List Statement)) × (run_of items ≡ phase_items phases)
+phases_there items (inl none) = ([], none.1)
+phases_there items (inr some) = (some.front ++ some.last ∷ [], some.is ∙ sym (phases_more some.front some.last))
+
 begin_phase : (before : List Item) → Run before → Run (BeginPhase ∷ before)
-begin_phase before (inl none) =
+begin_phase before old =
+    let phases = phases_there before old in
     let more = reverse_more BeginPhase (filter (λ item. not (is_setup item)) before) in
-    inr (record { front = []; last = []; is = rw (more, none.1) refl })
-begin_phase before (inr some) =
-    let more = reverse_more BeginPhase (filter (λ item. not (is_setup item)) before) in
-    inr (record { front = some.front ++ some.last ∷ []; last = []; is = rw (more, phases_more, some.is) refl })
+    inr (record { front = phases.0; last = []; is = rw (more, phases.1) refl })
 
 ask_more : (before : List Item) (statement : Statement) → NoReason before (Ask statement) → Run before →
     Run (Ask statement ∷ before)
@@ -154,16 +151,12 @@ run version (Ask statement ∷ before) good = ask_more before statement good.1 (
 run version (AskLevel actor one number level ∷ before) good = absurd (false≢true good.1.range)
 run version (item ∷ before) good = grind (arith, nat_tests, run version before good.2)
 
-phases_there : (items : List Item) → Run items → (phases : List (List Statement)) × (run_of items ≡ phase_items phases)
-phases_there items (inl none) = ([], none.1)
-phases_there items (inr some) = (some.front ++ some.last ∷ [], some.is ∙ sym (phases_more some.front some.last))
-
 -- ---- the whole
 
 said_by : (version : ℕ) (items : List Item) → AreGood version items → lacks_setup items ≡ false →
     (script : Script) × (script.version ≡ version) × IsSaidBy script items
 said_by version items good whole =
-    let parts = whole_parts items (whole_setup version items good whole) in
+    let parts = whole_setup version items good whole in
     let disk = found_disk items in
     let cards = in_order version items good in
     let phases = phases_there items (run version items good) in (

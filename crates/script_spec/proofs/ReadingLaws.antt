@@ -1,9 +1,8 @@
 -- A text says at most one script, and is bad at one line for one reason, but not both: it is decided.
 use Rattle.board_prelude.proofs.Common.{nat_tests}
-use Rattle.std.proofs.Common.{arith, ℕ, List, [], ◌∷◌, ◌++◌, inl}
+use Rattle.std.proofs.Common.{arith, ℕ, List, [], ◌∷◌, ◌++◌, inl, sym, ◌∙◌, Err}
 use Rattle.script_spec.specs.Common.{lines_of, Item, IsSkipped, IsGoodLine, AreRead, NotBoth, OneRefusal}
-pub use Rattle.script_spec.proofs.Chains.{same_head, not_nil, same_some}
-use Rattle.script_spec.proofs.Decision.{text_decided, bad_decided}
+use Rattle.script_spec.proofs.Decision.{judged_so, text_so}
 
 -- one line more is read
 pub read_more : (version : ℕ) (lines : List (List ℕ)) (line : List ℕ) (before items : List Item) (item : Item) →
@@ -22,8 +21,10 @@ skip_more version (first ∷ later) line before items read skipped =
 -- ---- the whole
 
 pub not_both : NotBoth
-not_both bytes script line why text bad = cc (text_decided bytes script text, bad_decided (lines_of bytes) line why bad)
+not_both bytes script line why text bad =
+    cc (text_so bytes script text, judged_so (lines_of bytes) (Err (line, why)) bad)
 
 pub one_refusal : OneRefusal
 one_refusal bytes line why place cause one two =
-    grind (arith, bad_decided (lines_of bytes) line why one, bad_decided (lines_of bytes) place cause two)
+    let same = sym (judged_so (lines_of bytes) (Err (line, why)) one) ∙ judged_so _ (Err (place, cause)) two in
+    grind arith

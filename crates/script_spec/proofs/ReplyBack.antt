@@ -1,13 +1,12 @@
 -- A reply is read back from its words, and what is read has the shape of its event.
-use Rattle.board_prelude.proofs.Common.{eq-eqb, nat_tests, pow-le-pow_right, eqb-true, Kind, Write, WideAccess}
-use Rattle.board_prelude.proofs.Common.{bytes_of, Event, Memory, Wide, Port, Ack, Part, Parts, Two, Three, Four, Reply}
-use Rattle.board_prelude.proofs.Common.{is_write, longest_at, parts_from, parts_of, parts_list, space, hex_long}
-use Rattle.board_prelude.proofs.Common.{area_text, target_text, denial_text, value_bytes, value_text, reply_text}
-use Rattle.board_prelude.proofs.Common.{digits, option_map, Reg, Dev, Area, Target, Denial, byte, hex_digit, hex_byte}
-use Rattle.board_prelude.proofs.Common.{hex_number, hex_offset, register_text, device_text}
-use Rattle.std.proofs.Common.{◌≡◌, ℕ, zero, suc, ◌+◌, ◌-◌, ◌^◌, ◌<◌, ◌≤◌, ◌↔◌, Bool, false, Option, Some, None, List}
-use Rattle.std.proofs.Common.{[], ◌∷◌, length, All, refl, sym, ap, ◌∙◌, append_assoc, arith, decimal, IfSome, IsTrue}
-use Rattle.std.proofs.Common.{◌*◌, ◌%◌, eqb, ◌++◌, codes}
+use Rattle.board_prelude.proofs.Common.{eq-eqb, nat_tests, pow-le-pow_right, eqb-true, Kind, Write, WideAccess, Event}
+use Rattle.board_prelude.proofs.Common.{Wide, Part, Parts, Two, Three, Four, Reply, is_write, parts_from, parts_of}
+use Rattle.board_prelude.proofs.Common.{parts_list, space, hex_long, area_text, target_text, denial_text, value_bytes}
+use Rattle.board_prelude.proofs.Common.{value_text, reply_text, digits, option_map, Reg, Dev, Area, Target, Denial}
+use Rattle.board_prelude.proofs.Common.{byte, hex_digit, hex_byte, hex_number, hex_offset, register_text, device_text}
+use Rattle.std.proofs.Common.{◌≡◌, ℕ, zero, suc, ◌^◌, ◌<◌, ◌≤◌, ◌↔◌, Bool, false, Option, Some, List, [], ◌∷◌, length}
+use Rattle.std.proofs.Common.{All, refl, sym, ap, ◌∙◌, append_assoc, arith, decimal, IfSome, IsTrue, ◌*◌, ◌%◌, eqb}
+use Rattle.std.proofs.Common.{◌++◌, codes}
 use Rattle.board_spec.specs.declared.event.Event.TheVariants.{Look as LookAt}
 use Rattle.script_spec.specs.Common.{IsDecimal, FitsPart, IsReplyValue, IsBusReply, IsWideReply, HasShape, fields_of}
 use Rattle.script_spec.specs.Common.{parse_decimal, parse_value, parse_bus_reply, parse_last_parts, parse_more_parts}
@@ -17,14 +16,14 @@ use Rattle.script_spec.specs.Common.{parse_digit, number_after, parse_hex, cut, 
 use Rattle.script_spec.specs.Common.{parse_denial, parse_placed_area, parse_area, parse_placed_target, parse_device}
 use Rattle.script_spec.specs.Common.{parse_target}
 use Rattle.script_spec.proofs.Words.{line_spaced, words_of, words_in, reply_spaced, reply_are}
-use Rattle.script_spec.proofs.Splits.{split_exact}
+use Rattle.script_spec.proofs.PlainText.{split_exact}
 use Rattle.script_spec.proofs.NumberTexts.{decimal_read, decimal_back, digit_so, hex_after, hex_back}
 use Rattle.script_spec.specs.Replies.{bus_reply, look_reply, parse_part, parse_look_reply}
 use Rattle.std.proofs.lemmas.Fmt.{decimal_digit}
 use Rattle.board_base.specs.declared.target.Dev.TheVariants as devices
 use Rattle.board_base.specs.declared.target.Target.TheVariants as targets
 use Rattle.script_spec.proofs.Digits.{lacks-append, lacks-decimal, cut_field}
-use Rattle.script_spec.proofs.Chains.{same}
+use Rattle.script_spec.proofs.Chains.{same, if_some}
 use Rattle.script_spec.specs.Targets.{parse_card_base, parse_card_target}
 
 -- ---- numbers
@@ -68,14 +67,10 @@ denial_back denial fits = grind (arith, nat_tests, register_back)
 
 -- ---- areas
 
-base_back : (dev base : ℕ) → dev < 10 → base < 10
-    → parse_card_base (decimal dev ++ 0x2E ∷ decimal base) ≡ Some (dev, base)
+base_parts : (dev base : ℕ) → dev < 10 → base < 10
+    → parse_card_base (decimal dev ++ codes "." ++ decimal base) ≡ Some (dev, base)
 unfolding parse_card_base
-base_back dev base one two = grind (arith, nat_tests, cut_field, lacks-decimal, digit_back)
-
-base_parts : (dev base : ℕ) → dev < 10 → base < 10 → parse_card_base (decimal dev ++ codes "." ++ decimal base) ≡ Some
-    (dev, base)
-base_parts dev base one two = simp (append_assoc, base_back)
+base_parts dev base one two = grind (arith, nat_tests, append_assoc, cut_field, lacks-decimal, digit_back)
 
 pub area_back : (area : Area) → FitsArea area → parse_area (area_text area) ≡ Some area
 unfolding parse_area parse_placed_area cut
@@ -127,36 +122,22 @@ part_back part fits = rw (target_back part.target fits.0, denial_back part.denia
 
 parts_back : (parts : Parts) → All FitsPart (parts_list parts) → parse_parts (words_of (parts_list parts)) ≡ Some parts
 unfolding parse_parts parse_more_parts parse_last_parts
-parts_back (Two a b) fits = simp (part_back a (fits 0 a (omega arith)), part_back b (fits 1 a (omega arith)))
-parts_back (Three a b c) fits = simp (
-  part_back a (fits 0 a (omega arith)),
-  part_back b (fits 1 a (omega arith)),
-  part_back c (fits 2 a (omega arith)),
-)
-parts_back (Four a b c d) fits = simp (
-  part_back a (fits 0 a (omega arith)),
-  part_back b (fits 1 a (omega arith)),
-  part_back c (fits 2 a (omega arith)),
-  part_back d (fits 3 a (omega arith)),
-)
+parts_back (Two a b) fits = grind (arith, nat_tests, part_back, fits 0 a, fits 1 a)
+parts_back (Three a b c) fits = grind (arith, nat_tests, part_back, fits 0 a, fits 1 a, fits 2 a)
+parts_back (Four a b c d) fits = grind (arith, nat_tests, part_back, fits 0 a, fits 1 a, fits 2 a, fits 3 a)
 
 counted : (access : WideAccess) (most addr left : ℕ) → length (parts_from access most addr left) ≡ part_count most
     addr left
 unfolding parts_from part_count
 counted access zero addr left = refl
-counted access (suc most) addr left =
-    let later = counted access most (addr + bytes_of (longest_at addr left)) (left - bytes_of (longest_at addr left)) in
-    grind (arith, nat_tests)
+counted access (suc most) addr left = grind (arith, nat_tests, counted access most)
 
 reply_back : (event : Event) (reply : Reply) → HasShape event reply → parse_reply event
     (words_in (value_bytes event) reply) ≡ Some reply
 unfolding parse_reply parse_wide_reply parse_look_reply look_reply
-reply_back (Memory access) reply shape = bus_back (is_write access.kind) (bytes_of access.width) reply shape
 reply_back (Wide access) reply shape = grind (arith, nat_tests, value_back, parts_back, eq-eqb, counted)
-reply_back (Port access) reply shape = bus_back access.write (bytes_of access.width) reply shape
 reply_back (LookAt kind addr smm) reply shape = grind (arith, nat_tests, decimal_back, hex_read 4, area_back)
-reply_back Ack reply shape = bus_back false 1 reply shape
-reply_back _ reply shape = ap Some (sym shape)
+reply_back event reply shape = grind (arith, nat_tests, bus_back)
 
 pub reply_read : (event : Event) (reply : Reply) → HasShape event reply
     → parse_spaced_reply event (fields_of (space ∷ reply_text (value_bytes event) reply)) ≡ Some reply
@@ -178,5 +159,4 @@ pub writes_is : (kind : Kind) (writes : Bool) → (IsTrue writes ↔ kind ≡ Wr
 writes_is kind writes same = grind (arith, nat_tests)
 
 pub decimal_below : (field : List ℕ) (found : Option ℕ) → found ≡ parse_decimal field → IfSome found IsDecimal
-decimal_below field None is = tt
-decimal_below field (Some n) is = (decimal_read field n (sym is)).1
+decimal_below field found is = if_some found IsDecimal (λ n e. (decimal_read field n (sym is ∙ e)).1)

@@ -1,82 +1,71 @@
 -- A text says at most one script.
-use Rattle.board_prelude.proofs.Common.{nat_tests, option_map, IsPermutation, All-head, All-tail, All-nil}
+use Rattle.board_prelude.proofs.Common.{nat_tests, option_map, IsPermutation, All-head, All-tail, All-nil, All-cons}
 use Rattle.board_prelude.proofs.Common.{All-permutation, IsPermutation-sym, Statement, FittedCard, Rises}
-use Rattle.std.proofs.Common.{ℕ, ◌≡◌, ◌<◌, ◌⊎◌, Option, Some, None, Result, Ok, List, [], ◌∷◌, ◌++◌, map, All, refl}
-use Rattle.std.proofs.Common.{sym, ap, ◌∙◌, inl, inr, append-nil, arith}
-use Rattle.script_spec.specs.Common.{Item, SetCpus, SetMemory, SetRom, SetDisk, BeginPhase, Ask, cards_of, Script}
-use Rattle.script_spec.specs.Common.{phase_items, IsSaidBy, OneScript}
-use Rattle.script_spec.proofs.Decision.{text_decided}
+use Rattle.std.proofs.Common.{ℕ, ◌≡◌, ◌<◌, ◌⊎◌, Option, Some, None, List, [], ◌∷◌, ◌++◌, map, All, refl, sym, ap, ◌∙◌}
+use Rattle.std.proofs.Common.{inl, inr, arith, drop}
+use Rattle.script_spec.specs.Common.{Item, SetCpus, SetMemory, SetRom, SetDisk, Ask, cards_of, Script, phase_items}
+use Rattle.script_spec.specs.Common.{IsSaidBy, OneScript}
+use Rattle.script_spec.proofs.Decision.{text_so}
 
 -- ---- cards in rising order
 
-abbrev pub In : List FittedCard → FittedCard → Type 0
-In [] card = ⊥
-In (first ∷ later) card = (card ≡ first) ⊎ In later card
+-- what holds of each card of a list holds of each card of another
+abbrev Covers : List FittedCard → List FittedCard → Type 1
+Covers left right = (P : FittedCard → Type 0) → All P left → All P right
 
-pub all_in : (cards : List FittedCard) → All (In cards) cards
-all_in [] = All-nil (In [])
-all_in (first ∷ later) = grind (arith, nat_tests, all_in later)
+-- a card is this one, or has a higher device
+abbrev IsFrom : FittedCard → FittedCard → Type 0
+IsFrom x card = (card ≡ x) ⊎ (x.dev < card.dev)
 
-pub in_all : (P : FittedCard → Type 0) (cards : List FittedCard) (card : FittedCard) → All P cards →
-    In cards card → P card
-in_all P [] card all is = absurd is
-in_all P (first ∷ later) card all (inl is) = rw is (All-head P first later all)
-in_all P (first ∷ later) card all (inr is) = in_all P later card (All-tail P first later all) is
+first_lowest : (x : FittedCard) (xs : List FittedCard) → Rises (x ∷ xs) → All (IsFrom x) (x ∷ xs)
+first_lowest x xs rises = All-cons (IsFrom x) x xs (inl refl) (λ k d inside. inr (rises.0 k d inside))
 
--- cards above the first of a list are among those after it
-none_first : (x y : FittedCard) (xs ys : List FittedCard) → x ≡ y → All (λ other. x.dev < other.dev) xs
-    → All (In (y ∷ ys)) xs → All (In ys) xs
-none_first x y xs ys same above all k d below = grind (arith, nat_tests)
+later_covered : (x y : FittedCard) (xs ys : List FittedCard) → x ≡ y → Rises (y ∷ ys) → Covers (x ∷ xs) (y ∷ ys) →
+    Covers xs ys
+later_covered x y xs ys same rises covers P all k d inside =
+    let Above : FittedCard → Type 0 = λ card. x.dev < card.dev → P card in
+    let above = covers Above (All-cons Above x xs (λ less. absurd (omega arith)) (λ j e within less. all j e within)) in
+    All-tail Above y ys above k d inside (rw same (rises.0 k d inside))
 
 -- two lists that rise and have the same cards are one
-rising_same : (left right : List FittedCard) → Rises left → Rises right → All (In right) left →
-    All (In left) right → left ≡ right
+rising_same : (left right : List FittedCard) → Rises left → Rises right → Covers left right → Covers right left →
+    left ≡ right
 rising_same [] [] one two there back = refl
-rising_same [] (y ∷ ys) one two there back = absurd (All-head (In []) y ys back)
-rising_same (x ∷ xs) [] one two there back = absurd (All-head (In []) x xs there)
+rising_same [] (y ∷ ys) one two there back = absurd (there (λ card. ⊥) (All-nil (λ card. ⊥)) 0 y (omega arith))
+rising_same (x ∷ xs) [] one two there back = absurd (back (λ card. ⊥) (All-nil (λ card. ⊥)) 0 x (omega arith))
 rising_same (x ∷ xs) (y ∷ ys) one two there back =
-    let same : x ≡ y = elim (All-head (In (y ∷ ys)) x xs there) [
-      | inl is ↦ is
-      | inr after ↦ elim (All-head (In (x ∷ xs)) y ys back) [
-        | inl is ↦ sym is
-        | inr before ↦
-            let up = in_all (λ other. y.dev < other.dev) ys x two.0 after in
-            let down = in_all (λ other. x.dev < other.dev) xs y one.0 before in
-            absurd (omega (arith, up, down))
-      ]
-    ] in
-    let later = rising_same xs ys one.1 two.1 (none_first x y xs ys same one.0 (All-tail (In (y ∷ ys)) x xs there))
-    (none_first y x ys xs (sym same) two.0 (All-tail (In (x ∷ xs)) y ys back)) in
+    let up = All-head (IsFrom x) y ys (there (IsFrom x) (first_lowest x xs one)) in
+    let down = All-head (IsFrom y) x xs (back (IsFrom y) (first_lowest y ys two)) in
+    let same : x ≡ y = grind arith in
+    let later = rising_same xs ys one.1 two.1 (later_covered x y xs ys same two there)
+    (later_covered y x ys xs (sym same) one back) in
     λ i. same i ∷ later i
 
 one_order : (cards left right : List FittedCard) → IsPermutation cards left → IsPermutation cards right →
     Rises left → Rises right → left ≡ right
 one_order cards left right one two rises others =
-    rising_same _ _ rises others (All-permutation (In right) cards left one (All-permutation (In right) right cards
-    (IsPermutation-sym cards right two) (all_in right))) (All-permutation (In left) cards right two (All-permutation (In
-    left) left cards
-    (IsPermutation-sym cards left one) (all_in left)))
+    rising_same left right rises others
+    (λ P all. All-permutation P cards right two (All-permutation P left cards (IsPermutation-sym cards left one) all))
+    (λ P all. All-permutation P cards left one (All-permutation P right cards (IsPermutation-sym cards right two) all))
 
 -- ---- phases
 
--- the statements before the first phase, and the phases
-abbrev cut_phases : List Item → List Statement × List (List Statement)
-cut_phases [] = ([], [])
-cut_phases (BeginPhase ∷ later) = ([], (cut_phases later).0 ∷ (cut_phases later).1)
-cut_phases (Ask statement ∷ later) = (statement ∷ (cut_phases later).0, (cut_phases later).1)
-cut_phases (_ ∷ later) = cut_phases later
+first_phase : (phase other : List Statement) (later others : List (List Statement)) →
+    map Ask phase ++ phase_items later ≡ map Ask other ++ phase_items others →
+    (phase ≡ other) × (phase_items later ≡ phase_items others)
+first_phase [] [] later others e = (refl, e)
+first_phase (asked ∷ phase) (said ∷ other) later others e = grind (arith, first_phase phase other later others)
+first_phase [] (said ∷ other) [] others e = absurd cc
+first_phase [] (said ∷ other) (next ∷ later) others e = absurd cc
+first_phase (asked ∷ phase) [] later [] e = absurd cc
+first_phase (asked ∷ phase) [] later (next ∷ others) e = absurd cc
 
-cut_statements : (phase : List Statement) (later : List Item) →
-    cut_phases (map Ask phase ++ later) ≡ (phase ++ (cut_phases later).0, (cut_phases later).1)
-cut_statements [] later = refl
-cut_statements (statement ∷ phase) later = rw (cut_statements phase later) refl
-
-phases_cut : (phases : List (List Statement)) → cut_phases (phase_items phases) ≡ ([], phases)
-phases_cut [] = refl
-phases_cut (phase ∷ later) = rw (cut_statements phase (phase_items later), phases_cut later, append-nil) refl
-
-pub one_cutting : (left right : List (List Statement)) → phase_items left ≡ phase_items right → left ≡ right
-one_cutting left right e = ap (λ p. p.1) (sym (phases_cut left) ∙ ap cut_phases e ∙ phases_cut right)
+one_cutting : (left right : List (List Statement)) → phase_items left ≡ phase_items right → left ≡ right
+one_cutting [] [] e = refl
+one_cutting (phase ∷ later) (other ∷ others) e =
+    let first = first_phase phase other later others (ap (λ items. drop 1 items) e) in
+    grind (arith, one_cutting later others)
+one_cutting _ _ e = absurd cc
 
 -- ---- scripts
 
@@ -108,12 +97,9 @@ one_meaning items left right version one two = λ i. record {
   phases = one_cutting left.phases right.phases (sym one.phases ∙ two.phases) i;
 }
 
--- what is judged to be a script is one version and one list of items
-same_found : (one two : ℕ × List Item) → ◌≡◌ {A = Result (ℕ × List Item) (ℕ × ℕ)} (Ok one) (Ok two) → one ≡ two
-same_found one two e = cc
-
 pub one_script : OneScript
 one_script bytes script other one two =
-    let same = same_found _ _ (sym (text_decided bytes script one) ∙ text_decided bytes other two) in
-    let said = rw (ap (λ (p : ℕ × List Item). p.1) same) at one.said in
-    one_meaning two.items script other (ap (λ (p : ℕ × List Item). p.0) same) said two.said
+    let judged = sym (text_so bytes script one) ∙ text_so bytes other two in
+    let version : script.version ≡ other.version = grind arith in
+    let items : one.items ≡ two.items = grind arith in
+    one_meaning two.items script other version (rw items at one.said) two.said

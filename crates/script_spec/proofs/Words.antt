@@ -4,9 +4,9 @@ use Rattle.std.proofs.Common.{lit<, sym, ◌∙◌, ◌&&◌, flat_map, codes, d
 use Rattle.board_prelude.proofs.Common.{join_with_byte, nat_tests, Kind, bytes_of, Event, Memory, Wide, Port, Ack, Time}
 use Rattle.board_prelude.proofs.Common.{Stimulus, Applied, stimulus_form, applied, event_applied, applied_by}
 use Rattle.board_prelude.proofs.Common.{option_map_or, is_write, space, hex_number, size_text, width_text, kind_text}
-use Rattle.board_prelude.proofs.Common.{level_text, moment_text, event_text, smm_text, written_text, and_from}
-use Rattle.board_prelude.proofs.Common.{and_parts, Part, Reply, Bus, Saw, parts_list, hex_long, area_text, target_text}
-use Rattle.board_prelude.proofs.Common.{denial_text, value_text, answered_text, reply_text}
+use Rattle.board_prelude.proofs.Common.{level_text, moment_text, event_text, and_from, and_parts, Part, Reply, Bus, Saw}
+use Rattle.board_prelude.proofs.Common.{parts_list, hex_long, area_text, target_text, denial_text, value_text}
+use Rattle.board_prelude.proofs.Common.{answered_text, reply_text}
 use Rattle.script_spec.proofs.Digits.{own}
 use Rattle.std.proofs.lemmas.Fmt.{decimal-digits_value}
 use Rattle.board_spec.specs.declared.event.Event.TheVariants.{Look as LookAt}
@@ -69,23 +69,9 @@ one_text = decimal-digits_value own (49 ∷ []) (lit< tt, tt) (lit< tt) (λ _. r
 
 -- ---- they make its text
 
-access_joined : (k s h : List ℕ) (writes : Bool) (bytes value : ℕ) (smm : Bool)
-    → join_with_byte space (k ∷ s ∷ h ∷ written_words writes bytes value (smm_words smm))
-    ≡ k ++ space ∷ s ++ space ∷ h ++ written_text writes bytes value ++ smm_text smm
-access_joined k s h writes bytes value smm = grind (arith, nat_tests, append-nil, append_assoc)
-
-port_joined : (k s h : List ℕ) (writes : Bool) (bytes value : ℕ)
-    → join_with_byte space (k ∷ s ∷ h ∷ written_words writes bytes value [])
-    ≡ k ++ space ∷ s ++ space ∷ h ++ written_text writes bytes value
-port_joined k s h writes bytes value = grind (arith, nat_tests, append-nil, append_assoc)
-
-look_joined : (k h : List ℕ) (smm : Bool)
-    → join_with_byte space (codes "look" ∷ k ∷ h ∷ smm_words smm) ≡ codes "look " ++ k ++ space ∷ h ++ smm_text smm
-look_joined k h smm = grind (arith, nat_tests, append-nil, append_assoc)
-
 pub event_joined : (event : Event) → join_with_byte space (event_words event) ≡ event_text event
 unfolding event_text
-event_joined event = grind (arith, nat_tests, access_joined, port_joined, look_joined)
+event_joined event = grind (arith, nat_tests, append-nil, append_assoc)
 
 -- ---- they are words
 
