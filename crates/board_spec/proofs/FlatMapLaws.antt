@@ -1,8 +1,9 @@
 -- Two flat maps of the same registers are one list, and every address has one span.
-use Rattle.std.proofs.Common.{◌≡◌, ℕ, ◌+◌, ◌≤◌, inl, inr, List, [], ◌∷◌, refl, sym, ◌∙◌, subst, arith}
+use Rattle.std.proofs.Common.{◌≡◌, ℕ, ◌+◌, ◌≤◌, List, [], ◌∷◌, refl, sym, ◌∙◌, subst, arith}
 use Rattle.board_spec.specs.Common.{AllByRecursion, Setup, Bytes, address_count, six_areas, MapRange, Tiles, Differs}
 use Rattle.board_spec.specs.Common.{NeighboursDiffer, IsRight, OneFlatMap}
-use Rattle.device_spec.proofs.Common.{recursion_from_All, cases_lt}
+use Rattle.device_spec.proofs.Common.{recursion_from_All}
+use Rattle.std.proofs.lemmas.Bool.Decides.{nat_tests}
 
 pub tiles_below : (from : ℕ) (ranges : List MapRange) → Tiles from ranges → from ≤ address_count
 tiles_below from [] h = omega arith
@@ -20,15 +21,7 @@ module _ (setup : Setup) (bytes : Bytes) where
   -- a range that ends before another that begins at the same address has a next one with the other's areas
   ends_no_later : (from : ℕ) (x y : MapRange) (xs ys : List MapRange) → Tiles from (x ∷ xs) → Tiles from (y ∷ ys) →
       AreRight (x ∷ xs) → IsRight setup bytes y → Differs x xs → y.hi ≤ x.hi
-  ends_no_later from x y [] ys tx ty rx ry dx = omega (arith, tx.2, tiles_below (y.hi + 1) ys ty.2)
-  ends_no_later from x y (x' ∷ xs) ys tx ty rx ry dx =
-      elim (cases_lt x.hi y.hi) [
-        | inr not_sooner ↦ not_sooner
-        | inl sooner ↦
-            let there = ry.at_each (x.hi + 1) (omega (arith, tx.0, tx.1, ty.0)) (omega arith) in
-            absurd (dx (sym (first_areas from x (x' ∷ xs) tx rx.0) ∙ first_areas from y ys ty ry ∙ sym there
-            ∙ first_areas (x.hi + 1) x' xs tx.2 rx.1.0))
-      ]
+  ends_no_later from x y xs ys h6 h7 h8 h9 h10 = grind (arith, nat_tests, tiles_below, first_areas)
 
   one_tiling : (from : ℕ) (xs ys : List MapRange) → Tiles from xs → Tiles from ys → AreRight xs → AreRight ys →
       NeighboursDiffer xs → NeighboursDiffer ys → xs ≡ ys

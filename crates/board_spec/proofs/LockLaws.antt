@@ -1,12 +1,11 @@
 -- The lock law holds of every legal history.
-use Rattle.std.proofs.Common.{◌≡◌, ◌≢◌, ℕ, inl, inr, Bool, false, List, [], ◌∷◌, ◌++◌, Option, Some, ◌∙◌, arith, zero}
-use Rattle.std.proofs.Common.{suc, ◌==◌, map}
+use Rattle.std.proofs.Common.{◌≡◌, ◌≢◌, ℕ, inl, inr, Bool, false, List, [], ◌∷◌, ◌++◌, Option, ◌∙◌, arith, zero, suc}
+use Rattle.std.proofs.Common.{◌==◌, map}
 use Rattle.device_spec.proofs.Common.{nat_tests, cases_Bool}
 use Rattle.board_spec.specs.Common.{Kind, WideAccess, Denial, Area, Target, Smram, Setup, bit, reset_byte, host_bridge}
-use Rattle.board_spec.specs.Common.{is_hard_reset, register_change, smram_after, byte_with, byte_of, Bytes, Window}
-use Rattle.board_spec.specs.Common.{area_under, area_of, smram, target_at, memory_answer, part_answer, IsAnswer, IsNext}
-use Rattle.board_spec.specs.Common.{IsLegal, SetsLock, NoHardReset, IsOutsideSmm, HasSmram, NamesSmram, parts_from}
-use Rattle.board_spec.specs.Common.{LegalKeepsLock}
+use Rattle.board_spec.specs.Common.{byte_with, byte_of, Bytes, Window, area_under, area_of, smram, target_at}
+use Rattle.board_spec.specs.Common.{memory_answer, part_answer, IsAnswer, IsNext, IsLegal, SetsLock, NoHardReset}
+use Rattle.board_spec.specs.Common.{IsOutsideSmm, HasSmram, NamesSmram, parts_from, LegalKeepsLock}
 use Rattle.board_base.specs.declared.target.Area.TheVariants.{Smram as SmramArea}
 use Rattle.board_spec.specs.declared.event.Event.{Event}
 use Rattle.board_spec.specs.declared.event.Event.TheVariants.{Memory, Wide, Look as LookAt}
@@ -14,37 +13,21 @@ use Rattle.board_spec.specs.declared.event.Reply.{Reply}
 use Rattle.board_spec.specs.declared.event.Reply.TheVariants.{Bus, Parts, Saw}
 use Rattle.board_spec.specs.declared.event.Entry.{Entry}
 use Rattle.board_spec.specs.declared.map_change.MapChange.{MapChange}
-use Rattle.board_spec.specs.declared.map_change.MapChange.TheVariants.{Reset}
 
 -- ---- the lock and what it keeps shut, in one byte
 
 record Kept (b : ℕ) : Type 0 where
   pub shut : bit b 4 ≡ 1 → bit b 6 ≡ 0
 
-shut_after : (old written : ℕ) → Kept (smram_after old written)
-shut_after old written = grind (arith, nat_tests)
-
-reset_kept : (setup : Setup) → Kept (reset_byte setup smram)
-unfolding reset_byte host_bridge
-reset_kept setup = grind (arith, nat_tests)
-
 kept_of : (setup : Setup) (history : List Entry) → Kept (byte_of setup history smram)
-unfolding byte_of
-kept_of setup [] = reset_kept setup
-kept_of setup (entry ∷ before) = grind (arith, nat_tests, shut_after, reset_kept, kept_of setup before)
+unfolding byte_of reset_byte host_bridge
+kept_of setup [] = grind (arith, nat_tests)
+kept_of setup (entry ∷ before) = grind (arith, nat_tests, kept_of setup before)
 
 -- ---- the lock stays until a hard reset
 
 IsLocked : Setup → List Entry → Type 0
 IsLocked setup history = bit (byte_of setup history smram) 4 ≡ 1
-
-stored_stays : (setup : Setup) (change : Option MapChange) (old : ℕ) → change ≢ Some Reset → bit old 4 ≡ 1 →
-    bit (byte_with setup change smram old) 4 ≡ 1
-stored_stays setup change old other locked = grind (arith, nat_tests)
-
-no_reset_change : (setup : Setup) (before : List Entry) (event : Event) → is_hard_reset before event ≡ false →
-    register_change setup before event ≢ Some Reset
-no_reset_change setup before event soft = grind (arith, nat_tests)
 
 set_locks : (setup : Setup) (change : Option MapChange) (old : ℕ) → SetsLock change →
     bit (byte_with setup change smram old) 4 ≡ 1
@@ -53,9 +36,13 @@ set_locks setup change old sets = grind (arith, nat_tests)
 locked_since : (setup : Setup) (between older : List Entry) → NoHardReset between older → IsLocked setup older →
     IsLocked setup (between ++ older)
 unfolding byte_of IsLocked
-locked_since setup [] older soft locked = locked
-locked_since setup (entry ∷ between) older soft locked =
-    grind (arith, stored_stays, no_reset_change, soft.0, locked_since setup between older soft.1 locked)
+locked_since setup [] older soft locked = grind (arith, nat_tests)
+locked_since setup (entry ∷ between) older soft locked = grind (
+  arith,
+  nat_tests,
+  locked_since setup between older
+      soft.1 locked,
+)
 
 -- ---- with DOPEN at 0 nothing outside SMM reaches SMRAM
 

@@ -2,11 +2,10 @@
 use Rattle.std.proofs.Common.{◌≡◌, ℕ, zero, suc, ◌+◌, ◌<◌, ◌≤◌, Bool, true, not, List, [], ◌∷◌, length, get_or, Option}
 use Rattle.std.proofs.Common.{refl, ◌∙◌, ap, arith, ◌==◌, is_some, find, flat_map, if◌then◌else◌}
 use Rattle.board_spec.specs.Common.{AllByRecursion, enumerate_from, Kind, Base, FittedCard, Setup, IsCardList, Rises}
-use Rattle.board_spec.specs.Common.{card_at, has_rom, is_within, Bytes, boundary, row_of, is_shadowed, Window}
-use Rattle.board_spec.specs.Common.{base_value, memory_window, vga_window, memory_windows, rom_window, rom_window_of}
-use Rattle.board_spec.specs.Common.{is_rom_on, unselected_windows, rom_unselected, is_enabled_for, first_window}
-use Rattle.board_spec.specs.Common.{memory_claim, memory_shut, area_of, denial_of, card_register, expansion_rom}
-use Rattle.board_spec.specs.Common.{SameMapBytes, MapBytesDecide}
+use Rattle.board_spec.specs.Common.{card_at, has_rom, Bytes, boundary, row_of, is_shadowed, Window, base_value}
+use Rattle.board_spec.specs.Common.{memory_window, vga_window, memory_windows, rom_window, rom_window_of, is_rom_on}
+use Rattle.board_spec.specs.Common.{unselected_windows, rom_unselected, is_enabled_for, first_window, memory_claim}
+use Rattle.board_spec.specs.Common.{memory_shut, area_of, denial_of, SameMapBytes, MapBytesDecide}
 use Rattle.device_spec.proofs.Common.{nat_tests, recursion_from_All, find-append}
 
 -- ---- the cards
@@ -17,12 +16,6 @@ found : (cards : List FittedCard) (k : ℕ) (d : FittedCard) → k < length card
 found [] k d below = absurd (omega arith)
 found (card ∷ later) zero d below = grind (arith, nat_tests)
 found (card ∷ later) (suc k) d below = grind (arith, nat_tests, found later k d)
-
-abbrev no_windows : List Window
-no_windows = []
-
-both_empty : (a b : Bool) → (if a then no_windows else no_windows) ≡ (if b then no_windows else no_windows)
-both_empty a b = grind arith
 
 -- a card that is found by its device number, with the ROM of the card
 found_rom : (cards : List FittedCard) → Rises cards → (k : ℕ) (d : FittedCard) → k < length cards →
@@ -49,16 +42,9 @@ module _ (setup : Setup) (bytes other : Bytes) (same : SameMapBytes setup bytes 
   abbrev IsFitted : ℕ → Type 0
   IsFitted dev = is_some (card_at setup dev) ≡ true
 
-  abbrev is_in_rom : (dev off : ℕ) → Bool
-  is_in_rom dev off = is_within (expansion_rom dev).off ((expansion_rom dev).off + 3) off
-
   -- the register of an expansion ROM
   abbrev HasRom : ℕ → Type 0
   HasRom dev = has_rom (card_at setup dev) ≡ true
-
-  rom_same : (dev off : ℕ) → HasRom dev → is_in_rom dev off ≡ true →
-      bytes (card_register dev off) ≡ other (card_register dev off)
-  rom_same dev off fitted is = grind (arith, nat_tests)
 
   base_same : (dev k : ℕ) → IsFitted dev → k < 6 → base_value bytes dev k ≡ base_value other dev k
   base_same dev k fitted below = grind (arith, nat_tests)
@@ -69,9 +55,7 @@ module _ (setup : Setup) (bytes other : Bytes) (same : SameMapBytes setup bytes 
 
   roms_same : (card : FittedCard) → (is_some card.rom ≡ true → HasRom card.dev) →
       (rom_where bytes card ≡ rom_where other card) × (unselected_windows bytes card ≡ unselected_windows other card)
-  roms_same card has =
-      let bytes_same = λ (off : ℕ) (some : is_some card.rom ≡ true). rom_same card.dev off (has some) in
-      grind (arith, nat_tests, bytes_same, both_empty)
+  roms_same card has = grind (arith, nat_tests)
 
   enabled_same : (dev : ℕ) → IsFitted dev → is_enabled_for 1 bytes dev ≡ is_enabled_for 1 other dev
   enabled_same dev fitted = grind (arith, nat_tests)

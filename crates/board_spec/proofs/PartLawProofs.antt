@@ -2,7 +2,7 @@
 -- values joined are its value.
 use Rattle.std.proofs.Common.{◌≡◌, ℕ, zero, suc, ◌+◌, ◌-◌, ◌%◌, ◌≤◌, ◌<◌, inl, inr, List, [], ◌∷◌, length, refl, sym}
 use Rattle.std.proofs.Common.{ap, arith, ◌⊎◌, ◌*◌, ◌/◌, ◌^◌, ◌∙◌, subst, All}
-use Rattle.device_spec.proofs.Common.{cases_eq, nat_tests, mod-eq_of_lt, pow-add, All-nil, All-cons}
+use Rattle.device_spec.proofs.Common.{cases_eq, nat_tests, mod-eq_of_lt, pow-add}
 use Rattle.board_spec.specs.Common.{Width, One, Two, Four, WideAccess, bytes_of, IsWideAccess, longest_at, part_at}
 use Rattle.board_spec.specs.Common.{parts_from, parts_of, FitsBytes, joined, is_write, Covers, IsPart, AreParts}
 use Rattle.board_spec.specs.Common.{CutIntoParts}
@@ -41,13 +41,15 @@ cut : (access : WideAccess) (most from left : ℕ) (widths : List Width) → Are
     length widths ≤ most →
     (parts_from access most from left ≡ made access from widths) × (total widths ≡ left) × Aligned from widths
 unfolding parts_from made
-cut access zero from left [] longest few = (refl, sym longest, tt)
-cut access (suc most) from left [] longest few = (grind (arith, nat_tests), sym longest, tt)
-cut access zero from left (width ∷ later) longest few = absurd (omega arith)
-cut access (suc most) from left (width ∷ later) longest few =
-    let rest = cut access most (from + bytes_of width) (left - bytes_of width) later longest.2 (omega arith) in
-    let fits : (from % bytes_of width ≡ 0) × (bytes_of width ≤ left) = grind (arith, nat_tests) in
-    (grind (arith, nat_tests, rest.0), omega (arith, rest.1, fits.1), (fits.0, rest.2))
+cut access zero from left [] longest few = grind (arith, nat_tests)
+cut access (suc most) from left [] longest few = grind (arith, nat_tests)
+cut access zero from left (width ∷ later) longest few = grind (arith, nat_tests)
+cut access (suc most) from left (width ∷ later) longest few = grind (
+  arith,
+  nat_tests,
+  cut access most
+      (from + bytes_of width) (left - bytes_of width) later longest.2 (omega arith),
+)
 
 -- ---- the eight ways to cut
 
@@ -112,11 +114,13 @@ each-made : (access : WideAccess) (from : ℕ) (widths : List Width) →
     FitsBytes (is_write access.kind) access.bytes access.value → Aligned from widths → All (IsPart access)
     (made access from widths)
 unfolding made
-each-made access from [] fits aligned = All-nil (IsPart access)
-each-made access from (width ∷ later) fits aligned =
-    All-cons (IsPart access) (part_at access from width) (made access (from + bytes_of width) later)
-    (is_part access from width fits aligned.0)
-    (each-made access (from + bytes_of width) later fits aligned.1)
+each-made access from [] fits aligned = grind (arith, nat_tests)
+each-made access from (width ∷ later) fits aligned = grind (
+  arith,
+  nat_tests,
+  each-made access (from + bytes_of width)
+      later fits aligned.1,
+)
 
 pub some_power : (n : ℕ) → 0 < 256 ^ n
 some_power n = omega (arith, one-le-pow n 256 (omega arith))
