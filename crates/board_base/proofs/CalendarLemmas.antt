@@ -8,8 +8,8 @@ use Rattle.jiff_core.proofs.CalendarLemmas.{days_from_civil-day_count, day_count
 use Rattle.jiff_core.proofs.CalendarLemmas.{weekday_number-parts}
 use Rattle.jiff_core.proofs.MarchLemmas.{day_count-early}
 use Rattle.jiff_core.proofs.SignedLemmas.{signed_arith}
-use Rattle.board_base.specs.Calendar.{days_in_month, days_in_year, days_of_months, days_of_years, days_since_1980}
-use Rattle.board_base.specs.Calendar.{weekday_of, IsDate, MomentsDecided, WeekdaysFollow}
+use Rattle.board_base.specs.Calendar.{days_in_month, days_of_months, days_of_years, days_since_1980, weekday_of, IsDate}
+use Rattle.board_base.specs.Calendar.{MomentsDecided, WeekdaysFollow}
 use Rattle.board_base.specs.Bits.{is_within}
 
 -- the months of a year have as many days
@@ -79,24 +79,8 @@ unfolding days_of_months
 months_add year zero h = absurd (omega arith)
 months_add year (suc months) h = let back : suc months - 1 ≡ months = omega arith in rw back
 
--- the months of a year make up the year
-twelve_months : (year : ℕ) → days_of_months year 12 ≡ days_in_year year
-unfolding days_of_months
-twelve_months year = grind (arith, nat_tests)
-
-years_add : (year : ℕ) → 1980 ≤ year → days_of_years (year + 1 - 1980) ≡ days_of_years (year - 1980) + days_in_year year
-unfolding days_of_years
-years_add year h =
-    let next : year + 1 - 1980 ≡ suc (year - 1980) = omega arith in
-    let back : 1980 + (year - 1980) ≡ year = omega arith in
-    rw (next, back) refl
-
 days_in_month_low : (year month : ℕ) → 28 ≤ days_in_month year month
 days_in_month_low year month = grind (arith, nat_tests)
-
-no_months : (year : ℕ) → days_of_months year 0 ≡ 0
-unfolding days_of_months
-no_months year = refl
 
 pub next_day : (year month day : ℕ) → 1 ≤ day → days_since_1980 year month (day + 1)
     ≡ days_since_1980 year month day + 1
@@ -111,19 +95,12 @@ next_month year month h =
     rw same (omega (arith, months_add year month h, days_in_month_low year month))
 
 pub next_year : (year : ℕ) → 1980 ≤ year → days_since_1980 (year + 1) 1 1 ≡ days_since_1980 year 12 31 + 1
-unfolding days_since_1980
-next_year year h =
-    omega (arith, years_add year h, no_months (year + 1), months_add year 12 (omega arith), twelve_months year)
+unfolding days_since_1980 days_of_years days_of_months
+next_year year h = grind (arith, nat_tests, months_add)
 
 pub weekdays_follow : WeekdaysFollow
 unfolding weekday_of days_since_1980 days_of_years days_of_months
-weekdays_follow =
-    record {
-      first = refl;
-      next_day = λ year month day h. omega (arith, next_day year month day h);
-      next_month = λ year month h. omega (arith, next_month year month h);
-      next_year = λ year h. omega (arith, next_year year h);
-    }
+weekdays_follow = grind (arith, nat_tests, next_day, next_month, next_year)
 
 -- ---- which moments there are
 
