@@ -1,5 +1,5 @@
 -- Fixed bytes, and that nothing follows.
-use Rattle.std.proofs.Common.{◌≡◌, ℕ, true, min, List, [], length, take, Err, refl, ap, arith, bytes_eq}
+use Rattle.std.proofs.Common.{◌≡◌, ℕ, List, [], length, Err, refl, arith, bytes_eq}
 use Rattle.board_base.proofs.Common.{nat_tests, length-take, bytes_eq-Decides}
 use Rattle.byte_fields.specs.Fields.{exactly, ended, where_true}
 use Rattle.byte_fields.proofs.Formats.{IsFormat, read_as, cut_field, cut_format}
@@ -8,12 +8,7 @@ use Rattle.byte_fields.proofs.Numbers.{Any, where_ok}
 -- too few bytes are not these
 exactly_cut : (text bytes : List ℕ) →
     exactly text bytes ≡ cut_field (length text) (λ front. where_true (bytes_eq front text) tt) bytes
-exactly_cut text bytes =
-    let front : List ℕ = take (length text) bytes in
-    let same : bytes_eq front text ≡ true → length front ≡ length text =
-    λ is. ap length ((bytes_eq-Decides front text).0 is) in
-    let long : length front ≡ min (length text) (length bytes) = length-take (length text) bytes in
-    grind (arith, nat_tests)
+exactly_cut text bytes = grind (arith, nat_tests, bytes_eq, bytes_eq-Decides, length-take)
 
 pub exactly_format : (text : List ℕ) → IsFormat (length text) (exactly text) (λ done. text) Any
 exactly_format text =

@@ -8,6 +8,7 @@ use Rattle.board_base.proofs.Common.{drop-append_seam}
 use Rattle.std.proofs.Math.Nat.{mul-suc}
 use Rattle.byte_fields.specs.Fields.{AreBytes, Reading, then_read, gives, said, plain, ◌>>=◌}
 use Rattle.byte_fields.proofs.Loops.{IsLoop}
+use Rattle.std.proofs.lemmas.Bool.Decides.{nat_tests}
 
 -- values that are good are spelled in at most so many bytes, and read back whatever follows. What is read was spelled
 -- so and is good. A bad field begins after at most so many bytes
@@ -158,12 +159,7 @@ pub ◌then◌ : {A C : Type 0} {n m : ℕ} {first : Reading A} {next : A → Re
 
 -- no field
 pub done_format : {C : Type 0} (c : C) → IsFormat 0 (gives c) (λ value. []) (λ value. value ≡ c)
-done_format c = record {
-  back = λ value rest same. rw same refl;
-  taken = λ bytes value rest are is. grind arith;
-  bad = λ bytes left are is. absurd cc;
-  size = λ value good. omega arith;
-}
+done_format c = grind (arith, nat_tests)
 
 -- the same in other words
 pub format_as : {A : Type 0} {n : ℕ} (m : ℕ) {reads : Reading A} {spelled : A → List ℕ} (other : A → List ℕ)

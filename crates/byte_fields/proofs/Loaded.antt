@@ -1,11 +1,12 @@
 -- What a format says of a call that reads by it.
-use Rattle.std.proofs.Common.{◌≡◌, ℕ, List, [], ◌++◌, Result, Ok, Err, inl, refl, sym, ap, arith, ◌∙◌}
+use Rattle.std.proofs.Common.{◌≡◌, ℕ, List, [], ◌++◌, Result, Ok, sym, ap, arith, ◌∙◌}
 use Rattle.byte_fields.specs.declared.fault.Bad.{Bad}
 use Rattle.byte_fields.specs.declared.fault.Fault.{Fault}
 use Rattle.byte_fields.specs.declared.fault.Fault.TheVariants as faults
 use Rattle.byte_fields.specs.Fields.{AreBytes, Reading, Took, Filled}
 use Rattle.byte_fields.specs.Loads.{Loads, LoadsWith, OneSpelling}
 use Rattle.byte_fields.proofs.Formats.{IsFormat, ok_is}
+use Rattle.std.proofs.lemmas.Bool.Decides.{nat_tests}
 
 module _ {A : Type 0} {n : ℕ} {reads : Reading A} {spelled : A → List ℕ} {IsSound : A → Type 0}
     (is : IsFormat n reads spelled IsSound) where
@@ -17,31 +18,11 @@ module _ {A : Type 0} {n : ℕ} {reads : Reading A} {spelled : A → List ℕ} {
 
     pub loads : (after : List ℕ) (result : Result A Bad) → AreBytes before →
         Took (λ value. value) result after (reads before) → Loads reads spelled IsSound before after result
-    loads after (Ok got) are took = record {
-      loaded = let told = is.taken before got after are took in (told.1, told.0);
-      exact = λ value rest sound begins. let read = again value rest sound begins in grind arith;
-      bad = took;
-    }
-    loads after (Err bad) are took = record {
-      loaded = tt;
-      exact = λ value rest sound begins. let read = again value rest sound begins in grind arith;
-      bad = took;
-    }
+    loads after result h3 h4 = grind (arith, nat_tests, again)
 
     pub loads_with : (after : List ℕ) (result : Result A Fault) → AreBytes before →
         Filled (λ value. value) result after (reads before) → LoadsWith reads spelled IsSound before after result
-    loads_with after (Ok got) are filled = record {
-      loaded = let told = is.taken before got after are filled in (told.1, told.0);
-      exact = λ value rest sound begins. let read = again value rest sound begins in grind arith;
-      bad = filled;
-    }
-    loads_with after (Err faults.Bad) are filled = record {
-      loaded = tt;
-      exact = λ value rest sound begins. let read = again value rest sound begins in grind arith;
-      bad = filled;
-    }
-    loads_with after (Err faults.NoMemory) are filled =
-        record { loaded = tt; exact = λ value rest sound begins. inl refl; bad = tt }
+    loads_with after result h3 h4 = grind (arith, nat_tests, again)
 
   pub one_spelling : OneSpelling spelled IsSound
   one_spelling left right of_left of_right same =

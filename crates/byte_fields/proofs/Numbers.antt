@@ -28,12 +28,7 @@ pub wide8 : IsWide w8 (2 ^ 8)
 wide8 = record { len = λ n. refl; back = one_byte; again = λ n below. omega (arith, below); below = λ bytes are. are 0 }
 
 pub wide16 : IsWide w16 (2 ^ 16)
-wide16 = record {
-  len = λ n. refl;
-  back = λ bytes long are. le_bytes_2 bytes _ long are refl;
-  again = λ n below. from_le_bytes-to_le_bytes_2 n below;
-  below = λ bytes are. omega (arith, are 0, are 1);
-}
+wide16 = grind (arith, nat_tests, le_bytes_2, from_le_bytes-to_le_bytes_2)
 
 pub wide32 : IsWide w32 (2 ^ 32)
 wide32 = record {

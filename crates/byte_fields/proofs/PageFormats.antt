@@ -14,6 +14,7 @@ use Rattle.byte_fields.proofs.Formats.{IsFormat, format_as, fields_format, ◌th
 use Rattle.byte_fields.proofs.Formats.{done_format, read_as, cut_format}
 use Rattle.byte_fields.proofs.Loops.{with_front}
 use Rattle.byte_fields.proofs.Numbers.{flag_format}
+use Rattle.std.proofs.lemmas.Bool.Decides.{nat_tests}
 
 -- ---- one page
 
@@ -352,19 +353,29 @@ fields_append size (suc count) n bytes some =
 
 zero_pages : (size count : ℕ) → 0 < size →
     pages_bytes size (replicate (count * size) 0) (replicate (count * size) 0) ≡ replicate count 0
-zero_pages size zero some = rw (zero-mul size) (no_pages size [])
-zero_pages size (suc count) some =
-    let n : ℕ = suc count * size in
-    let fits : size ≤ n = omega (arith, suc-mul count size) in
-    let less : n - size ≡ count * size = omega (arith, suc-mul count size) in
-    rw (
-      zeros_first size n some fits (replicate n 0),
-      take-replicate {X = ℕ} size n 0 fits,
-      drop-replicate {X = ℕ} size n 0,
-      (bytes_eq-Decides (replicate size 0) (replicate size 0)).1 refl,
-      less,
-      zero_pages size count some,
-    ) refl
+zero_pages size zero some = grind (
+  arith,
+  nat_tests,
+  zero-mul,
+  no_pages,
+  suc-mul,
+  zeros_first,
+  take-replicate,
+  drop-replicate,
+  bytes_eq-Decides,
+)
+zero_pages size (suc count) some = grind (
+  arith,
+  nat_tests,
+  zero-mul,
+  no_pages,
+  suc-mul,
+  zeros_first,
+  take-replicate,
+  drop-replicate,
+  bytes_eq-Decides,
+  zero_pages size count some,
+)
 
 -- ---- memory
 
