@@ -1,7 +1,7 @@
 -- What an access at a port makes of a chipset with a serial port, in the words of a step that was asked; and the record
 -- of a bus cycle's reply with what is beside it.
-use Rattle.std.proofs.Common.{◌≡◌, ℕ, Option, Some, None, refl}
-use Rattle.board_prelude.proofs.Common.{Target, Denial}
+use Rattle.std.proofs.Common.{◌≡◌, ℕ, Option, arith}
+use Rattle.board_prelude.proofs.Common.{nat_tests, Target, Denial}
 use Rattle.board_records.specs.declared.reply.AfterStep.{AfterStep}
 use Rattle.board_records.specs.declared.reply.ReplyRecord.{ReplyRecord}
 use Rattle.board_records.specs.Replies.{bus_said, blank, with_cycle, without_value, beside_cycle}
@@ -11,5 +11,4 @@ pub cycle_beside : (said : ReplyRecord) (value : Option ℕ) (target : Target) (
     (after : AfterStep) →
     beside_cycle (with_cycle (without_value said) value target denial) after ≡ bus_said value target denial after
 unfolding bus_said blank
-cycle_beside said None target denial after = refl
-cycle_beside said (Some value) target denial after = refl
+cycle_beside said value target denial after = grind (arith, nat_tests)

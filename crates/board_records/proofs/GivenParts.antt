@@ -1,5 +1,5 @@
 -- A board that was loaded, with the bytes that are given.
-use Rattle.std.proofs.Common.{arith, ◌≡◌, ℕ, ◌⊎◌, inr, List, Result, Ok, Err, IfOk, IfErr}
+use Rattle.std.proofs.Common.{arith, ◌≡◌, ℕ, ◌⊎◌, List, Result, Ok, Err, IfOk, IfErr}
 use Rattle.board_prelude.proofs.Common.{nat_tests}
 use Rattle.board_records.specs.Doors.{Behind}
 use Rattle.board_records.specs.Given.{AreAsMany, Given, IsGivenBoard, IsGivenRefusal, on_board, with_given}
@@ -15,25 +15,20 @@ Puts given loaded result =
 
 pub given_loaded : (result : Result Behind ℕ) (given : Given) (loaded : Behind) (bytes : List ℕ) →
     Puts given loaded result → IsBehind loaded → bytes ≡ image_bytes loaded → IfOk result (IsGivenBoard bytes given)
-given_loaded (Ok it) given loaded bytes puts sound image = grind (arith, nat_tests)
-given_loaded (Err status) given loaded bytes puts sound image = tt
+given_loaded result given loaded bytes puts sound image = grind (arith, nat_tests)
 
 -- and steps can go on from it
 pub given_sound : (result : Result Behind ℕ) (given : Given) (loaded : Behind) → Puts given loaded result →
     IsBehind loaded → IfOk result IsBehind
-given_sound (Ok it) given loaded puts sound = rw puts.0.0 (sound_with given loaded puts.0.1 sound)
-given_sound (Err status) given loaded puts sound = tt
+given_sound result given loaded puts sound = grind (arith, nat_tests, sound_with given loaded)
 
 pub given_refused : (result : Result Behind ℕ) (given : Given) (loaded : Behind) (bytes : List ℕ) →
     Puts given loaded result → IsBehind loaded → bytes ≡ image_bytes loaded → IfErr result (IsGivenRefusal bytes given)
-given_refused (Ok it) given loaded bytes puts sound image = tt
-given_refused (Err status) given loaded bytes puts sound image =
-    inr (puts.1.0, record { behind = loaded; sound = sound; image = image; other = puts.1.1 })
+given_refused result given loaded bytes puts sound image = grind (arith, nat_tests)
 
 pub given_exact :
     (result : Result Behind ℕ) (given : Given) (loaded behind : Behind) → Puts given loaded result →
     let read : Result Behind ℕ = Ok loaded in
     (read ≡ Err no_memory) ⊎ (read ≡ Ok behind) → AreAsMany given behind.serial.board.setup →
     (result ≡ Err no_memory) ⊎ (result ≡ Ok (on_board (with_given given) behind))
-given_exact (Ok it) given loaded behind puts read as_many = grind (arith, nat_tests)
-given_exact (Err status) given loaded behind puts read as_many = grind (arith, nat_tests)
+given_exact result given loaded behind puts read as_many = grind (arith, nat_tests)

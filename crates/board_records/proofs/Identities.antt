@@ -1,7 +1,7 @@
 -- What cards say that they are, one after another; and steps of a door over those of its chipset.
 use Rattle.board_prelude.proofs.Common.{nat_tests, drop_more, FittedCard, Setup}
 use Rattle.std.proofs.Common.{◌≡◌, ℕ, ◌+◌, ◌<◌, ◌≤◌, if◌then◌else◌, List, ◌∷◌, length, get_or, drop, IsSomeAnd, Option}
-use Rattle.std.proofs.Common.{Some, None, option_map, refl, ap, arith}
+use Rattle.std.proofs.Common.{Some, option_map, ap, arith}
 use Rattle.board_chipset.specs.Common.{Running}
 use Rattle.uart_16550.specs.declared.com1.Happening.{Happening}
 use Rattle.uart_16550.specs.Common.{Serial}
@@ -30,8 +30,7 @@ pub some_few : (count : ℕ) (mib : ℕ) (rom disk : List ℕ) (serial : Serial 
     (option_map (λ cards. let setup : Setup = record { mib = mib; cards = cards; rom = rom; disk = disk_of disk } in
     setup) said)
     (IsOpenedWith serial) → count ≤ 8
-some_few count mib rom disk serial None each opened = absurd opened
-some_few count mib rom disk serial (Some cards) each opened = omega (arith, each cards refl, opened.fits.cards.count)
+some_few count mib rom disk serial said each opened = grind (arith, nat_tests)
 
 pub few_opened : (mib : ℕ) (records : List CardRecord) (rom disk : List ℕ) (serial : Serial Running) →
     IsSomeAnd (setup_said mib records rom disk) (IsOpenedWith serial) → length records ≤ 8
@@ -47,5 +46,4 @@ pub fitted_step : (asked : Option Happening) (old new : Serial Running) (identit
     (roms : List (List ℕ)) (event : EventRecord) (plain said : ReplyRecord) →
     said ≡ fitted_record identities roms event plain → IsSomeAnd asked (IsAskedStep old new plain) →
     IsSomeAnd asked (IsDoorStep (held old identities roms) (held new identities roms) event said)
-fitted_step None old new identities roms event plain said is done = done
-fitted_step (Some it) old new identities roms event plain said is done = grind (arith, nat_tests)
+fitted_step asked old new identities roms event plain said is done = grind (arith, nat_tests)

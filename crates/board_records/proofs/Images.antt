@@ -45,9 +45,7 @@ pub last_loaded : (result : Result Behind Fault) (behind : Behind) (fitted : Fit
     IfOk result (λ given. (given ≡ behind) × (mid ≡ [])) →
     IsBehind behind × (fitting_of behind ≡ fitted) × (before ≡ serial_bytes behind.serial ++ mid) →
     IfOk result (λ given. IsBehind given × (fitting_of given ≡ fitted) × (before ≡ serial_bytes given.serial))
-last_loaded (Ok given) behind fitted before mid told is =
-    rw told.0 (is.0, is.1, rw (told.1, append-nil (serial_bytes behind.serial)) at is.2)
-last_loaded (Err fault) behind fitted before mid told is = tt
+last_loaded result behind fitted before mid told is = grind (arith, nat_tests, append-nil (serial_bytes behind.serial))
 
 -- what a call says of a state and of what follows it, where nothing does
 abbrev GivesThen : Result Behind Fault → (after : List ℕ) → Behind → Type 0

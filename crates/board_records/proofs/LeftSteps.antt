@@ -1,6 +1,6 @@
 -- A board that is saved without bytes of its own, and loaded with them.
-use Rattle.std.proofs.Common.{◌≡◌, ◌≢◌, ℕ, ◌/◌, true, false, Bool, if◌then◌else◌, List, [], ◌∷◌, length, option_map}
-use Rattle.std.proofs.Common.{unwrap_or, Option, Some, None, Result, Ok, Err, ◌⊎◌, refl, sym, ap, arith, subst, ◌∙◌}
+use Rattle.std.proofs.Common.{◌≡◌, ◌≢◌, ℕ, ◌/◌, Bool, if◌then◌else◌, List, [], ◌∷◌, length, option_map, unwrap_or}
+use Rattle.std.proofs.Common.{Option, Some, None, Result, Ok, Err, ◌⊎◌, refl, sym, ap, arith, subst, ◌∙◌}
 use Rattle.board_prelude.proofs.Common.{Disk, IsDisk, IsDiskSize, installed, nat_tests}
 use Rattle.board_devices.specs.Common.{holding, sectors_in}
 use Rattle.board_devices.specs.State.{IsFittedDisk}
@@ -80,9 +80,7 @@ sound_with given behind many is =
 -- ---- its own put in again
 
 given_back : (left : Bool) (bytes : List ℕ) → given_or (if left then bytes else []) (unless_left left bytes) ≡ bytes
-given_back true [] = refl
-given_back true (byte ∷ later) = refl
-given_back false bytes = refl
+given_back left bytes = grind (arith, nat_tests)
 
 refitted : (left : Bool) (disk : Option (List ℕ)) →
     let blank : Option (List ℕ) = option_map {T = List ℕ} (λ _. unless_left left (unwrap_or disk [])) disk in
@@ -114,8 +112,7 @@ restored left behind = rw (chipset_restored left behind.serial.board) refl
 
 as_many : (left : Bool) (bytes : List ℕ) (size : ℕ) → length bytes ≡ size → (if left then bytes else []) ≢ [] →
     length (if left then bytes else []) ≡ size
-as_many true bytes size same some = same
-as_many false bytes size same some = absurd (some refl)
+as_many left bytes size same some = grind (arith, nat_tests)
 
 pub own_as_many : (left : LeftOut) (behind : Behind) → IsBehind behind →
     AreAsMany (left_of left behind.serial.board) (without left behind).serial.board.setup

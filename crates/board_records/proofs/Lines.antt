@@ -1,8 +1,8 @@
 -- The number of the levels from a line on.
 use Rattle.board_prelude.proofs.Common.{common_steps, nat_tests, byte_of_levels, Entry, Setup, levels_of, levels_with}
 use mir.Val.{bool_byte}
-use Rattle.std.proofs.Common.{◌≡◌, ℕ, ◌+◌, ◌*◌, ◌-◌, ◌<◌, ◌≤◌, ◌^◌, Bool, true, false, if◌then◌else◌, List, length}
-use Rattle.std.proofs.Common.{get_or, drop, refl, ap, arith}
+use Rattle.std.proofs.Common.{◌≡◌, ℕ, ◌+◌, ◌*◌, ◌-◌, ◌<◌, ◌≤◌, ◌^◌, Bool, false, if◌then◌else◌, List, length, get_or}
+use Rattle.std.proofs.Common.{drop, refl, ap, arith}
 use Rattle.std.proofs.lemmas.List.{drop_all, drop_more}
 use Rattle.std.proofs.Math.Nat.{pow-succ'}
 
@@ -19,17 +19,12 @@ pub one_more_line : (levels : List Bool) (k bits more : ℕ) → k < 16 → leng
 one_more_line levels k bits more few size is so_far = grind (arith, nat_tests, common_steps, bits_from)
 
 pub level_number : (level : Bool) → bool_byte level ≡ (if level then 1 else 0)
-level_number true = refl
-level_number false = refl
-
-at_most_one : (level : Bool) → bool_byte level ≤ 1
-at_most_one true = omega arith
-at_most_one false = omega arith
+level_number level = grind (arith, nat_tests)
 
 -- and they fit
 pub fits : (k bits more : ℕ) (level : Bool) → more ≡ bool_byte level → bits + 1 ≤ 2 ^ k →
     2 * bits + more + 1 ≤ 2 ^ (k + 1)
-fits k bits more level is small = grind (arith, nat_tests, common_steps, pow-succ', at_most_one)
+fits k bits more level is small = grind (arith, nat_tests, common_steps, pow-succ', level_number)
 
 pub none_left : (levels : List Bool) → length levels ≡ 16 → 0 ≡ byte_of_levels (drop 16 levels)
 unfolding byte_of_levels

@@ -1,7 +1,6 @@
 -- What a bus master reaches, as a record: never SMRAM, nor memory in its range.
-use Rattle.std.proofs.Common.{◌≡◌, ◌≢◌, ℕ, ◌≤◌, ◌⊎◌, false, Option, Some, refl, sym, ◌∙◌, arith}
-use Rattle.board_prelude.proofs.Common.{Target, Dram, Shadow, Smram, Denial, Register}
-use Rattle.board_prelude.proofs.Common.{is_smram_range}
+use Rattle.std.proofs.Common.{◌≡◌, ◌≢◌, ℕ, ◌≤◌, ◌⊎◌, false, Option, sym, ◌∙◌, arith}
+use Rattle.board_prelude.proofs.Common.{nat_tests, Target, Smram, Denial, is_smram_range}
 use Rattle.board_chipset.specs.Common.{IsOutsideSmram}
 use Rattle.board_records.specs.Numbers.{dram_target, shadow_target, smram_target}
 use Rattle.board_records.specs.Replies.{part_said, target_said}
@@ -9,12 +8,10 @@ use Rattle.board_records.specs.Replies.{part_said, target_said}
 pub said_target : (target : Target) (denial : Option Denial) →
     (part_said target denial).target ≡ (target_said target).target
 unfolding part_said
-said_target target (Some (Register reg)) = refl
-said_target target _ = refl
+said_target target denial = grind (arith, nat_tests)
 
 no_smram_target : (target : Target) → target ≢ Smram → (target_said target).target ≢ smram_target
-no_smram_target Smram other is = other refl
-no_smram_target _ other is = omega (arith, is)
+no_smram_target target other is = grind (arith, nat_tests)
 
 pub no_smram_said : (target : Target) (denial : Option Denial) → target ≢ Smram →
     (part_said target denial).target ≢ smram_target
@@ -28,10 +25,7 @@ no_memory target past is = grind arith
 
 outside_target : (target : Target) (addr : ℕ) → IsOutsideSmram target addr → IsMemory (target_said target).target →
     is_smram_range addr ≡ false
-outside_target (Dram row) addr outside is = outside addr refl
-outside_target (Shadow row) addr outside is = outside addr refl
-outside_target Smram addr outside is = outside addr refl
-outside_target _ addr outside is = absurd (no_memory _ (omega arith) is)
+outside_target target addr outside is = grind (arith, nat_tests, outside addr)
 
 pub outside_said : (target : Target) (denial : Option Denial) (addr : ℕ) → IsOutsideSmram target addr →
     IsMemory (part_said target denial).target → is_smram_range addr ≡ false

@@ -1,7 +1,7 @@
 -- What an open looks at before it copies: the cards that records say are as many as the records.
 use Rattle.board_prelude.proofs.Common.{common_steps, nat_tests, drop_more, FittedCard, IsCardList, Setup}
 use Rattle.std.proofs.Common.{◌≡◌, ℕ, suc, ◌+◌, ◌<◌, ◌&&◌, true, arith, List, [], ◌∷◌, length, get_or, drop, is_some}
-use Rattle.std.proofs.Common.{Option, Some, None, option_map, option_and_then, refl, ap}
+use Rattle.std.proofs.Common.{Option, Some, None, option_map, option_and_then, refl}
 use Rattle.board_chipset.specs.Setups.{IsMemory}
 use Rattle.board_records.specs.Doors.{IsSetupRefusal, disk_of, setup_said}
 use Rattle.board_records.specs.Statuses.{bad_cards}
@@ -11,14 +11,11 @@ use Rattle.board_records.specs.Cards.{all_said, card_said, cards_said}
 one_more : {A : Type 0} (n : ℕ) (one : Option A) (others : Option (List A)) (all : List A) →
     ((later : List A) → others ≡ Some later → length later ≡ n) →
     option_and_then (λ it. option_map (λ later. it ∷ later) others) one ≡ Some all → length all ≡ suc n
-one_more n None others all each is = absurd cc
-one_more n (Some it) None all each is = absurd cc
-one_more n (Some it) (Some later) all each is = let same : it ∷ later ≡ all = cc in
-    rw (← same) (ap suc (each later refl))
+one_more n one others all each is = grind (arith, nat_tests)
 
 pub said_count : (records : List CardRecord) (cards : List FittedCard) → cards_said records ≡ Some cards →
     length cards ≡ length records
-said_count [] cards is = let same : [] ≡ cards = cc in rw (← same) refl
+said_count [] cards is = grind arith
 said_count (first ∷ later) cards is = one_more _ _ _ _ (said_count later) is
 
 both_said : {B : Type 0} (one : Option B) (others : Option (List B)) →
