@@ -1,19 +1,13 @@
 -- A wide access is cut part by part.
-use Rattle.std.proofs.Common.{◌≡◌, ℕ, zero, suc, ◌+◌, ◌-◌, ◌*◌, ◌/◌, ◌%◌, ◌^◌, ◌<◌, ◌≤◌, List, [], ◌∷◌, ◌++◌, bit_and}
-use Rattle.std.proofs.Common.{refl, sym, ◌∙◌, ap, arith, map, pow-add, ne_eqb, append-nil, append_assoc}
-use Rattle.board_prelude.proofs.Common.{and_mask, map-append, nat_tests, Width, One, WideAccess, bytes_of, largest_of}
-use Rattle.board_prelude.proofs.Common.{Setup, Bytes, longest_at, part_at, parts_from, parts_of}
-use Rattle.board_base.specs.declared.access.Width.TheVariants.{Two, Four}
+use Rattle.std.proofs.Common.{◌≡◌, ℕ, zero, suc, ◌+◌, ◌-◌, ◌*◌, ◌/◌, ◌^◌, ◌<◌, ◌≤◌, List, [], ◌∷◌, ◌++◌, bit_and, refl}
+use Rattle.std.proofs.Common.{sym, ◌∙◌, arith, map, pow-add, ne_eqb, append-nil, append_assoc}
+use Rattle.board_prelude.proofs.Common.{and_mask, map-append, nat_tests, Width, WideAccess, bytes_of, largest_of, Setup}
+use Rattle.board_prelude.proofs.Common.{Bytes, longest_at, part_at, parts_from, parts_of}
 use Rattle.board_base.specs.declared.access.Access.{Access}
 use Rattle.board_stores.specs.Common.{part_in, accesses, answers}
 use Rattle.board_stores.specs.declared.cut.Cycle.{Cycle}
 
 -- ---- one part
-
-masked : (value : ℕ) (width : Width) → bit_and value (largest_of width) ≡ value % 256 ^ bytes_of width
-masked value One = and_mask value 8
-masked value Two = and_mask value 16
-masked value Four = and_mask value 32
 
 pub byte_power : (n : ℕ) → 2 ^ (8 * n) ≡ 256 ^ n
 byte_power zero = refl
@@ -35,8 +29,8 @@ pub part_cut :
     })
     (part_at access (access.addr + done) width)
 part_cut access done width =
-    let places : access.addr + done - access.addr ≡ done = omega arith in
-    rw (masked (access.value / 2 ^ (8 * done)) width, byte_power done, places) refl
+    let value : ℕ = access.value / 2 ^ (8 * done) in
+    grind (arith, nat_tests, and_mask value 8, and_mask value 16, and_mask value 32, byte_power done)
 
 -- ---- the next part
 
@@ -55,35 +49,20 @@ pub next_part :
     GoesOn access parts count done → GoesOn access (parts ++ part ∷ []) (count + 1) (done + bytes_of part.width)
 unfolding parts_from
 next_part access parts count done part below some is on =
-    let addr = access.addr + done in
     let left = access.bytes - done in
-    let width = longest_at addr left in
-    let width_is : part.width ≡ width = ap (λ (p : Access). p.width) is in
     let more : 4 - count ≡ suc (4 - (count + 1)) = omega arith in
-    let further : access.addr + (done + bytes_of part.width) ≡ addr + bytes_of width = rw width_is (omega arith) in
-    let less : access.bytes - (done + bytes_of part.width) ≡ left - bytes_of width = rw width_is (omega arith) in
-    rw (
-      append_assoc parts (part ∷ [])
-          (parts_from access (4 - (count + 1)) (access.addr + (done + bytes_of part.width))
-          (access.bytes - (done + bytes_of part.width))),
-      further,
-      less,
-      is,
-    )
-    (rw (more, ne_eqb left 0 (omega arith)) at on)
-
-nothing : (access : WideAccess) (most addr left : ℕ) → left ≡ 0 → parts_from access most addr left ≡ []
-unfolding parts_from
-nothing access zero addr left none = refl
-nothing access (suc most) addr left none = rw none refl
+    let further : access.addr + (done + bytes_of part.width) ≡ access.addr + done + bytes_of part.width = omega arith in
+    let less : access.bytes - (done + bytes_of part.width) ≡ left - bytes_of part.width = omega arith in
+    rw (append_assoc, further, less, is) (rw (more, ne_eqb left 0 (omega arith)) at on)
 
 -- where nothing is left there are no more parts
 pub no_part : (access : WideAccess) (parts : List Access) (count done : ℕ) → access.bytes ≤ done →
     GoesOn access parts count done → GoesOn access parts (count + 1) done
+unfolding parts_from
 no_part access parts count done all on =
     let none : access.bytes - done ≡ 0 = omega arith in
-    rw (nothing access (4 - (count + 1)) (access.addr + done) (access.bytes - done) none)
-    (rw (nothing access (4 - count) (access.addr + done) (access.bytes - done) none) at on)
+    let nothing : (most : ℕ) → parts_from access most (access.addr + done) 0 ≡ [] = λ most. grind (arith, nat_tests) in
+    rw (none, nothing) (rw (none, nothing) at on)
 
 -- after four parts nothing is left
 pub all_parts : (access : WideAccess) (parts : List Access) (count done : ℕ) → count ≡ 4 →
@@ -97,11 +76,4 @@ all_parts access parts count done four on =
 pub all_decoded : (setup : Setup) (bytes : Bytes) (cycles : List Cycle) (cycle : Cycle) →
     answers cycles ≡ map (part_in setup bytes) (accesses cycles) → cycle.answer ≡ part_in setup bytes cycle.access →
     answers (cycles ++ cycle ∷ []) ≡ map (part_in setup bytes) (accesses (cycles ++ cycle ∷ []))
-all_decoded setup bytes cycles cycle before last =
-    rw (
-      map-append (λ (c : Cycle). c.answer) cycles (cycle ∷ []),
-      map-append (λ (c : Cycle). c.access) cycles (cycle ∷ []),
-      map-append (part_in setup bytes) (accesses cycles) (cycle.access ∷ []),
-      before,
-      last,
-    ) refl
+all_decoded setup bytes cycles cycle before last = simp (map-append, before, last)

@@ -1,8 +1,8 @@
 -- The values of cycles, one after the other, make the value of the whole.
 use Rattle.std.proofs.Common.{◌≡◌, ℕ, suc, ◌+◌, ◌*◌, ◌%◌, ◌^◌, ◌<◌, ◌≤◌, List, [], ◌∷◌, length, get_or, drop, bit_or}
 use Rattle.std.proofs.Common.{refl, arith, map}
-use Rattle.board_prelude.proofs.Common.{drop-cons, mod-eq_of_lt, pow-le-pow_right, pow-add, bytes_of, some_bytes, Entry}
-use Rattle.board_prelude.proofs.Common.{Setup, joined, Covers, value_at, memory_target, part_answer}
+use Rattle.board_prelude.proofs.Common.{nat_tests, drop-cons, mod-eq_of_lt, pow-le-pow_right, pow-add, bytes_of}
+use Rattle.board_prelude.proofs.Common.{some_bytes, Entry, Setup, joined, Covers, value_at, memory_target, part_answer}
 use Rattle.std.proofs.Math.Nat.{mul_comm, mul_assoc, add_assoc, mul-one, mul-add, mul-le-mul_left}
 use Rattle.std.specs.Int.Bits.{or_shifted_r}
 use Rattle.board_stores.specs.declared.cut.Cycle.{Cycle}
@@ -11,40 +11,31 @@ use Rattle.board_stores.proofs.CutLemmas.{byte_power}
 
 -- ---- how many bytes
 
-abbrev pub bytes_in : List Cycle → ℕ
-bytes_in [] = 0
-bytes_in (cycle ∷ later) = bytes_of cycle.access.width + bytes_in later
+-- cycles that are left lie within the eight bytes of a value, of which some bits are passed
+abbrev pub IsLeft : List Cycle → (shift : ℕ) → Type 0
+IsLeft cycles shift = (from end : ℕ) × Covers from end (accesses cycles) × (shift + 8 * end ≤ 8 * from + 64)
 
-pub covered : (from end : ℕ) (cycles : List Cycle) → Covers from end (accesses cycles) → from + bytes_in cycles ≡ end
-covered from end [] is = let e : from ≡ end = is in omega arith
-covered from end (cycle ∷ later) is =
-    let e = covered (from + bytes_of cycle.access.width) end later is.1 in omega arith
+ends_above : (from end : ℕ) (cycles : List Cycle) → Covers from end (accesses cycles) → from ≤ end
+ends_above from end [] is = let e : from ≡ end = is in omega arith
+ends_above from end (cycle ∷ later) is =
+    let e = ends_above (from + bytes_of cycle.access.width) end later is.1 in omega arith
 
-pub bytes_left : (cycles : List Cycle) (i : ℕ) (d : Cycle) → i < length cycles →
-    bytes_in (drop i cycles) ≡ bytes_of (get_or cycles i d).access.width + bytes_in (drop (i + 1) cycles)
-bytes_left cycles i d within =
-    let one : i + 1 ≡ suc i = omega arith in rw (one, drop-cons cycles i d within) refl
+pub next_left : (cycles : List Cycle) (i shift bytes : ℕ) (d : Cycle) → i < length cycles →
+    bytes ≡ bytes_of (get_or cycles i d).access.width → IsLeft (drop i cycles) shift →
+    (shift + 8 * bytes ≤ 64) × IsLeft (drop (i + 1) cycles) (shift + 8 * bytes)
+next_left cycles i shift bytes d within bytes_is left =
+    let one : i + 1 ≡ suc i = omega arith in
+    let is = rw (drop-cons cycles i d within) at left in
+    let from : ℕ = is.0 + bytes_of (get_or cycles i d).access.width in
+    let above : from ≤ is.1 = ends_above from is.1 (drop (suc i) cycles) is.2.1 in
+    let room = is.3 in
+    (omega arith, rw one (from, is.1, is.2.1, omega arith))
 
--- of eight bytes
-pub few_bytes : (cycles : List Cycle) → (from end : ℕ) × Covers from end (accesses cycles) × (end ≤ from + 8) →
-    bytes_in cycles ≤ 8
-few_bytes cycles covers = let e = covered covers.0 covers.1 cycles covers.2 in omega (arith, covers.3)
-
--- a shift that is passed before a cycle
-pub shift_below : (cycles : List Cycle) (i shift : ℕ) → i < length cycles → bytes_in cycles ≤ 8 →
-    shift + 8 * bytes_in (drop i cycles) ≡ 8 * bytes_in cycles → shift < 64
-shift_below [] i shift within few is = absurd (omega arith)
-shift_below (first ∷ later) i shift within few is =
-    let cycles : List Cycle = first ∷ later in
-    omega (arith, is, few, bytes_left cycles i first within, some_bytes (get_or cycles i first).access.width)
-
--- and after it
-pub next_shift : (cycles : List Cycle) (i shift bytes : ℕ) (d : Cycle) → i < length cycles → bytes_in cycles ≤ 8 →
-    bytes ≡ bytes_of (get_or cycles i d).access.width → shift + 8 * bytes_in (drop i cycles) ≡ 8 * bytes_in cycles →
-    (shift + 8 * bytes ≤ 64) × (shift + 8 * bytes + 8 * bytes_in (drop (i + 1) cycles) ≡ 8 * bytes_in cycles)
-next_shift cycles i shift bytes d within few bytes_is is =
-    let left = bytes_left cycles i d within in
-    (omega (arith, is, few, left, bytes_is), omega (arith, is, left, bytes_is))
+pub shift_below : (cycles : List Cycle) (i shift : ℕ) → i < length cycles → IsLeft (drop i cycles) shift → shift < 64
+shift_below [] i shift within left = absurd (omega arith)
+shift_below (first ∷ later) i shift within left =
+    let next = next_left (first ∷ later) i shift _ first within refl left in
+    omega (arith, next.0, some_bytes (get_or (first ∷ later) i first).access.width)
 
 -- ---- the values
 
@@ -64,9 +55,7 @@ pub joined_parts :
 unfolding part_answer
 joined_parts setup history [] is = refl
 joined_parts setup history (cycle ∷ later) is =
-    let here : cycle.answer ≡ part_answer setup history cycle.access = cc in
-    let rest : answers later ≡ map (part_answer setup history) (accesses later) = cc in
-    rw (here, joined_parts setup history later rest) refl
+    let rest = joined_parts setup history later in grind (arith, nat_tests)
 
 -- ---- one cycle more
 
@@ -79,21 +68,19 @@ pub record IsSoFar (value : Cycle → ℕ) (cycles : List Cycle) (i so_far shift
 longer : (shift bytes : ℕ) → 2 ^ (shift + 8 * bytes) ≡ 2 ^ shift * 256 ^ bytes
 longer shift bytes = rw (pow-add 2 shift (8 * bytes), byte_power bytes) refl
 
--- the bytes of a value above those before it
-value_above : (P B so_far read : ℕ) → so_far < P → read < B → so_far + P * read < P * B
-value_above P B so_far read below fits =
-    omega (arith, mul-le-mul_left P (let more : read + 1 ≤ B = omega arith in more), mul-add P read 1, mul-one P)
-
+-- a value above the bits before it
 value_or :
     (so_far shift read bytes : ℕ) → so_far < 2 ^ shift → read < 256 ^ bytes → shift + 8 * bytes ≤ 64 →
     (bit_or so_far (read * 2 ^ shift % 2 ^ 64) ≡ so_far + 2 ^ shift * read) ×
-    (so_far + 2 ^ shift * read < 2 ^ (shift + 8 * bytes))
+    (so_far + 2 ^ shift * read < 2 ^ shift * 256 ^ bytes)
 value_or so_far shift read bytes below fits short =
-    let whole : so_far + 2 ^ shift * read < 2 ^ (shift + 8 * bytes) =
-    rw (longer shift bytes) (value_above (2 ^ shift) (256 ^ bytes) so_far read below fits) in
-    let most : 2 ^ (shift + 8 * bytes) ≤ 2 ^ 64 = pow-le-pow_right (omega arith) short in
-    let turned : read * 2 ^ shift ≡ 2 ^ shift * read = mul_comm read (2 ^ shift) in
-    let room : read * 2 ^ shift < 2 ^ 64 = omega arith in
+    let P : ℕ = 2 ^ shift in
+    let more : read + 1 ≤ 256 ^ bytes = omega arith in
+    let whole : so_far + P * read < P * 256 ^ bytes =
+    omega (arith, mul-le-mul_left P more, mul-add P read 1, mul-one P) in
+    let most : P * 256 ^ bytes ≤ 2 ^ 64 = rw (← longer shift bytes) (pow-le-pow_right (omega arith) short) in
+    let turned = mul_comm read P in
+    let room : read * P < 2 ^ 64 = omega arith in
     (rw (mod-eq_of_lt room, or_shifted_r read shift so_far below) (omega arith), whole)
 
 pub next_value : (value : Cycle → ℕ) (cycles : List Cycle) (i so_far shift read : ℕ) (d : Cycle) → i < length cycles →
@@ -109,7 +96,7 @@ next_value value cycles i so_far shift read d within is fits short before =
     rw (one_more, drop-cons cycles i d within, is) refl in
     let next = value_or so_far shift read bytes before.below fits short in
     record {
-      below = rw next.0 next.1;
+      below = rw (next.0, longer shift bytes) next.1;
       sum =
           rw (next.0, longer shift bytes, gathered so_far (2 ^ shift) read (256 ^ bytes) J)
           (rw joined_at at before.sum);

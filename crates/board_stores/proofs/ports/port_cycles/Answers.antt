@@ -1,4 +1,4 @@
-use Rattle.std.proofs.Common.{◌≡◌, ◌+◌, ◌-◌, ◌++◌, [], ◌∷◌, arith, refl}
+use Rattle.std.proofs.Common.{◌+◌, ◌-◌, ◌++◌, [], ◌∷◌, arith, refl}
 use Rattle.board_prelude.proofs.Common.{map-append, length-append}
 use Rattle.board_stores.specs.declared.ports.PortCycle.{PortCycle}
 use Rattle.board_stores.specs.PortCycles.{cycle_of, port_accesses}
@@ -9,44 +9,36 @@ use Rattle.board_stores.proofs.ports.port_cycles.Goals as goal
 
 pub loop-preserved : goal.loop-preserved
 loop-preserved c =
+    let access = c.as_wide-wide.result in
+    let cycles = c.loop.cycles.items in
+    let so_far = c.loop.invariant in
     elim c.if-done-wide.branch [
       | then-done-wide w ↦
-          let access = c.as_wide-wide.result in
-          let cycles = c.loop.cycles.items in
           let part = w.part_at-part.result in
+          let part_is = w.part_at-part.ensures.part in
           let cycle : PortCycle = w.cycle_of.result in
           let fits = part_within (access.addr + c.loop.done) (access.bytes - c.loop.done)
           (omega (arith, w.if-done-wide.true)) in
-          let done_is = rw w.bytes.ensures.bytes at w.done-is in
-          let items : c.if-done-wide.cycles.items ≡ cycles ++ cycle ∷ [] = rw w.cycles-is w.push.ensures.items in
-          record {
-            inside = rw (done_is, w.part_at-part.ensures.part) (omega (arith, w.if-done-wide.true));
-            few = rw items (omega (arith, length-append cycles (cycle ∷ []), c.loop.invariant.few));
-            parts = c.loop.invariant.parts ++ part ∷ [];
+          rw (w.cycles-is, w.push.ensures.items, w.done-is, w.bytes.ensures.bytes) record {
+            inside = rw part_is (omega (arith, w.if-done-wide.true));
+            few = omega (arith, length-append cycles (cycle ∷ []), so_far.few);
+            parts = so_far.parts ++ part ∷ [];
             are =
                 rw (
-                  items,
                   map-append (λ (it : PortCycle). it.access) cycles (cycle ∷ []),
-                  map-append (cycle_of c.args.access.now.write) c.loop.invariant.parts (part ∷ []),
-                  c.loop.invariant.are,
+                  map-append (cycle_of c.args.access.now.write) so_far.parts (part ∷ []),
+                  so_far.are,
                   w.cycle_of.ensures.cycle,
                 ) refl;
-            on =
-                rw done_is
-                (next_part access c.loop.invariant.parts c.loop.counter c.loop.done part c.loop-test.true
-                w.if-done-wide.true
-                w.part_at-part.ensures.part c.loop.invariant.on);
+            on = next_part _ _ _ _ _ c.loop-test.true w.if-done-wide.true part_is so_far.on;
           }
       | else-done-wide w ↦
-          record {
-            inside = rw w.done-is c.loop.invariant.inside;
-            few = rw w.cycles-is (omega (arith, c.loop.invariant.few));
-            parts = c.loop.invariant.parts;
-            are = rw w.cycles-is c.loop.invariant.are;
-            on =
-                rw w.done-is
-                (no_part c.as_wide-wide.result c.loop.invariant.parts c.loop.counter c.loop.done w.if-done-wide.false
-                c.loop.invariant.on);
+          rw (w.cycles-is, w.done-is) record {
+            inside = so_far.inside;
+            few = omega (arith, so_far.few);
+            parts = so_far.parts;
+            are = so_far.are;
+            on = no_part _ _ _ _ w.if-done-wide.false so_far.on;
           }
     ]
 
