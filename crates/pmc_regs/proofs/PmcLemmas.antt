@@ -50,15 +50,8 @@ IsFixedIn bytes = (setup : Setup) (off : ℕ) → IsFixedOffset off → bytes (b
 
 pub fixed_stay : (setup : Setup) (bytes : Bytes) (off written : ℕ) → written < 256 → IsFixedIn bytes →
     IsFixedIn (after_store setup bytes off written)
-fixed_stay setup bytes off written below fixed other at is_fixed = grind (
-  arith,
-  nat_tests,
-  there,
-  writable_bits-fixed,
-  merged-none,
-  reset_byte-small,
-  elsewhere,
-)
+fixed_stay setup bytes off written below fixed other at is_fixed =
+    grind (arith, nat_tests, there, writable_bits-fixed, merged-none, reset_byte-small, elsewhere)
 
 -- ---- the three kinds of registers
 
@@ -66,8 +59,8 @@ module _ (setup : Setup) (bytes : Bytes) (drb : List ℕ) where
   -- the boundaries after a byte is stored in one of their registers
   pub rows_after_store : (row written : ℕ) → length drb ≡ 8 → row < 8 → written < 256 → IsRowsOf bytes drb →
       IsRowsOf (after_store setup bytes (0x60 + row) written) (set drb row written)
-  rows_after_store row written eight within below is_rows at at_within = grind
-      (arith, nat_tests, get_or-set_same, there, writable_bits-row, merged-all, get_or-set_other, elsewhere)
+  rows_after_store row written eight within below is_rows at at_within =
+      grind (arith, nat_tests, get_or-set_same, there, writable_bits-row, merged-all, get_or-set_other, elsewhere)
 
   pub stored_row : (hole row off written : ℕ) → 0x60 + row ≡ off → length drb ≡ 8 → row < 8 → written < 256 →
       IsPmcOf bytes (record { drb = drb; fdhc = hole }) →
