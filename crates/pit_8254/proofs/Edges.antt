@@ -49,19 +49,10 @@ ends gate c mode s = grind (arith, nat_tests)
 
 -- ---- modes 2 and 3
 
-arrives : (mode : Mode) (gate : Bool) (c : CounterState) → is_periodic mode ≡ true → IsAtEnd mode gate c →
-    ByOne (IsAtPeriod gate) gate c
-unfolding quiet_pulses after_quiet pulse pulse_by_mode count_to_reload count_half count_down load
-arrives mode gate c periodic s = grind (arith, nat_tests)
-
-falls : (gate : Bool) (c : CounterState) → is_periodic c.mode ≡ true → IsSettled c.mode gate c →
-    ByOne (IsAtPeriod gate) gate c ⊎ IsAtEnd c.mode gate (edge gate c)
-unfolding quiet_pulses after_quiet pulse pulse_by_mode count_to_reload count_half count_down load
-falls gate c periodic s = grind (arith, nat_tests)
-
 pub comes : (gate : Bool) (c : CounterState) → is_periodic c.mode ≡ true → IsSettled c.mode gate c →
     ByTwo (IsAtPeriod gate) gate c
-comes gate c periodic s = grind (arith, nat_tests, falls gate c periodic s, arrives c.mode gate (edge gate c) periodic)
+unfolding quiet_pulses after_quiet pulse pulse_by_mode count_to_reload count_half count_down load
+comes gate c periodic s = grind (arith, nat_tests)
 
 -- the pulses up to the next but one that is not quiet are a period at least
 pub period_ends : (gate : Bool) (c : CounterState) → IsAtPeriod gate c →
@@ -71,16 +62,7 @@ period_ends gate c is = grind (arith, nat_tests)
 
 -- ---- modes 4 and 5
 
-past_ends : (mode : Mode) (gate : Bool) (c : CounterState) → (mode ≡ SoftwareStrobe) ⊎ (mode ≡ HardwareStrobe) →
-    IsAtEnd mode gate c → ByOne (AreQuiet gate) gate c
-unfolding quiet_pulses after_quiet pulse pulse_by_mode count_to_strobe count_down load
-past_ends mode gate c is s = grind (arith, nat_tests)
-
-strikes : (gate : Bool) (c : CounterState) → (c.mode ≡ SoftwareStrobe) ⊎ (c.mode ≡ HardwareStrobe) →
-    IsSettled c.mode gate c → ByOne (AreQuiet gate) gate c ⊎ IsAtEnd c.mode gate (edge gate c)
-unfolding quiet_pulses after_quiet pulse pulse_by_mode count_to_strobe count_down load
-strikes gate c mode s = grind (arith, nat_tests)
-
 pub strobes : (gate : Bool) (c : CounterState) → (c.mode ≡ SoftwareStrobe) ⊎ (c.mode ≡ HardwareStrobe) →
     IsSettled c.mode gate c → ByTwo (AreQuiet gate) gate c
-strobes gate c mode s = grind (arith, nat_tests, strikes gate c mode s, past_ends c.mode gate (edge gate c) mode)
+unfolding quiet_pulses after_quiet pulse pulse_by_mode count_to_strobe count_down load
+strobes gate c mode s = grind (arith, nat_tests)
