@@ -42,34 +42,15 @@ hour_read_as : (control byte c n : ℕ) → control ≡ c → byte ≡ hour_byte
 hour_read_as control byte c n e f h = grind (arith, nat_tests)
 
 pub shows : ShowsTheMoment
-shows clock time size let_in showable =
-    let c = control_of clock in
-    let is = told clock time size in
-    rw let_in (record {
-      seconds = read_as _ _ c time.second is.control is.seconds (omega (arith, showable.seconds));
-      minutes = read_as _ _ c time.minute is.control is.minutes (omega (arith, showable.minutes));
-      hours = hour_read_as _ _ c time.hour is.control is.hours showable.hours;
-      weekdays = read_as _ _ c time.weekday is.control is.weekdays showable.weekdays;
-      days = read_as _ _ c time.day is.control is.days showable.days;
-      months = read_as _ _ c time.month is.control is.months showable.months;
-      years = read_as _ _ c (time.year % 100) is.control is.years (omega arith);
-    })
+shows clock time size let_in showable = grind (arith, nat_tests, told, read_as, hour_read_as)
 
 -- an alarm byte fits the bytes of its own time
 module _ (c a n alarm time : ℕ) where
   number_fits : a < 100 → n < 100 → alarm ≡ number_byte c a → time ≡ number_byte c n → alarm_fits alarm time ≡ (a == n)
-  number_fits low_a low_n is_alarm is_time =
-      let back_a = read_as c alarm c a refl is_alarm low_a in
-      let back_n = read_as c time c n refl is_time low_n in
-      let low : alarm < 192 = grind (arith, nat_tests) in
-      grind (arith, nat_tests)
+  number_fits low_a low_n is_alarm is_time = grind (arith, nat_tests, read_as)
 
   hour_fits : a < 24 → n < 24 → alarm ≡ hour_byte c a → time ≡ hour_byte c n → alarm_fits alarm time ≡ (a == n)
-  hour_fits low_a low_n is_alarm is_time =
-      let back_a = hour_read_as c alarm c a refl is_alarm low_a in
-      let back_n = hour_read_as c time c n refl is_time low_n in
-      let low : alarm < 192 = grind (arith, nat_tests) in
-      grind (arith, nat_tests)
+  hour_fits low_a low_n is_alarm is_time = grind (arith, nat_tests, hour_read_as)
 
 pub rings : (clock : Clock) (time alarm : CivilTime) → length clock.bytes ≡ 128 → IsShowable time → IsShowable alarm →
     HasAlarm clock alarm → alarm_rings (put (time_bytes (control_of clock) time) clock.bytes)

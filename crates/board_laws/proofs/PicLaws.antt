@@ -1,20 +1,19 @@
 -- The laws of the interrupt controllers.
-use Rattle.std.proofs.Common.{lit<, ◌≡◌, ℕ, ◌+◌, ◌/◌, ◌%◌, ◌<◌, true, false, not, eqb, ◌&&◌, Option, Some, None, List}
-use Rattle.std.proofs.Common.{[], ◌∷◌, get_or, refl, ap, ◌∙◌, inl, inr, arith, is_some, suc, cond, length, drop, sym}
+use Rattle.std.proofs.Common.{◌≡◌, ℕ, ◌+◌, ◌/◌, ◌%◌, ◌<◌, true, false, not, eqb, ◌&&◌, Some, None, List, [], ◌∷◌}
+use Rattle.std.proofs.Common.{get_or, refl, ap, ◌∙◌, inl, inr, arith, is_some, suc, cond, length, drop, sym}
 use Rattle.std.proofs.Common.{length-append, ◌++◌, take, All, ◌≢◌}
 use Rattle.board_prelude.proofs.Common.{cases_Bool, agree_below_at, eqb-true, eq-eqb, and_parts, nat_tests, not-true}
 use Rattle.board_prelude.proofs.Common.{false≢true, Levels, has, levels_where, with_level, without_level, Chip, pending}
 use Rattle.board_prelude.proofs.Common.{priority_order, is_blocking, blocks_itself, is_requested, request, interrupt}
-use Rattle.board_prelude.proofs.Common.{acknowledged_if, chip_after_write, Pair, pair_after_acknowledge}
-use Rattle.board_prelude.proofs.Common.{pair_acknowledged, settled, pair_written, pair_read, has-levels_where, scan}
-use Rattle.board_prelude.proofs.Common.{request-is, is_bit, cases_lt, get_or-append_seam, get_or_append_left}
-use Rattle.board_prelude.proofs.Common.{first_blocking, first_blocking-is, priority_order-small, first_selectable}
-use Rattle.board_prelude.proofs.Common.{chip_after_read, All-head, All-tail, get_or-take, get_or_default}
-use Rattle.board_prelude.proofs.Common.{take-append-drop, drop-cons, length-take, find-append}
+use Rattle.board_prelude.proofs.Common.{acknowledged_if, chip_after_write, Pair, pair_after_acknowledge, settled}
+use Rattle.board_prelude.proofs.Common.{has-levels_where, scan, request-is, is_bit, cases_lt, get_or-append_seam}
+use Rattle.board_prelude.proofs.Common.{get_or_append_left, first_blocking, first_blocking-is, priority_order-small}
+use Rattle.board_prelude.proofs.Common.{first_selectable, chip_after_read, All-head, All-tail, get_or-take}
+use Rattle.board_prelude.proofs.Common.{get_or_default, take-append-drop, drop-cons, length-take, find-append}
 use Rattle.std.proofs.lemmas.Bool.{agree_below, false_from_ne_true}
-use Rattle.board_laws.specs.PicLaws.{IsFirstInOrder, EndsOne, SlaveIsLatched, StaysLatched, place_of}
-use Rattle.board_laws.specs.PicLaws.{InterruptIsSelected, SelectedInterrupts, NonSpecificEndEndsFirst}
-use Rattle.board_laws.specs.PicLaws.{NonSpecificEndOfNone, ReadsLeaveTheOther, SpecificEndEndsOne}
+use Rattle.board_laws.specs.PicLaws.{IsFirstInOrder, EndsOne, StaysLatched, place_of, InterruptIsSelected}
+use Rattle.board_laws.specs.PicLaws.{SelectedInterrupts, NonSpecificEndEndsFirst, NonSpecificEndOfNone}
+use Rattle.board_laws.specs.PicLaws.{ReadsLeaveTheOther, SpecificEndEndsOne}
 use Rattle.device_spec.specs.Pic.{ended}
 use Rattle.std.proofs.lemmas.List.Sums.{AllPass-from_list_all}
 use Rattle.board_laws.proofs.Searches.{find-none}
@@ -103,24 +102,9 @@ specific_ends_one chip byte b4 b3 command =
 
 -- ---- the slave's request
 
-slave-latched : (pair : Pair) → SlaveIsLatched (settled pair)
-slave-latched pair asks =
-    grind (arith, nat_tests, cases_Bool, is_some, interrupt, with_level_has, lit<, false≢true, settled_slave)
-
-acknowledged-latched : (pair : Pair) (o : Option ℕ) → interrupt pair.master ≡ o → SlaveIsLatched pair →
-    SlaveIsLatched (pair_after_acknowledge pair)
-unfolding pair_after_acknowledge
-acknowledged-latched pair None e before = rw e before
-acknowledged-latched pair (Some level) e before = rw e (slave-latched (pair_acknowledged pair level))
-
 pub stays_latched : StaysLatched
-stays_latched = record {
-  at_reset = λ levels asks. absurd (false≢true asks);
-  at_lines = λ pair levels elcr. slave-latched _;
-  at_write = λ pair port byte. slave-latched (pair_written pair port byte);
-  at_read = λ pair port. slave-latched (pair_read pair port);
-  at_acknowledge = λ pair before. acknowledged-latched pair (interrupt pair.master) refl before;
-}
+unfolding pair_after_acknowledge
+stays_latched = grind (arith, nat_tests, false≢true, with_level_has, settled_slave)
 
 -- ---- the order by places
 
@@ -266,16 +250,9 @@ non_specific_none chip byte h b4 b3 command none =
 
 -- ---- a read of one chip
 
--- polling has no part in what INT stands for
-first-unpolled : (chip : Chip) (higher order : List ℕ) → first_selectable (record chip { polls = false }) higher order
-    ≡ first_selectable chip higher order
-unfolding first_selectable pending
-first-unpolled chip higher [] = refl
-first-unpolled chip higher (level ∷ lower) = rw (first-unpolled chip (higher ++ level ∷ []) lower) refl
-
 interrupt-unpolled : (chip : Chip) → interrupt (record chip { polls = false }) ≡ interrupt chip
-unfolding request
-interrupt-unpolled chip = rw (first-unpolled chip [] _) refl
+unfolding request first_selectable pending
+interrupt-unpolled chip = grind (arith, nat_tests)
 
 -- a chip that does not ask does not ask after a read
 still-quiet : (chip : Chip) → interrupt chip ≡ None → interrupt (chip_after_read chip) ≡ None

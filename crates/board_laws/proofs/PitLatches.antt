@@ -1,5 +1,5 @@
 -- A latched count stays until it is read, and a read-back is one latch after another.
-use Rattle.std.proofs.Common.{◌≡◌, ℕ, Bool, List, [], ◌∷◌, length, None, refl, ap, sym, ◌∙◌, arith, true}
+use Rattle.std.proofs.Common.{◌≡◌, ℕ, Bool, List, [], ◌∷◌, length, None, refl, sym, ◌∙◌, arith, true}
 use Rattle.board_prelude.proofs.Common.{nat_tests, access_numbered, status_byte, control, read_back_chosen}
 use Rattle.board_prelude.proofs.Common.{write_control}
 use Rattle.device_spec.specs.Pit.{Access, LowByte, HighByte, LowThenHigh, CounterState, low_byte, high_byte}
@@ -40,8 +40,15 @@ step_of-held x0 c b bs h = grind (arith, nat_tests, write-latch, pulse-latch, la
 
 after-held : (steps : List Step) (c : CounterState) (b : ℕ) (bs : List ℕ) → c.count_latch ≡ b ∷ bs →
     (after steps c).count_latch ≡ b ∷ bs
-after-held [] c b bs h = h
-after-held (s ∷ steps) c b bs h = after-held steps (step_of s c) b bs (step_of-held s c b bs h ∙ h)
+unfolding pulse pulse_by_mode load count_down count_to_end count_to_reload count_half count_to_strobe latch_count
+    gate_rises gate_falls latch_status read_back write take_byte take_low complete
+after-held [] c b bs h = grind (arith, nat_tests)
+after-held (s ∷ steps) c b bs h = grind (
+  arith,
+  nat_tests,
+  after-held steps (step_of s c) b bs
+      (step_of-held s c b bs h ∙ h),
+)
 
 pub latched_count_stays : LatchedCountStays
 unfolding latch_count
@@ -52,16 +59,16 @@ latched_count_stays c steps h =
 
 -- READING WHAT IS LATCHED
 
-read-latched : (c : CounterState) (b : ℕ) (bs : List ℕ) → c.status_latch ≡ None → c.count_latch ≡ b ∷ bs →
-    read c ≡ (b, record c { count_latch = bs })
-unfolding read
-read-latched c b bs s h = rw (s, h) refl
-
 bytes_read-latched : (bytes : List ℕ) (c : CounterState) → c.status_latch ≡ None → c.count_latch ≡ bytes →
     bytes_read (length bytes) c ≡ bytes
-bytes_read-latched [] c s h = refl
-bytes_read-latched (b ∷ bs) c s h = rw (read-latched c b bs s h)
-    (ap (λ x. b ∷ x) (bytes_read-latched bs (record c { count_latch = bs }) s refl))
+unfolding read
+bytes_read-latched [] c s h = grind (arith, nat_tests)
+bytes_read-latched (b ∷ bs) c s h = grind (
+  arith,
+  nat_tests,
+  bytes_read-latched bs (record c { count_latch = bs }) s
+      refl,
+)
 
 pub latched_count_is_read : LatchedCountIsRead
 latched_count_is_read c steps h = bytes_read-latched (element_bytes c) _ refl (latched_count_stays c steps h)
