@@ -1,12 +1,9 @@
 -- At the ports of the keyboard controller, the clock and the primary IDE channel, the device answers
 -- exactly where the chip selects it.
-use Rattle.std.proofs.Common.{◌≡◌, ◌≢◌, ℕ, ◌↔◌, Bool, true, false, Option, Some, None, ap, arith, inl, inr, ◌&&◌, not}
-use Rattle.std.proofs.Common.{if◌then◌else◌, unwrap_or, option_map, ◌∙◌}
-use Rattle.board_prelude.proofs.Common.{cases_Bool, cond-false, nat_tests, Width, One, Dev, Keyboard, Ata, Device}
-use Rattle.board_prelude.proofs.Common.{Denial, Register, bytes_of, is_port_of, device_at, Setup, is_bit, Bytes, Window}
-use Rattle.board_prelude.proofs.Common.{io_claim, xbcs as select_register, ide_command, idetim, idetim_high, device}
-use Rattle.board_prelude.proofs.Common.{nobody, card_port, unselected, device_port, is_config_port, port_target_of}
-use Rattle.board_prelude.proofs.Common.{common_steps}
+use Rattle.std.proofs.Common.{◌≡◌, ◌≢◌, ℕ, ◌↔◌, Bool, true, false, Some, arith, ◌&&◌, not, if◌then◌else◌}
+use Rattle.board_prelude.proofs.Common.{nat_tests, Width, One, Dev, Keyboard, Ata, Device, Denial, Register, bytes_of}
+use Rattle.board_prelude.proofs.Common.{is_port_of, Setup, is_bit, Bytes, xbcs as select_register, ide_command, idetim}
+use Rattle.board_prelude.proofs.Common.{idetim_high, device, unselected, device_port, port_target_of, common_steps}
 use Rattle.board_base.specs.declared.target.Dev.TheVariants.{Clock}
 use Rattle.device_spec.specs.Common.{PortsApart, ConfigApart}
 use Rattle.xbus_select.specs.Piix.{is_keyboard_port, is_clock_port, is_disk_port}
@@ -14,14 +11,9 @@ use Rattle.xbus_select.specs.PortSelects.{KeyboardAnswers, ClockAnswers, DiskAns
 
 -- ---- a device is no card and not nobody
 
-no_device : (claim : Option Window) (port : ℕ) (denial : Denial) (dev : Dev) →
-    (unwrap_or (option_map (card_port port) claim) (nobody denial)).target ≢ Device dev
-no_device None port denial dev is = cc
-no_device (Some window) port denial dev is = cc
-
 not_device : (setup : Setup) (bytes : Bytes) (port : ℕ) (denial : Denial) (dev : Dev) →
     (unselected setup bytes port denial).target ≢ Device dev
-not_device setup bytes port denial = no_device (io_claim setup bytes port) port denial
+not_device setup bytes port denial = grind (arith, nat_tests, common_steps)
 
 -- ---- a device that answers where a bit is set, or two
 
@@ -44,15 +36,7 @@ module _ (apart : PortsApart) (config : ConfigApart) where
       is_port_of dev port (bytes_of width) ≡ true →
       port_target_of setup bytes address disk port width ≡ device_port (Some dev) disk setup bytes port
   unfolding port_target_of
-  at_its_port setup bytes address disk dev port width is =
-      let found : device_at port (bytes_of width) ≡ Some dev = apart dev port (bytes_of width) is in
-      elim (cases_Bool (is_config_port port)) [
-        | inl within ↦
-            let none : device_at port (bytes_of width) ≡ None = config port (bytes_of width) within in absurd (cc)
-        | inr beyond ↦
-            cond-false (is_config_port port) _ _ beyond
-            ∙ ap (λ (found : Option Dev). device_port found disk setup bytes port) found
-      ]
+  at_its_port setup bytes address disk dev port width is = grind (arith, nat_tests, common_steps)
 
   pub keyboard_answers : KeyboardAnswers
   keyboard_answers setup bytes address disk port is =
