@@ -24,11 +24,11 @@ module _ {A : Type 0} where
 
   -- two places that are not one may be set in either order
   pub set_apart : (l : List A) (i j : ℕ) (a b : A) → j ≢ i → set (set l i a) j b ≡ set (set l j b) i a
-  set_apart [] i j a b other = refl
-  set_apart (x ∷ xs) zero zero a b other = absurd (other refl)
-  set_apart (x ∷ xs) zero (suc j) a b other = refl
-  set_apart (x ∷ xs) (suc i) zero a b other = refl
-  set_apart (x ∷ xs) (suc i) (suc j) a b other = ap (λ (l : List A). x ∷ l) (set_apart xs i j a b (λ e. other (cc e)))
+  set_apart [] i j a b other = grind (arith, nat_tests)
+  set_apart (x ∷ xs) zero zero a b other = grind (arith, nat_tests)
+  set_apart (x ∷ xs) zero (suc j) a b other = grind (arith, nat_tests)
+  set_apart (x ∷ xs) (suc i) zero a b other = grind (arith, nat_tests)
+  set_apart (x ∷ xs) (suc i) (suc j) a b other = grind (arith, nat_tests, set_apart xs i j a b (λ e. other (cc e)))
 
   pub prefix_refl : (xs : List A) → IsPrefix xs xs
   prefix_refl xs = ([], append-nil xs)

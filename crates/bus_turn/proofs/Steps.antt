@@ -109,11 +109,7 @@ module _ {T E F : Type 0} (entries : T → List E) (actor : E → ℕ) (fixed : 
       → log_of first b ≡ log_of first o.book
       → (o.book.serving < o.book.ticket → b.owner b.serving ≡ o.book.owner o.book.serving)
       → (p : Place T) → L o.book s.views p → L b (set s.views id w) p
-  lies_on s o b id v w at free log owner (home x) h = (h.0 ∙ sym log, h.1)
-  lies_on s o b id v w at free log owner away h =
-      let i : ℕ = o.book.owner o.book.serving in
-      let other : i ≢ id = λ e. free (ap (λ (z : V). z.stage) (some-injective v h.0 (cc (at, h.1))) ∙ h.2) in
-      (h.0, ap (get_elem? (set s.views id w)) (owner (is_held s o h)) ∙ (set_else s.views id i w other ∙ h.1), h.2)
+  lies_on s o b id v w h7 h8 h9 h10 p h12 = grind (arith, nat_tests, some-injective, is_held, set_else)
 
   -- the pass id goes from the view v to w, and the book from that of o to b
   moved : (s : S) (o : O s) (id : ℕ) (v w : V) (words : List ℕ) (homes : Homes) (b : B)
@@ -195,12 +191,7 @@ module _ {T E F : Type 0} (entries : T → List E) (actor : E → ℕ) (fixed : 
   -- what fits the value that has all entries
   fits : (b : B) (views : List V) (i : ℕ) (v : V) (x : T) → K b views i v → entries x ≡ log_of first b
       → fixed x ≡ part → Fits entries actor fixed v x
-  fits b views i v x k all same = record {
-    begins = rw all k.begins;
-    opened = (b.since, ap (λ (xs : List E). xs ++ b.since) k.opened ∙ sym all);
-    mine = rw (k.number, k.opened, all, drop_front first b.since) k.mine;
-    part = k.part_is ∙ ap (λ (z : F). Some z) (sym same);
-  }
+  fits b views i v x k all same = grind (arith, nat_tests, drop_front)
 
   -- the turn is taken, if the pass's ticket is served
   pub calls : (slots id : ℕ) (me : M) (t : ℕ) → me.0.stage ≡ Waits t
