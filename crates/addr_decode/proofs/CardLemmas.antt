@@ -169,12 +169,9 @@ module _ {setup : Setup} {Is : Bytes → CardBytes → Type 0} (own : IsOfCard s
 
 pub find_at : (cards : List FittedCard) → Rises cards → (k : ℕ) (d : FittedCard) → k < length cards →
     find (λ card. card.dev == (get_or cards k d).dev) cards ≡ Some (get_or cards k d)
-find_at [] rises k d within = absurd (omega arith)
+find_at [] rises k d within = grind (arith, nat_tests)
 find_at (card ∷ later) rises zero d within = grind (arith, nat_tests)
-find_at (card ∷ later) rises (suc k) d within =
-    let above = rises.0 k d (omega arith) in
-    let rest = find_at later rises.1 k d (omega arith) in
-    grind (arith, nat_tests)
+find_at (card ∷ later) rises (suc k) d within = grind (arith, nat_tests, find_at later rises.1 k d (omega arith))
 
 pub reset_cards : (setup : Setup) (cards : List CardBytes) → AreFitted cards → AreReset cards →
     setup.cards ≡ cards_of cards → AreCardsOf setup (reset_byte setup) cards

@@ -1,11 +1,11 @@
 -- Between two edges all addresses have the same areas.
 use Rattle.std.proofs.Common.{◌≡◌, ℕ, ◌+◌, ◌*◌, ◌/◌, ◌^◌, ◌<◌, ◌≤◌, inl, inr, Bool, true, false, List, [], ◌∷◌, ◌++◌}
-use Rattle.std.proofs.Common.{Option, Some, None, refl, arith, ◌==◌, ◌&&◌, All, flat_map, unwrap_or, IfSome, IsNone}
+use Rattle.std.proofs.Common.{Option, Some, None, refl, arith, ◌==◌, All, flat_map, unwrap_or, IfSome, IsNone}
 use Rattle.std.proofs.Common.{if◌then◌else◌, slice_index_or}
 use Rattle.board_prelude.proofs.Common.{list_any, AllByRecursion, enumerate_from, cases_lt, nat_tests, pow_pos}
 use Rattle.board_prelude.proofs.Common.{find-append, recursion_from_All, Kind, FittedCard, Setup, smram_range}
 use Rattle.board_prelude.proofs.Common.{upper_memory, is_within, Bytes, Window, row_of, is_in_hole, is_shadowed}
-use Rattle.board_prelude.proofs.Common.{is_rom_selected, is_covered, memory_window, rom_window, is_rom_on, vga_window}
+use Rattle.board_prelude.proofs.Common.{is_rom_selected, memory_window, rom_window, is_rom_on, vga_window}
 use Rattle.board_prelude.proofs.Common.{memory_windows, is_enabled_for, first_window, memory_claim, area_of}
 use Rattle.board_prelude.proofs.Common.{xbcs as select_register, address_count}
 use Rattle.std.proofs.lemmas.List.Elements.{All-contains_itself}
@@ -40,13 +40,7 @@ module _ (addr x : ℕ) (order : addr ≤ x) (counts : ℕ → Bool) where
   IsAlike windows = first_window counts x windows ≡ first_window counts addr windows
 
   both_alike : (xs ys : List Window) → IsAlike xs → IsAlike ys → IsAlike (xs ++ ys)
-  both_alike xs ys first later =
-      rw (
-        find-append (λ window. counts window.dev && is_covered x window) xs ys,
-        find-append (λ window. counts window.dev && is_covered addr window) xs ys,
-        first,
-        later,
-      ) refl
+  both_alike xs ys first later = grind (arith, nat_tests, find-append)
 
   where_alike : (holds : Bool) (xs : List Window) → IsAlike xs → IsAlike (if holds then xs else [])
   where_alike true xs alike = alike

@@ -1,7 +1,7 @@
 -- In a rising list of edges the first above an address is the least above it.
-use Rattle.std.proofs.Common.{◌≡◌, ℕ, suc, ◌*◌, ◌^◌, ◌<◌, ◌≤◌, List, [], ◌∷◌, map, take, drop, Option, Some, None, refl}
-use Rattle.std.proofs.Common.{◌∙◌, ap, arith, nat_lt, find, slice_index}
-use Rattle.board_prelude.proofs.Common.{AllByRecursion, nat_tests, address_count, boundary_unit}
+use Rattle.std.proofs.Common.{◌≡◌, ℕ, suc, ◌*◌, ◌^◌, ◌<◌, ◌≤◌, List, [], ◌∷◌, map, drop, Option, Some, None, refl, ◌∙◌}
+use Rattle.std.proofs.Common.{ap, arith, nat_lt, find, slice_index}
+use Rattle.board_prelude.proofs.Common.{nat_tests, address_count, boundary_unit}
 use Rattle.addr_decode.specs.Common.{fixed_edges, nearer, nearest}
 
 -- they rise from an edge on, and all are addresses
@@ -15,10 +15,13 @@ rise_from_lower from lower (edge ∷ later) order rise = (omega (arith, rise.0),
 
 nearest_stays : (addr least : ℕ) (edges : List ℕ) → Rise least edges → nearest addr (Some least) edges ≡ Some least
 unfolding nearest
-nearest_stays addr least [] rise = refl
-nearest_stays addr least (edge ∷ later) rise =
-    let rest = nearest_stays addr least later (rise_from_lower edge least later rise.0 rise.2) in
-    grind (arith, nat_tests, rise.0)
+nearest_stays addr least [] rise = grind (arith, nat_tests)
+nearest_stays addr least (edge ∷ later) rise = grind (
+  arith,
+  nat_tests,
+  nearest_stays addr least later
+      (rise_from_lower edge least later rise.0 rise.2),
+)
 
 pub first_is_nearest :
     (addr from : ℕ) (edges : List ℕ) → Rise from edges → find (nat_lt addr) edges ≡ nearest addr None edges
@@ -29,17 +32,10 @@ first_is_nearest addr from (edge ∷ later) rise =
     let rest = first_is_nearest addr edge later rise.2 in
     grind (arith, nat_tests, rise.1)
 
--- edges that do not lie above an address need not be looked at
-skip_first : (addr count : ℕ) (edges : List ℕ) → AllByRecursion (λ edge. edge ≤ addr) (take count edges) →
-    find (nat_lt addr) (drop count edges) ≡ find (nat_lt addr) edges
-skip_first addr (suc count) (edge ∷ later) low =
-    let rest = skip_first addr count later low.1 in grind (arith, nat_tests, low.0)
-skip_first addr count edges low = grind arith
-
 pub skip_to_system_bios : (addr : ℕ) → 0x10_0000 ≤ addr →
     find (nat_lt addr) (drop 16 fixed_edges) ≡ find (nat_lt addr) fixed_edges
 unfolding fixed_edges
-skip_to_system_bios addr from = skip_first addr 16 fixed_edges (search arith)
+skip_to_system_bios addr from = grind (arith, nat_tests)
 
 -- ---- the ends of rows
 

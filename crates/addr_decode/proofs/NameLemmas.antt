@@ -129,18 +129,10 @@ pub count_names : (cards : List FittedCard) (reg : Reg) (width : Width) →
     length (names_from cards reg width) ≡ bytes_of width
 count_names cards reg width = grind arith
 
-any_same : (name : ℕ → Option MapRegister) (is : ℕ → Bool) (xs : List ℕ) → ((k : ℕ) → is_some (name k) ≡ is k) →
-    list_any is_some (map name xs) ≡ list_any is xs
-any_same name is [] same = refl
-any_same name is (k ∷ later) same = rw (same k, any_same name is later same) refl
-
 pub names_touch : (setup : Setup) (reg : Reg) (width : Width) (value : ℕ) → is_some (card_at setup 0) ≡ false →
     is_some (card_at setup 1) ≡ false →
     list_any is_some (names_from setup.cards reg width) ≡ touches_map setup (Store reg width value)
-names_touch setup reg width value none0 none1 =
-    any_same (λ k. map_register setup.cards (reg_after reg k)) (λ k. is_map_byte setup (reg_after reg k))
-    (take (bytes_of width) offsets)
-    (λ k. named setup (reg_after reg k) none0 none1)
+names_touch setup reg width value none0 none1 = grind (arith, nat_tests, named)
 
 -- a register with a name is a map byte of each board with these cards
 pub named_byte : (setup : Setup) (cards : List CardBytes) (reg : Reg) (register : MapRegister) → AreFitted cards →

@@ -1,32 +1,25 @@
 -- The ports in the order of the code are those of the definitions.
-use Rattle.std.proofs.Common.{◌≡◌, ℕ, ◌/◌, Bool, false, Option, Some, None, refl, sym, arith, is_some, if◌then◌else◌}
-use Rattle.std.proofs.Common.{◌≤◌, ◌==◌, ◌∙◌, List}
-use Rattle.board_prelude.proofs.Common.{nat_tests, ne_eqb, Width, Dev, Decoded, nobody, NoRegister, bytes_of, Select}
-use Rattle.board_prelude.proofs.Common.{device_at, select_of, Setup, card_at, is_enabled, is_config_port}
-use Rattle.board_prelude.proofs.Common.{config_register, Bytes, ide_command as command_register, idetim_high}
-use Rattle.board_prelude.proofs.Common.{xbcs as select_register, config_port, selected_by, device_port, port_target_of}
-use Rattle.board_prelude.proofs.Common.{card_function, function_exists, position}
+use Rattle.std.proofs.Common.{◌≡◌, ℕ, ◌/◌, Bool, false, Option, Some, refl, sym, arith, is_some, if◌then◌else◌, ◌≤◌}
+use Rattle.std.proofs.Common.{◌==◌, ◌∙◌, List}
+use Rattle.board_prelude.proofs.Common.{nat_tests, ne_eqb, Width, Dev, Decoded, nobody, NoRegister, bytes_of, device_at}
+use Rattle.board_prelude.proofs.Common.{Setup, card_at, is_enabled, is_config_port, config_register, Bytes}
+use Rattle.board_prelude.proofs.Common.{ide_command as command_register, idetim_high, xbcs as select_register}
+use Rattle.board_prelude.proofs.Common.{config_port, device_port, port_target_of, card_function, function_exists}
+use Rattle.board_prelude.proofs.Common.{position}
 use Rattle.pci_bars.specs.Cards.{CardBytes, cards_of}
 use Rattle.cfg_ports.specs.declared.conf_add.Selected.{Selected}
 use Rattle.cfg_ports.specs.Selection.{existing}
 use Rattle.addr_decode.specs.declared.onboard.Onboard.{Onboard}
 use Rattle.addr_decode.proofs.CardLemmas.{fitted_is}
 use Rattle.addr_decode.proofs.NameLemmas.{is_named}
-use Rattle.addr_decode.specs.Common.{by_select, response_of, IsChannelOf, register_answers, after_onboard}
+use Rattle.addr_decode.specs.Common.{response_of, IsChannelOf, register_answers, after_onboard}
 
 module _ (setup : Setup) (bytes : Bytes) (timing port : ℕ) (is : timing / 0x100 ≡ bytes idetim_high) where
-  select_in_order : (select : Select) (disk : Bool) (dev : Dev) →
-      selected_by select disk dev setup bytes port
-      ≡ after_onboard setup bytes port
-      (by_select select dev (bytes select_register) disk (bytes command_register) timing)
-  select_in_order select disk dev = grind (arith, nat_tests)
-
   found_in_order : (found : Option Dev) (disk : Bool) →
       device_port found disk setup bytes port
       ≡ after_onboard setup bytes port
       (response_of found (bytes select_register) disk (bytes command_register) timing)
-  found_in_order None disk = refl
-  found_in_order (Some dev) disk = select_in_order (select_of dev) disk dev
+  found_in_order found disk = grind (arith, nat_tests)
 
 -- ---- what each part of the code gives
 

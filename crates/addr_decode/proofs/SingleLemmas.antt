@@ -1,32 +1,19 @@
 -- The registers of one byte each: their numbers, and that each stands beside all others.
-use Rattle.std.proofs.Common.{◌≡◌, ◌≢◌, ℕ, ◌+◌, ◌<◌, ◌≤◌, Bool, true, not, ◌&&◌, Option, Some, None, List, [], ◌∷◌}
-use Rattle.std.proofs.Common.{refl, sym, ◌∙◌, ap, arith, ◌==◌, nat_lt, rules, map, slice_index, if◌then◌else◌}
-use Rattle.std.specs.List.{position_from}
+use Rattle.std.proofs.Common.{◌≡◌, ◌≢◌, ℕ, ◌<◌, ◌≤◌, Bool, true, not, ◌&&◌, Some, None, List, ◌∙◌, ap, arith, ◌==◌}
+use Rattle.std.proofs.Common.{nat_lt, rules, map, slice_index}
 use Rattle.std.proofs.lemmas.Iterator.Adapters.{position_from-zero}
 use Rattle.std.proofs.lemmas.List.Quantifiers.{position-Some}
-use Rattle.board_prelude.proofs.Common.{nat_tests, each_below, Reg, is_same, is_within, bridge, card_register, fdhc}
-use Rattle.board_prelude.proofs.Common.{Bytes, get_or-map}
-use Rattle.addr_decode.specs.Singles.{singles, single, single_count, number_from, single_number, AreSinglesOf}
+use Rattle.board_prelude.proofs.Common.{nat_tests, each_below, Reg, is_within, bridge, card_register, fdhc, Bytes}
+use Rattle.board_prelude.proofs.Common.{get_or-map}
+use Rattle.addr_decode.specs.Singles.{singles, single, single_count, single_number, AreSinglesOf}
 use Rattle.addr_decode.proofs.StoreLemmas.{Differs, same_or_apart}
 
 -- ---- their numbers
 
-same_told : (reg other : Reg) → is_same reg other ≡ true → reg ≡ other
-same_told reg other is = grind (arith, nat_tests)
-
-number_at : (reg : Reg) (first : ℕ) (table : List Reg) →
-    number_from first table reg ≡ position_from (is_same reg) first table
-number_at reg first [] = refl
-number_at reg first (entry ∷ later) =
-    ap (λ (number : Option ℕ). if is_same reg entry then Some first else number) (number_at reg (first + 1) later)
-
 -- a register that has a number stands there
 pub number_stands : (reg : Reg) (number : ℕ) → single_number reg ≡ Some number →
     (number < single_count) × (single number ≡ reg)
-number_stands reg number is =
-    let at = position-Some (is_same reg) singles number fdhc
-    (position_from-zero (is_same reg) singles ∙ sym (number_at reg 0 singles) ∙ is) in
-    (at.0, sym (same_told reg (single number) at.1))
+number_stands reg number is = grind (arith, nat_tests, position-Some, position_from-zero)
 
 -- their bytes in a list
 pub singles_are : (bytes : Bytes) (held : List ℕ) → held ≡ map bytes singles → AreSinglesOf bytes held

@@ -8,8 +8,8 @@ use Rattle.pmc_regs.proofs.Common.{row_bytes, rows_are, rows_after_store}
 use Rattle.pam_windows.specs.Pam.{IsPamOffset, IsPamOf}
 use Rattle.pam_windows.proofs.PamLemmas.{pam_bytes, pam_are}
 use Rattle.pci_bars.specs.Cards.{CardBytes, AreCards, AreCardsOf, AreDecoded, cards_of, AreFitted, AreReset}
-use Rattle.addr_decode.specs.Common.{in_bridge, map_register, MapBytes, StandsFor, stored, AreSinglesOf, single}
-use Rattle.addr_decode.specs.Common.{single_count, single_number}
+use Rattle.addr_decode.specs.Common.{map_register, MapBytes, StandsFor, stored, AreSinglesOf, single, single_count}
+use Rattle.addr_decode.specs.Common.{single_number}
 use Rattle.addr_decode.proofs.StoreLemmas.{Differs, differs_back, stored-elsewhere}
 use Rattle.addr_decode.proofs.CardLemmas.{cards_agree, cards_stay, cards_decoded, of_decoded, of_registers, reset_cards}
 use Rattle.addr_decode.proofs.SingleLemmas.{no_single, singles_apart, single_is}
@@ -60,27 +60,11 @@ module _ (setup : Setup) (bytes : Bytes) (regs : MapBytes) (stands : StandsFor s
     pub window_stored : (pam : List ℕ) (off : ℕ) → IsPamOffset off →
         IsPamOf (stored setup bytes (bridge off) written) pam →
         StandsFor setup (stored setup bytes (bridge off) written) (record regs { pam = pam })
-    window_stored pam off within is = record {
-      rows = λ row below.
-          stays (bridge off) (drb row) _ (stands.rows row below) (inr (inr (omega (arith, within.1))));
-      windows = is;
-      singles = λ k below.
-          stays (bridge off) (single k) _ (stands.singles k below)
-          ((single_is k below).apart off within.0 (omega (arith, within.1)));
-      cards = decoded (bridge off) (omega arith);
-    }
+    window_stored pam off within is = grind (arith, nat_tests, stays, single_is, decoded)
 
     pub row_stored : (row : ℕ) → length regs.drb ≡ 8 → row < 8 →
         StandsFor setup (stored setup bytes (drb row) written) (record regs { drb = set regs.drb row written })
-    row_stored row eight within = record {
-      rows = rows_after_store setup bytes regs.drb row written eight within below stands.rows;
-      windows = λ off inside.
-          stays (drb row) (bridge off) _ (stands.windows off inside) (inr (inr (omega (arith, inside.1))));
-      singles = λ k few.
-          stays (drb row) (single k) _ (stands.singles k few)
-          ((single_is k few).apart (0x60 + row) (omega arith) (omega arith));
-      cards = decoded (drb row) (omega arith);
-    }
+    row_stored row eight within = grind (arith, nat_tests, rows_after_store, stays, single_is, decoded)
 
     pub single_stored : (number after : ℕ) → length regs.singles ≡ single_count → number < single_count →
         after
@@ -123,13 +107,7 @@ pub record IsBeside (off : ℕ) : Type 0 where
 pub nameless_in_bridge : (cards : List FittedCard) (at : Reg) → at.dev ≡ 0 → at.fun ≡ 0 → map_register cards at ≡ None →
     IsBeside at.off
 unfolding map_register
-nameless_in_bridge cards at first function none =
-    let beside : in_bridge at.off ≡ None = rw (function, first) at none in
-    record {
-      windows = grind (arith, nat_tests, beside);
-      rows = grind (arith, nat_tests, beside);
-      singles = no_single (bridge at.off) (grind (arith, nat_tests, beside));
-    }
+nameless_in_bridge cards at first function none = grind (arith, nat_tests, no_single)
 
 pub nameless_apart : (cards : List FittedCard) (at : Reg) → map_register cards at ≡ None → IsApart at
 unfolding map_register
