@@ -1,13 +1,12 @@
 -- The bytes of banks that follow one another.
 use Rattle.std.proofs.Common.{◌≡◌, ℕ, suc, ◌+◌, ◌-◌, ◌*◌, ◌/◌, ◌%◌, ◌<◌, ◌≤◌, List, [], ◌∷◌, length, set, replicate}
-use Rattle.std.proofs.Common.{◌∙◌, refl, arith, slice_index, All}
+use Rattle.std.proofs.Common.{refl, arith, slice_index, All}
 use Rattle.board_prelude.proofs.Common.{concat, length-append, length-set, get_or_past, get_or-set_same}
-use Rattle.board_prelude.proofs.Common.{get_or-set_other, All-head, All-tail, cases_lt, cases_eq, nat_tests, Width, One}
-use Rattle.board_prelude.proofs.Common.{bytes_of, wide, All-get_or}
+use Rattle.board_prelude.proofs.Common.{get_or-set_other, All-head, All-tail, cases_lt, nat_tests, Width, One, bytes_of}
+use Rattle.board_prelude.proofs.Common.{wide}
 use Rattle.std.proofs.Math.ListN.{get_or}
 use Rattle.std.proofs.Math.Seq.{of_parts}
 use Rattle.std.proofs.lemmas.List.{get_or_read}
-use Rattle.std.proofs.lemmas.List.Elements.{All-set}
 use Rattle.dram_store.specs.Common.{bank_size, IsBank, IsZero, IsPut, dram_at, IsWritten}
 
 -- the bank of an address, empty past the last
@@ -51,26 +50,8 @@ pub bank_written : (banks : List (List ℕ)) (bank new : List ℕ) (addr count :
     addr / bank_size < length banks → bank ≡ get_or banks (addr / bank_size) bank → length new ≡ length bank →
     addr % bank_size + count ≤ bank_size → IsPut bank (addr % bank_size) count put new →
     AreWritten (concat banks) addr count put (concat (set banks (addr / bank_size) new))
-bank_written banks bank new addr count put each inside value long fits is_put =
-    let found : bank ≡ bank_at banks addr = get_or_read banks (addr / bank_size) bank inside value [] in
-    let is : IsBank new = long ∙ rw found (All-get_or IsBank banks (addr / bank_size) [] inside each) in
-    let after : List (List ℕ) = set banks (addr / bank_size) new in
-    let all : All IsBank after = All-set IsBank banks (addr / bank_size) new is each in
-    let size : length (concat after) ≡ length (concat banks) =
-    omega (arith, banks_length banks each, banks_length after all, length-set banks (addr / bank_size) new) in (
-      λ at.
-          let written = rw found at (is_put (at % bank_size)) in
-          grind (
-            arith,
-            nat_tests,
-            bank_byte banks at each,
-            bank_byte after at all,
-            cases_eq (at / bank_size) (addr / bank_size),
-            get_or-set_same banks (addr / bank_size) new [] inside,
-            get_or-set_other banks (addr / bank_size) (at / bank_size) new [],
-          ),
-      size,
-    )
+bank_written banks bank new addr count put each inside value long fits is_put = grind
+    (arith, nat_tests, get_or_read, banks_length, length-set, bank_byte, get_or-set_same, get_or-set_other)
 
 -- past the banks nothing is written
 pub past_banks : (banks : List (List ℕ)) (addr : ℕ) → All IsBank banks → length banks ≤ addr / bank_size →
@@ -88,11 +69,7 @@ lost banks addr count put each none =
 pub read_here : (banks : List (List ℕ)) (addr : ℕ) (width : Width) → All IsBank banks →
     addr / bank_size < length banks → addr % bytes_of width ≡ 0 → wide (slice_index (bank_at banks addr))
     (addr % bank_size) width ≡ wide (λ at. dram_at (concat banks) at) addr width
-read_here banks addr width each inside aligned =
-    let size = banks_length banks each in
-    let fits = aligned_fits addr width aligned in
-    let byte = λ (k : ℕ). bank_byte banks (addr + k) each in
-    grind (arith, nat_tests, bank_byte banks addr each, byte 1, byte 2, byte 3)
+read_here banks addr width each inside aligned = grind (arith, nat_tests, banks_length, aligned_fits, bank_byte)
 
 -- ---- banks of zeros
 

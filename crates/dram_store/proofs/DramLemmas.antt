@@ -1,6 +1,6 @@
 -- The DRAM after a history, and after one entry more.
-use Rattle.std.proofs.Common.{◌≡◌, ℕ, ◌+◌, ◌<◌, List, [], ◌∷◌, length, Option, Some, None, ◌∙◌, refl, arith}
-use Rattle.std.proofs.Common.{slice_index, unwrap_or, ◌*◌, All}
+use Rattle.std.proofs.Common.{◌≡◌, ℕ, ◌+◌, ◌<◌, List, [], ◌∷◌, length, Option, Some, None, refl, arith, slice_index}
+use Rattle.std.proofs.Common.{unwrap_or, ◌*◌, All}
 use Rattle.board_prelude.proofs.Common.{concat, option_or, length-replicate, get_or-replicate, nat_tests, Width, Dram}
 use Rattle.board_prelude.proofs.Common.{bytes_of, Entry, Setup, byte, wide, DramCell, stored_of, byte_put, entry_put}
 use Rattle.board_prelude.proofs.Common.{dram_byte}
@@ -41,12 +41,7 @@ pub stored : (setup : Setup) (history : List Entry) (entry : Entry) (old : List 
     ((at : ℕ) → entry_put entry.event entry.reply (DramCell at) ≡ byte_put (Dram 0) addr width value (DramCell at)) →
     IsDramOf setup (entry ∷ history) new
 unfolding stored_of
-stored setup history entry old addr width value new is_written same kept put = record {
-  size = same ∙ kept.size;
-  each = λ at within.
-      let before : at < length old = omega arith in
-      rw (put at, ← kept.each at before) (grind (arith, nat_tests, is_written at));
-}
+stored setup history entry old addr width value new is_written same kept put = grind (arith, nat_tests)
 
 -- ---- values that are read
 

@@ -14,6 +14,7 @@ use Rattle.byte_fields.proofs.PageFormats.{memory_format, memory_append, memory_
 use Rattle.byte_fields.proofs.PageFormats.{zeros_go_on, zeros_end}
 use Rattle.dram_store.specs.Bank.{bank_of, bank_size}
 use Rattle.dram_store.specs.State.{HasMib, dram_bytes, dram_fields}
+use Rattle.std.proofs.lemmas.Bool.Decides.{nat_tests}
 
 pub dram_format : (mib : ℕ) → IsFormat (2 * (mib * bank_size)) (dram_fields mib) dram_bytes (HasMib mib)
 dram_format mib = memory_format (mib * bank_size)
@@ -52,11 +53,13 @@ pub page_kept : (kept new page : List ℕ) (number : ℕ) → length kept ≤ nu
     length page ≡ memory_page → new ≡ front_at kept (number * memory_page) ++ page →
     (length new ≡ (number + 1) * memory_page) ×
     (front_at new ((number + 1) * memory_page) ≡ front_at kept (number * memory_page) ++ page)
-page_kept kept new page number before whole added =
-    let long : length new ≡ (number + 1) * memory_page =
-    rw added (simp (length-append, length-replicate {A = ℕ}) (omega arith)) in
-    let none : (number + 1) * memory_page - length new ≡ 0 = omega arith in
-    (long, rw (none, append-nil new) added)
+page_kept kept new page number before whole added = grind (
+  arith,
+  nat_tests,
+  length-append,
+  length-replicate,
+  append-nil,
+)
 
 pub page_skipped : (kept : List ℕ) (number : ℕ) → length kept ≤ number * memory_page →
     front_at kept ((number + 1) * memory_page) ≡ front_at kept (number * memory_page) ++ replicate memory_page 0

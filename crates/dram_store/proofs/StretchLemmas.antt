@@ -1,9 +1,9 @@
 -- Stretches of bytes that are copied out of the DRAM and into it.
 use Rattle.std.proofs.Common.{◌≡◌, ℕ, ◌+◌, ◌-◌, ◌*◌, ◌/◌, ◌%◌, ◌<◌, ◌≤◌, List, [], ◌++◌, length, take, drop, replicate}
-use Rattle.std.proofs.Common.{ap, arith, length-append, length-take-le, length-drop, slice_index, min, All}
+use Rattle.std.proofs.Common.{arith, length-append, length-take-le, length-drop, slice_index, min, All}
 use Rattle.board_base.proofs.ZeroLemmas.{zero_at}
-use Rattle.board_prelude.proofs.Common.{concat, length-replicate, get_or_past, get_or-take}
-use Rattle.board_prelude.proofs.Common.{get_or-drop, get_or-replicate, nat_tests}
+use Rattle.board_prelude.proofs.Common.{concat, length-replicate, get_or_past, get_or-take, get_or-drop}
+use Rattle.board_prelude.proofs.Common.{get_or-replicate, nat_tests}
 use Rattle.std.proofs.Math.ListN.{get_or}
 use Rattle.std.proofs.Math.Seq.{of_parts}
 use Rattle.dram_store.specs.Common.{bank_size, bank_of, page_end, IsBank, IsPut, dram_at}
@@ -36,15 +36,15 @@ pub bytes_read : (kept now into front rest post : List ℕ) (at from count none 
 bytes_read kept now into front rest post at from count none k from_is count_is same front_is rest_is fills within =
     grind (
       arith,
+      nat_tests,
       of_parts,
       get_or-drop,
-      length-drop {A = ℕ},
+      length-drop,
       length-take-le,
       zero_at,
-      same_byte kept (bank_size - length kept) (at + k),
-      get_or_past kept (at + k) 0,
-      ap length rest_is,
-      length-replicate {A = ℕ},
+      same_byte,
+      get_or_past,
+      length-replicate,
     )
 
 -- the front of a list was put
