@@ -1,15 +1,12 @@
 -- The pair: levels that are given again.
 use Rattle.std.proofs.Common.{◌≡◌, ℕ, Bool, true, false, cond, eqb, ◌||◌, sym, ap, ◌∙◌, inl, inr, is_some, arith}
 use Rattle.std.proofs.lemmas.Bool.{cases_Bool}
-use Rattle.device_spec.specs.Common.{Levels, has, levels_where, with_level, Chip, interrupt, chip_after_inputs}
-use Rattle.device_spec.specs.Common.{latches_after, Pair, settled, SameLevelsAgain}
+use Rattle.device_spec.specs.Common.{Levels, has, levels_where, with_level, Chip, interrupt, chip_after_inputs, Pair}
+use Rattle.device_spec.specs.Common.{settled, SameLevelsAgain}
 use Rattle.device_spec.proofs.Levels.{levels_where-same, has-levels_where}
+use Rattle.std.proofs.lemmas.Bool.Decides.{nat_tests}
 
 -- ---- the same levels again
-
-latches-stay : (test : ℕ → Bool) (inputs : Levels) → latches_after (levels_where test) inputs inputs ≡ levels_where test
-latches-stay test inputs =
-    levels_where-same _ test (λ level small. rw (has-levels_where test level small) (grind arith))
 
 set-again : (latches : Levels) (two : ℕ) → with_level (with_level latches two) two ≡ with_level latches two
 set-again latches two =
@@ -20,8 +17,7 @@ set-again latches two =
 had-again : (chip : Chip) (test : ℕ → Bool) (inputs triggers : Levels) →
     let now = record chip { latches = levels_where test; inputs = inputs; triggers = triggers } in
     chip_after_inputs now inputs triggers ≡ now
-had-again chip test inputs triggers =
-    ap (λ l. record chip { latches = l; inputs = inputs; triggers = triggers }) (latches-stay test inputs)
+had-again chip test inputs triggers = grind (arith, nat_tests, levels_where-same, has-levels_where)
 
 pub inputs-again : (chip : Chip) (inputs triggers : Levels) →
     chip_after_inputs (chip_after_inputs chip inputs triggers) inputs triggers ≡ chip_after_inputs chip inputs triggers

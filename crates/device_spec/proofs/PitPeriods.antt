@@ -1,6 +1,6 @@
 -- The rate generator and the square wave repeat.
-use Rattle.std.proofs.Common.{◌≡◌, ℕ, zero, suc, ◌+◌, ◌-◌, ◌*◌, ◌/◌, ◌%◌, ◌<◌, ◌≤◌, ◌==◌, ◌&&◌, not, Bool, true, false}
-use Rattle.std.proofs.Common.{cond, refl, ap, sym, ◌∙◌, arith}
+use Rattle.std.proofs.Common.{◌≡◌, ℕ, zero, suc, ◌+◌, ◌-◌, ◌*◌, ◌/◌, ◌%◌, ◌<◌, ◌==◌, ◌&&◌, not, Bool, true, false, cond}
+use Rattle.std.proofs.Common.{refl, ap, ◌∙◌, arith}
 use Rattle.board_base.proofs.Common.{nat_tests}
 use Rattle.device_spec.specs.Common.{RateGenerator, SquareWave, CounterState, load, count_down, count_to_reload}
 use Rattle.device_spec.specs.Common.{count_half, pulse_by_mode, pulse, pulses_of, IsAtLoad, RateRepeats, SquareRepeats}
@@ -15,24 +15,10 @@ phase-self c e level h g = rw (← h, ← g) refl
 -- THE RATE GENERATOR
 
 module _ (n : ℕ) (c : CounterState) (s : IsAtLoad RateGenerator n true c) where
-  rate_counts : (e : ℕ) → 3 ≤ e → pulse true (phase c e true) ≡ phase c (e - 1) true
-  unfolding pulse pulse_by_mode count_to_reload count_down
-  rate_counts e h =
-      let zero_not : (e == 0) ≡ false = grind (arith, nat_tests) in
-      let one_not : (e == 1) ≡ false = grind (arith, nat_tests) in
-      let next_not : (e - 1 == 1) ≡ false = grind (arith, nat_tests) in
-      rw (s.mode, s.load_asked, s.trigger, s.started, one_not, zero_not, next_not) refl
-
-  rate_loads : pulse true (phase c 1 false) ≡ phase c n true
-  unfolding pulse pulse_by_mode count_to_reload load
-  rate_loads = rw (s.mode, s.load_asked, s.trigger, s.started, s.count, s.in_use, s.null_count, s.expired) refl
-
   rate-high : (k : ℕ) → k + 1 < n → pulses_of true k c ≡ phase c (n - k) true
-  unfolding pulses_of
-  rate-high zero h = sym (phase-self c (n - 0) true (s.element ∙ omega arith) s.out)
-  rate-high (suc k) h =
-      ap (pulse true) (rate-high k (omega arith))
-      ∙ (rate_counts (n - k) (omega arith) ∙ ap (λ e. phase c e true) (omega arith))
+  unfolding pulses_of pulse pulse_by_mode count_to_reload count_down
+  rate-high zero h = grind (arith, nat_tests, phase-self)
+  rate-high (suc k) h = grind (arith, nat_tests, phase-self, rate-high k (omega arith))
 
   rate-low : (j : ℕ) → n ≡ suc (suc j) → pulses_of true (suc j) c ≡ phase c 1 false
   unfolding pulses_of pulse pulse_by_mode count_to_reload count_down
@@ -42,8 +28,8 @@ module _ (n : ℕ) (c : CounterState) (s : IsAtLoad RateGenerator n true c) wher
       ∙ rw (s.mode, s.load_asked, s.trigger, s.started) refl
 
   rate-again : (j : ℕ) → n ≡ suc (suc j) → pulses_of true (suc (suc j)) c ≡ c
-  unfolding pulses_of
-  rate-again j e = ap (pulse true) (rate-low j e) ∙ (rate_loads ∙ phase-self c n true s.element s.out)
+  unfolding pulses_of pulse pulse_by_mode count_to_reload load
+  rate-again j e = grind (arith, nat_tests, rate-low, phase-self)
 
 pub rate_repeats : RateRepeats
 rate_repeats n c least s =
@@ -76,16 +62,10 @@ module _ (n : ℕ) (c : CounterState) (s : IsAtLoad SquareWave n true c) where
   at_end : (e : ℕ) → (n % 2 ≡ 1 → e ≡ 0) → (n % 2 ≡ 0 → e ≡ 2) → (e == end_of true n) ≡ true
   at_end e odd even = grind (arith, nat_tests)
 
-  before_end : (e : ℕ) → (n % 2 ≡ 1 → 0 < e) → (n % 2 ≡ 0 → 2 < e) → (e == end_of true n) ≡ false
-  before_end e odd even = grind (arith, nat_tests)
-
   square-high : (k : ℕ) → k < n - n / 2 → pulses_of true k c ≡ phase c (n - n % 2 - 2 * k) true
   unfolding pulses_of
-  square-high zero h = sym (phase-self c (n - n % 2 - 2 * 0) true (s.element ∙ omega arith) s.out)
-  square-high (suc k) h =
-      ap (pulse true) (square-high k (omega arith))
-      ∙ (square_counts (n - n % 2 - 2 * k) true
-      (before_end (n - n % 2 - 2 * k) (λ o. omega arith) (λ o. omega arith)) ∙ ap (λ e. phase c e true) (omega arith))
+  square-high zero h = grind (arith, nat_tests, phase-self, square_counts)
+  square-high (suc k) h = grind (arith, nat_tests, phase-self, square_counts, square-high k (omega arith))
 
   square-low : (a : ℕ) → n - n / 2 ≡ suc a → (j : ℕ) → j < n / 2 →
       pulses_of true (suc a + j) c ≡ phase c (n - n % 2 - 2 * j) false

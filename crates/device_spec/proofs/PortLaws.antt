@@ -1,10 +1,8 @@
 -- Each port is one device's: no two lines of the table meet, and none has a port of configuration data.
-use Rattle.std.proofs.Common.{◌≡◌, ℕ, Bool, true, false, ◌&&◌, ◌||◌, nat_le, List, [], ◌∷◌, Option, Some, None, refl}
-use Rattle.std.proofs.Common.{◌∙◌, find, arith, inl, inr, sym}
-use Rattle.std.specs.List.{list_any}
+use Rattle.std.proofs.Common.{◌≡◌, ℕ, Bool, true, false, ◌&&◌, ◌||◌, nat_le, List, [], ◌∷◌, Option, Some, refl, ◌∙◌}
+use Rattle.std.proofs.Common.{find, arith, inl, inr, sym}
 use Rattle.board_base.proofs.Common.{cond-true, cond-false, false≢true, nat_tests, cases_Bool}
 use Rattle.board_base.specs.Bits.{is_within}
-use Rattle.device_spec.specs.PortNames.{config_data_ports}
 use Rattle.device_spec.specs.PortTable.{Ports, takes, device_line, port_devices}
 use Rattle.device_spec.specs.Common.{Dev, Wires, Vector, Spurious, is_port_of, first_with, PortsApart, ConfigApart}
 use Rattle.board_base.specs.declared.target.Dev.TheVariants.{Confadd}
@@ -21,9 +19,6 @@ meets (some ∷ later) others = crosses some.first some.last others || meets lat
 -- the first device of a list with a port of this one
 abbrev first_met : List Dev → Dev → Option Dev
 first_met devices dev = find (λ other. meets (device_line dev).ports (device_line other).ports) devices
-
-neither : (x y : Bool) → (x || y) ≡ false → (x ≡ false) × (y ≡ false)
-neither x y is = grind arith
 
 module _ (port size : ℕ) where
   untaken : (first last : ℕ) → is_within first last port ≡ true → (ports : List Ports) →
@@ -54,14 +49,6 @@ module _ (port size : ℕ) where
             ∙ first_takes later dev is (sym (cond-false _ (Some other) _ apart) ∙ first)
       ]
 
-  none_takes : (first last : ℕ) → is_within first last port ≡ true → (devices : List Dev) →
-      list_any (λ dev. crosses first last (device_line dev).ports) devices ≡ false → first_with devices port size ≡ None
-  none_takes first last is [] apart = refl
-  none_takes first last is (dev ∷ later) apart =
-      let both = neither _ _ apart in
-      cond-false (is_port_of dev port size) (Some dev) _ (untaken first last is (device_line dev).ports both.0)
-      ∙ none_takes first last is later both.1
-
 pub ports_apart : PortsApart
 ports_apart Wires port size is = absurd (false≢true is)
 ports_apart (Vector chip) port size is = absurd (false≢true is)
@@ -70,4 +57,4 @@ ports_apart Confadd port size is = first_takes port size port_devices Confadd is
 ports_apart dev port size is = first_takes port size port_devices dev is refl
 
 pub config_apart : ConfigApart
-config_apart port size is = none_takes port size config_data_ports.0 config_data_ports.1 is port_devices refl
+config_apart port size is = grind (arith, nat_tests, untaken)

@@ -1,13 +1,14 @@
 -- The search for the first level that can be selected.
 use Rattle.std.proofs.Common.{◌≡◌, ℕ, ◌+◌, ◌<◌, ◌≤◌, Bool, true, false, not, cond, ltb, ◌||◌, ◌&&◌, Option, Some, None}
 use Rattle.std.proofs.Common.{List, [], ◌∷◌, ◌++◌, length, get_or, drop, refl, sym, ap, ◌∙◌, inl, inr, add-one}
-use Rattle.std.proofs.Common.{drop-cons, ltb-true}
+use Rattle.std.proofs.Common.{drop-cons, ltb-true, arith}
 use Rattle.board_base.proofs.Common.{or-false, and-false, drop_of_length-le, cases_Bool, agree_below_at, or_from}
 use Rattle.std.proofs.Math.Bool.{or-true}
 use Rattle.std.proofs.lemmas.List.Folds.{list_any-append}
 use Rattle.device_spec.specs.Common.{find, list_any, Chip, priority_order, is_blocking, blocks_itself, is_requested}
 use Rattle.device_spec.specs.Common.{first_selectable, request, first_blocking}
 use Rattle.std.proofs.lemmas.Bool.{agree_below}
+use Rattle.std.proofs.lemmas.Bool.Decides.{nat_tests}
 
 -- ---- the search for a level
 
@@ -49,11 +50,15 @@ or-end test xs x = list_any-append test xs (x ∷ []) ∙ ap (λ b. list_any tes
 blocked : (chip : Chip) (higher order : List ℕ) → list_any (is_blocking chip) higher ≡ true →
     first_selectable chip higher order ≡ None
 unfolding first_selectable
-blocked chip higher [] h = refl
-blocked chip higher (level ∷ lower) h =
-    let rest = blocked chip (higher ++ level ∷ []) lower (or-end (is_blocking chip) higher level
-    ∙ ap (λ b. b || is_blocking chip level) h) in
-    rw (h, and-false (is_requested chip level)) rest
+blocked chip higher [] h = grind (arith, nat_tests, or-end, and-false)
+blocked chip higher (level ∷ lower) h = grind (
+  arith,
+  nat_tests,
+  or-end,
+  and-false,
+  blocked chip (higher ++ level ∷ [])
+      lower (or-end (is_blocking chip) higher level ∙ ap (λ b. b || is_blocking chip level) h),
+)
 
 -- after levels that do not block, the first that can be selected is the one that the search finds
 unblocked : (chip : Chip) (higher order : List ℕ) → list_any (is_blocking chip) higher ≡ false →
