@@ -1,13 +1,14 @@
 -- Base registers as four bytes, and the bases of a card by their numbers.
 use Rattle.std.proofs.Common.{◌≡◌, ◌≢◌, ℕ, ◌^◌, ◌<◌, ◌≤◌, List, length, get_or, set, map, Some, ◌∙◌, sym, ap, Option}
 use Rattle.std.proofs.Common.{option_map, arith, length-set, get_or-set_other, All, slice_get}
-use Rattle.board_prelude.proofs.Common.{w32, from_le_bytes, to_le_bytes, cases_eq, cases_lt, get_or_past, All-get_or}
-use Rattle.board_prelude.proofs.Common.{get_or-map, get_or-set_at, length-map, Base, IsBase, byte, each_below}
+use Rattle.board_prelude.proofs.Common.{w32, from_le_bytes, to_le_bytes, get_or_past, All-get_or, get_or-map}
+use Rattle.board_prelude.proofs.Common.{get_or-set_at, length-map, Base, IsBase, byte, each_below}
 use Rattle.std.proofs.lemmas.Nat.{le_bytes_4}
 use Rattle.std.proofs.Math.Pow.{pow_mono}
 use Rattle.std.proofs.lemmas.Option.{slice_get_within, get_or_from_slice_get}
 use Rattle.pci_bars.specs.declared.spec.BaseSpec.{BaseSpec}
 use Rattle.pci_bars.specs.Bases.{base_of}
+use Rattle.std.proofs.lemmas.Bool.Decides.{nat_tests}
 
 -- ---- four bytes
 
@@ -16,14 +17,8 @@ long_byte n j below =
     each_below (λ j. get_or (to_le_bytes w32 n) j 0 ≡ byte n j) 4 j
     (omega arith, (omega arith, (omega arith, (omega arith, tt)))) below
 
-small_long : (n i : ℕ) → get_or (to_le_bytes w32 n) i 0 < 256
-small_long n i = grind (arith, cases_lt i 4, long_byte n i, get_or_past (to_le_bytes w32 n) i 0)
-
 small_set : (n lane v i : ℕ) → lane < 4 → v < 256 → get_or (set (to_le_bytes w32 n) lane v) i 0 < 256
-small_set n lane v i within below =
-    let here = get_or-set_at (to_le_bytes w32 n) lane i v 0 in
-    let apart = get_or-set_other (to_le_bytes w32 n) lane i v 0 in
-    grind (arith, cases_eq i lane, small_long n i, here, apart)
+small_set n lane v i within below = grind (arith, nat_tests, get_or-set_at, get_or-set_other, get_or_past)
 
 -- the other bytes of a number of which one was set
 pub other_bytes : (n lane v new j : ℕ) → lane < 4 → v < 256 → new ≡ from_le_bytes w32 (set (to_le_bytes w32 n) lane v) →

@@ -3,8 +3,8 @@ use Rattle.std.proofs.Common.{◌≡◌, ◌≢◌, ◌⊎◌, ℕ, ◌+◌, ◌
 use Rattle.std.proofs.Common.{List, length, get_or, set, Some, inl, inr, ◌∙◌, refl, sym, ap, arith, lit<, lit≤}
 use Rattle.std.proofs.Common.{add-zero, ◌==◌, get_or-set_other, slice_index, slice_get, ◌&&◌, ◌||◌, nat_lt}
 use Rattle.std.proofs.Common.{if◌then◌else◌, is_some}
-use Rattle.board_prelude.proofs.Common.{get_or-set_at, and-true, ne_eqb, cases_Bool, cases_eq, cases_lt, nat_tests, Reg}
-use Rattle.board_prelude.proofs.Common.{Base, FittedCard, Setup, IsCard, card_at, byte, merged, wide, is_within}
+use Rattle.board_prelude.proofs.Common.{get_or-set_at, and-true, cases_Bool, cases_eq, cases_lt, nat_tests, Reg, Base}
+use Rattle.board_prelude.proofs.Common.{FittedCard, Setup, IsCard, card_at, byte, merged, wide, is_within}
 use Rattle.board_prelude.proofs.Common.{card_function, listed, base_reset, base_writable, rom_writable, reset_byte}
 use Rattle.board_prelude.proofs.Common.{reg_after, Bytes, card_register, option_map_or, is_map_byte, merged-all}
 use Rattle.board_prelude.proofs.Common.{merged-none}
@@ -27,12 +27,7 @@ wide_of_bytes f from n below each =
 pub holds-same : (bytes bytes' : Bytes) (first : Reg) (value : ℕ) →
     ((j : ℕ) → j < 4 → bytes' (reg_after first j) ≡ bytes (reg_after first j)) → HoldsLong bytes first value →
     HoldsLong bytes' first value
-holds-same bytes bytes' first value same is =
-    let here = rw add-zero at (same 0 (lit< tt)) in
-    record {
-      number = rw (here, same 1 (lit< tt), same 2 (lit< tt), same 3 (lit< tt)) is.number;
-      each = λ j below. same j below ∙ is.each j below;
-    }
+holds-same bytes bytes' first value same is = grind (arith, nat_tests, add-zero)
 
 -- a doubleword by its bytes
 long_of : (bytes : Bytes) (dev from value : ℕ) → value < 2 ^ 32 →
@@ -106,41 +101,11 @@ is_map_offset has_rom off = (off == 4 || is_within 0x10 0x27 off) || has_rom && 
 module _ (setup : Setup) (bytes : Bytes) (card : CardBytes) (off : ℕ) (fit : IsCard card.card) where
   map_register : DecodesAs setup bytes card → is_map_offset (is_some card.card.rom) off ≡ true →
       register_of card off ≡ bytes (card_register card.card.dev off)
-  map_register is in_map =
-      elim (cases_eq off 4) [
-        | inl command ↦ rw command (sym is.command)
-        | inr not_command ↦ elim (cases_lt off 0x28) [
-          | inl below ↦
-              let k = (off - 0x10) / 4 in
-              let j = (off - 0x10) % 4 in
-              let from : 0x10 ≤ off = grind (arith, nat_tests) in
-              let place : 0x10 + 4 * k + j ≡ off = omega arith in
-              let held = rw place at ((is.bases k (omega arith)).each j (omega arith)) in
-              grind (arith, nat_tests)
-          | inr past ↦ in_rom card.card.rom is.rom past in_map
-        ]
-      ]
-    where
-      in_rom : (rom : Option ℕ) → HoldsRom bytes card.card.dev card.rom rom → 0x28 ≤ off →
-          is_map_offset (is_some rom) off ≡ true → register_of card off ≡ bytes (card_register card.card.dev off)
-      in_rom None held past in_map = grind (arith, nat_tests)
-      in_rom (Some bits) held past in_map =
-          let from : 0x30 ≤ off = grind (arith, nat_tests) in
-          let to : off < 0x34 = grind (arith, nat_tests) in
-          let place : 0x30 + (off - 0x30) ≡ off = omega arith in
-          let here = rw place at (held.each (off - 0x30) (omega arith)) in
-          grind (arith, nat_tests)
+  map_register is in_map = grind (arith, nat_tests)
 
   pub decoded_read : DecodesAs setup bytes card → is_map_byte setup (card_register card.card.dev off) ≡ true →
       register_of card off ≡ bytes (card_register card.card.dev off)
-  decoded_read is in_map =
-      let above = fit.first in
-      map_register is (rw (
-        ne_eqb card.card.dev 0 (λ e. omega arith),
-        ne_eqb card.card.dev 1 (λ e. omega arith),
-        is.fitted,
-        and-true (is_some card.card.rom),
-      ) at in_map)
+  decoded_read is in_map = grind (arith, nat_tests, map_register, and-true)
 
   -- what is not kept reads as after a reset
   fixed_read : IsCardOf setup bytes card → is_kept_offset card.card off ≡ false →
@@ -303,11 +268,7 @@ pub record IsApart (off : ℕ) : Type 0 where
   pub rom : IsOffLong 0x30 off
 
 pub none_stored : (card : CardBytes) (off written : ℕ) → IsApart off → off ≢ 0x3C → IsStore card card off written
-none_stored card off written apart not_line =
-    let bases = apart.bases in
-    let rom = apart.rom in
-    let command = apart.command in
-    grind (arith, nat_tests, long_same)
+none_stored card off written apart not_line = grind (arith, nat_tests, long_same)
 
 pub card-apart : (setup : Setup) (bytes : Bytes) (card : CardBytes) (off written : ℕ) → IsCard card.card →
     written < 256 → IsApart off → off ≢ 0x3C → IsCardOf setup bytes card →

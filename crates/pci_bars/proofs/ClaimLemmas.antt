@@ -1,10 +1,10 @@
 -- Claims of the cards' registers are those of the windows that a board's registers make.
 use Rattle.std.proofs.Common.{◌≡◌, ℕ, ◌+◌, ◌<◌, ◌≤◌, Bool, List, [], ◌∷◌, ◌++◌, length, Option, Some, None, ◌∙◌, refl}
-use Rattle.std.proofs.Common.{sym, ap, arith, lit<, ◌==◌, ◌&&◌, All, flat_map, option_map, if◌then◌else◌, slice_index}
+use Rattle.std.proofs.Common.{sym, ap, arith, ◌&&◌, All, flat_map, option_map, if◌then◌else◌, slice_index}
 use Rattle.board_prelude.proofs.Common.{enumerate_from, option_or, append-nil, All-head, All-tail, find-append, Base}
-use Rattle.board_prelude.proofs.Common.{FittedCard, Setup, IsCard, is_bit, Bytes, Window, is_covered, base_value}
-use Rattle.board_prelude.proofs.Common.{memory_window, rom_window_of, io_window, is_rom_on, vga_window}
-use Rattle.board_prelude.proofs.Common.{unselected_windows, io_windows, is_enabled_for, first_window}
+use Rattle.board_prelude.proofs.Common.{FittedCard, Setup, IsCard, Bytes, Window, is_covered, base_value, memory_window}
+use Rattle.board_prelude.proofs.Common.{rom_window_of, io_window, is_rom_on, vga_window, unselected_windows, io_windows}
+use Rattle.board_prelude.proofs.Common.{is_enabled_for, first_window}
 use Rattle.pci_bars.specs.declared.claims.Gate.{Gate}
 use Rattle.pci_bars.specs.declared.claims.Windows.{Windows}
 pub use Rattle.pci_bars.specs.declared.claims.Windows.TheVariants.{Memory, UnselectedRom, Ports}
@@ -12,6 +12,7 @@ pub use Rattle.pci_bars.specs.declared.claims.Gate.TheVariants.{Open, Shut}
 use Rattle.pci_bars.specs.Common.{CardBytes, HoldsRom, DecodesAs, AreCards, AreDecoded, cards_of, agrees, covering}
 use Rattle.pci_bars.specs.Common.{rom_claim, vga_claim, covering_base, is_enabled, is_gate, first_claim}
 use Rattle.pci_bars.specs.Claims.{base_covers}
+use Rattle.std.proofs.lemmas.Bool.Decides.{nat_tests}
 
 -- device and base of a window
 abbrev named : Option Window → Option (ℕ × ℕ)
@@ -29,10 +30,6 @@ pick-append counts place xs ys =
 -- a base of a device, if the device counts
 abbrev claimed : Bool → ℕ → Option ℕ → Option (ℕ × ℕ)
 claimed counted dev base = if counted then option_map (λ base. (dev, base)) base else None
-
-claimed_or : (counted : Bool) (dev : ℕ) (a b : Option ℕ) →
-    option_or (claimed counted dev a) (claimed counted dev b) ≡ claimed counted dev (option_or a b)
-claimed_or counted dev a b = grind arith
 
 -- ---- the windows of one card
 
@@ -80,7 +77,7 @@ module _ (counts : ℕ → Bool) (bytes : Bytes) (place : ℕ) where
 
   both : (dev : ℕ) (xs ys : List Window) (a b : Option ℕ) → Claims xs dev a → Claims ys dev b →
       Claims (xs ++ ys) dev (option_or a b)
-  both dev xs ys a b first later = pick-append counts place xs ys ∙ rw (first, later) (claimed_or (counts dev) dev a b)
+  both dev xs ys a b first later = grind (arith, nat_tests, pick-append)
 
   pick_base :
       (windows : Windows) (dev k held : ℕ) (base : Base) (rest : List Window) (later : Option ℕ) →
@@ -99,12 +96,7 @@ module _ (counts : ℕ → Bool) (bytes : Bytes) (place : ℕ) where
 
   pick_rom : (windows : Windows) (dev register : ℕ) (rom : Option ℕ) → HoldsRom bytes dev register rom →
       Claims (rom_windows windows bytes dev rom) dev (rom_claim windows rom register place)
-  pick_rom windows dev register None held = grind arith
-  pick_rom windows dev register (Some bits) held =
-      let selected : is_rom_on bytes dev ≡ is_bit register 0 =
-      ap (λ n. is_bit n 0) (held.each 0 (lit< tt)) ∙ ap (λ b. b == 1) (omega arith) in
-      let number = held.number in
-      grind arith
+  pick_rom windows dev register rom h5 = grind (arith, nat_tests)
 
   pick_vga : (windows : Windows) (card : FittedCard) →
       Claims (vga_windows windows card) card.dev (vga_claim windows card.vga place)
@@ -159,21 +151,12 @@ rom_windows_are bytes card = rw (no_bases 0 card.bases) (append-nil (unselected_
     no_bases k [] = refl
     no_bases k (base ∷ later) = no_bases (k + 1) later
 
-flat_map-same : (f g : FittedCard → List Window) → ((card : FittedCard) → f card ≡ g card) → (cards : List FittedCard) →
-    flat_map f cards ≡ flat_map g cards
-flat_map-same f g same [] = refl
-flat_map-same f g same (card ∷ later) = let rest = flat_map-same f g same later in grind (arith, same card)
-
-device_alone : (found : Option Window) →
-    option_map {T = ℕ × ℕ} (λ named. named.0) (named found) ≡ option_map (λ window. window.dev) found
-device_alone found = grind arith
-
 module _ (setup : Setup) (bytes : Bytes) (cards : List CardBytes) (place : ℕ) (fit : AreCards cards)
     (are : AreDecoded setup bytes cards) (windows : Windows) (gate : Gate) (windows_of : FittedCard → List Window)
     (same : (card : FittedCard) → windows_in windows bytes card ≡ windows_of card) where
   -- the windows of such a kind of all cards
   pub windows_are : flat_map (windows_in windows bytes) (cards_of cards) ≡ flat_map windows_of setup.cards
-  windows_are = rw are.0 (flat_map-same (windows_in windows bytes) windows_of same (cards_of cards))
+  windows_are = grind (arith, nat_tests)
 
   abbrev claim : Option Window
   claim =
@@ -188,4 +171,4 @@ module _ (setup : Setup) (bytes : Bytes) (cards : List CardBytes) (place : ℕ) 
 
   pub device_is : option_map {T = ℕ × ℕ} (λ named. named.0)
       (first_claim windows gate place cards) ≡ option_map (λ window. window.dev) claim
-  device_is = ap (option_map {T = ℕ × ℕ} (λ named. named.0)) claim_is ∙ device_alone claim
+  device_is = grind (arith, nat_tests, claim_is)

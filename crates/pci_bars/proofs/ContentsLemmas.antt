@@ -1,8 +1,7 @@
 -- The bytes behind the bases: as they begin, and after a write.
-use Rattle.std.proofs.Common.{◌≡◌, ◌≢◌, ℕ, ◌+◌, ◌-◌, ◌/◌, ◌%◌, ◌<◌, ◌≤◌, List, [], ◌∷◌, map, Vec, Global, length}
-use Rattle.std.proofs.Common.{get_or, set, take, drop, ◌++◌, replicate, inl, inr, ◌∙◌, refl, sym, ap, arith}
-use Rattle.std.proofs.Common.{get_or-set_other, length-append, length-drop, length-take-le, ◌==◌, find, slice_index}
-use Rattle.std.proofs.Common.{unwrap_or, vec_len}
+use Rattle.std.proofs.Common.{◌≡◌, ◌≢◌, ℕ, ◌+◌, ◌-◌, ◌<◌, ◌≤◌, List, [], ◌∷◌, map, Vec, Global, length, get_or, set}
+use Rattle.std.proofs.Common.{take, drop, ◌++◌, replicate, ◌∙◌, refl, sym, ap, arith, get_or-set_other, length-append}
+use Rattle.std.proofs.Common.{length-drop, length-take-le, ◌==◌, find, slice_index, unwrap_or, vec_len}
 use Rattle.board_prelude.proofs.Common.{with_items, cases_lt, cases_eq, nat_tests, get_or_past, length-replicate}
 use Rattle.board_prelude.proofs.Common.{length-map, map-set, get_or-map, with_items_is, Width, Card, bytes_of, Entry}
 use Rattle.board_prelude.proofs.Common.{FittedCard, Setup, card_at, kept_size, CardCell, byte_put, card_byte, entry_put}
@@ -86,15 +85,7 @@ module _ (old : List (List ℕ)) (dev base off : ℕ) (width : Width) (value : �
     (put : (k : ℕ) → k < length (held old dev base) →
     slice_index new k ≡ put_byte (held old dev base) off (bytes_of width) value k) where
   pub written : IsWritten old dev base off width value (set old (slot_number dev base) new)
-  written = record {
-    sizes = λ d b. sizes_stay old (slot_number dev base) new (slot_number d b) long;
-    bytes = λ d b at other within.
-        let both = same_slot number other in
-        let here = get_or-set_at old (slot_number dev base) (slot_number d b) new [] in
-        let apart = get_or-set_other old (slot_number dev base) (slot_number d b) new [] in
-        let byte = put at in
-        grind (arith, nat_tests, both, here, apart, byte);
-  }
+  written = grind (arith, nat_tests, same_slot, get_or-set_at, get_or-set_other)
 
 -- a write to an expansion ROM leaves all
 pub lost : (contents : List (List ℕ)) (dev off : ℕ) (width : Width) (value : ℕ) →
@@ -123,26 +114,13 @@ stored_written {old} {new} written setup history entry place is wrote =
 -- a base by its number among those of all devices
 pub slot_of_base : (cards : List FittedCard) (dev base : ℕ) → IsBaseNumber dev base →
     slot_size cards (slot_number dev base) ≡ kept_size (find (λ card. card.dev == dev) cards) base
-slot_of_base cards dev base number =
-    let first = number.first in let below = number.below in
-    let device : 2 + slot_number dev base / 8 ≡ dev = omega arith in
-    let in_device : slot_number dev base % 8 ≡ base = omega arith in
-    rw (device, in_device) refl
+slot_of_base cards dev base number = grind (arith, nat_tests)
 
 pub record IsFilled (cards : List FittedCard) (count : ℕ) (contents : List (List ℕ)) : Type 0 where
   pub long : length contents ≡ count
   pub each : (i : ℕ) → i < count → at_slot contents i ≡ replicate (slot_size cards i) 0
 
 module _ (cards : List FittedCard) (contents : List (List ℕ)) (is : IsFilled cards 64 contents) where
-  zeros_held : (dev base off : ℕ) → slice_index (held contents dev base) off ≡ 0
-  zeros_held dev base off =
-      let slot = slot_number dev base in
-      let long = is.long in
-      elim (cases_lt slot 64) [
-        | inl within ↦ rw (is.each slot within) (zero_at (slot_size cards slot) off)
-        | inr past ↦ rw (get_or_past contents slot [] (omega arith)) refl
-      ]
-
   pub size_held : (dev base : ℕ) → IsBaseNumber dev base →
       length (held contents dev base) ≡ kept_size (find (λ card. card.dev == dev) cards) base
   size_held dev base number =
@@ -152,9 +130,7 @@ module _ (cards : List FittedCard) (contents : List (List ℕ)) (is : IsFilled c
 
   pub stored_at_first : (setup : Setup) → setup.cards ≡ cards → IsContentsOf setup [] contents
   unfolding stored_of
-  stored_at_first setup same =
-      contents_of (λ dev base number. rw same (size_held dev base number))
-      (λ dev base off number kept within. zeros_held dev base off)
+  stored_at_first setup same = grind (arith, nat_tests, size_held, zero_at, get_or_past)
 
 -- ---- the buffers and their lists
 
@@ -179,12 +155,7 @@ module _ {buffers : List (Vec ℕ Global)} {contents : List (List ℕ)} {slot de
       omega (arith, at.count, length-map buffers (λ (buffer : Vec ℕ Global). buffer.items)))
 
   pub buffer_held : held contents dev base ≡ buffer.items
-  buffer_held =
-      let count = at.count in
-      let below = at.below in
-      rw (← at.view, ← at.number)
-      (get_or-map (λ (buffer : Vec ℕ Global). buffer.items) buffers slot buffer [] (omega arith)
-      ∙ ap (λ (found : Vec ℕ Global). found.items) (sym at.is))
+  buffer_held = grind (arith, nat_tests, get_or-map)
 
   pub buffer_set : (bytes : List ℕ) → length bytes ≡ vec_len buffer →
       lists (set buffers slot (with_items buffer bytes)) ≡ set contents (slot_number dev base) bytes

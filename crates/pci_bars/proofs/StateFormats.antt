@@ -17,6 +17,7 @@ use Rattle.pci_bars.specs.Contents.{slot_number, slot_size}
 use Rattle.pci_bars.specs.State.{AreContents, contents_bytes, slots_fields, contents_fields}
 use Rattle.pci_bars.proofs.BaseLemmas.{is_base}
 use Rattle.pci_bars.proofs.ContentsLemmas.{lists, slot_of_base}
+use Rattle.std.proofs.lemmas.Bool.Decides.{nat_tests}
 
 -- ---- of no base more than 16 MiB are kept
 
@@ -117,14 +118,8 @@ slot_failed cards faults.NoMemory front slot bytes after total below so_far read
 pub buffer_added : (buffers : List (Vec ℕ Global)) (i : ℕ) (buffer : Vec ℕ Global) (into new total : List ℕ) →
     i < length buffers → get_or buffers i buffer ≡ buffer → into ++ contents_bytes (lists (drop i buffers)) ≡ total →
     new ≡ into ++ memory_bytes buffer.items → new ++ contents_bytes (lists (drop (i + 1) buffers)) ≡ total
-buffer_added buffers i buffer into new total below is so_far added =
-    let rest : List (List ℕ) = lists (drop (i + 1) buffers) in
-    let first = rw (drop_more buffers i buffer below, is) at so_far in
-    rw (
-      added,
-      append_assoc into (memory_bytes buffer.items) (contents_bytes rest),
-      ← flat_map-cons memory_bytes buffer.items rest,
-    ) first
+buffer_added buffers i buffer into new total below is so_far added = grind
+    (arith, nat_tests, lists, drop_more, append_assoc, flat_map-cons)
 
 pub buffers_added : (buffers : List (Vec ℕ Global)) (i : ℕ) (into total : List ℕ) → length buffers ≤ i →
     into ++ contents_bytes (lists (drop i buffers)) ≡ total → into ≡ total

@@ -1,12 +1,10 @@
 -- A card in the table of registers.
-use Rattle.std.proofs.Common.{◌≡◌, ◌≢◌, ℕ, zero, suc, ◌+◌, ◌-◌, ◌*◌, ◌/◌, ◌%◌, ◌<◌, ◌≤◌, false, List, [], ◌∷◌, length}
-use Rattle.std.proofs.Common.{get_or, Some, inl, inr, ◌∙◌, refl, ap, arith, ◌==◌, flat_map, if◌then◌else◌, replicate}
-use Rattle.std.proofs.Common.{rules}
-use Rattle.board_prelude.proofs.Common.{ne_eqb, cases_lt, nat_tests, get_or_append_left, get_or-append_right}
-use Rattle.board_prelude.proofs.Common.{get_or_past, Base, FittedCard, Setup, IsCard, card_at, byte, is_within}
-use Rattle.board_prelude.proofs.Common.{long_bytes, line, card_function, function_lines, listed, base_reset}
-use Rattle.board_prelude.proofs.Common.{base_writable, rom_writable, reset_byte, writable_bits, card_register}
-use Rattle.board_prelude.proofs.Common.{each_below, get_or-replicate}
+use Rattle.std.proofs.Common.{◌≡◌, ℕ, zero, suc, ◌+◌, ◌-◌, ◌*◌, ◌/◌, ◌%◌, ◌<◌, ◌≤◌, false, List, [], ◌∷◌, length}
+use Rattle.std.proofs.Common.{get_or, Some, ◌∙◌, refl, ap, arith, ◌==◌, flat_map, if◌then◌else◌, replicate}
+use Rattle.board_prelude.proofs.Common.{ne_eqb, nat_tests, get_or_append_left, get_or-append_right, get_or_past, Base}
+use Rattle.board_prelude.proofs.Common.{FittedCard, Setup, IsCard, card_at, byte, is_within, long_bytes, line}
+use Rattle.board_prelude.proofs.Common.{card_function, function_lines, listed, base_reset, base_writable, rom_writable}
+use Rattle.board_prelude.proofs.Common.{reset_byte, writable_bits, card_register, each_below, get_or-replicate}
 use Rattle.board_spec.specs.RegisterTable.{Line}
 use Rattle.pci_bars.specs.Common.{of_base, CardBytes, is_kept_offset, header_of}
 
@@ -39,14 +37,20 @@ long_byte n j below = each_below (λ j. get_or (long_bytes n) j 0 ≡ byte n j) 
 
 get_or-base_bytes : (number_of : Base → ℕ) (bases : List Base) (k j i : ℕ) → i ≡ 4 * k + j → j < 4 →
     get_or (base_bytes number_of bases) i 0 ≡ byte (of_base number_of bases k) j
-get_or-base_bytes number_of [] k j i at below = grind arith
-get_or-base_bytes number_of (base ∷ later) zero j i at below =
-    let same : i ≡ j = omega arith in
-    rw (same, get_or_append_left (long_bytes (number_of base)) (base_bytes number_of later) 0 j (omega arith))
-    (long_byte (number_of base) j below)
-get_or-base_bytes number_of (base ∷ later) (suc k) j i at below =
-    get_or-append_right (long_bytes (number_of base)) (base_bytes number_of later) 4 i 0 refl (omega arith)
-    ∙ get_or-base_bytes number_of later k j (i - 4) (omega arith) below
+get_or-base_bytes number_of [] k j i at below = grind (arith, nat_tests, get_or_append_left, get_or-append_right)
+get_or-base_bytes number_of (base ∷ later) zero j i at below = grind (
+  arith,
+  nat_tests,
+  get_or_append_left,
+  get_or-append_right,
+)
+get_or-base_bytes number_of (base ∷ later) (suc k) j i at below = grind (
+  arith,
+  nat_tests,
+  get_or_append_left,
+  get_or-append_right,
+  get_or-base_bytes number_of later k j (i - 4) (omega arith) below,
+)
 
 abbrev base_entry : FittedCard → Line
 base_entry card = line 0x10 (base_bytes base_reset card.bases) (base_bytes base_writable card.bases)
@@ -121,26 +125,6 @@ pub record IsFixed (card : FittedCard) (off : ℕ) : Type 0 where
   pub byte : listed (λ entry. entry.reset) (card_function card) off < 256
   pub writable : listed (λ entry. entry.writable) (card_function card) off ≡ 0
 
-fixed-header : (card : FittedCard) → card.dev ≤ 9 → (off : ℕ) → off < 16 → off ≢ 4 → IsFixed card off
-unfolding card_function
-fixed-header card last off below apart =
-    let dev : card.dev < 256 = omega arith in
-    let class : (if card.vga then 0x03 else 0xFF) < 256 = grind arith in
-    record {
-      byte = each_below (λ off. listed (λ entry. entry.reset) (card_function card) off < 256) 16 _ (search rules) below;
-      writable =
-          each_below
-          (λ off. listed (λ entry. entry.writable) (card_function card) off ≡ (if off == 4 then 0x07 else 0)) 16 _
-          (assumption) below
-          ∙ rw (ne_eqb off 4 apart) refl;
-    }
-
 pub is_fixed : (card : FittedCard) → IsCard card → (off : ℕ) → is_kept_offset card off ≡ false → IsFixed card off
-is_fixed card fit off not_kept =
-    elim (cases_lt off 0x10) [
-      | inl below ↦ fixed-header card fit.last off below (λ e. grind (arith, nat_tests))
-      | inr past ↦
-          let reset = reset_past card fit.count off past in
-          let writable = writable_past card fit.count off past in
-          grind (arith, nat_tests, reset, writable)
-    ]
+unfolding card_function
+is_fixed card fit off not_kept = grind (arith, nat_tests, reset_past, writable_past, each_below)

@@ -1,19 +1,17 @@
 -- The window that claims a place has the size of its base, and an access that it claims lies in its contents.
-use Rattle.std.proofs.Common.{◌≡◌, ◌≢◌, ◌⊎◌, ℕ, suc, ◌+◌, ◌-◌, ◌*◌, ◌%◌, ◌^◌, ◌<◌, ◌≤◌, Bool, true, false, List, []}
-use Rattle.std.proofs.Common.{◌∷◌, ◌++◌, if◌then◌else◌, length, Option, None, Some, inl, inr, ◌∙◌, refl, ap, arith}
-use Rattle.std.proofs.Common.{lit<, lit≤, ◌==◌, All, find, flat_map, slice_get, ne_eqb, pow-add, pow_pos}
-use Rattle.board_prelude.proofs.Common.{cases_Bool, nil_from_length, All-nil, All-cons, All-head, All-tail, All-append}
-use Rattle.board_prelude.proofs.Common.{base_value, Base, FittedCard, Setup, IsBase, IsExpansionRom, IsCard, card_at}
-use Rattle.board_prelude.proofs.Common.{kept_size, Width, bytes_of, window_bits, bits_of_base, Bytes, Window}
-use Rattle.board_prelude.proofs.Common.{rom_window_of, is_rom_on, io_windows, memory_claim, io_claim}
+use Rattle.std.proofs.Common.{◌≡◌, ◌≢◌, ◌⊎◌, ℕ, suc, ◌+◌, ◌-◌, ◌*◌, ◌%◌, ◌^◌, ◌<◌, ◌≤◌, Bool, List, [], ◌∷◌, ◌++◌}
+use Rattle.std.proofs.Common.{length, Some, ◌∙◌, ap, arith, All, find, flat_map, slice_get, pow-add, pow_pos}
+use Rattle.board_prelude.proofs.Common.{nil_from_length, All-nil, All-cons, All-head, All-tail, All-append, base_value}
+use Rattle.board_prelude.proofs.Common.{Base, FittedCard, Setup, IsBase, IsCard, card_at, kept_size, Width, bytes_of}
+use Rattle.board_prelude.proofs.Common.{window_bits, bits_of_base, Bytes, Window, io_windows, memory_claim, io_claim}
 use Rattle.std.proofs.lemmas.Nat.{mod-pow-add}
 use Rattle.std.proofs.Math.Nat.{mod-lt}
 use Rattle.pci_bars.specs.declared.claims.Windows.{Windows}
 use Rattle.pci_bars.specs.Common.{CardBytes, DecodesAs, AreCards, AreDecoded, cards_of, IsBaseNumber, LiesIn, HaveSizes}
-use Rattle.pci_bars.specs.Contents.{held}
 use Rattle.pci_bars.proofs.BaseLemmas.{is_base}
 use Rattle.pci_bars.proofs.ClaimLemmas.{window_in, base_windows, rom_windows, vga_windows, windows_in, windows_are}
-use Rattle.pci_bars.proofs.ClaimLemmas.{io_windows_are, Memory, UnselectedRom, Ports, Open}
+use Rattle.pci_bars.proofs.ClaimLemmas.{io_windows_are, Memory, Ports, Open}
+use Rattle.std.proofs.lemmas.Bool.Decides.{nat_tests}
 
 -- of a base of 2 ^ bits bytes all are kept, or none
 abbrev IsKeptAs : (size bits : ℕ) → Type 0
@@ -49,25 +47,12 @@ one_sized {setup} {window} is = record { each = All-cons (IsSized setup) window 
 both_sized : {setup : Setup} {xs ys : List Window} → AreSized setup xs → AreSized setup ys → AreSized setup (xs ++ ys)
 both_sized {setup} {xs} {ys} first later = record { each = All-append (IsSized setup) xs ys first.each later.each }
 
-either_sized : {setup : Setup} {xs ys : List Window} (b : Bool) → AreSized setup xs → AreSized setup ys →
-    AreSized setup (if b then xs else ys)
-either_sized true first later = first
-either_sized false first later = later
-
 module _ (setup : Setup) (bytes : Bytes) (card : FittedCard) (fit : IsCard card)
     (fitted : card_at setup card.dev ≡ Some card) where
   -- a window of base number k of a card
   sized : (k value : ℕ) (base : Base) → k < 6 → slice_get card.bases k ≡ Some base →
       AreSized setup (record { dev = card.dev; base = k; inside = value; bits = bits_of_base (Some base) } ∷ [])
-  sized k value base below at =
-      let not_vga : (k == 7) ≡ false = ne_eqb k 7 (λ e. omega arith) in
-      let not_rom : (k == 6) ≡ false = ne_eqb k 6 (λ e. omega arith) in
-      one_sized (record {
-        number = record { first = fit.first; last = fit.last; below = omega arith };
-        least = least_bits base (is_base card.bases k base fit.each at);
-        bits = rw (not_vga, not_rom, fitted, at) refl;
-        size = λ _. rw (fitted, not_vga, at) (grind arith);
-      })
+  sized k value base below at = grind (arith, nat_tests, one_sized, least_bits, is_base)
 
   sized_base : (windows : Windows) (k : ℕ) (base : Base) → k < 6 → slice_get card.bases k ≡ Some base →
       AreSized setup (window_in windows bytes card.dev k base)
@@ -85,34 +70,10 @@ module _ (setup : Setup) (bytes : Bytes) (card : FittedCard) (fit : IsCard card)
       (sized_bases windows (k + 1) later (omega arith) (λ i. ap (slice_get card.bases) (omega arith) ∙ same (suc i)))
 
   sized_vga : (windows : Windows) → AreSized setup (vga_windows windows card)
-  sized_vga Memory =
-      elim (cases_Bool card.vga) [
-        | inl vga ↦
-            rw vga (one_sized (record {
-              number = record { first = fit.first; last = fit.last; below = lit< tt };
-              least = lit≤ tt;
-              bits = refl;
-              size = λ _. rw (fitted, vga) (inr refl);
-            }))
-        | inr plain ↦ rw plain no_windows
-      ]
-  sized_vga _ = no_windows
-
-  sized_rom_of : (rom : Option ℕ) → card.rom ≡ rom → IsExpansionRom rom →
-      AreSized setup (rom_window_of bytes card.dev rom)
-  sized_rom_of None none size = no_windows
-  sized_rom_of (Some bits) some size =
-      one_sized (record {
-        number = record { first = fit.first; last = fit.last; below = lit< tt };
-        least = omega (arith, size.0);
-        bits = rw (fitted, some) refl;
-        size = λ not_rom. absurd (not_rom refl);
-      })
+  sized_vga windows = grind (arith, nat_tests, one_sized, no_windows)
 
   sized_rom : (windows : Windows) → AreSized setup (rom_windows windows bytes card.dev card.rom)
-  sized_rom Ports = no_windows
-  sized_rom Memory = either_sized (is_rom_on bytes card.dev) (sized_rom_of _ refl fit.rom) no_windows
-  sized_rom UnselectedRom = either_sized (is_rom_on bytes card.dev) no_windows (sized_rom_of _ refl fit.rom)
+  sized_rom windows = grind (arith, nat_tests, no_windows, one_sized)
 
   sized_card : (windows : Windows) → AreSized setup (windows_in windows bytes card)
   sized_card windows =
@@ -153,26 +114,9 @@ module _ (setup : Setup) (bytes : Bytes) where
 pub quarter : (bits : ℕ) → 2 ≤ bits → 2 ^ bits ≡ 2 ^ (bits - 2) * 4
 quarter bits above = ap (λ n. 2 ^ n) (omega arith) ∙ pow-add 2 (bits - 2) 2
 
--- the low two bits of a place are those of its offset
-low_two : (place bits : ℕ) → 2 ≤ bits → place % 2 ^ bits % 4 ≡ place % 4
-low_two place bits above =
-    let same : bits ≡ bits - 2 + 2 = omega arith in
-    rw (same, mod-pow-add place (bits - 2) 2) (omega arith)
-
 -- an access that a window claims lies in the contents of its base
 pub lies_in_window : (setup : Setup) (contents : List (List ℕ)) (window : Window) (place : ℕ) (width : Width) →
     IsSized setup window → HaveSizes setup contents → place % bytes_of width ≡ 0 →
     LiesIn contents window.dev window.base (place % 2 ^ window.bits) width
-lies_in_window setup contents window place width sized sizes aligned =
-    let kept = sizes window.dev window.base sized.number in
-    let quarters = quarter window.bits sized.least in
-    record {
-      number = sized.number;
-      fits = λ not_rom. elim (sized.size not_rom) [
-        | inl none ↦ inl (nil_from_length (held contents window.dev window.base) (kept ∙ none))
-        | inr all ↦
-            let below = rw quarters at (mod-lt place (pow_pos window.bits)) in
-            let same = rw quarters at (low_two place window.bits sized.least) in
-            inr (rw (kept, all, quarters) (grind arith))
-      ];
-    }
+lies_in_window setup contents window place width sized sizes aligned = grind
+    (arith, nat_tests, sized, quarter, nil_from_length, mod-lt, pow_pos, mod-pow-add)
