@@ -41,11 +41,6 @@ more limit sum high digit few small is = grind (arith, nat_tests)
 abbrev after : Option ℕ → List ℕ → Option ℕ
 after high field = option_and_then (λ h. number_after 16 h field) high
 
-first_goes : (high digit : Option ℕ) (byte : ℕ) (field : List ℕ) → parse_digit 16 byte ≡ digit →
-    after high (byte ∷ field) ≡ after (longer high digit) field
-unfolding number_after
-first_goes high digit byte field e = grind (arith, nat_tests)
-
 -- the limit after so many digits more, where each leaves it small
 abbrev grown : (limit : ℕ) → List ℕ → ℕ
 grown limit [] = limit
@@ -58,12 +53,15 @@ IsSmall limit (_ ∷ field) = (limit * 16 ≤ 2 ^ 32) × IsSmall (limit * 16) fi
 sums : (limit sum : ℕ) (high : Option ℕ) (field : List ℕ) → IsSmall limit field → IsSum limit high sum
     → IsSum (grown limit field) (after high field) (sum_after sum field)
 unfolding number_after
-sums limit sum None [] few is = is
-sums limit sum (Some high) [] few is = is
-sums limit sum high (byte ∷ field) few is =
-    rw (first_goes high (parse_digit 16 byte) byte field refl)
-    (sums (limit * 16) (sum * 16 + summand_of byte) (longer high (parse_digit 16 byte)) field few.1
-    (more limit sum high (parse_digit 16 byte) few.0 (is_digit byte (parse_digit 16 byte) refl) is))
+sums limit sum None [] few is = grind (arith, nat_tests)
+sums limit sum (Some high) [] few is = grind (arith, nat_tests)
+sums limit sum high (byte ∷ field) few is = grind (
+  arith,
+  nat_tests,
+  sums (limit * 16) (sum * 16 + summand_of byte)
+      (longer high (parse_digit 16 byte)) field few.1 (more limit sum high (parse_digit 16 byte) few.0
+      (is_digit byte (parse_digit 16 byte) refl) is),
+)
 
 -- ---- as they are added
 
