@@ -28,7 +28,7 @@ pub pushed_entries : {new_entries : List PackedEntry} {parts new_parts : List Pa
     KeepsParts parts new_parts packed.reply → entry_in new_parts packed ≡ entry → new_entries ≡ entries ++ packed ∷ [] →
     reverse (entries_in new_parts new_entries) ≡ entry ∷ reverse (entries_in parts entries)
 pushed_entries {parts = parts} entries packed within kept same new_is =
-    rw (new_is, map-append, reverse-append, same, kept.adds, entries_front parts kept.more entries within) refl
+    grind (arith, map-append, reverse-append, kept, entries_front parts kept.more entries within, new_is)
 
 pub pushed_history : {entries new_entries : List PackedEntry} {parts new_parts : List Part}
     {spare capacity new_capacity room new_room : ℕ} (packed : PackedEntry) →
@@ -38,12 +38,7 @@ pub pushed_history : {entries new_entries : List PackedEntry} {parts new_parts :
 pushed_history {entries} {parts = parts} {new_parts} packed old some kept new_is more_capacity more_room =
     let parts_are = simp length-append at (ap length kept.adds) in
     let entries_are = simp length-append at (ap length new_is) in
-    record {
-      within = rw new_is (All-push (λ e. IsWithin (length new_parts) e.reply) entries packed
-          (λ k d less. within_more (length parts) (length new_parts) (omega (arith, parts_are)) _ (old.within k d less))
-          kept.within);
-      room = omega (arith, old.room, some, more_capacity, entries_are);
-      parts_room = omega (arith, old.parts_room, some, more_room, parts_are, kept.few);
-      few = omega (arith, old.few, some, entries_are);
-      few_parts = omega (arith, old.few_parts, entries_are, parts_are, kept.few);
-    }
+    let within = All-push (λ e. IsWithin (length new_parts) e.reply) entries packed
+    (λ k d less. within_more (length parts) (length new_parts) (omega (arith, parts_are)) _ (old.within k d less))
+    kept.within in
+    grind (arith, old, kept, parts_are, entries_are, within)

@@ -1,6 +1,4 @@
-use Rattle.std.proofs.Common.{rules, ◌≡◌, ◌-◌, [], ◌∷◌, ◌++◌, ◌∙◌, ap}
-use Rattle.board_prelude.proofs.Common.{Entry}
-use Rattle.access_history.specs.Past.{Past}
+use Rattle.std.proofs.Common.{rules, ◌≡◌, [], ◌∷◌, ◌++◌, arith}
 use Rattle.access_history.proofs.Pushed.{pushed_entries, pushed_history}
 use Rattle.access_history.proofs.history.History.add.Goals as goal
 
@@ -12,10 +10,7 @@ invariant_of-self c =
 
 pub returns : goal.returns
 returns c =
-    let entry : Entry =
-    record { actor = c.args.actor; seq = c.args.seq; event = c.args.event.now; reply = c.args.reply.now } in
     let new_is : c.push.new.self.items ≡ c.self.inside.entries.items ++ c.keep-packed.result ∷ [] = search rules in
     let pushed = pushed_entries c.self.inside.entries.items c.keep-packed.result c.self.invariant.within
     c.keep-packed.ensures.kept c.keep-packed.ensures.entry new_is in
-    let entries = pushed ∙ ap (λ (past : Past). entry ∷ past.entries) c.self.view_is in
-    record { pushed = λ t. record { entries = entries t; spare = (c.self.view_is t).spare - 1 } }
+    let is = c.self.view_is in grind (arith, pushed, is)
