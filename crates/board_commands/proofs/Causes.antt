@@ -32,26 +32,12 @@ module _ (command : Command) (shelf : ShelfCall) (sink : SinkCall) where
   pub caused_refusal : (status : Status) → IsRefused command shelf status → HidesNoFault shelf status →
       sink.faults_now ≡ sink.faults_before → Keeps sink.taken_before sink.taken_now →
       IsCaused status (Some command) shelf sink
-  caused_refusal status refused quiet calm keeps =
-      let says = refusal_says status refused keeps in
-      record {
-        cause = says.0;
-        possible = says.1;
-        no_fault_hidden = quiet;
-        no_put_fault_hidden = λ _. calm;
-        stopped = says.2;
-      }
+  caused_refusal status refused quiet calm keeps = grind (arith, nat_tests)
 
   module _ (text : List ℕ) (says : OfFiles shelf.files (λ files. IsCommandText command files text))
       (quiet : shelf.faults_now ≡ shelf.faults_before) where
     front_put : AppendsFront sink.taken_before sink.taken_now text → Front
-    front_put taken =
-        of_files shelf.files (PutsTextFront sink.taken_before sink.taken_now command)
-        (λ files is. record {
-          text = text;
-          says = at_files shelf.files files (λ files'. IsCommandText command files' text) is says;
-          taken = taken;
-        })
+    front_put taken = grind (arith, nat_tests, of_files, at_files)
 
     -- the sink did not take the whole text
     pub caused_put_fault :

@@ -1,6 +1,6 @@
 -- The puts that were made, one part of a text after another.
-use Rattle.std.proofs.Common.{arith, append_assoc, ℕ, List, [], ◌∷◌, ◌++◌, Option, Some, None, refl, sym, subst, Result}
-use Rattle.std.proofs.Common.{Ok, Err, IsErr}
+use Rattle.std.proofs.Common.{arith, append_assoc, ℕ, List, [], ◌∷◌, ◌++◌, Option, Some, None, refl, sym, Result, Ok}
+use Rattle.std.proofs.Common.{Err, IsErr}
 use Rattle.std.proofs.lemmas.Bool.Decides.{nat_tests}
 use Rattle.board_prelude.proofs.Common.{result_ok}
 use Rattle.board_outside.specs.Outside.{Put, Made}
@@ -8,7 +8,7 @@ use Rattle.board_outside.specs.declared.fault.PutFault.{PutFault}
 use Rattle.command_words.specs.Words.{Command}
 use Rattle.command_files.specs.declared.status.Status.{Status}
 use Rattle.command_files.specs.Common.{status_of_put_fault, ShelfCall, IsRefused, OfCalls}
-use Rattle.command_files.proofs.CallLemmas.{none_told, calls_hold, call_more, Both, calls_both}
+use Rattle.command_files.proofs.CallLemmas.{none_told, calls_hold, call_more, calls_both}
 use Rattle.board_commands.specs.Puts.{AllTook, LatestRefused, ArePutsOf, PutsBy}
 
 module _ (before between now : Option (List Put)) (so_far : OfCalls before between AllTook) where
@@ -34,9 +34,6 @@ all_took : (later before : List Put) → AllTook later → AllTook before → Al
 all_took [] before one two = two
 all_took (latest ∷ later) before one two = (one.0, all_took later before one.1 two)
 
-latest_refused : (later before : List Put) → LatestRefused later → AllTook before → LatestRefused (later ++ before)
-latest_refused later before one two = grind (arith, nat_tests, all_took)
-
 -- the puts of a piece, after those of the pieces before it
 pub piece_put : (before between now : Option (List Put)) → OfCalls before between AllTook →
     OfCalls between now AllTook → OfCalls before now AllTook
@@ -44,10 +41,7 @@ piece_put before between now so_far made = grind (arith, nat_tests, all_took, ap
 
 pub piece_not_put : (before between now : Option (List Put)) → OfCalls before between AllTook →
     OfCalls between now LatestRefused → OfCalls before now LatestRefused
-piece_not_put before between now so_far made =
-    calls_hold before now (Both AllTook LatestRefused) LatestRefused
-    (λ puts both. subst LatestRefused (sym both.parts) (latest_refused both.second both.first both.two both.one))
-    (calls_both before between now AllTook LatestRefused so_far made)
+piece_not_put before between now so_far made = grind (arith, nat_tests, calls_hold, calls_both, all_took)
 
 pub nothing_put : (command : Command) (shelf : ShelfCall) (status : Status) → IsRefused command shelf status
     → ArePutsOf status []

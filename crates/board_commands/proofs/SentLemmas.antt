@@ -1,6 +1,6 @@
 -- What a sink took of a text, piece after piece.
-use Rattle.std.proofs.Common.{arith, ◌≡◌, ℕ, ◌+◌, ◌<◌, List, [], ◌++◌, Option, length, get_or, take, drop, subst, refl}
-use Rattle.std.proofs.Common.{append_assoc, append-nil, Vec, Result, Ok, Err, OnErr}
+use Rattle.std.proofs.Common.{arith, ◌≡◌, ℕ, ◌+◌, ◌<◌, List, [], ◌++◌, Option, length, get_or, take, drop, refl}
+use Rattle.std.proofs.Common.{append_assoc, append-nil, Vec, Result, OnErr}
 use Rattle.std.proofs.lemmas.Bool.Decides.{nat_tests}
 use Rattle.board_prelude.proofs.Common.{Global, take-append-drop, flat_map-cons, Appends}
 use Rattle.std.proofs.lemmas.List.{at_drop_more}
@@ -10,11 +10,6 @@ use Rattle.board_commands.specs.Output.{Sent, AppendsFront}
 pub more_taken : (before now later : Option (List ℕ)) (front piece : List ℕ) → Appends before now front →
     Appends now later piece → Appends before later (front ++ piece)
 more_taken before now later front piece sent more = grind (arith, nat_tests, append_assoc)
-
--- with all of the next piece
-piece_sent : (before now later : Option (List ℕ)) (text piece more : List ℕ) → Sent before now text (piece ++ more) →
-    Appends now later piece → Sent before later text more
-piece_sent before now later text piece more sent taken = grind (arith, nat_tests, append_assoc, more_taken)
 
 -- so it is with what is left after the piece
 pub then_sent : (before now later : Option (List ℕ)) (text rest left : List ℕ) (k : ℕ) → left ≡ drop k rest →
@@ -27,11 +22,6 @@ nothing_taken known = grind (arith, nat_tests, append-nil)
 
 pub nothing_sent : (known : Option (List ℕ)) (text : List ℕ) → Sent known known text text
 nothing_sent known text = record { front = []; whole = refl; taken = nothing_taken known }
-
--- with a front of it
-piece_refused : (before now later : Option (List ℕ)) (text piece more : List ℕ) → Sent before now text (piece ++ more) →
-    AppendsFront now later piece → AppendsFront before later text
-piece_refused before now later text piece more sent refused = grind (arith, nat_tests, append_assoc, more_taken)
 
 -- the pieces from one on, whose next has these bytes
 module _ (before now later : Option (List ℕ)) (text : List ℕ) (pieces : List (Vec ℕ Global)) (i : ℕ)
@@ -51,11 +41,8 @@ module _ (before now later : Option (List ℕ)) (text : List ℕ) (pieces : List
       ) refl
 
   pub then_piece_sent : Appends now later bytes → Sent before later text more
-  then_piece_sent taken =
-      piece_sent before now later text bytes more (subst (Sent before now text) next_piece sent) taken
+  then_piece_sent taken = grind (arith, nat_tests, next_piece, append_assoc, more_taken)
 
   pub then_piece_refused : {T E : Type 0} (result : Result T E) → AppendsFront now later bytes
       → OnErr result (AppendsFront before later text)
-  then_piece_refused (Ok value) refused = tt
-  then_piece_refused (Err error) refused =
-      piece_refused before now later text bytes more (subst (Sent before now text) next_piece sent) refused
+  then_piece_refused result h2 = grind (arith, nat_tests, next_piece, append_assoc, more_taken)
