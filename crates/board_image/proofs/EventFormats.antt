@@ -1,7 +1,6 @@
 -- The fields of steps.
-use Rattle.std.proofs.Common.{◌≡◌, ℕ, ◌+◌, ◌%◌, ◌^◌, ◌<◌, ◌≤◌, Bool, true, [], ◌∷◌, Some, ◌⊎◌, refl, List, arith, ◌≢◌}
-use Rattle.std.proofs.Common.{◌==◌}
-use Rattle.board_prelude.proofs.Common.{nat_tests, PortAccess, bytes_of, is_write, IsBusAccess, IsWideAccess, FitsBytes}
+use Rattle.std.proofs.Common.{◌≡◌, ℕ, ◌%◌, ◌^◌, ◌<◌, ◌≤◌, [], ◌∷◌, Some, ◌⊎◌, refl, List, arith, ◌==◌}
+use Rattle.board_prelude.proofs.Common.{nat_tests, PortAccess, bytes_of, is_write, IsBusAccess, IsWideAccess}
 use Rattle.board_prelude.proofs.Common.{code_found}
 use Rattle.std.proofs.Math.Nat.{one-le-pow}
 use Rattle.board_base.specs.declared.access.Access.{Access}
@@ -11,7 +10,7 @@ use Rattle.board_image.specs.Common.{memory_fields, port_fields, wide_fields, Re
 use Rattle.image_writer.specs.declared.tag.Tag.{Tag}
 use Rattle.byte_fields.proofs.Formats.{IsFormat, format_as, fields_format, ◌then◌, ◌&◌, last_field}
 use Rattle.byte_fields.proofs.Numbers.{Any, flag_format, wide16, wide32, wide64, byte_format, byte_where, Tells}
-use Rattle.byte_fields.proofs.Numbers.{where_format, within_format, Ranges}
+use Rattle.byte_fields.proofs.Numbers.{where_format, within_format}
 use Rattle.image_writer.specs.declared.tag.Tag.TheVariants as tags
 
 kind_tells : Tells kind_of kind_byte
@@ -85,16 +84,6 @@ port_format =
 abbrev IsWideSize : ℕ → Type 0
 IsWideSize bytes = (bytes ≡ 2) ⊎ (bytes ≡ 4) ⊎ (bytes ≡ 8)
 
-place_from : (bytes addr : ℕ) → is_wide_place bytes addr ≡ true →
-    ((bytes ≡ 8) ⊎ (addr % bytes ≢ 0)) × (addr + bytes ≤ 0x1_0000_0000)
-place_from bytes addr is = grind (arith, nat_tests)
-
-wide_fits_from : (writes : Bool) (bytes value : ℕ) → Ranges 0 (most_value writes bytes) value →
-    FitsBytes writes bytes value
-wide_fits_from writes bytes value are =
-    let some : 1 ≤ 256 ^ bytes = one-le-pow bytes 256 (omega arith) in
-    grind arith
-
 pub wide_format : IsFormat 15 wide_fields wide_bytes IsWideAccess
 unfolding wide_fields wide_bytes
 wide_format =
@@ -112,11 +101,6 @@ wide_format =
           & (access.value, grind (arith, is.fits)),
       refl,
     ))
-    (λ t. (
-      let fact : IsWideSize t.2.2.0 = grind (arith, nat_tests) in assumption (
-        fact,
-        place_from t.2.2.0 t.2.2.2.0 t.2.2.2.1.1,
-        wide_fits_from (is_write t.0) t.2.2.0 t.2.2.2.2.0 t.2.2.2.2.1,
-      ),
-      refl,
-    ))
+    (λ t.
+    let some : 1 ≤ 256 ^ t.2.2.0 = one-le-pow t.2.2.0 256 (omega arith) in
+    (grind (arith, nat_tests, t.2.2.1.1, t.2.2.2.1.1, t.2.2.2.2.1), refl))

@@ -1,7 +1,7 @@
 -- The fields of a whole image.
 use Rattle.std.proofs.Common.{◌≡◌, ℕ, ◌+◌, ◌%◌, ◌/◌, ◌^◌, ◌<◌, ◌≤◌, ◌↔◌, IsTrue, inl, inr, Bool, true, false, List, []}
-use Rattle.std.proofs.Common.{◌∷◌, ◌++◌, length, Option, Ok, Err, refl, sym, ap, ◌∙◌, append_assoc, arith, flat_map}
-use Rattle.std.proofs.Common.{All, is_some, unwrap_or, length-append, append-nil}
+use Rattle.std.proofs.Common.{◌∷◌, ◌++◌, length, Ok, Err, refl, sym, ap, ◌∙◌, append_assoc, arith, flat_map, All}
+use Rattle.std.proofs.Common.{is_some, unwrap_or, length-append, append-nil}
 use Rattle.board_prelude.specs.Common.{AllByRecursion, w16, w32, to_le_bytes, Statement, Setup, IsRomSize, is_rom_size}
 use Rattle.board_prelude.specs.Common.{IsDisk, IsDiskSize, is_disk_length, most_statements, most_card_memory, most_mib}
 use Rattle.board_prelude.proofs.Common.{nat_tests, nil_from_length, recursion_from_All}
@@ -11,8 +11,8 @@ use Rattle.board_image.specs.Common.{Saved, magic, image_version, flag_byte, car
 use Rattle.board_image.specs.Common.{head_bytes, step_bytes, image_bytes, IsImageStep, IsImage, then_read, gives, ended}
 use Rattle.board_image.specs.Common.{has_disk_size, disk_where, head_fields, setup_fields, steps_fields, saved_fields}
 use Rattle.board_image.specs.Common.{image_fields, AreBytes}
-use Rattle.byte_fields.proofs.Formats.{ok_is, not_err, then_ok, then_err, IsFormat, format_as, fields_format, ◌then◌}
-use Rattle.byte_fields.proofs.Formats.{◌&◌, last_field, many_format, plain_format, AreGood}
+use Rattle.byte_fields.proofs.Formats.{then_ok, then_err, IsFormat, format_as, fields_format, ◌then◌, ◌&◌, last_field}
+use Rattle.byte_fields.proofs.Formats.{many_format, plain_format, AreGood}
 use Rattle.byte_fields.proofs.Numbers.{flag_format, wide16, wide32, byte_within, within_format, where_format, Ranges}
 use Rattle.byte_fields.proofs.Exactly.{exactly_format}
 use Rattle.board_image.proofs.EventFormats.{wider}
@@ -47,16 +47,6 @@ length_from size is =
 
 pub length_same : (size : ℕ) (test : Bool) → (IsTrue test ↔ IsDiskSize size) → test ≡ is_disk_length size
 length_same size test is = grind (arith, nat_tests, length_to size, length_from size, is.0, is.1)
-
-disk_size_to : (has_disk : Bool) (size : ℕ) → HasDiskSize has_disk size →
-    (size < 2 ^ 32) × (has_disk_size has_disk size ≡ true)
-disk_size_to has_disk size is = grind (arith, nat_tests)
-
-disk_size_from : (has_disk : Bool) (size : ℕ) → has_disk_size has_disk size ≡ true → HasDiskSize has_disk size
-disk_size_from has_disk size is = grind (arith, nat_tests, length_from size)
-
-disk_most : (has_disk : Bool) (size : ℕ) → HasDiskSize has_disk size → size ≤ 0x200_0000
-disk_most has_disk size is = grind (arith, nat_tests)
 
 record IsHead (head : Head) : Type 0 where
   pub mib : Ranges 1 64 head.mib
@@ -97,16 +87,15 @@ head_format =
       (tt, tt) & (image_version, (omega arith, omega arith)) & (head.mib, is.mib) & (head.cards, is.cards)
           & (head.has_disk, tt) & (0, (omega arith, omega arith))
           & (head.rom_size, rom_size_to head.rom_size is.rom)
-          & (head.disk_size, disk_size_to head.has_disk head.disk_size is.disk) & (head.steps, is.steps),
+          & (head.disk_size, grind (arith, nat_tests, is.disk)) & (head.steps, is.steps),
       refl,
     ))
-    (λ t. (
-      assumption (
-        rom_size_from t.2.2.2.2.2.2.0 t.2.2.2.2.2.2.1.1,
-        disk_size_from t.2.2.2.2.0 t.2.2.2.2.2.2.2.0 t.2.2.2.2.2.2.2.1.1,
-      ),
-      let fact : t.2.2.2.2.2.0 ≡ 0 = omega arith in let so : t.2.0 ≡ image_version = omega arith in rw (so, fact) refl,
-    ))
+    (λ t.
+    let disk : HasDiskSize t.2.2.2.2.0 t.2.2.2.2.2.2.2.0 =
+    grind (arith, nat_tests, length_from, t.2.2.2.2.2.2.2.1.1) in
+    let version : t.2.0 ≡ image_version = omega arith in
+    let reserved : t.2.2.2.2.2.0 ≡ 0 = omega arith in
+    (assumption (rom_size_from t.2.2.2.2.2.2.0 t.2.2.2.2.2.2.1.1), rw (version, reserved) refl))
 
 -- ---- the setup
 
@@ -120,23 +109,11 @@ record IsFitted (head : Head) (setup : Setup) : Type 0 where
 abbrev setup_spelled : Setup → List ℕ
 setup_spelled setup = flat_map card_bytes setup.cards ++ (setup.rom ++ disk_bytes setup)
 
--- a disk is the bytes that it has
-disk_same : (has_disk : Bool) (bytes : List ℕ) (size : ℕ) → HasDiskSize has_disk size → length bytes ≡ size →
-    unwrap_or (disk_where has_disk bytes) [] ≡ bytes
-disk_same has_disk bytes size is long = grind (arith, nat_tests, nil_from_length bytes)
-
-disk_there : (has_disk : Bool) (bytes : List ℕ) → is_some (disk_where has_disk bytes) ≡ has_disk
-disk_there has_disk bytes = grind (arith, nat_tests)
-
-made_of : (mib : ℕ) (has_disk : Bool) (setup : Setup) → setup.mib ≡ mib → is_some setup.disk ≡ has_disk →
-    setup ≡ record { mib = mib; cards = setup.cards; rom = setup.rom; disk = disk_where has_disk (disk_bytes setup) }
-made_of mib has_disk setup is there = grind (arith, nat_tests)
-
 setup_format : (head : Head) → IsHead head → IsFormat 34_078_800 (setup_fields head) setup_spelled (IsFitted head)
 unfolding setup_fields
 setup_format head is =
     let rom = rom_most head.rom_size is.rom in
-    let disk = disk_most head.has_disk head.disk_size is.disk in
+    let disk : head.disk_size ≤ 0x200_0000 = grind (arith, nat_tests, is.disk) in
     let cards = is.cards.1 in
     wider 34_078_800 (fields_format
     (cards_format head.cards most_card_memory then λ cards good.
@@ -145,11 +122,13 @@ setup_format head is =
     (plain_format head.disk_size))
     (λ setup fit. (
       (setup.cards, fit.cards) & (setup.rom, fit.rom) & (disk_bytes setup, fit.disk_size),
-      made_of head.mib head.has_disk setup fit.mib fit.disk,
+      grind (arith, nat_tests, fit.mib, fit.disk),
     ))
     (λ t.
-    let same = disk_same head.has_disk t.2.2.0 head.disk_size is.disk t.2.2.1 in
-    (assumption (disk_there head.has_disk t.2.2.0, ap length same ∙ t.2.2.1), rw same refl)))
+    let same : unwrap_or (disk_where head.has_disk t.2.2.0) [] ≡ t.2.2.0 =
+    grind (arith, nat_tests, nil_from_length t.2.2.0, is.disk, t.2.2.1) in
+    let there : is_some (disk_where head.has_disk t.2.2.0) ≡ head.has_disk = grind (arith, nat_tests) in
+    (assumption (ap length same ∙ t.2.2.1), rw same refl)))
     (omega (arith, rom, disk, cards))
 
 -- ---- the steps
@@ -188,12 +167,6 @@ saved_spelled saved = image_bytes saved.setup saved.steps
 abbrev IsSaved : Saved → Type 0
 IsSaved saved = IsImage saved.setup saved.steps
 
-disk_of_head : (disk : Option (List ℕ)) → IsDisk disk → HasDiskSize (is_some disk) (length (unwrap_or disk []))
-disk_of_head disk is = grind (arith, nat_tests)
-
-disk_of_setup : (disk : Option (List ℕ)) → HasDiskSize (is_some disk) (length (unwrap_or disk [])) → IsDisk disk
-disk_of_setup disk is = grind (arith, nat_tests)
-
 saved_format : IsFormat 38_328_826 saved_fields saved_spelled IsSaved
 unfolding saved_fields image_bytes head_bytes size_bytes
 saved_format =
@@ -207,7 +180,7 @@ saved_format =
       mib = (is.fitted.some_memory, is.few_mib);
       cards = (omega arith, cards.count);
       rom = is.fitted.rom;
-      disk = disk_of_head _ is.fitted.disk;
+      disk = grind (arith, nat_tests, is.fitted.disk);
       steps = (omega arith, is.count);
     } in
     let fitted : IsFitted (head_of saved) setup = assumption in
@@ -220,20 +193,12 @@ saved_format =
     rw (← fit.mib, ← fit.cards.0, ← fit.disk, ← fit.rom, ← fit.disk_size, ← t.2.2.1.0) refl in
     let head : IsHead (head_of saved) = rw same t.1 in
     let most : setup.mib ≤ most_mib = omega (arith, head.mib.1) in (
-      assumption (most, head, fit.cards, disk_of_setup _ head.disk),
+      (let disk : IsDisk setup.disk = grind (arith, nat_tests, head.disk) in assumption (most, head, fit.cards, disk)),
       sym (simp append_assoc)
           ∙ ap (λ (head : Head). head_spelled head ++ (setup_spelled setup ++ flat_map step_bytes t.2.2.0)) same,
     ))
 
 -- ---- nothing follows
-
-end_ok : (saved value : Saved) (left rest : List ℕ) → then_read (ended left) (λ done. gives saved) ≡ Ok (value, rest) →
-    (left ≡ []) × (saved ≡ value)
-end_ok saved value left rest is = grind (arith, nat_tests)
-
-end_bad : (saved : Saved) (left : List ℕ) (bad : ℕ) → then_read (ended left) (λ done. gives saved) ≡ Err bad →
-    length left ≡ bad
-end_bad saved left bad is = grind (arith, nat_tests)
 
 -- the bytes of an image are read as it
 pub image_back : (setup : Setup) (steps : List Statement) → IsImage setup steps →
@@ -249,15 +214,10 @@ module _ (bytes : List ℕ) (setup : Setup) (steps : List Statement) (is : IsIma
     (spelled : bytes ≡ image_bytes setup steps) where
   pub image_same : (saved : Saved) (rest : List ℕ) → image_fields bytes ≡ Ok (saved, rest) →
       saved ≡ record { setup = setup; steps = steps }
-  image_same saved rest read =
-      ap (λ (pair : Saved × List ℕ). pair.0)
-      (ok_is (saved, rest) (record { setup = setup; steps = steps }, [])
-      (sym read ∙ rw spelled (image_back setup steps is)))
+  image_same saved rest read = let back = image_back setup steps is in grind (arith, nat_tests)
 
   pub image_never : (left : ℕ) → image_fields bytes ≡ Err left → ⊥
-  image_never left read =
-      let saved : Saved × List ℕ = (record { setup = setup; steps = steps }, []) in
-      not_err saved left (sym (rw spelled (image_back setup steps is)) ∙ read)
+  image_never left read = let back = image_back setup steps is in grind (arith, nat_tests)
 
 -- what is read is an image, and the bytes are its
 pub image_taken : (bytes rest : List ℕ) (saved : Saved) → AreBytes bytes → image_fields bytes ≡ Ok (saved, rest) →
@@ -265,7 +225,7 @@ pub image_taken : (bytes rest : List ℕ) (saved : Saved) → AreBytes bytes →
 unfolding image_fields
 image_taken bytes rest saved are is =
     let first = then_ok _ (λ (saved : Saved). λ left. then_read (ended left) (λ done. gives saved)) saved _ is in
-    let end = end_ok _ saved _ _ first.2 in
+    let end : (first.0.1 ≡ []) × (first.0.0 ≡ saved) = let is = first.2 in grind (arith, nat_tests) in
     let told = saved_format.taken bytes first.0.0 first.0.1 are first.1 in
     rw (← end.1) (told.1, rw (end.0, append-nil (saved_spelled first.0.0)) at told.0)
 
@@ -278,7 +238,7 @@ image_bad bytes left are is =
       | inl early ↦ saved_format.bad bytes left are early
       | inr late ↦
           let told = saved_format.taken bytes late.0.0 late.0.1 are late.1 in
-          let same = end_bad _ _ _ late.2 in
+          let same : length late.0.1 ≡ left = let is = late.2 in grind (arith, nat_tests) in
           let few = saved_format.size late.0.0 told.1 in
           let whole : length bytes ≡ length (saved_spelled late.0.0) + length late.0.1 =
           ap length told.0 ∙ length-append (saved_spelled late.0.0) late.0.1 in
