@@ -144,24 +144,16 @@ memory_cons card cards = sum_by-append memory_size card.bases (flat_map (λ card
 abbrev pub one_more : Bool → ℕ → ℕ
 one_more test n = if test then n + 1 else n
 
-count_more : {X : Type 0} (p : X → Bool) (test : Bool) (x : X) (xs : List X) →
-    length (if test then x ∷ filter p xs else filter p xs) ≡ one_more test (length (filter p xs))
-count_more p test x xs = grind (arith, nat_tests)
-
 abbrev pub memory_with : Item → ℕ → ℕ
 memory_with (FitCard card) memory = sum_by memory_size card.bases + memory
 memory_with _ memory = memory
-
-memory_more : (item : Item) (items : List Item) →
-    memory_of_cards (cards_of (item ∷ items)) ≡ memory_with item (memory_of_cards (cards_of items))
-memory_more item items = grind (arith, nat_tests, memory_cons)
 
 -- with one item more
 pub limits_with : (items : List Item) (reading : Reading) (item : Item) → IsReadingOf items reading →
     passes_limits (item ∷ items)
     ≡ past (one_more (is_statement item) reading.statements) (one_more (is_phase item) (length reading.phases.items))
     (pulses_of item + reading.pulses) (memory_with item reading.memory)
-limits_with items reading item is = grind (arith, nat_tests, common_steps, count_more, sum_by-cons, memory_more)
+limits_with items reading item is = grind (arith, nat_tests, common_steps, sum_by-cons, memory_cons)
 
 -- of an event in range
 module _ (actor : ℕ) (asked : Asked) (event : Event)
