@@ -1,6 +1,6 @@
 -- Histories that go on, and their map writes.
-use Rattle.std.proofs.Common.{◌≡◌, ℕ, suc, ◌-◌, ◌≤◌, ◌==◌, Bool, List, [], ◌∷◌, ◌++◌, length, drop, filter, refl, sym}
-use Rattle.std.proofs.Common.{ap, ◌∙◌, append_assoc, append-nil, arith, reverse, length-append}
+use Rattle.std.proofs.Common.{◌≡◌, ℕ, suc, ◌-◌, ◌≤◌, ◌==◌, Bool, List, [], ◌∷◌, ◌++◌, length, filter, refl, sym, ap}
+use Rattle.std.proofs.Common.{◌∙◌, append_assoc, append-nil, arith, reverse, length-append}
 use Rattle.board_prelude.proofs.Common.{option_to_list, reverse-append, filter-append, Entry, MapChange, Setup}
 use Rattle.board_prelude.proofs.Common.{entries_by, map_change_of, map_writes_of, nat_tests, Event, Reply, next_entry}
 use Rattle.board_prelude.proofs.Common.{version_of}
@@ -35,14 +35,12 @@ entries_reversed actor (entry ∷ later) =
 -- ---- what was opened
 
 pub oldest_whole : (history : List Entry) → oldest (length history) history ≡ history
-oldest_whole history =
-    let none : length history - length history ≡ 0 = omega arith in ap (λ (n : ℕ). drop n history) none
+oldest_whole history = let none : length history - length history ≡ 0 = omega arith in rw none refl
 
 pub oldest_added : (count : ℕ) (entry : Entry) (history : List Entry) → count ≤ length history →
     oldest count (entry ∷ history) ≡ oldest count history
 oldest_added count entry history within =
-    let one : suc (length history) - count ≡ suc (length history - count) = omega arith in
-    ap (λ (n : ℕ). drop n (entry ∷ history)) one
+    let one : suc (length history) - count ≡ suc (length history - count) = omega arith in rw one refl
 
 -- ---- map writes
 
@@ -72,11 +70,7 @@ writes_extend setup shorter longer (more, is) = rw is (after more)
 pub known_extend : (setup : Setup) (opened : List Entry) (log later : List Mark) → IsPrefix log later →
     Extends (known_after setup opened log) (known_after setup opened later)
 known_extend setup opened log later prefix =
-    let more = changes_extend log later prefix in (
-      more.0,
-      ap (λ (w : List MapChange). w ++ map_writes_of setup opened) more.1
-          ∙ append_assoc more.0 (changes_of log) (map_writes_of setup opened),
-    )
+    let more = changes_extend log later prefix in grind (arith, more, append_assoc more.0 (changes_of log))
 
 -- ---- what is published, when an entry is added
 
@@ -86,16 +80,13 @@ pub published_added : (setup : Setup) (opened : ℕ) (history : List Entry) (ent
     ArePublished setup opened (entry ∷ history) later
 unfolding map_writes_of
 published_added setup opened history entry log later within before changes =
-    rw (changes, oldest_added opened entry history within, before)
-    (sym (append_assoc (option_to_list (map_change_of setup history entry.event)) (changes_of log)
-    (map_writes_of setup (oldest opened history))))
+    grind (arith, changes, oldest_added opened entry history within, before, append_assoc)
 
 -- the version that is published is that of the history
 pub published_version :
     (setup : Setup) (opened : ℕ) (history : List Entry) (log : List Mark) → ArePublished setup opened history log →
     (opened_of log).version ≡ version_of setup (oldest opened history) → version_after log ≡ version_of setup history
-published_version setup opened history log published version =
-    omega (arith, simp length-append at (ap length published), version)
+published_version setup opened history log published version = grind (arith, length-append, published, version)
 
 -- ---- the board that is stepped
 

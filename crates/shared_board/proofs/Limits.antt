@@ -30,9 +30,4 @@ few_entries callers history few =
 
 pub few_added : (callers : ℕ) (entry : Entry) (history : List Entry) → AreFew callers history → entry.actor < callers →
     length (entries_by entry.actor history) < most_each → AreFew callers (entry ∷ history)
-few_added callers entry history few below room = record {
-  some = few.some;
-  most = few.most;
-  actors = All-cons (λ (e : Entry). e.actor < callers) entry history below few.actors;
-  each = λ actor. grind (arith, nat_tests, few.each actor);
-}
+few_added callers entry history few below room = grind (arith, nat_tests, All-cons, few)

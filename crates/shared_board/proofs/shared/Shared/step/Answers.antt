@@ -1,27 +1,23 @@
-use Rattle.std.proofs.Common.{rules, ◌≡◌, ◌≤◌, ◌++◌, List, Option, length, refl, ap, ◌∙◌, arith}
+use Rattle.std.proofs.Common.{rules, ◌≡◌, ◌≤◌, ◌++◌, Option, length, ap, ◌∙◌, arith}
 use Rattle.board_prelude.proofs.Common.{option_to_list, Entry, MapChange, map_change_of}
 use Rattle.board_core.specs.Kept.{Standing}
 use Rattle.map_publish.specs.declared.publisher.Publisher.{Publisher}
-use Rattle.map_publish.specs.Lists.{opened_of, changes_of, version_after}
+use Rattle.map_publish.specs.Lists.{opened_of, changes_of}
 use Rattle.map_publish.proofs.Changes.{opened_same}
-use Rattle.shared_board.specs.Known.{oldest}
 use Rattle.shared_board.proofs.Histories.{oldest_added, writes_few, published_added, published_version, is_stepped}
 use Rattle.shared_board.proofs.Limits.{few_entries, few_added}
 use Rattle.shared_board.proofs.shared.Shared.step.Goals as goal
 
 pub reserve-requires : goal.reserve-requires
-reserve-requires g c =
-    let same = ap (λ (b : Standing). length b.entries) c.deref_mut.ensures.value in
-    omega (arith, few_entries _ _ c.args.self.now.few, same)
+reserve-requires g c = grind (arith, few_entries _ _ c.args.self.now.few, c.deref_mut.ensures.value)
 
 pub publish-requires : goal.publish-requires
 publish-requires g c =
-    let shared = c.args.self.now in
-    let board = shared.board.value in
+    let shared = c.args.self.now in let board = shared.board.value in
     let log = shared.publisher.value.front.seen.log in
     let version = published_version board.setup shared.opened board.entries log shared.published shared.opens.version in
-    let same = ap (λ (p : Publisher). version_after p.front.seen.log) c.deref_mut-2.ensures.value in
-    record { room = omega (arith, few_entries _ _ shared.few, writes_few board.setup board.entries, version, same) }
+    let few = few_entries _ _ shared.few in
+    grind (arith, few, writes_few board.setup board.entries, version, c.deref_mut-2.ensures.value)
 
 pub invariant_of-self-2 : goal.invariant_of-self-2
 invariant_of-self-2 g c =
@@ -54,10 +50,5 @@ returns-clause-same g c =
     let shared = c.args.self.now in
     let stepped = is_stepped c.reserve.new.self.spare c.deref_mut.ensures.value (search rules)
     c.deref_mut-3.ensures.value c.step-reply.ensures.entry in
-    record {
-      setup = stepped.setup;
-      opened = ap (λ (h : List Entry). oldest shared.opened h) stepped.entries
-          ∙ oldest_added shared.opened _ shared.board.value.entries shared.within;
-      callers = refl;
-      book = c.publish.ensures.own ∙ ap (λ (p : Publisher). p.front.seen.book) c.deref_mut-2.ensures.value;
-    }
+    let opened = λ (entry : Entry). oldest_added shared.opened entry shared.board.value.entries shared.within in
+    grind (arith, stepped, opened, c.publish.ensures, c.deref_mut-2.ensures)
