@@ -1,9 +1,8 @@
 -- Setups and the identities of cards are spelled and read back, and so is what stands in front of the state of a
 -- running board.
-use Rattle.std.proofs.Common.{◌≡◌, ℕ, ◌^◌, ◌<◌, ◌≤◌, inl, inr, true, List, length, Option, Some, None, refl, sym, ◌∙◌}
-use Rattle.std.proofs.Common.{arith, ◌==◌, [], ◌∷◌, flat_map, All, ◌↔◌}
-use Rattle.board_prelude.proofs.Common.{cases_Bool, eqb-true, nat_tests, nil_from_length, AllByRecursion}
-use Rattle.board_prelude.proofs.Common.{recursion_from_All}
+use Rattle.std.proofs.Common.{◌≡◌, ℕ, ◌^◌, ◌<◌, ◌≤◌, true, List, length, Option, Some, None, refl, arith, [], ◌∷◌}
+use Rattle.std.proofs.Common.{flat_map, All, ◌↔◌}
+use Rattle.board_prelude.proofs.Common.{eqb-true, nat_tests, nil_from_length, AllByRecursion, recursion_from_All}
 use Rattle.board_prelude.specs.Common.{IsSetup, IsRomSize, is_rom_size, IsDisk, most_card_memory, most_mib}
 use Rattle.byte_fields.proofs.Formats.{IsFormat, fields_format, ◌then◌, ◌&◌, last_field, whole_field, format_as}
 use Rattle.byte_fields.proofs.Formats.{many_format, AreGood}
@@ -47,22 +46,14 @@ size_most size is = grind (arith, nat_tests)
 
 disk_from : (size : ℕ) (bytes : List ℕ) → is_fitted_size size ≡ true → length bytes ≡ size →
     IsDisk (disk_where size bytes)
-disk_from size bytes fits long =
-    elim (cases_Bool (size == 0)) [
-      | inl none ↦ rw none tt
-      | inr some ↦ rw (some, long) (length_from size (rw some at fits))
-    ]
+disk_from size bytes fits long = grind (arith, nat_tests, length_from)
 
 disk_again : (disk : Option (List ℕ)) → IsDisk disk → disk ≡ disk_where (length (bytes_on disk)) (bytes_on disk)
 disk_again None is = refl
 disk_again (Some bytes) (sectors, some, few, is) = grind (arith, nat_tests)
 
 bytes_again : (size : ℕ) (bytes : List ℕ) → length bytes ≡ size → bytes_on (disk_where size bytes) ≡ bytes
-bytes_again size bytes long =
-    elim (cases_Bool (size == 0)) [
-      | inl none ↦ rw none (sym (nil_from_length bytes (long ∙ eqb-true size 0 none)))
-      | inr some ↦ rw some refl
-    ]
+bytes_again size bytes long = grind (arith, nat_tests, nil_from_length, eqb-true)
 
 abbrev disk_spelled : Option (List ℕ) → List ℕ
 disk_spelled disk = counted_bytes (bytes_on disk)
