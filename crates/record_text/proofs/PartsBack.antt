@@ -1,5 +1,5 @@
 -- What the record of a part names is this part.
-use Rattle.std.proofs.Common.{◌≡◌, zero, suc, Option, Some, refl, arith}
+use Rattle.std.proofs.Common.{◌≡◌, Option, Some, refl, arith}
 use Rattle.board_prelude.proofs.Common.{lt-ltb, nat_tests, Dev, Area, Target, Denial, Register, Part}
 use Rattle.board_base.specs.declared.target.Dev.TheVariants as devices
 use Rattle.board_base.specs.declared.target.Area.TheVariants as areas
@@ -12,11 +12,7 @@ use Rattle.record_text.specs.Parts.{area_recorded}
 
 device_back : (dev : Dev) → FitsDevice dev → device_recorded (device_number dev) ≡ Some dev
 unfolding device_recorded
-device_back (devices.Vector (suc zero)) fits = refl
-device_back (devices.Vector (suc (suc chip))) fits = absurd (omega (arith, fits))
-device_back (devices.Spurious (suc zero)) fits = refl
-device_back (devices.Spurious (suc (suc chip))) fits = absurd (omega (arith, fits))
-device_back _ fits = refl
+device_back dev h2 = grind (arith, nat_tests)
 
 target_back : (target : Target) → FitsTarget target → target_recorded (target_said target) ≡ Some target
 unfolding target_recorded config_recorded
