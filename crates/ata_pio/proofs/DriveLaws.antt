@@ -1,8 +1,8 @@
 -- What is under way stays one of the disk's sectors.
 use Rattle.std.proofs.Common.{arith, ℕ, zero, suc, Bool, eqb}
-use Rattle.device_spec.proofs.Common.{Medium, Activity, Drive, sectors_of, begin_read, begin_write, sector_read}
-use Rattle.device_spec.proofs.Common.{sector_written, verified, obeyed, commanded, after_activity_word, after_word}
-use Rattle.device_spec.proofs.Common.{register_written, control_written, nat_tests}
+use Rattle.device_spec.proofs.Common.{Medium, Drive, sectors_of, begin_read, begin_write, sector_read, sector_written}
+use Rattle.device_spec.proofs.Common.{verified, obeyed, commanded, after_word, register_written, control_written}
+use Rattle.device_spec.proofs.Common.{nat_tests}
 use Rattle.ata_pio.specs.Ata.Laws.{IsUnderWay}
 
 begin_read-under_way : (m : Medium) (d : Drive) → IsUnderWay (sectors_of m) (begin_read m d).activity
@@ -12,10 +12,6 @@ begin_read-under_way m d = grind (arith, nat_tests)
 begin_write-under_way : (m : Medium) (q : Bool) (d : Drive) → IsUnderWay (sectors_of m) (begin_write m q d).activity
 unfolding begin_write
 begin_write-under_way m q d = grind (arith, nat_tests)
-
-pub sector_read-under_way : (m : Medium) (s : ℕ) (d : Drive) → IsUnderWay (sectors_of m) (sector_read m s d).activity
-unfolding sector_read
-sector_read-under_way m s d = grind (arith, nat_tests, eqb, begin_read-under_way)
 
 pub sector_written-under_way : (m : Medium) (s : ℕ) (d : Drive) →
     IsUnderWay (sectors_of m) (sector_written m s d).activity
@@ -47,11 +43,7 @@ pub control_written-under_way : (n byte : ℕ) (d : Drive) → IsUnderWay n d.ac
 unfolding control_written
 control_written-under_way n byte d h = grind (arith, nat_tests)
 
-activity_word-under_way : (m : Medium) (a : Activity) (d : Drive) → IsUnderWay (sectors_of m) a →
-    IsUnderWay (sectors_of m) d.activity → IsUnderWay (sectors_of m) (after_activity_word m a d).activity
-activity_word-under_way m a d h i = grind (arith, nat_tests, eqb, sector_read-under_way)
-
 pub after_word-under_way : (m : Medium) (d : Drive) → IsUnderWay (sectors_of m) d.activity →
     IsUnderWay (sectors_of m) (after_word m d).activity
-unfolding after_word
-after_word-under_way m d h = grind (arith, nat_tests, activity_word-under_way m d.activity d h h)
+unfolding after_word sector_read
+after_word-under_way m d h = grind (arith, nat_tests, begin_read-under_way)

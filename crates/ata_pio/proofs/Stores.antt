@@ -4,11 +4,6 @@ use Rattle.std.proofs.Common.{length-take-le, length-drop}
 use Rattle.device_spec.proofs.Common.{with_items_is, drop-drop, Vec, with_items, nat_tests}
 use borrow.Rule.Slice.PartMut.{put_mid}
 
--- a write over a part of a list, as a front, the new part and the rest
-part_put : (xs ys : List ℕ) (s : ℕ) → put_mid (s * 512) (s * 512 + 512 - s * 512) xs ys
-    ≡ take (512 * s) xs ++ (ys ++ drop (512 * s + 512) xs)
-part_put xs ys s = grind (arith, nat_tests, drop-drop)
-
 pub length-store : (xs bytes : List ℕ) (s : ℕ) → 512 * s + 512 ≤ length xs → length bytes ≡ 512
     → length (take (512 * s) xs ++ (bytes ++ drop (512 * s + 512) xs)) ≡ length xs
 length-store xs bytes s h e = grind (arith, nat_tests, length-append, length-take-le, length-drop)
@@ -18,4 +13,4 @@ pub stored_items : {Z : Type 0} (v : Vec ℕ Z) (s : ℕ) (xs ys bytes : List �
     512 * s + 512 ≤ length v.items → length bytes ≡ 512
     → (with_items v (put_mid (s * 512) (s * 512 + 512 - s * 512) xs ys)).items
     ≡ take (512 * s) v.items ++ (bytes ++ drop (512 * s + 512) v.items)
-stored_items v s xs ys bytes e f h g = grind (arith, nat_tests, put_mid, part_put, length-store, with_items_is)
+stored_items v s xs ys bytes e f h g = grind (arith, nat_tests, length-store, with_items_is, drop-drop)

@@ -1,11 +1,7 @@
 -- One turn of verify: it fails, it was the last sector, or it goes on.
-use Rattle.std.proofs.Common.{◌≡◌, ◌≢◌, ℕ, suc, ◌+◌, ◌%◌, Ok, Err, refl, arith}
-use Rattle.device_spec.proofs.Common.{Medium, Registers, Drive, named, naming, counted, left_of, readable, failed}
-use Rattle.device_spec.proofs.Common.{finished, counted_down, moved_to, verified, nat_tests}
-
--- a sector that is written back keeps the count
-pub naming-count : (r : Registers) (s : ℕ) → (naming r s).count ≡ r.count
-naming-count r s = grind (arith, nat_tests)
+use Rattle.std.proofs.Common.{◌≡◌, ◌≢◌, ℕ, suc, ◌+◌, Ok, Err, refl, arith}
+use Rattle.device_spec.proofs.Common.{Medium, Drive, named, naming, counted, left_of, readable, failed, finished}
+use Rattle.device_spec.proofs.Common.{counted_down, moved_to, verified, nat_tests}
 
 pub verified-fails : (m : Medium) (left e : ℕ) (d : Drive) → readable m (named d.registers) ≡ Err e →
     verified m left d ≡ failed e d
@@ -25,5 +21,4 @@ verified-next m s left d h = rw (h, verified) refl
 pub verified-more : (m : Medium) (s : ℕ) (d : Drive) → readable m (named d.registers) ≡ Ok s → left_of d.registers ≢ 0
     → verified m (left_of d.registers) d ≡ verified m (left_of (naming (counted d.registers) (s + 1)))
     (moved_to (s + 1) (counted_down d))
-verified-more m s d h e =
-    grind (arith, nat_tests, naming-count, verified-next m s ((left_of d.registers + 255) % 256) d h)
+verified-more m s d h e = grind (arith, nat_tests, verified-next)

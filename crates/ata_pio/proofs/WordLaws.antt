@@ -1,11 +1,11 @@
 -- A sector moves as 256 words.
 use Rattle.std.proofs.Common.{rules, ◌≡◌, ◌≢◌, ℕ, zero, suc, ◌+◌, ◌*◌, ◌/◌, ◌%◌, ◌<◌, ◌≤◌, Bool, true, cond, eqb, List}
-use Rattle.std.proofs.Common.{[], ◌∷◌, ◌++◌, length, drop, Result, refl, ap, sym, subst, ◌∙◌, arith, length-append}
-use Rattle.std.proofs.Common.{get_or-drop, append_assoc}
+use Rattle.std.proofs.Common.{[], ◌∷◌, ◌++◌, length, drop, refl, ap, sym, subst, ◌∙◌, arith, length-append, get_or-drop}
+use Rattle.std.proofs.Common.{append_assoc}
 use Rattle.device_spec.proofs.Common.{cond-true, cond-false, eq-eqb, ne_eqb, drop-drop, Medium, Activity, Reading}
-use Rattle.device_spec.proofs.Common.{Writing, Drive, Disk, sectors_of, sector_bytes, word_at, is_drq, named, left_of}
-use Rattle.device_spec.proofs.Common.{counted, naming, readable, reads_found, begin_read, sector_read, ended, word_of}
-use Rattle.device_spec.proofs.Common.{word_read, word_written, after_word, with_drive, bytes_written, nat_tests}
+use Rattle.device_spec.proofs.Common.{Writing, Drive, Disk, sectors_of, sector_bytes, word_at, is_drq, left_of, counted}
+use Rattle.device_spec.proofs.Common.{naming, begin_read, sector_read, ended, word_of, word_read, word_written}
+use Rattle.device_spec.proofs.Common.{after_word, with_drive, bytes_written, nat_tests}
 use Rattle.ata_pio.specs.Ata.Laws.{IsChosen, words_read, after_words_read, after_words_written, sector_words}
 use Rattle.ata_pio.specs.Ata.Laws.{bytes_of_words, AreWords, SectorIsRead, SectorIsWritten, written_disk, ReadsBack}
 use Rattle.ata_pio.specs.Ata.Laws.{IsSound, IsUnderWay, after_all}
@@ -22,15 +22,10 @@ disk_acting disk a = record disk { drive = acting disk.drive a }
 drq-reading : (d : Drive) (s w : ℕ) → IsChosen d → is_drq (acting d (Reading s w)) ≡ true
 drq-reading d s w h = rw (h.drive_zero, h.free) refl
 
--- a read looks at its sector whatever was under way
-found-other : (x : Result ℕ ℕ) (d : Drive) (a : Activity) (q : Bool) →
-    reads_found x (record d { activity = a; request = q }) ≡ reads_found x d
-found-other x d a q = grind (arith, nat_tests)
-
 pub begin_read-other : (m : Medium) (d : Drive) (a : Activity) (q : Bool) →
     begin_read m (record d { activity = a; request = q }) ≡ begin_read m d
 unfolding begin_read
-begin_read-other m d a q = found-other (readable m (named d.registers)) d a q
+begin_read-other m d a q = grind (arith, nat_tests)
 
 sector_read-acting : (m : Medium) (s : ℕ) (d : Drive) (a : Activity) → sector_read m s (acting d a) ≡ sector_read m s d
 unfolding sector_read
