@@ -1,8 +1,8 @@
 -- What a board did, put together, one phase of a script after another.
-use Rattle.std.proofs.Common.{◌≡◌, List, [], ◌++◌, sym, ap, ◌∙◌, reverse, length, Result, OnOk, arith, OnErr, ℕ, ◌+◌}
-use Rattle.std.proofs.Common.{◌<◌, ◌≤◌, take, get_or, All, append-nil, length-append, max, ◌∷◌}
+use Rattle.std.proofs.Common.{◌≡◌, List, [], ◌++◌, length, Result, OnOk, arith, OnErr, ℕ, ◌+◌, ◌<◌, ◌≤◌, take, get_or}
+use Rattle.std.proofs.Common.{All, append-nil, length-append, max, ◌∷◌}
 use Rattle.board_prelude.proofs.Common.{nat_tests, take_more, length-map, length-reverse, Entry, Statement, Setup}
-use Rattle.board_prelude.proofs.Common.{statement_of, IsReplayOf, Vec, Global, in_file_order}
+use Rattle.board_prelude.proofs.Common.{IsReplayOf, Vec, Global, in_file_order}
 use Rattle.std.proofs.lemmas.List.{append_assoc}
 use Rattle.board_core.specs.Kept.{Standing}
 use Rattle.command_texts.specs.Done.{DidStatements}
@@ -47,8 +47,7 @@ same_setup result old new statements done same = grind (arith, nat_tests)
 
 pub length_of_replay : (setup : Setup) (statements : List Statement) (history : List Entry) →
     IsReplayOf setup statements history → length history ≡ length statements
-length_of_replay setup statements history replay =
-    sym (length-map (reverse history) statement_of ∙ length-reverse history) ∙ ap length replay.same
+length_of_replay setup statements history replay = grind (arith, nat_tests, length-map, length-reverse)
 
 -- ---- one phase more
 

@@ -2,8 +2,8 @@
 use Rattle.std.proofs.lemmas.Bool.Decides.{nat_tests}
 use Rattle.std.proofs.Common.{◌≡◌, ℕ, ◌+◌, ◌*◌, ◌<◌, ◌≤◌, List, [], ◌∷◌, ◌++◌, length, map, take, get_or, refl}
 use Rattle.std.proofs.Common.{append-nil, append_assoc, length-append, arith, true, All, slice_index}
-use Rattle.board_prelude.proofs.Common.{take_more, length-take-le, Statement, Setup, reset_control, IsLegal}
-use Rattle.board_prelude.proofs.Common.{LegalKeepsLock}
+use Rattle.board_prelude.proofs.Common.{common_steps, take_more, length-take-le, Statement, Setup, reset_control}
+use Rattle.board_prelude.proofs.Common.{IsLegal, LegalKeepsLock}
 use Rattle.std.proofs.Math.Nat.{le-add_right}
 use Rattle.board_core.specs.Kept.{Standing}
 use Rattle.uart_16550.specs.declared.com1.Happening.TheVariants.{Comes, Happens}
@@ -58,15 +58,13 @@ went_on_more statements i statement old middle new within so_far next =
 pub room_for_next : (statements : List Statement) (i : ℕ) (old middle : SerialPlace) → i < length statements →
     3 * length statements ≤ old.serial.board.spare → WentOn old (take i statements) middle →
     3 ≤ middle.serial.board.spare
-room_for_next statements i old middle within room so_far =
-    omega (arith, so_far.spare, length-take-le i statements (omega (arith, within)))
+room_for_next statements i old middle within room so_far = grind (arith, nat_tests, length-take-le)
 
 -- ---- the byte that comes
 
 pub one_comes : (uart : Uart) (input : List ℕ) → has_room uart ≡ true → 1 ≤ length input →
     bytes_before uart input ≡ slice_index input 0 ∷ []
-one_comes uart [] room some = absurd (omega (arith, some))
-one_comes uart (byte ∷ input) room some = rw room refl
+one_comes uart input room some = grind (arith, nat_tests, common_steps)
 
 -- ---- the whole
 

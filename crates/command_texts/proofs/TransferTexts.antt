@@ -14,7 +14,6 @@ use Rattle.command_words.specs.declared.transfer.Transfer.{Transfer}
 use Rattle.command_texts.specs.Laws.{RomsAreRead}
 use Rattle.command_texts.specs.Transfers.{AreCellsAfter, HasTransferText, started, sum_below, dram_sum, disk_sum}
 use Rattle.command_texts.specs.Transfers.{ended_line, sums_line}
-use Rattle.std.proofs.Math.Nat.{min-le_left}
 use Rattle.std.proofs.lemmas.List.{get_or_past, get_or-take, get_or-drop, length-take}
 
 -- ---- sums of bytes, in parts
@@ -61,8 +60,7 @@ pub cut_byte : (size i k : ℕ) (bytes : List ℕ) → k < size →
 cut_byte size i k bytes below = grind (arith, nat_tests, get_or-take, get_or-drop)
 
 pub cut_length : (size i : ℕ) (bytes : List ℕ) → length (take size (drop (size * i) bytes)) ≤ size
-cut_length size i bytes =
-    omega (arith, length-take size (drop (size * i) bytes), min-le_left size (length (drop (size * i) bytes)))
+cut_length size i bytes = grind (arith, nat_tests, length-take)
 
 -- ---- what is told
 
@@ -83,9 +81,8 @@ dram_told : (setup : Setup) (store : Store) (moving : Moving) → length store.d
     ((cell : Cell) → IsCell cell → cells_of store cell ≡ moving.cells cell) →
     sum_below (length store.dram) (slice_index store.dram) ≡ dram_sum setup moving.cells
 dram_told setup store moving size cells =
-    rw (← size)
-    (sum_below-same (length store.dram) (slice_index store.dram) (λ addr. moving.cells (DramCell addr))
-    (λ addr below. rw (lt-ltb addr (length store.dram) below) at (cells (DramCell addr) tt)))
+    let same = sum_below-same (length store.dram) (slice_index store.dram) (λ addr. moving.cells (DramCell addr)) in
+    grind (arith, nat_tests, lt-ltb)
 
 pub transfer_told : (setup : Setup) (history : List Entry) (transfer : Transfer) (old new : Store)
     (master after : Master) (done : Done) (status dram disk : ℕ) (text : List ℕ) (moving : Moving) →

@@ -33,6 +33,7 @@ fn made_script(alloc: Global, rounds: u32) -> Result<Script, NoMemory>
 }
 
 /// The board of the made script, with the ROM and the disk that are made for it.
+#[tactic(auto, using(std::proofs::lemmas::Bool::Decides::nat_tests))]
 fn made_board(alloc: Global, script: &Script) -> Result<Board, NoMemory>
     requires in_range { IsInRangeScript (said_of script.now) }
     ensures fresh { IfOk result (λ board. board ≡ record {

@@ -69,6 +69,7 @@ fn text_for(alloc: Global, script: &Script) -> Result<String, NoMemory>
 }
 
 /// The log of a script's replay on its board, which keeps no history meanwhile.
+#[tactic(auto, using(std::proofs::lemmas::Bool::Decides::nat_tests))]
 pub fn log_of_replay(alloc: Global, board: Board, script: &Script) -> Result<Text, NoMemory>
     requires fresh { IsFreshFor (said_of script.now) board }
     ensures text { IfOk result (λ text. IsReplayText board.setup (said_of script.now) text) }

@@ -48,6 +48,7 @@ impl MapWrites {
     }
 
     /// The number of the entry that brought the map to a version. 0 for version 0, which the map begins with.
+    #[tactic(auto, using(crate::proofs::MapWrites::entry_of_first, std::proofs::lemmas::Bool::Decides::nat_tests))]
     pub fn entry_of(&self, version: u32) -> u32
         requires version { version ≤ length self.now.entries.items }
         ensures entry { (setup : Setup) (history : List Entry) → AreWritesOf setup history self.now
