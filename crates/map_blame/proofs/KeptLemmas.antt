@@ -12,7 +12,7 @@ use Rattle.addr_decode.proofs.NameLemmas.{offsets}
 use Rattle.map_builder.proofs.KeptLemmas.{covered_at}
 use Rattle.map_blame.specs.declared.covers.Covers.{Covers}
 use Rattle.map_blame.specs.Common.{last_cover, is_among, IsLastCover, RestsOn, IsKeep, AreCoversOf, is_number}
-use Rattle.map_blame.specs.Common.{number_at, is_last_at, is_last_of, is_kept_of}
+use Rattle.map_blame.specs.Common.{is_last_at, is_last_of, is_kept_of}
 use Rattle.map_blame.proofs.CoverLemmas.{map_byte_placed, any_at}
 use Rattle.map_blame.proofs.KeepLaws.{IsNumber, cover_number, lock_number}
 
@@ -76,13 +76,7 @@ is_number_true number (Some other) is = ap Some (eqb-true other number is)
 module _ (setup : Setup) (changes : List MapChange) (covers : Covers) (cards : IsCardList setup.cards)
     (are : AreCoversOf changes covers) where
   last_found : (number : ℕ) (reg : Reg) → is_last_at setup covers number reg ≡ true → IsLastCover setup changes number
-  last_found number reg is =
-      let both = and_parts (is_map_byte setup reg) (is_number number (number_at covers.last reg)) is in
-      record {
-        reg = reg;
-        map_byte = both.0;
-        last = sym (are.last reg (map_byte_placed setup reg cards both.0)) ∙ is_number_true number _ both.1;
-      }
+  last_found number reg is = grind (arith, nat_tests, and_parts, map_byte_placed, is_number_true)
 
   last_change_found : (number : ℕ) (change : MapChange) → is_last_of setup covers number change ≡ true →
       IsLastCover setup changes number

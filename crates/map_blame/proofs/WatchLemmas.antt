@@ -1,11 +1,10 @@
 -- What is known of a range that is watched, before and after a change, and of lists of such ranges.
-use Rattle.board_prelude.proofs.Common.{nat_tests, cases_lt, take_more, reverse-append, MapChange, Setup, IsCardList}
-use Rattle.board_prelude.proofs.Common.{Bytes, top_of, reset_byte, host_bridge, registers_after, MapRange, IsRight}
-use Rattle.board_prelude.proofs.Common.{six_areas, get_or_default, get_or-map, length-map, All-nil, All-cons, Tiles}
-use Rattle.board_prelude.proofs.Common.{IsFlatMapOf}
-use Rattle.std.proofs.Common.{◌≡◌, ℕ, suc, ◌+◌, ◌-◌, ◌<◌, ◌≤◌, ◌⊎◌, inl, inr, Bool, true, false, List, [], ◌∷◌, length}
-use Rattle.std.proofs.Common.{get_or, take, reverse, refl, sym, ◌∙◌, arith, set, map, All, get_or-set_same}
-use Rattle.std.proofs.Common.{get_or-set_other, ext_get_or}
+use Rattle.board_prelude.proofs.Common.{nat_tests, take_more, reverse-append, MapChange, Setup, IsCardList, Bytes}
+use Rattle.board_prelude.proofs.Common.{top_of, reset_byte, host_bridge, registers_after, MapRange, IsRight, six_areas}
+use Rattle.board_prelude.proofs.Common.{get_or_default, get_or-map, length-map, All-nil, All-cons, Tiles, IsFlatMapOf}
+use Rattle.std.proofs.Common.{◌≡◌, ℕ, suc, ◌+◌, ◌-◌, ◌<◌, ◌≤◌, ◌⊎◌, Bool, true, false, List, [], ◌∷◌, length, get_or}
+use Rattle.std.proofs.Common.{take, reverse, refl, sym, ◌∙◌, arith, set, map, All, get_or-set_same, get_or-set_other}
+use Rattle.std.proofs.Common.{ext_get_or}
 use Rattle.map_builder.specs.Common.{Changed, Range, Mapped, range_of, changed_windows, bounds_or_zero, no_range}
 use Rattle.addr_decode.specs.MapRegs.{StandsFor}
 use Rattle.map_builder.proofs.KeptLemmas.{top_after, bounds_hold_changes}
@@ -154,13 +153,8 @@ pub all_set : {X : Type 0} (P : X → X → Type 0) (old now : List X) (index : 
     index < length now → ((k : ℕ) (d : X) → k < index → P (get_or old k d) (get_or now k d)) →
     ((k : ℕ) (d : X) → index ≤ k → get_or now k d ≡ get_or old k d) → P (get_or now index d₀) new →
     (k : ℕ) (d : X) → k < index + 1 → P (get_or old k d) (get_or (set now index new) k d)
-all_set P old now index new d₀ long within done rest here k d below = elim (cases_lt k index) [
-  | inl earlier ↦ rw (get_or-set_other now index k new d (omega (arith, earlier))) (done k d earlier)
-  | inr last ↦
-      let same : k ≡ index = omega (arith, below, last) in
-      rw (same, get_or-set_same now index new d within, ← get_or_default old index d₀ d (omega (arith, within, long)))
-      (rw (rest index d₀ (omega arith)) at here)
-]
+all_set P old now index new d₀ long within done rest here k d below =
+    grind (arith, nat_tests, get_or-set_other, get_or-set_same, get_or_default)
 
 -- ---- ranges of a map
 
