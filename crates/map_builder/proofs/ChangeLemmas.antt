@@ -1,9 +1,8 @@
 -- After a change the ranges of a map are right again for each address outside the bounds of the changed windows.
 use Rattle.std.proofs.Common.{◌≡◌, ℕ, ◌<◌, ◌≤◌, Bool, true, false, List, [], ◌∷◌, ◌++◌, Option, Some, refl, sym, ◌∙◌}
-use Rattle.std.proofs.Common.{ap, arith, IfSome, ◌||◌, not, flat_map, is_some, map, subst, true≢false, append-nil}
-use Rattle.board_prelude.proofs.Common.{list_any, Width, One, Reg, MapChange, Store, Reset, FittedCard, Setup}
-use Rattle.board_prelude.proofs.Common.{touches_map, Bytes, address_count, six_areas, MapRange, nat_tests, false≢true}
-use Rattle.board_prelude.proofs.Common.{reg_after}
+use Rattle.std.proofs.Common.{ap, arith, IfSome, ◌||◌, not, is_some, map, subst, true≢false, append-nil}
+use Rattle.board_prelude.proofs.Common.{list_any, Width, One, Reg, MapChange, Store, FittedCard, Setup, touches_map}
+use Rattle.board_prelude.proofs.Common.{Bytes, address_count, six_areas, MapRange, nat_tests, false≢true}
 use Rattle.pci_bars.specs.Cards.{CardBytes, AreFitted, cards_of}
 use Rattle.addr_decode.proofs.Common.{no_low_card, names_touch}
 use Rattle.addr_decode.specs.declared.register.MapRegister.{MapRegister}
@@ -12,8 +11,7 @@ use Rattle.addr_decode.specs.Common.{is_of_card, names_from, names_of, MapBytes,
 use Rattle.map_builder.specs.Common.{Changed, IsOfSomeBoard, IsMapOf, IsMapWhere, IsBeside, sorted, Rise, rows_in}
 use Rattle.map_builder.specs.Common.{AreChanged, after, rest_on_registers, name_windows, windows_covered}
 use Rattle.map_builder.specs.Common.{changed_windows, most_rows, AreMoved, IsHeldAt, IsSameByte, Mapped}
-use Rattle.map_builder.specs.Changed.{is_card_name, register_windows, windows_of}
-use Rattle.addr_decode.specs.MapRegister.{map_register}
+use Rattle.map_builder.specs.Changed.{is_card_name, register_windows}
 use Rattle.map_builder.proofs.BoundsLemmas.{covered_ordered, changed_ordered}
 use Rattle.map_builder.proofs.SortedLemmas.{rise_sorted, outside_sorted, beside_sorted, rows_few, sorted_twice}
 use Rattle.map_builder.proofs.MovedRows.{CoversRows, rows_keep, moved_within}
@@ -97,20 +95,11 @@ name_fixed : (setup setup' : Setup) (bytes bytes' : Bytes) (name : Option MapReg
 name_fixed setup setup' bytes bytes' (Some (Card dev register)) bridge = absurd (true≢false bridge)
 name_fixed setup setup' bytes bytes' _ bridge = refl
 
-names_fixed : (setup : Setup) (bytes bytes' : Bytes) (reg : Reg) (ks : List ℕ) →
-    rest_on_registers (map (λ k. map_register setup.cards (reg_after reg k)) ks) ≡ false →
-    flat_map (λ k. windows_of setup bytes (reg_after reg k)) ks
-    ≡ flat_map (λ k. windows_of setup bytes' (reg_after reg k)) ks
-names_fixed setup bytes bytes' reg [] bridges = refl
-names_fixed setup bytes bytes' reg (k ∷ later) bridges =
-    grind (arith, nat_tests, name_fixed setup setup bytes bytes', names_fixed setup bytes bytes' reg later)
-
 fixed_same : (setup : Setup) (bytes bytes' : Bytes) (change : MapChange) →
     rest_on_registers (names_of setup.cards change) ≡ false →
     windows_covered setup bytes change ≡ windows_covered setup bytes' change
 unfolding windows_covered
-fixed_same setup bytes bytes' Reset fixed = refl
-fixed_same setup bytes bytes' (Store reg width value) fixed = names_fixed setup bytes bytes' reg _ fixed
+fixed_same setup bytes bytes' change fixed = grind (arith, nat_tests, name_fixed)
 
 module _ (setup : Setup) (bytes : Bytes) (change : MapChange) where
   abbrev covered : Bytes → List Changed
@@ -143,13 +132,7 @@ pub bridge_found : (setup setup' : Setup) (bytes bytes' : Bytes) (reg : Reg) (va
     is_of_card register ≡ false → setup'.cards ≡ cards → Some register ∷ [] ≡ names_of cards (Store reg One value) →
     sorted (register_windows setup bytes register) ≡ sorted (changed_windows setup' bytes' (Store reg One value))
 bridge_found setup setup' bytes bytes' reg value register cards bridge same named =
-    let change : MapChange = Store reg One value in
-    let bridges : rest_on_registers (names_of setup'.cards change) ≡ false =
-    rw same (subst (λ (names : List (Option MapRegister)). rest_on_registers names ≡ false) named (rw bridge refl)) in
-    let here = name_fixed setup setup' bytes bytes' (Some register) bridge in
-    let covered = covered_by_names setup' bytes' _ _ _ _ _ _ refl same named in
-    found_once setup' _ change (here ∙ sym (append-nil _) ∙ covered)
-    (fixed_same setup' (after setup' change bytes') bytes' _ bridges)
+    grind (arith, nat_tests, name_fixed, covered_by_names, found_once, append-nil, fixed_same)
 
 -- ---- the windows that are built anew
 

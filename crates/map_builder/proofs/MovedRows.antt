@@ -1,18 +1,16 @@
 -- What a store to the boundaries of the rows of DRAM moves, and that no more rows are looked up for it than the bound
 -- says.
 use Rattle.board_base.proofs.Common.{common_steps, cases_Bool, cases_lt, false≢true, and_parts, nat_tests, some_bytes}
-use Rattle.board_prelude.proofs.Common.{AllByRecursion, list_all, list_any, Width, One, Reg, bytes_of, MapChange, Store}
-use Rattle.board_prelude.proofs.Common.{Reset, FittedCard, Setup, IsCardList, covers, Bytes, row_of, reg_after}
-use Rattle.board_prelude.proofs.Common.{six_areas}
-use Rattle.std.proofs.Common.{◌≡◌, ℕ, zero, suc, ◌⊎◌, Bool, ◌+◌, ◌*◌, ◌<◌, ◌≤◌, inl, inr, true, false, List, [], ◌∷◌}
-use Rattle.std.proofs.Common.{◌++◌, take, refl, sym, ◌∙◌, arith, Option, Some, min, max, slice_index, find, flat_map}
+use Rattle.board_prelude.proofs.Common.{AllByRecursion, list_any, Width, One, Reg, bytes_of, MapChange, Store, Reset}
+use Rattle.board_prelude.proofs.Common.{FittedCard, Setup, IsCardList, covers, Bytes, row_of, reg_after, six_areas}
+use Rattle.std.proofs.Common.{◌≡◌, ℕ, zero, suc, ◌⊎◌, ◌+◌, ◌*◌, ◌<◌, ◌≤◌, inl, inr, true, false, List, [], ◌∷◌, ◌++◌}
+use Rattle.std.proofs.Common.{take, refl, sym, ◌∙◌, arith, Option, Some, min, max, slice_index, find, flat_map}
 use Rattle.std.proofs.Common.{below_more}
 use Rattle.board_base.specs.declared.access.Width.TheVariants.{Two, Four}
 use Rattle.addr_decode.specs.declared.register.MapRegister.{MapRegister}
 use Rattle.addr_decode.specs.declared.register.MapRegister.TheVariants.{RowBoundary}
 use Rattle.addr_decode.specs.Common.{map_register, names_of, MapBytes, StandsFor, edges_of, edges_after}
 use Rattle.addr_decode.proofs.Common.{is_name}
-use Rattle.addr_decode.proofs.NameLemmas.{offsets}
 use Rattle.std.proofs.lemmas.List.Folds.{list_all-map}
 use Rattle.map_ranges.specs.declared.range.Changed.{Changed}
 use Rattle.map_builder.specs.Common.{from_to, name_windows, windows_of, windows_covered, after, changed_windows}
@@ -27,16 +25,9 @@ use Rattle.map_builder.proofs.SortedLemmas.{filter_more, rows_rise}
 abbrev pub CoversRows : List FittedCard → MapChange → Type 0
 CoversRows cards change = stores_rows (names_of cards change) ≡ true
 
-each_offset : (is : ℕ → Bool) (width : Width) (k : ℕ) → list_all is (take (bytes_of width) offsets) ≡ true →
-    k < bytes_of width → is k ≡ true
-each_offset is width k all below = grind (arith, nat_tests)
-
 each_row : (setup : Setup) (at : Reg) (width : Width) (value k : ℕ) → CoversRows setup.cards (Store at width value) →
     k < bytes_of width → is_row_name (map_register setup.cards (reg_after at k)) ≡ true
-each_row setup at width value k rows below =
-    let names : List (Option MapRegister) = names_of setup.cards (Store at width value) in
-    let all = (and_parts (list_any is_row_name names) (list_all is_row_name names) rows).1 in
-    each_offset (λ k. is_row_name (map_register setup.cards (reg_after at k))) width k (rw list_all-map at all) below
+each_row setup at width value k rows below = grind (arith, nat_tests, common_steps, and_parts, list_all-map)
 
 named_row : (cards : List FittedCard) (reg : Reg) (name : Option MapRegister) → map_register cards reg ≡ name →
     is_row_name name ≡ true → is_boundary reg ≡ true
