@@ -6,7 +6,7 @@ use Rattle.board_prelude.proofs.Common.{Base, FittedCard, IsBase, IsCard, IsExpa
 use Rattle.board_prelude.proofs.Common.{memory_size, nat_tests}
 use Rattle.std.proofs.lemmas.List.Elements.{All-from_recursion}
 use Rattle.std.proofs.lemmas.List.Concat.{flat_map_single}
-use Rattle.board_image.specs.Common.{base_byte, card_bytes, base_in, rom_of, bases_fields, card_fields, cards_fields}
+use Rattle.board_image.specs.Common.{base_byte, card_bytes, rom_of, bases_fields, card_fields, cards_fields}
 use Rattle.byte_fields.proofs.Formats.{IsFormat, format_as, fields_format, ◌then◌, ◌&◌, last_field, many_format}
 use Rattle.byte_fields.proofs.Formats.{AreGood}
 use Rattle.byte_fields.proofs.Numbers.{flag_format, byte_format, byte_within, Ranges}
@@ -17,13 +17,8 @@ use Rattle.board_image.proofs.ImageLoops.{base_field, room_after, bases_loop, ca
 abbrev pub IsBaseIn : (room : ℕ) → Base → Type 0
 IsBaseIn room base = IsBase base × (memory_size base ≤ room)
 
-base_told : (room n : ℕ) (base : Base) → n < 2 ^ 8 → base_in room n ≡ Some base →
-    (n ≡ base_byte base) × IsBaseIn room base
-base_told room n base below is = grind (arith, nat_tests)
-
 base_format : (room : ℕ) → IsFormat 1 (base_field room) (λ base. base_byte base ∷ []) (IsBaseIn room)
-base_format room =
-    byte_format base_byte (IsBaseIn room) (λ base is. grind (arith, nat_tests)) (base_told room)
+base_format room = grind (arith, nat_tests, byte_format)
 
 -- bases that fit in the room
 abbrev pub AreBasesIn : (room : ℕ) → List Base → Type 0

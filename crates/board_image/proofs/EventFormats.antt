@@ -4,26 +4,20 @@ use Rattle.board_prelude.proofs.Common.{nat_tests, PortAccess, bytes_of, is_writ
 use Rattle.board_prelude.proofs.Common.{code_found}
 use Rattle.std.proofs.Math.Nat.{one-le-pow}
 use Rattle.board_base.specs.declared.access.Access.{Access}
-use Rattle.board_image.specs.Common.{kind_byte, tag_byte, memory_bytes, port_bytes, wide_bytes, kind_of, kind_field}
-use Rattle.board_image.specs.Common.{width_of, width_field, tag_of, most_value, is_wide_size, is_wide_place}
-use Rattle.board_image.specs.Common.{memory_fields, port_fields, wide_fields, Reading}
+use Rattle.board_image.specs.Common.{kind_byte, tag_byte, memory_bytes, port_bytes, wide_bytes, kind_field, width_field}
+use Rattle.board_image.specs.Common.{tag_of, most_value, is_wide_size, is_wide_place, memory_fields, port_fields}
+use Rattle.board_image.specs.Common.{wide_fields, Reading}
 use Rattle.image_writer.specs.declared.tag.Tag.{Tag}
 use Rattle.byte_fields.proofs.Formats.{IsFormat, format_as, fields_format, ◌then◌, ◌&◌, last_field}
 use Rattle.byte_fields.proofs.Numbers.{Any, flag_format, wide16, wide32, wide64, byte_format, byte_where, Tells}
 use Rattle.byte_fields.proofs.Numbers.{where_format, within_format}
 use Rattle.image_writer.specs.declared.tag.Tag.TheVariants as tags
 
-kind_tells : Tells kind_of kind_byte
-kind_tells n kind is = grind (arith, nat_tests)
-
 pub kind_format : IsFormat 1 kind_field (λ kind. kind_byte kind ∷ []) Any
-kind_format = byte_format kind_byte Any (λ kind any. grind arith) (λ n kind below is. (kind_tells n kind is, tt))
-
-width_tells : Tells width_of bytes_of
-width_tells n width is = grind (arith, nat_tests)
+kind_format = grind (arith, nat_tests, byte_format)
 
 pub width_format : IsFormat 1 width_field (λ width. bytes_of width ∷ []) Any
-width_format = byte_format bytes_of Any (λ width any. grind arith) (λ n width below is. (width_tells n width is, tt))
+width_format = grind (arith, nat_tests, byte_format)
 
 pub tag_tells : Tells tag_of tag_byte
 tag_tells n tag told = grind (arith, nat_tests, code_found)

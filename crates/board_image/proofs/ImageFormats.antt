@@ -37,16 +37,13 @@ HasDiskSize false size = size ≡ 0
 HasDiskSize true size = IsDiskSize size
 
 -- whole sectors, and not too many, are what is asked of a length
-pub length_to : (size : ℕ) → IsDiskSize size → is_disk_length size ≡ true
-length_to size (sectors, some, few, is) = grind (arith, nat_tests)
-
 pub length_from : (size : ℕ) → is_disk_length size ≡ true → IsDiskSize size
 length_from size is =
     let said : (size % 512 ≡ 0) × (0 < size) × (size ≤ 33_554_432) = grind (arith, nat_tests) in
     (size / 512, omega (arith, said.0, said.1), omega (arith, said.2), omega (arith, said.0))
 
 pub length_same : (size : ℕ) (test : Bool) → (IsTrue test ↔ IsDiskSize size) → test ≡ is_disk_length size
-length_same size test is = grind (arith, nat_tests, length_to size, length_from size, is.0, is.1)
+length_same size test is = grind (arith, nat_tests, length_from)
 
 record IsHead (head : Head) : Type 0 where
   pub mib : Ranges 1 64 head.mib

@@ -93,9 +93,6 @@ module _ (one : Stimulus) (number : ℕ) (on : Bool) where
   number_again : number_of (event_applied one number on) ≡ number
   number_again = grind (arith, nat_tests, applied_again one number on)
 
-tag_again : (one : Stimulus) (number : ℕ) (on : Bool) → tag_of_event (event_applied one number on) ≡ tags.Stimulus one
-tag_again one number on = grind (arith, nat_tests)
-
 bytes_again : (one : Stimulus) (number : ℕ) (on : Bool) →
     field_bytes (event_applied one number on) ≡ applied_bytes (applied one number on)
 unfolding field_bytes
@@ -149,9 +146,6 @@ event_format setup (tags.Stimulus one) = applied_format setup one (stimulus_form
 
 -- the tag of such an event is that tag
 tag_told : (setup : Setup) (tag : Tag) (event : Event) → CanSpell setup tag event → tag_of_event event ≡ tag
-tag_told setup (tags.Stimulus one) event can =
-    ap tag_of_event can.1
-    ∙ tag_again one (number_of event) ((stimulus_form one).has_level && level_of event)
 tag_told setup tag event can = grind (arith, nat_tests)
 
 IsGoodEvent : Setup → Event → Type 0
@@ -160,13 +154,7 @@ IsGoodEvent setup event = FitsField event × IsInRange setup event × IsScriptSe
 -- what an image step is, by the tag of its event
 spelled_to : (setup : Setup) (event : Event) → IsGoodEvent setup event → CanSpell setup (tag_of_event event) event
 unfolding IsGoodEvent
-spelled_to setup (Memory access) is = (access, (is.0, is.1), refl)
-spelled_to setup (Port access) is = (access, (is.0, is.1), refl)
-spelled_to setup (LookAt kind addr smm) is = (is.0, refl)
-spelled_to setup Ack is = refl
-spelled_to setup (Time moment) is = (moment, is.1, refl)
-spelled_to setup (Wide access) is = (access, is.1, refl)
-spelled_to setup _ is = (grind (arith, nat_tests), refl)
+spelled_to setup event is = grind (arith, nat_tests)
 
 spelled_from : (setup : Setup) (event : Event) → CanSpell setup (tag_of_event event) event → IsGoodEvent setup event
 unfolding IsGoodEvent
