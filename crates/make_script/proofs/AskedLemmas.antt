@@ -41,31 +41,13 @@ lines-back (line ∷ later) lack = grind (arith, nat_tests, append_assoc, line-c
 abbrev pub said : Statement → List ℕ
 said statement = item_text (Ask statement)
 
-pub said-lines : (statements : List Statement) → list_all (λ line. lacks line_feed line) (map said statements) ≡ true
+said-line : (statement : Statement) → lacks line_feed (said statement) ≡ true
 unfolding item_text
-said-lines [] = grind (
-  arith,
-  nat_tests,
-  common_steps,
-  and_from,
-  lacks-append,
-  lacks-word,
-  decimal_word,
-  lacks-plain,
-  event_plain,
-)
-said-lines (statement ∷ later) = grind (
-  arith,
-  nat_tests,
-  common_steps,
-  and_from,
-  lacks-append,
-  lacks-word,
-  decimal_word,
-  lacks-plain,
-  event_plain,
-  said-lines later,
-)
+said-line statement = simp (lacks-append, lacks-word, decimal_word, lacks-plain, event_plain)
+
+pub said-lines : (statements : List Statement) → list_all (λ line. lacks line_feed line) (map said statements) ≡ true
+said-lines [] = refl
+said-lines (statement ∷ later) = simp (and_from, said-line, said-lines later)
 
 -- one of two processors can ask it, wherever it stands
 pub record IsFine (statement : Statement) : Type 0 where
