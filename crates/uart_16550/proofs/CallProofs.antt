@@ -1,32 +1,23 @@
 -- No byte that was received is lost, and all are read in their order.
-use Rattle.std.proofs.Common.{◌≡◌, ℕ, Bool, true, List, [], ◌∷◌, ◌++◌, length, refl, sym, ap, ◌∙◌, append_assoc, Option}
-use Rattle.std.proofs.Common.{arith, ne_eqb, append-nil}
+use Rattle.std.proofs.Common.{◌≡◌, ℕ, Bool, true, List, [], ◌∷◌, ◌++◌, refl, sym, ap, ◌∙◌, append_assoc, arith}
+use Rattle.std.proofs.Common.{append-nil}
 use Rattle.board_prelude.proofs.Common.{nat_tests, Event, control_written, resets_hard}
-use Rattle.uart_16550.specs.declared.interrupt.Interrupt.{Interrupt}
 use Rattle.uart_16550.specs.declared.register.ReadRegister.{ReadRegister}
 use Rattle.uart_16550.specs.declared.register.WriteRegister.{WriteRegister}
-use Rattle.uart_16550.specs.declared.com1.Com1.{Com1}
 use Rattle.uart_16550.specs.declared.com1.Happening.{Happening}
 use Rattle.uart_16550.specs.declared.com1.Happening.TheVariants.{Comes, Happens}
-use Rattle.uart_16550.specs.Common.{Uart, front_of, rest_of, value_of, after_identity, after_value, with_value}
-use Rattle.uart_16550.specs.Common.{com1_after, Call, after_call, brought, front_taken, taken, is_kept, is_keeping}
-use Rattle.uart_16550.specs.Common.{after_calls, all_brought, all_taken, ReadInOrder, calls_of, Sending, sending_after}
-use Rattle.uart_16550.specs.Common.{calls_for, all_calls, after_all, bytes_come, SerialReadsInOrder}
+use Rattle.uart_16550.specs.Common.{Uart, value_of, after_value, with_value, Call, after_call, brought, front_taken}
+use Rattle.uart_16550.specs.Common.{taken, is_kept, is_keeping, after_calls, all_brought, all_taken, ReadInOrder}
+use Rattle.uart_16550.specs.Common.{calls_of, Sending, sending_after, calls_for, all_calls, after_all, bytes_come}
+use Rattle.uart_16550.specs.Common.{SerialReadsInOrder}
 use Rattle.uart_16550.specs.declared.register.ReadRegister.TheVariants as read
 use Rattle.uart_16550.specs.declared.register.WriteRegister.TheVariants as write
-
-front_and_rest : (queue : List ℕ) → front_taken queue read.Rbr (front_of queue) ++ rest_of queue ≡ queue
-front_and_rest [] = refl
-front_and_rest (byte ∷ later) = rw (ne_eqb (length (byte ∷ later)) 0 (λ is. cc)) refl
-
-identity_keeps : (told : Option Interrupt) (uart : Uart) → (after_identity told uart).queue ≡ uart.queue
-identity_keeps told uart = grind (arith, nat_tests)
 
 -- what a read takes, and what it leaves, is what was there
 pub read_in_order : (uart : Uart) (register : ReadRegister) →
     front_taken uart.queue register (value_of uart register) ++ (after_value uart register).queue ≡ uart.queue
 unfolding value_of after_value
-read_in_order uart register = grind (arith, nat_tests, front_and_rest, identity_keeps)
+read_in_order uart register = grind (arith, nat_tests)
 
 pub write_keeps : (uart : Uart) (register : WriteRegister) (byte : ℕ) → is_kept uart register byte ≡ true →
     (with_value uart register byte).queue ≡ uart.queue
@@ -50,10 +41,6 @@ calls_in_order uart (call ∷ later) kept =
 
 -- ---- events of a board
 
-event_is_calls : (resets : Bool) (event : Event) (com1 : Com1) →
-    (com1_after resets event com1).uart ≡ after_calls com1.uart (calls_of resets event)
-event_is_calls resets event com1 = grind (arith, nat_tests)
-
 event_brings_nothing : (resets : Bool) (event : Event) → all_brought (calls_of resets event) ≡ []
 event_brings_nothing resets event = grind (arith, nat_tests)
 
@@ -70,9 +57,7 @@ brought_in_turn (call ∷ first) later =
 
 happening_is_calls : (before : Sending) (happening : Happening) →
     (sending_after before happening).com1.uart ≡ after_calls before.com1.uart (calls_for before happening)
-happening_is_calls before (Comes byte) = refl
-happening_is_calls before (Happens event) =
-    event_is_calls (resets_hard before.control (control_written event)) event before.com1
+happening_is_calls before happening = grind (arith, nat_tests)
 
 run_is_calls : (before : Sending) (happenings : List Happening) →
     (after_all before happenings).com1.uart ≡ after_calls before.com1.uart (all_calls before happenings)

@@ -1,10 +1,11 @@
 -- Bytes that are written from outside the bus leave line 4 as it is.
-use Rattle.std.proofs.Common.{◌≡◌, ℕ, List, [], ◌∷◌, ◌++◌, map, refl, ◌∙◌, Result, Ok, Err, OnOk, OnErr}
+use Rattle.std.proofs.Common.{◌≡◌, ℕ, List, [], ◌∷◌, ◌++◌, map, refl, ◌∙◌, Result, Ok, Err, OnOk, OnErr, arith}
 use Rattle.std.proofs.lemmas.Result.{on_ok_weaker}
 use Rattle.board_prelude.proofs.Common.{length-map, Entry, irq_of}
 use Rattle.board_chipset.specs.Common.{Running, IsLeftBy, WriteInTurn, WriteAll, WriteClockByte}
 use Rattle.board_chipset.proofs.LoadSteps.{some_entries, some_clock_entries}
 use Rattle.uart_16550.specs.Common.{com1_irq, Serial, AreOwn, IsLeftBy as IsPortLeftBy}
+use Rattle.std.proofs.lemmas.Bool.Decides.{nat_tests}
 
 -- ---- entries that are not the port's own
 
@@ -55,11 +56,7 @@ module _ {later : List Entry → List Entry → List Entry} {Write : List Entry 
       IsPortLeftBy IsLeftBy new (later entries history)
 
   leaves : LeavesChipset → LeavesPort
-  leaves left history entries was all own = rw (← same) (record {
-    left = left history entries was.left all;
-    level_is = writing.line entries history all ∙ was.level_is;
-    own = writing.own entries history own was.own;
-  })
+  leaves left history entries was all own = grind (arith, nat_tests)
 
   pub written : {E : Type 0} (result : Result (Unit {0}) E) → OnOk result LeavesChipset → OnOk result LeavesPort
   written result = on_ok_weaker result leaves

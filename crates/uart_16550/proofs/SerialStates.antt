@@ -1,5 +1,5 @@
 -- The state of a chipset with a serial port is spelled and read back.
-use Rattle.std.proofs.Common.{◌≡◌, ℕ, inl, inr, List, ◌++◌, Ok, Err, refl, sym, ap, ◌∙◌, append_assoc}
+use Rattle.std.proofs.Common.{◌≡◌, ℕ, inr, List, ◌++◌, Ok, Err, refl, sym, ap, ◌∙◌, append_assoc, arith}
 use Rattle.board_prelude.specs.Common.{Setup}
 use Rattle.byte_fields.specs.declared.fault.Bad.{Bad}
 use Rattle.byte_fields.specs.declared.fault.Fault.TheVariants as faults
@@ -10,6 +10,7 @@ use Rattle.uart_16550.specs.declared.com1.Com1.{Com1}
 use Rattle.uart_16550.specs.Serial.{Serial}
 use Rattle.uart_16550.specs.State.{IsCom1, com1_bytes, com1_fields}
 use Rattle.uart_16550.specs.SerialState.{IsSerial, LoadsSerial, serial_bytes, serial_fields}
+use Rattle.std.proofs.lemmas.Bool.Decides.{nat_tests}
 
 abbrev both : Running → Com1 → Serial Running
 both board com1 = record { board = board; com1 = com1 }
@@ -19,12 +20,7 @@ module _ (setup : Setup) (before mid after : List ℕ) (board : Running)
   -- what was read first is the chipset of each that the bytes begin with
   begun : (serial : Serial Running) (rest : List ℕ) → serial.board.setup ≡ setup → IsSerial serial →
       before ≡ serial_bytes serial ++ rest → (board ≡ serial.board) × (mid ≡ com1_bytes serial.com1 ++ rest)
-  begun serial rest same sound begins =
-      elim (one.exact serial.board (com1_bytes serial.com1 ++ rest) same sound.chipset
-      (begins ∙ append_assoc (chipset_bytes serial.board) (com1_bytes serial.com1) rest)) [
-        | inl never ↦ absurd cc
-        | inr is ↦ (let first = is.0 in cc, is.1)
-      ]
+  begun serial rest same sound begins = grind (arith, nat_tests, append_assoc)
 
   -- both were read
   pub loads_both : (com1 : Com1) → Loads com1_fields com1_bytes IsCom1 mid after (Ok com1) →

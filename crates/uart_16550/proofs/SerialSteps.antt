@@ -1,6 +1,6 @@
 -- How the histories go on that leave a board with a serial port.
 use Rattle.std.proofs.Common.{◌≡◌, ℕ, ◌<◌, Bool, true, false, List, [], ◌∷◌, ◌++◌, refl, sym, ap, subst, ◌∙◌}
-use Rattle.std.proofs.Common.{append_assoc, lt_irrefl, None, unwrap_or}
+use Rattle.std.proofs.Common.{append_assoc, lt_irrefl, None, unwrap_or, arith}
 use Rattle.board_prelude.proofs.Common.{PortAccess, Event, Port, Line, Reply, Entry, Statement, Setup, line_set, irq_of}
 use Rattle.board_prelude.proofs.Common.{next_entry}
 use Rattle.board_spec.proofs.OrderLawProofs.{statements-append}
@@ -8,6 +8,7 @@ use Rattle.uart_16550.specs.declared.com1.Com1.{Com1}
 use Rattle.uart_16550.specs.Common.{com1_irq, com1_actor, level_of, board_event, line_steps, change_steps, com1_after}
 use Rattle.uart_16550.specs.Common.{board_steps, uart_access, SetsLine, GoesOnBy, AreAnswered, AnsweredIsLegal}
 use Rattle.uart_16550.specs.Common.{IsLeftAt, IsLeftAfter}
+use Rattle.std.proofs.lemmas.Bool.Decides.{nat_tests}
 
 -- a processor is not the port
 pub other_actor : (actor : ℕ) (event : Event) → actor < com1_actor → actor ≡ com1_actor → SetsLine event
@@ -24,18 +25,14 @@ goes_on_twice before middle after first second one two = record {
 answered_twice : (is_answer : List Entry → Event → Reply → Type 0) (before one two : List Entry) →
     AreAnswered is_answer before one → AreAnswered is_answer (one ++ before) two →
     AreAnswered is_answer before (two ++ one)
-answered_twice is_answer before one [] first second = first
-answered_twice is_answer before one (entry ∷ two) first second = (
-  rw (append_assoc two one before) second.0,
-  answered_twice is_answer before one two first second.1,
-)
+answered_twice is_answer before one [] first second = grind (arith, nat_tests, append_assoc)
+answered_twice is_answer before one (entry ∷ two) first second =
+    grind (arith, nat_tests, append_assoc, answered_twice is_answer before one two first second.1)
 
 pub answered_is_legal : AnsweredIsLegal
-answered_is_legal setup before [] legal answered = legal
-answered_is_legal setup before (entry ∷ more) legal answered = (
-  record { number = answered.0.number; answer = answered.0.answer },
-  answered_is_legal setup before more legal answered.1,
-)
+answered_is_legal setup before [] legal answered = grind (arith, nat_tests)
+answered_is_legal setup before (entry ∷ more) legal answered =
+    grind (arith, nat_tests, answered_is_legal setup before more legal answered.1)
 
 -- ---- an event that is no access at a port and no level of a line is for the board alone
 
@@ -49,15 +46,7 @@ pub record IsPlain (event : Event) : Type 0 where
 
 pub is_plain : (event : Event) → ((access : PortAccess) → event ≡ Port access → ⊥) →
     ((irq : ℕ) (on : Bool) → event ≡ Line irq on → ⊥) → IsPlain event
-is_plain (Port access) no_port no_line = absurd (no_port access refl)
-is_plain (Line irq on) no_port no_line = absurd (no_line irq on refl)
-is_plain _ no_port no_line = record {
-  access = refl;
-  after = λ resets com1. refl;
-  heard = λ com1. refl;
-  alone = λ actor resets com1. refl;
-  unset = refl;
-}
+is_plain event h2 h3 = grind (arith, nat_tests)
 
 -- ---- steps
 
