@@ -1,11 +1,11 @@
 -- The state after bytes were written to a card from outside.
 use Rattle.std.proofs.Common.{◌≡◌, ◌≢◌, ℕ, zero, suc, ◌+◌, ◌<◌, ◌≤◌, false, ◌&&◌, List, [], ◌∷◌, ◌++◌, length, take}
-use Rattle.std.proofs.Common.{drop, Option, Some, None, refl, sym, ap, ◌∙◌, arith, ◌==◌, if◌then◌else◌, slice_index}
+use Rattle.std.proofs.Common.{drop, Option, Some, None, refl, ap, ◌∙◌, arith, ◌==◌, if◌then◌else◌, slice_index}
 use Rattle.std.proofs.Common.{unwrap_or}
 use Rattle.std.proofs.lemmas.Grind.{elements}
 use Rattle.std.proofs.lemmas.Option.{slice_get_past}
-use Rattle.board_prelude.proofs.Common.{eqb-false, get_or-take, get_or-drop, nat_tests, Write, One, Card, Event, Memory}
-use Rattle.board_prelude.proofs.Common.{Bus, Entry, Setup, IsSetup, Cell, DramCell, CardCell, byte, byte_put, card_byte}
+use Rattle.board_prelude.proofs.Common.{get_or-take, get_or-drop, nat_tests, Write, One, Card, Event, Memory, Bus}
+use Rattle.board_prelude.proofs.Common.{Entry, Setup, IsSetup, Cell, DramCell, CardCell, byte, byte_put, card_byte}
 use Rattle.board_prelude.proofs.Common.{Denial}
 use Rattle.board_base.specs.declared.access.Access.{Access}
 use Rattle.pci_bars.specs.Contents.{HaveSizes, IsBaseNumber, held, IsContentsOf}
@@ -33,9 +33,7 @@ pub fitting : {setup : Setup} {state : State} → IsSound setup state → (dev b
     (count == 0) ≡ false → off + count ≤ card_size setup dev base →
     IsBaseNumber dev base × (base ≢ 6) × (off + count ≤ length (held state.stores.contents dev base))
 fitting {setup} sound dev base off count some within =
-    let more : count ≢ 0 = eqb-false count 0 some in
-    let number = numbered setup dev base sound.fits (omega (arith, more, within)) in
-    (number.0, number.1, rw (sound.contents dev base number.0) within)
+    grind (arith, nat_tests, numbered setup dev base sound.fits, sound.contents dev base)
 
 -- ---- the entries that write to a card
 
@@ -143,10 +141,5 @@ module _ {setup : Setup} {old : State} {contents : List (List ℕ)} {dev base of
 pub copied_out : {setup : Setup} {history : List Entry} {contents : List (List ℕ)} (dev base off count k : ℕ) →
     IsSetup setup → IsContentsOf setup history contents → off + count ≤ card_size setup dev base → k < count →
     slice_index (take count (drop off (held contents dev base))) k ≡ card_byte setup history dev base (off + k)
-copied_out {setup} {history} {contents} dev base off count k fits has within below =
-    let number = numbered setup dev base fits (omega (arith, within, below)) in
-    let inside : off + k < card_size setup dev base = omega (arith, within, below) in
-    get_or-take count (drop off (held contents dev base)) k 0 below
-    ∙ get_or-drop off (held contents dev base) k 0
-    ∙ stored_byte has dev base (off + k) number.0 number.1 (omega (arith, inside, has.sizes dev base number.0))
-    ∙ sym (card_within setup history dev base (off + k) number.1 inside)
+copied_out dev base off count k fits has within below =
+    grind (arith, nat_tests, numbered, get_or-take, get_or-drop, stored_byte, card_within)

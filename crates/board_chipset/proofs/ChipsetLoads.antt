@@ -1,17 +1,14 @@
 -- What was read is a chipset, and the one that was saved.
 use Rattle.std.proofs.Common.{◌≡◌, ℕ, inl, inr, false, List, [], ◌++◌, length, Result, Ok, Err, IfOk, refl, sym, ap}
 use Rattle.std.proofs.Common.{◌∙◌, append_assoc, arith, ◌+◌, ◌≤◌}
-use Rattle.board_prelude.proofs.Common.{nat_tests, w16, to_le_bytes, Setup, IsSetup, append-nil}
+use Rattle.board_prelude.proofs.Common.{nat_tests, Setup, IsSetup, append-nil}
 use Rattle.byte_fields.specs.declared.fault.Fault.{Fault}
 use Rattle.byte_fields.specs.Fields.{AreBytes, Filled}
 use Rattle.byte_fields.proofs.Formats.{ok_is, not_err}
 use Rattle.byte_fields.proofs.Numbers.{wide16, within_format}
 use Rattle.map_builder.specs.State.{IsMapped, SameMap}
-use Rattle.board_chipset.specs.declared.registers.Registers.{Registers}
 use Rattle.board_chipset.specs.Chipset.{Running, IsRunning}
-use Rattle.board_chipset.specs.Kept.{AreSound}
-use Rattle.board_chipset.specs.ChipsetState.{AreRegisters, IsChipset, bare_chipset, state_mark, state_version}
-use Rattle.board_chipset.specs.ChipsetState.{size_bytes, head_bytes, other_version_field, is_other_version}
+use Rattle.board_chipset.specs.ChipsetState.{IsChipset, bare_chipset, head_bytes, other_version_field, is_other_version}
 use Rattle.board_chipset.specs.ChipsetState.{registers_bytes, state_bytes, chipset_bytes, chipset_fields, LoadsChipset}
 use Rattle.board_chipset.specs.ChipsetState.{IsBadStateAt}
 use Rattle.board_chipset.proofs.KeptBytes.{has_bytes}
@@ -22,15 +19,9 @@ use Rattle.byte_fields.specs.declared.fault.Fault.TheVariants as faults
 
 -- ---- a chipset that can be saved is one that steps can go on from
 
-registers_sound : (setup : Setup) (registers : Registers) → AreRegisters setup.cards registers →
-    AreSound setup registers
-registers_sound setup registers are =
-    let has = has_bytes setup registers are in
-    record { bytes = has.0; kept = has.1; address = are.address.kept; flat = are.map.whole.map }
-
 pub running : (chipset : Running) → IsChipset chipset → IsRunning chipset
 running chipset is =
-    let sound = registers_sound chipset.setup chipset.state.registers is.whole.registers in
+    let kept = (has_bytes chipset.setup chipset.state.registers is.whole.registers).1 in
     grind (arith, nat_tests)
 
 -- ---- with ranges and without
@@ -103,17 +94,10 @@ one_state law saved loaded is of same bytes =
 
 -- ---- the version
 
-version_again : (rest : List ℕ) → is_other_version (state_mark ++ (to_le_bytes w16 state_version ++ rest)) ≡ false
-unfolding is_other_version other_version_field
-version_again rest =
-    rw ((within_format wide16 0 0xFFFF (omega arith)).back state_version rest (omega arith, omega arith)) refl
-
 -- a chipset is not saved in another version
 pub of_version : (chipset : Running) (rest : List ℕ) → is_other_version (chipset_bytes chipset ++ rest) ≡ false
-unfolding chipset_bytes head_bytes
-of_version chipset rest =
-    simp append_assoc
-    (version_again (size_bytes chipset.setup ++ (state_bytes chipset.setup.disk chipset.state ++ rest)))
+unfolding chipset_bytes head_bytes is_other_version other_version_field
+of_version chipset rest = grind (arith, nat_tests, append_assoc, within_format, wide16)
 
 -- ---- what is read with nothing behind it
 

@@ -58,9 +58,8 @@ module _ {setup : Setup} {state : State} (kept : IsSound setup state) where
   held_in addr width areas.Rom aligned claim = rom_within _ _ _ kept.fits.rom aligned
   held_in addr width (areas.Card dev base) aligned claim =
       let by = claim dev base refl in
-      let sized : IsSized setup by.0 =
-      memory_claim_sized _ _ _ _ _ cards_fitted.each kept.registers.kept.map.cards by.1 in
-      lies_in_base _ _ _ _ _ _ _ sized by.2 by.3 (lies_in_window _ _ _ _ _ sized kept.contents aligned)
+      let sized = memory_claim_sized _ _ _ _ _ cards_fitted.each kept.registers.kept.map.cards by.1 in
+      grind (arith, nat_tests, lies_in_window _ _ _ _ _ sized kept.contents aligned)
   held_in addr width _ aligned claim = tt
 
   pub ready : {rom : List ℕ} {access : Access} {answer : Part} → setup.rom ≡ rom →
@@ -80,10 +79,8 @@ module _ {setup : Setup} {state : State} (kept : IsSound setup state) where
   stored_target port width (Device dev) aligned is device config = absurd (device dev refl)
   stored_target port width (Config reg) aligned is device config = absurd (config reg refl)
   stored_target port width (Card dev base off) aligned is device config =
-      let window : Window = is.1.0 in
-      let sized : IsSized setup window =
-      io_claim_sized _ _ _ _ _ cards_fitted.each kept.registers.kept.map.cards is.1.1 in
-      rw (← is.1.2, ← is.1.3, ← is.1.4) (lies_in_window _ _ _ _ _ sized kept.contents aligned)
+      let sized = io_claim_sized _ _ _ _ _ cards_fitted.each kept.registers.kept.map.cards is.1.1 in
+      grind (arith, nat_tests, lies_in_window _ _ _ _ _ sized kept.contents aligned)
   stored_target port width Abort aligned is device config = tt
   stored_target port width _ aligned is device config = absurd is
 

@@ -44,26 +44,22 @@ InTurn place from bytes (entry ∷ earlier) =
     × InTurn place from bytes earlier
 
 module _ (place : Cell → Option ℕ) (from : ℕ) (bytes : List ℕ) where
-  stored : (history : List Entry) (cell : Cell) (entries : List Entry) → InTurn place from bytes entries →
-      stored_of (entries ++ history) cell
-      ≡ unwrap_or (all_put (place cell) from bytes (length entries)) (stored_of history cell)
-  unfolding stored_of
-  stored history cell [] each = grind (arith, nat_tests)
-  stored history cell (entry ∷ earlier) each =
-      rw (each.0.puts cell, stored history cell earlier each.1) (grind (arith, nat_tests))
-
-  others_stay : {setup : Setup} {history : List Entry} {registers : Registers} {devices : DevicesValue} →
+  after_all : {setup : Setup} {history : List Entry} {registers : Registers} {devices : DevicesValue} →
       HasRegisters setup history registers → AreDevicesOf setup history devices →
       (entries : List Entry) → InTurn place from bytes entries →
       HasRegisters setup (entries ++ history) registers × AreDevicesOf setup (entries ++ history) devices
-  others_stay has are [] each = (has, are)
-  others_stay {setup} {history} has are (entry ∷ earlier) each =
-      let before = others_stay has are earlier each.1 in
+      × ((cell : Cell) → stored_of (entries ++ history) cell
+      ≡ unwrap_or (all_put (place cell) from bytes (length entries)) (stored_of history cell))
+  unfolding stored_of
+  after_all has are [] each = (has, are, λ cell. grind (arith, nat_tests))
+  after_all {setup} {history} has are (entry ∷ earlier) each =
+      let before = after_all has are earlier each.1 in
       let none = each.0.writes setup (earlier ++ history) in
       let after = quiet {entry = entry} none before.0 in (
         after,
         leaves_devices _ _ _ _ before.1 (record { passes = each.0.passes; soft = soft none })
             (sym after.kept.south.routes ∙ before.0.kept.south.routes),
+        λ cell. rw (each.0.puts cell, before.2 cell) (grind (arith, nat_tests)),
       )
 
   -- the state after all of them
@@ -73,13 +69,13 @@ module _ (place : Cell → Option ℕ) (from : ℕ) (bytes : List ℕ) where
       HavePut (λ cell. all_put (place cell) from bytes (length bytes)) old.stores new →
       IsStateOf setup (entries ++ history) (record old { stores = new })
   state_in_turn {history = history} kept entries all each are =
-      let others = others_stay kept.registers kept.devices entries each in
+      let after = after_all kept.registers kept.devices entries each in
       assumption (
-        others.0,
-        others.1,
+        after.0,
+        after.1,
         stores_after {later = entries ++ history}
             {put = λ cell. all_put (place cell) from bytes (length bytes)} kept.stores
-            (λ cell. rw (← all) (stored history cell entries each)) are,
+            (λ cell. rw (← all) (after.2 cell)) are,
       )
 
 -- ---- the entries that write to the DRAM
@@ -161,10 +157,7 @@ clock_step {setup} {history} {port = port} {byte} {entry} none is registers stor
     let after = quiet {entry = entry} silent registers in (
       after,
       stores_stay stores (λ cell. rw (is.event) (grind (arith, nat_tests, is.reached))),
-      record {
-        reaches = record { event = is.event; device = is.reached; soft = soft silent };
-        routes_are = after.kept.south.routes;
-      },
+      grind (arith, nat_tests, soft silent),
     )
 
 -- the state after a byte of the clock was written

@@ -1,19 +1,17 @@
 -- What an access at a port reaches, what it writes, and the state after it, and the change of the map that it makes.
 use Rattle.std.proofs.Common.{◌≡◌, ℕ, ◌%◌, ◌^◌, Bool, true, false, ◌&&◌, List, [], ◌∷◌, drop, Option, Some, None, refl}
-use Rattle.std.proofs.Common.{arith, ◌==◌, ◌+◌, ◌≤◌, is_some, ap, ◌∙◌, if◌then◌else◌, ◌≢◌, sym}
+use Rattle.std.proofs.Common.{arith, ◌==◌, ◌+◌, ◌≤◌, is_some, ap, if◌then◌else◌, ◌≢◌, sym}
 use Rattle.board_prelude.proofs.Common.{cond_both, nat_tests, Width, Reg, Dev, Keyboard, Ata, Target, Card, Device}
 use Rattle.board_prelude.proofs.Common.{Config, Abort, Denial, bytes_of, is_port_of, device_at, Setup}
 use Rattle.board_prelude.proofs.Common.{config_address_port, reset_control_port, is_config_port, config_register, Bytes}
 use Rattle.board_prelude.proofs.Common.{Window, io_claim, Decoded, unselected, device_port, port_target_of, PortAccess}
 use Rattle.board_prelude.proofs.Common.{Port, Entry, MapChange, Store, config_address, byte_of, is_hard_reset, Cell}
 use Rattle.board_prelude.proofs.Common.{entry_put, byte_put, Event, Reset as HardReset, reset_control, is_hard_value}
-use Rattle.board_prelude.proofs.Common.{map_change_of, port_put, device_in, device_reached, device_value, port_value}
-use Rattle.board_prelude.proofs.Common.{Bus}
+use Rattle.board_prelude.proofs.Common.{map_change_of, device_in, device_reached, device_value, port_value, Bus}
 use Rattle.board_base.specs.declared.target.Dev.TheVariants.{Confadd as AddressPort, Reset, Clock}
 use Rattle.device_spec.specs.PortTable.{first_with, port_devices}
 use Rattle.board_devices.specs.Events.{is_chip_port}
-use Rattle.std.proofs.lemmas.Option.{cond_some}
-use Rattle.cfg_ports.proofs.AddressLemmas.{kept_address-low_bits, within_space}
+use Rattle.cfg_ports.proofs.AddressLemmas.{kept_address-low_bits}
 use Rattle.board_chipset.specs.declared.state.State.{State}
 use Rattle.board_chipset.specs.Ports.{reached, Reaching, IsEntryOf, Writes}
 use Rattle.addr_decode.specs.declared.found.ConfigRegister.{ConfigRegister}
@@ -147,10 +145,8 @@ reached_in {state} {access} reaching =
 
 pub register_within : {state : State} {access : PortAccess} {reg : Reg} → Reaching state access (Config reg) →
     reg.off + bytes_of access.width ≤ 0x100
-register_within {access = access} {reg} reaching =
-    let at = reached_in reaching in
-    rw (← (cond_some _ _ reg at.1).1) (within_space _ access.port _ (access.port % 4) access.width
-    (kept_address-low_bits _ reaching.kept.sound.registers.address) refl refl reaching.bus.aligned)
+register_within reaching =
+    grind (arith, nat_tests, reached_in reaching, kept_address-low_bits _ reaching.kept.sound.registers.address)
 
 pub entry_reached : {setup : Setup} {history : List Entry} {access : PortAccess} {target shown : Target}
     {entry : Entry} → target ≡ shown → IsEntryOf setup history access target entry → Reached setup history access shown
@@ -184,15 +180,10 @@ module _ {setup : Setup} {history : List Entry} {access : PortAccess} {target : 
       PassesBy entry.event (device_reached entry.reply)
   passes is none = rw (is.event, is.reply) none
 
-  puts : IsEntryOf setup history access target entry →
-      (cell : Cell) → entry_put entry.event entry.reply cell ≡ port_put access target cell
-  puts is cell = rw (is.event, is.reply) refl
-
   pub puts_none : IsEntryOf setup history access target entry →
       ((cell : Cell) → byte_put target access.port access.width access.value cell ≡ None) →
       (cell : Cell) → entry_put entry.event entry.reply cell ≡ None
-  puts_none is none cell =
-      puts is cell ∙ cond_both access.write _ None (λ (byte : Option ℕ). byte ≡ None) (λ _. none cell) (λ _. refl)
+  puts_none is none cell = rw (is.event, is.reply) (grind (arith, nat_tests, none cell))
 
   -- a read that reaches no chip changes nothing
   pub read_stays : {state : State} → access.write ≡ false → is_chip (device_in target) ≡ false →
@@ -200,7 +191,7 @@ module _ {setup : Setup} {history : List Entry} {access : PortAccess} {target : 
       IsStateOf setup (entry ∷ history) state
   read_stays reads none kept is =
       state_stays kept (rw (is.event) (grind (arith, nat_tests))) (passes is none)
-      (λ cell. puts is cell ∙ rw reads refl)
+      (λ cell. rw (is.event, is.reply, reads) refl)
 
   -- a write behind a base of a card, or to nobody
   pub write_stored : {old : State} {stores : Stores} → access.write ≡ true → IsNoDevice target → IsNoRegister target →
@@ -209,7 +200,7 @@ module _ {setup : Setup} {history : List Entry} {access : PortAccess} {target : 
   write_stored writes device config put kept is =
       let at : Reached setup history access target = entry_reached refl is in
       state_put kept (rw (is.event) (writes_beside setup history access (grind (arith, nat_tests))))
-      (passes is (no_chip target device)) (λ cell. puts is cell ∙ rw writes refl) put
+      (passes is (no_chip target device)) (λ cell. rw (is.event, is.reply, writes) refl) put
 
   -- a write of registers that moves no route
   pub registers_move : {old : State} {registers : Registers} → IsStateOf setup history old →

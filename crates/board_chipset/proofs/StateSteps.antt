@@ -47,18 +47,11 @@ follows {setup} {history} {entry} {old} {new} {written} {store = store} writes h
     flat =
     let change : register_change setup history entry.event ≡ change_by old.control written store =
     rw (has.control) (change_is writes) in
-    record {
-      address = rw (writes.control_is, writes.address_is, ← has.control, ← has.address) address;
-      control = rw (writes.control_is, ← has.control) control;
-      kept = subst
-          (λ (c : Option MapChange). AreKeptOf setup (λ reg. byte_with setup c reg (byte_of setup history reg))
-          new.map.regs new.south)
-          (sym change) kept;
-      version = version ∙ ap (version_by setup (change_by old.control written store)) has.version
-          ∙ modulo_after setup history entry _ change;
-      changed = changed_after setup history entry _ change old.map.changed new.map.changed has.changed windows;
-      flat = flat;
-    }
+    let moved = subst
+    (λ (c : Option MapChange). AreKeptOf setup (λ reg. byte_with setup c reg (byte_of setup history reg))
+    new.map.regs new.south) (sym change) kept in
+    let changed = changed_after setup history entry _ change old.map.changed new.map.changed has.changed windows in
+    grind (arith, nat_tests, modulo_after setup history entry _ change)
 
 -- an event that is no access at a port writes no register
 pub writes_none : (setup : Setup) (history : List Entry) (event : Event) →

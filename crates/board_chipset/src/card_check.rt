@@ -50,6 +50,7 @@ fn is_card(card: &CardSpec) -> bool
 }
 
 /// Whether the bases of a card are in range.
+#[tactic(auto, using(crate::proofs::CardChecks::bases_at, std::proofs::lemmas::Bool::Decides::nat_tests))]
 fn are_bases(bases: &[BaseSpec]) -> bool
     ensures bases { IsTrue result ↔ All IsBase (map base_of bases.now) }
 {

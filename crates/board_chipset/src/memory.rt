@@ -44,7 +44,7 @@ pub fn access(state: &mut State, rom: &[u8], access: &Access) -> BusReply
 }
 
 /// Does an access to memory of one bus cycle where what it reaches is known, and what denies it.
-#[tactic(auto, using(crate::proofs::StateSteps::sound_put, crate::proofs::MemorySteps::writes_when, board_stores::proofs::MemoryLemmas::part_answered), unfolding(board_spec::specs::Answer::memory_answer, board_spec::specs::Answer::part_answer))]
+#[tactic(auto, using(crate::proofs::StateSteps::sound_put, crate::proofs::MemorySteps::writes_when, crate::proofs::MemorySteps::ready_in, board_stores::proofs::MemoryLemmas::part_answered), unfolding(board_spec::specs::Answer::memory_answer, board_spec::specs::Answer::part_answer))]
 #[inline(always)]
 fn answered(state: &mut State, rom: &[u8], access: &Access, answer: &Part) -> BusReply
     requires bus { IsBusAccess (is_write access.now.kind) access.now.addr access.now.width access.now.value }

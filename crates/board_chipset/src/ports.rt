@@ -173,6 +173,7 @@ fn stored_value(state: &mut State, target: Target, access: &PortAccess) -> Optio
 }
 
 /// The value of a read at a port that `target` answers. The read can change a device.
+#[tactic(auto, using(crate::proofs::HeldTargets::stored_in, std::proofs::lemmas::Bool::Decides::nat_tests))]
 fn read(state: &mut State, target: Target, access: &PortAccess) -> u32
     requires reaching { Reaching state.old access.now target }
     requires device { (dev : Dev) → target ≡ Device dev → ⊥ }
@@ -211,7 +212,7 @@ fn read_device(state: &mut State, dev: Dev, access: &PortAccess) -> u32
 }
 
 /// Does a write at a port that `target` answers.
-#[tactic(auto, using(crate::proofs::StateSteps::sound_put))]
+#[tactic(auto, using(crate::proofs::StateSteps::sound_put, crate::proofs::HeldTargets::stored_in, std::proofs::lemmas::Bool::Decides::nat_tests))]
 fn write(state: &mut State, target: Target, access: &PortAccess)
     requires reaching { Reaching state.old access.now target }
     requires device { (dev : Dev) → target ≡ Device dev → ⊥ }

@@ -11,9 +11,6 @@ returns-then-is_write-clause-board c = λ setup history entry kept image event r
     state_put kept (writes_none setup history entry.event (λ port is. cc)) (rw event tt)
     (λ cell. rw (event, replied) refl) c.write.ensures.put
 
-pub read-requires : goal.read-requires
-read-requires c = record { ready = ready_in c.requires.kept c.requires.bus c.requires.decoded }
-
 pub returns-clause-board : goal.returns-clause-board
 returns-clause-board c = λ setup history entry kept image event replied.
     let reads = writes_when c.is_write.ensures.write c.if-is_write.false in
