@@ -1,6 +1,6 @@
 -- Stores of one byte to the registers of the host bridge.
-use Rattle.std.proofs.Common.{◌≡◌, ◌≢◌, ℕ, ◌+◌, ◌<◌, ◌⊎◌, List, [], length, set, None, ◌∙◌, refl, sym, ap, arith, inl}
-use Rattle.std.proofs.Common.{inr, get_or-set_other, get_or-set_same}
+use Rattle.std.proofs.Common.{◌≡◌, ◌≢◌, ℕ, ◌+◌, ◌<◌, ◌⊎◌, List, [], length, set, None, refl, arith, inl, inr}
+use Rattle.std.proofs.Common.{get_or-set_other, get_or-set_same}
 use Rattle.board_prelude.proofs.Common.{cases_lt, ne_eqb, One, Store, Setup, merged, reset_byte, writable_bits}
 use Rattle.board_prelude.proofs.Common.{changed_byte, Bytes, bridge, fdhc, merged-all, merged-none}
 use Rattle.board_prelude.proofs.Common.{changed_byte-one_same, changed_byte-one_other}
@@ -65,30 +65,17 @@ module _ (setup : Setup) (bytes : Bytes) (drb : List ℕ) where
   pub stored_row : (hole row off written : ℕ) → 0x60 + row ≡ off → length drb ≡ 8 → row < 8 → written < 256 →
       IsPmcOf bytes (record { drb = drb; fdhc = hole }) →
       IsPmcOf (after_store setup bytes off written) (record { drb = set drb row written; fdhc = hole })
-  stored_row hole row off written is eight within below is_pmc = rw (← is) (record {
-    rows = rows_after_store row written eight within below is_pmc.rows;
-    hole = is_pmc.hole ∙ sym (elsewhere setup bytes (0x60 + row) written 0x68 (omega arith));
-    fixed = fixed_stay setup bytes (0x60 + row) written below is_pmc.fixed;
-  })
+  stored_row hole row off written is eight within below is_pmc =
+      grind (arith, nat_tests, rows_after_store, elsewhere, fixed_stay)
 
   pub stored_hole : (old written : ℕ) → written < 256 → IsPmcOf bytes (record { drb = drb; fdhc = old }) →
       IsPmcOf (after_store setup bytes fdhc.off written)
       (record { drb = drb; fdhc = merged (writable_bits setup fdhc) old written })
-  stored_hole old written below is_pmc = record {
-    rows = λ at within.
-        is_pmc.rows at within ∙ sym (elsewhere setup bytes fdhc.off written (0x60 + at) (omega arith));
-    hole = ap (λ byte. merged (writable_bits setup fdhc) byte written) is_pmc.hole
-        ∙ sym (there setup bytes fdhc.off written (writable_bits setup fdhc) below (omega arith) refl);
-    fixed = fixed_stay setup bytes fdhc.off written below is_pmc.fixed;
-  }
+  stored_hole old written below is_pmc = grind (arith, nat_tests, there, elsewhere, fixed_stay)
 
 pub stored_nowhere : (setup : Setup) (bytes : Bytes) (pmc : PmcBytes) (off written : ℕ) → written < 256 →
     ((off < 0x60) ⊎ (0x68 < off)) → IsPmcOf bytes pmc → IsPmcOf (after_store setup bytes off written) pmc
-stored_nowhere setup bytes pmc off written below outside is_pmc = record {
-  rows = λ at low. is_pmc.rows at low ∙ sym (elsewhere setup bytes off written (0x60 + at) (omega arith));
-  hole = is_pmc.hole ∙ sym (elsewhere setup bytes off written 0x68 (omega arith));
-  fixed = fixed_stay setup bytes off written below is_pmc.fixed;
-}
+stored_nowhere setup bytes pmc off written below outside is_pmc = grind (arith, nat_tests, elsewhere, fixed_stay)
 
 -- ---- the fixed registers are those of any setup
 
