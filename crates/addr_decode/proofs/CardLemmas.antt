@@ -1,10 +1,10 @@
 -- The cards in a list by their device numbers, and the bytes of their registers.
-use Rattle.board_prelude.proofs.Common.{nat_tests, position, cases_eq, cases_lt, eq-eqb, All-head, All-tail, eqb-true}
-use Rattle.board_prelude.proofs.Common.{true≢false, get_or-map, length-map, take_all, take_more, Setup, FittedCard}
-use Rattle.board_prelude.proofs.Common.{IsCard, IsCardList, Rises, card_at, Reg, reset_byte, Bytes, card_register}
+use Rattle.board_prelude.proofs.Common.{get_or-set_at, nat_tests, position, All-head, All-tail, get_or-map, length-map}
+use Rattle.board_prelude.proofs.Common.{take_all, take_more, Setup, FittedCard, IsCard, IsCardList, Rises, card_at, Reg}
+use Rattle.board_prelude.proofs.Common.{reset_byte, Bytes, card_register}
 use Rattle.std.proofs.Common.{◌≡◌, ◌≢◌, ℕ, zero, suc, ◌+◌, ◌<◌, ◌≤◌, ◌⊎◌, inl, inr, false, List, [], ◌∷◌, ◌++◌, take}
-use Rattle.std.proofs.Common.{length, get_or, set, Some, None, refl, sym, ◌∙◌, ap, subst, arith, get_or-set_same}
-use Rattle.std.proofs.Common.{get_or-set_other, length-set, ◌==◌, All, is_some, find}
+use Rattle.std.proofs.Common.{length, get_or, set, Some, None, refl, sym, ◌∙◌, ap, subst, arith, get_or-set_other}
+use Rattle.std.proofs.Common.{length-set, ◌==◌, All, is_some, find}
 use Rattle.std.specs.List.{position_from}
 use Rattle.std.proofs.Math.Seq.{map-set_same}
 use Rattle.std.proofs.lemmas.List.Elements.{All-map}
@@ -130,27 +130,21 @@ module _ {setup : Setup} {Is : Bytes → CardBytes → Type 0} (own : IsOfCard s
         (Is bytes old → Is (stored setup bytes (card_register old.card.dev off) written) new) →
         (setup.cards ≡ cards_of (set cards i new))
         × All (Is (stored setup bytes (card_register dev off) written)) (set cards i new)
-    card_written i old new rises at_i is_old same_card step =
-        let found = position-Some (λ card. card.card.dev == dev) cards i old at_i in
-        let dev_is : old.card.dev ≡ dev = ap (λ (card : CardBytes). card.card.dev) is_old ∙ eqb-true _ _ found.1 in (
-          are.0 ∙ sym (card_kept cards i old new is_old same_card),
-          λ k d within.
-              let in_list : k < length cards = omega (arith, length-set {A = CardBytes}) in
-              elim (cases_eq k i) [
-                | inl at ↦
-                    rw (at, get_or-set_same cards i new d found.0, ← dev_is)
-                    (step (rw is_old (are.1 i old found.0)))
-                | inr apart ↦
-                    let first = position-Some (λ card. card.card.dev == dev) cards i d at_i in
-                    rw (get_or-set_other cards i k new d apart)
-                    (card_beside own bytes (card_register dev off) written (get_or cards k d)
-                    (inl (λ same. elim (cases_lt k i) [
-                      | inl before ↦ true≢false (sym (eq-eqb _ _ (sym same)) ∙ first.2 k before)
-                      | inr after ↦
-                          omega (arith, rises_apart cards rises i k d (omega arith) in_list, eqb-true _ _ first.1)
-                    ])) (are.1 k d in_list))
-              ],
-        )
+    card_written i old new rises at_i is_old same_card step = (
+      are.0 ∙ sym (card_kept cards i old new is_old same_card),
+      λ k d within.
+          let in_list : k < length cards = omega (arith, length-set {A = CardBytes}) in
+          let found = position-Some (λ card. card.card.dev == dev) cards i old at_i in
+          let first = position-Some (λ card. card.card.dev == dev) cards i d at_i in
+          let here = get_or-set_at cards i k new d in
+          let other = get_or-set_other cards i k new d in
+          let before = first.2 k in
+          let after = rises_apart cards rises i k d in
+          let beside = card_beside own bytes (card_register dev off) written (get_or cards k d) in
+          let own_k = are.1 k d in_list in
+          let own_i = are.1 i old found.0 in
+          grind (arith, nat_tests, found.0, found.1, first.1),
+    )
 
     -- where no card has the device number no card changes
     pub no_card_written : position (λ card. card.card.dev == dev) cards ≡ None →
@@ -158,11 +152,11 @@ module _ {setup : Setup} {Is : Bytes → CardBytes → Type 0} (own : IsOfCard s
     no_card_written none = (
       are.0,
       λ k d within.
-          card_beside own bytes (card_register dev off) written (get_or cards k d) (inl (λ same.
           let fitted = own.fitted bytes (get_or cards k d) (are.1 k d within) in
           let none_fitted = fitted_is setup cards dev are.0 in
-          true≢false (sym (ap is_some (rw (← same) at fitted)) ∙ (sym none_fitted ∙ ap is_some none))))
-          (are.1 k d within),
+          let beside = card_beside own bytes (card_register dev off) written (get_or cards k d) in
+          let own_k = are.1 k d within in
+          grind (arith, nat_tests),
     )
 
 -- ---- after a reset

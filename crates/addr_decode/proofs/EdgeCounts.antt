@@ -1,6 +1,6 @@
 -- How many edges a board has, and how many of them lie above an address.
-use Rattle.std.proofs.Common.{ℕ, ◌+◌, ◌*◌, ◌<◌, ◌≤◌, inl, inr, List, [], ◌∷◌, length, Option, Some, None, arith, nat_lt}
-use Rattle.std.proofs.Common.{All, filter, flat_map, IfSome, not, refl}
+use Rattle.std.proofs.Common.{ℕ, ◌+◌, ◌*◌, ◌<◌, ◌≤◌, List, [], ◌∷◌, length, Option, Some, None, arith, nat_lt, All}
+use Rattle.std.proofs.Common.{filter, flat_map, IfSome, not, refl}
 use Rattle.std.proofs.lemmas.List.Filters.{length-filter_both}
 use Rattle.board_prelude.proofs.Common.{Contains, enumerate_from, nat_tests, length-append, All-head, All-tail, Base}
 use Rattle.board_prelude.proofs.Common.{FittedCard, Setup, IsCard, IsCardList, Bytes, memory_window, rom_window}
@@ -61,10 +61,9 @@ one_less : (addr edge : ℕ) (edges : List ℕ) → addr < edge → Contains edg
     length (filter (nat_lt edge) edges) < length (filter (nat_lt addr) edges)
 one_less addr edge [] above (k, within, is) = absurd (omega arith)
 one_less addr edge (first ∷ later) above has =
-    elim (contains_cases first edge later has) [
-      | inl here ↦ let more = no_more addr edge later (omega arith) in grind (arith, nat_tests)
-      | inr there ↦ let less = one_less addr edge later above there in grind (arith, nat_tests)
-    ]
+    let more = no_more addr edge later (omega arith) in
+    let less = one_less addr edge later above in
+    grind (arith, nat_tests, contains_cases first edge later has)
 
 -- fewer edges lie above the next edge
 pub fewer_after :

@@ -1,6 +1,6 @@
 -- The names of the registers: exactly the map bytes have one, and each stands for one register.
-use Rattle.std.proofs.Common.{◌≡◌, ◌≢◌, ℕ, ◌+◌, ◌<◌, ◌≤◌, Bool, true, false, ◌&&◌, ◌||◌, Option, Some, None, List, []}
-use Rattle.std.proofs.Common.{◌∷◌, ◌++◌, length, get_or, inl, inr, refl, sym, ◌∙◌, arith, take, lit<, ◌==◌, map, find}
+use Rattle.std.proofs.Common.{◌≡◌, ◌≢◌, ℕ, ◌+◌, ◌<◌, ◌≤◌, true, false, ◌&&◌, ◌||◌, Option, Some, None, List, [], ◌∷◌}
+use Rattle.std.proofs.Common.{◌++◌, length, get_or, inl, inr, refl, sym, ◌∙◌, arith, take, lit<, ◌==◌, map, find}
 use Rattle.std.proofs.Common.{is_some, option_map, option_and_then, rules, IfSome}
 use Rattle.board_prelude.proofs.Common.{position, AllByRecursion, list_any, and-true, and-false, cases_Bool, ne_eqb}
 use Rattle.board_prelude.proofs.Common.{nat_tests, Width, One, Reg, bytes_of, MapChange, Store, Reset, FittedCard}
@@ -24,10 +24,6 @@ use Rattle.addr_decode.proofs.SingleLemmas.{number_stands}
 
 no_rom : (card : Option FittedCard) → is_some card ≡ false → has_rom card ≡ false
 no_rom card none = grind arith
-
--- the offset of that of the ISA bridge
-abbrev pub is_isa_byte : ℕ → Bool
-is_isa_byte off = off == 0x4E
 
 -- PAM, the boundaries of rows and the registers of one byte are map bytes, and so are those of a fitted card
 pub block_is_byte : (setup : Setup) (off : ℕ) → 0x59 ≤ off → off ≤ 0x67 → is_map_byte setup (bridge off) ≡ true
@@ -64,7 +60,7 @@ is_named f name = grind arith
 pub bridge_named : (off : ℕ) → is_some (in_bridge off) ≡ is_host_byte off
 bridge_named off = grind (arith, nat_tests)
 
-pub isa_named : (off : ℕ) → is_some (in_isa_bridge off) ≡ is_isa_byte off
+pub isa_named : (off : ℕ) → is_some (in_isa_bridge off) ≡ (off == 0x4E)
 isa_named off = elim (cases_Bool (off == 0x4E)) [ inl here ↦ rw here refl | inr beside ↦ rw beside refl ]
 
 device_named : (fitted : Option FittedCard) (dev off : ℕ) →
@@ -96,10 +92,7 @@ abbrev AreNamed : Option MapRegister → Reg → Type 0
 AreNamed name reg = IfSome name (λ register. IsNameAt register reg)
 
 single_names : (reg : Reg) (number : Option ℕ) → single_number reg ≡ number → AreNamed (option_map Single number) reg
-single_names reg None told = tt
-single_names reg (Some number) told =
-    let there = number_stands reg number told in
-    record { place = there.1; number = there.0 }
+single_names reg number told = grind (arith, number_stands reg)
 
 bridge_names : (off : ℕ) → AreNamed (in_bridge off) (bridge off)
 bridge_names off = grind (arith, nat_tests, single_names (bridge off) _ refl)
@@ -174,8 +167,7 @@ one_more_named cards reg k names names' name below so_far is pushed =
 -- ---- they are numbered
 
 name_numbered : (name : Option MapRegister) (reg : Reg) → AreNamed name reg → IsNumberedName name
-name_numbered None reg is = tt
-name_numbered (Some register) reg is = is.number
+name_numbered name reg is = grind arith
 
 all_numbered : (cards : List FittedCard) (reg : Reg) (ks : List ℕ) →
     AllByRecursion IsNumberedName (map (λ k. map_register cards (reg_after reg k)) ks)

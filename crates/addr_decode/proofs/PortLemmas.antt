@@ -1,6 +1,6 @@
 -- The ports in the order of the code are those of the definitions.
-use Rattle.std.proofs.Common.{◌≡◌, ℕ, ◌/◌, Bool, false, Option, Some, refl, sym, arith, is_some, if◌then◌else◌, ◌≤◌}
-use Rattle.std.proofs.Common.{◌==◌, ◌∙◌, List}
+use Rattle.std.proofs.Common.{◌≡◌, ℕ, ◌/◌, Bool, false, Option, Some, sym, arith, is_some, if◌then◌else◌, ◌≤◌, ◌==◌}
+use Rattle.std.proofs.Common.{◌∙◌, List}
 use Rattle.board_prelude.proofs.Common.{nat_tests, ne_eqb, Width, Dev, Decoded, nobody, NoRegister, bytes_of, device_at}
 use Rattle.board_prelude.proofs.Common.{Setup, card_at, is_enabled, is_config_port, config_register, Bytes}
 use Rattle.board_prelude.proofs.Common.{ide_command as command_register, idetim_high, xbcs as select_register}
@@ -30,13 +30,9 @@ pub onboard_target : (setup : Setup) (bytes : Bytes) (address : ℕ) (disk : Boo
     after_onboard setup bytes port response ≡ port_target_of setup bytes address disk port width
 unfolding port_target_of
 onboard_target setup bytes address disk port width xbcs ide_command idetim response not_config same_xbcs is_ide is =
-    rw (
-      ← not_config,
-      is,
-      same_xbcs,
-      is_ide.command,
-      found_in_order setup bytes idetim port is_ide.timing (device_at port (bytes_of width)) disk,
-    ) refl
+    let found = found_in_order setup bytes idetim port is_ide.timing (device_at port (bytes_of width)) disk in
+    let command = is_ide.command in
+    grind (arith, nat_tests)
 
 -- a selected register is reached where its function exists
 pub selected_target :

@@ -1,8 +1,6 @@
 -- The registers of one byte each: their numbers, and that each stands beside all others.
 use Rattle.std.proofs.Common.{◌≡◌, ◌≢◌, ℕ, ◌<◌, ◌≤◌, Bool, true, not, ◌&&◌, Some, None, List, ◌∙◌, ap, arith, ◌==◌}
 use Rattle.std.proofs.Common.{nat_lt, rules, map, slice_index}
-use Rattle.std.proofs.lemmas.Iterator.Adapters.{position_from-zero}
-use Rattle.std.proofs.lemmas.List.Quantifiers.{position-Some}
 use Rattle.board_prelude.proofs.Common.{nat_tests, each_below, Reg, is_within, bridge, card_register, fdhc, Bytes}
 use Rattle.board_prelude.proofs.Common.{get_or-map}
 use Rattle.addr_decode.specs.Singles.{singles, single, single_count, single_number, AreSinglesOf}
@@ -13,7 +11,7 @@ use Rattle.addr_decode.proofs.StoreLemmas.{Differs, same_or_apart}
 -- a register that has a number stands there
 pub number_stands : (reg : Reg) (number : ℕ) → single_number reg ≡ Some number →
     (number < single_count) × (single number ≡ reg)
-number_stands reg number is = grind (arith, nat_tests, position-Some, position_from-zero)
+number_stands reg number is = grind (arith, nat_tests)
 
 -- their bytes in a list
 pub singles_are : (bytes : Bytes) (held : List ℕ) → held ≡ map bytes singles → AreSinglesOf bytes held
