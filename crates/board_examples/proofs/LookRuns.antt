@@ -1,19 +1,17 @@
 -- The spans that the worked examples look at, the flat maps, the histories with looks, and both orders of the script
 -- for two processors.
-use Rattle.std.proofs.Common.{ℕ, ◌≡◌, ◌+◌, ◌-◌, ◌*◌, ◌/◌, ◌^◌, ◌<◌, ◌≤◌, ◌≢◌, Bool, true, false, ◌∷◌, [], nat_lt, refl}
-use Rattle.std.proofs.Common.{List, flat_map, arith, eq-eqb, ne_eqb, inr, sym, ◌∙◌, suc, ◌&&◌, not, if◌then◌else◌, map}
-use Rattle.std.proofs.Common.{replicate, All, rules, inl, drop}
-use Rattle.std.proofs.Math.Nat.{div-eq_of_lt-le}
-use Rattle.board_prelude.proofs.Common.{nat_tests, div-lt_iff_lt-mul, Kind, is_within, Setup, Bytes, Area, Window}
-use Rattle.board_prelude.proofs.Common.{is_covered, is_rom_selected, is_smram_range, row_of, area_of, memory_claim}
-use Rattle.board_prelude.proofs.Common.{IsSpan, address_count, top_of, xbcs, first_of, card_area, option_map}
-use Rattle.board_prelude.proofs.Common.{memory_windows, is_enabled_for, Fetch, Read, Write, bridge, pam, is_shadowed}
-use Rattle.board_prelude.proofs.Common.{is_smram_open, fdhc, drb, MapRange, IsRight, NeighboursDiffer, byte_of}
-use Rattle.board_prelude.proofs.Common.{reset_byte, writable_bits, host_bridge, isa_bridge, config_address}
-use Rattle.board_prelude.proofs.Common.{reset_control, card_function, denial_of, memory_shut, rom_unselected}
-use Rattle.board_prelude.proofs.Common.{port_target_of, stored_of, port_answer, memory_answer, map_change_of}
-use Rattle.board_prelude.proofs.Common.{map_writes_of, ide_function, io_claim, io_shut, events_by, statement_of}
-use Rattle.board_prelude.proofs.Common.{AllByRecursion}
+use Rattle.std.proofs.Common.{ℕ, ◌≡◌, ◌+◌, ◌-◌, ◌/◌, ◌<◌, ◌≤◌, ◌≢◌, Bool, true, false, ◌∷◌, [], nat_lt, refl, List}
+use Rattle.std.proofs.Common.{arith, inr, ◌∙◌, suc, ◌&&◌, not, if◌then◌else◌, map, replicate, All, rules, inl, drop}
+use Rattle.std.proofs.Common.{flat_map}
+use Rattle.board_prelude.proofs.Common.{nat_tests, Kind, is_within, Setup, Bytes, Area, is_rom_selected, is_smram_range}
+use Rattle.board_prelude.proofs.Common.{row_of, area_of, memory_claim, IsSpan, address_count, xbcs, Fetch, Read, Write}
+use Rattle.board_prelude.proofs.Common.{bridge, pam, is_shadowed, is_smram_open, fdhc, drb, MapRange, IsRight}
+use Rattle.board_prelude.proofs.Common.{NeighboursDiffer, byte_of, reset_byte, writable_bits, host_bridge, isa_bridge}
+use Rattle.board_prelude.proofs.Common.{config_address, reset_control, card_function, denial_of, memory_shut}
+use Rattle.board_prelude.proofs.Common.{rom_unselected, port_target_of, stored_of, port_answer, memory_answer}
+use Rattle.board_prelude.proofs.Common.{map_change_of, map_writes_of, ide_function, io_claim, io_shut, events_by}
+use Rattle.board_prelude.proofs.Common.{statement_of, AllByRecursion, top_of, first_of, card_area, option_map, Window}
+use Rattle.board_prelude.proofs.Common.{is_covered, memory_windows, is_enabled_for}
 use Rattle.board_base.specs.declared.target.Area.TheVariants.{Abort, Dram, Rom, Smram}
 use Rattle.std.proofs.lemmas.List.Elements.{All-from_recursion}
 use Rattle.board_examples.specs.Common.{small_board, range, smram_range, smram_written, map_round, MapAfterReset}
@@ -27,16 +25,6 @@ use Rattle.board_examples.proofs.Lines.{legal}
 use Rattle.board_examples.specs.Basics.{TwoCardsAtOneAddress, CardMovedUnderTheRom}
 use Rattle.board_examples.specs.Orders.{look_first}
 
-pub covers-yes : (x k : ℕ) (window : Window) → window.inside / 2 ^ window.bits ≡ k → k * 2 ^ window.bits ≤ x →
-    x < (k + 1) * 2 ^ window.bits → is_covered x window ≡ true
-covers-yes x k window is from to = eq-eqb _ _ (is ∙ sym (div-eq_of_lt-le {k = k} (2 ^ window.bits) from to))
-
-pub covers-no : (x k : ℕ) (window : Window) → 0 < 2 ^ window.bits →
-    window.inside / 2 ^ window.bits ≡ k → x < k * 2 ^ window.bits → is_covered x window ≡ false
-covers-no x k window positive is before =
-    let less : x / 2 ^ window.bits < k = (div-lt_iff_lt-mul {k = 2 ^ window.bits} {x = x} {y = k} positive).1 before in
-    ne_eqb _ _ (λ same. omega (arith, is, same))
-
 -- a span where other areas answer before it and after it
 pub inner_span : {setup : Setup} {bytes : Bytes} {addr lo hi : ℕ} {kind : Kind} {smm : Bool} {area : Area} →
     (lo ≤ addr) × (addr ≤ hi) × (hi < address_count) →
@@ -46,53 +34,43 @@ pub inner_span : {setup : Setup} {bytes : Bytes} {addr lo hi : ℕ} {kind : Kind
 inner_span place same beside =
     record { above = place.0; below = place.1; last = place.2; same = same; begins = inr beside.0; ends = inr beside.1 }
 
--- ---- past the memory, and with XBCS as after a reset, the cards alone answer between 1 MiB and the last 64 KiB
-
-pub record IsFar (bytes : Bytes) (addr lo hi : ℕ) : Type 0 where
-  pub begins : lo ≤ addr
-  pub ends : addr ≤ hi
-  pub past_memory : top_of bytes ≤ lo
-  pub past_bios : 0x10_0000 ≤ lo
-  pub before_rom : hi < 0xFFFF_0000
-  pub selected : bytes xbcs ≡ 3
+-- past the memory, and with XBCS as after a reset, the cards alone answer between 1 MiB and the last 64 KiB
 
 abbrev claimed : Setup → Bytes → ℕ → Area
 claimed setup bytes x = first_of (option_map card_area (memory_claim setup bytes x) ∷ []) Abort
 
-far_area : (setup : Setup) (bytes : Bytes) (addr lo hi : ℕ) (kind : Kind) (smm : Bool) (x : ℕ) →
-    IsFar bytes addr lo hi → lo ≤ x → x ≤ hi → area_of setup bytes x kind smm ≡ claimed setup bytes x
+far_area : (setup : Setup) (bytes : Bytes) (kind : Kind) (smm : Bool) (x : ℕ) → bytes xbcs ≡ 3 → top_of bytes ≤ x →
+    0x10_0000 ≤ x → x < 0xFFFF_0000 → area_of setup bytes x kind smm ≡ claimed setup bytes x
 unfolding area_of row_of
-far_area setup bytes addr lo hi kind smm x far from to =
+far_area setup bytes kind smm x selected past far before =
     let row : nat_lt x (top_of bytes) ≡ false = grind (arith, nat_tests) in
     let smram : is_smram_range x ≡ false = grind (arith, nat_tests) in
     let upper : is_within 0xA_0000 0xF_FFFF x ≡ false = grind (arith, nat_tests) in
     let rom : is_rom_selected 0x03 x ≡ false = grind (arith, nat_tests) in
-    rw (row, smram, upper, far.selected, rom) refl
+    rw (row, smram, upper, selected, rom) refl
 
-pub far_span : {setup : Setup} {bytes : Bytes} {addr lo hi : ℕ} {kind : Kind} {smm : Bool} {area : Area} →
-    IsFar bytes addr lo hi → ((x : ℕ) → lo ≤ x → x ≤ hi → claimed setup bytes x ≡ area) →
+far_span : {setup : Setup} {bytes : Bytes} {addr lo hi : ℕ} {kind : Kind} {smm : Bool} {area : Area} →
+    (lo ≤ addr) × (addr ≤ hi) × (hi < 0xFFFF_0000) → (top_of bytes ≤ lo) × (0x10_0000 ≤ lo) × (bytes xbcs ≡ 3) →
+    ((x : ℕ) → lo ≤ x → x ≤ hi → claimed setup bytes x ≡ area) →
     (area_of setup bytes (lo - 1) kind smm ≢ area) × (area_of setup bytes (hi + 1) kind smm ≢ area) →
     IsSpan setup bytes addr kind smm lo hi area
-far_span {setup = setup} {bytes = bytes} {addr = addr} {lo = lo} {hi = hi} far same beside =
-    inner_span (far.begins, far.ends, omega (arith, far.before_rom))
-    (λ x from to. far_area setup bytes addr lo hi _ _ x far from to ∙ same x from to) beside
+far_span {setup = setup} {bytes = bytes} place far same beside =
+    inner_span (place.0, place.1, omega (arith, place.2)) (λ x from to.
+    far_area setup bytes _ _ x far.2 (omega (arith, far.0)) (omega (arith, far.1)) (omega (arith, place.2))
+    ∙ same x from to) beside
 
 -- in a window that is enabled and the first of all
-pub first_span : {setup : Setup} {bytes : Bytes} {addr lo hi : ℕ} {kind : Kind} {smm : Bool} (window : Window)
+first_span : {setup : Setup} {bytes : Bytes} {addr lo hi : ℕ} {kind : Kind} {smm : Bool} (window : Window)
     (later : List Window) → flat_map (memory_windows bytes) setup.cards ≡ window ∷ later →
-    is_enabled_for 1 bytes window.dev ≡ true → IsFar bytes addr lo hi →
-    (window.inside / 2 ^ window.bits * 2 ^ window.bits ≤ lo)
-    × (hi < (window.inside / 2 ^ window.bits + 1) * 2 ^ window.bits) →
+    is_enabled_for 1 bytes window.dev ≡ true → (lo ≤ addr) × (addr ≤ hi) × (hi < 0xFFFF_0000) →
+    (top_of bytes ≤ lo) × (0x10_0000 ≤ lo) × (bytes xbcs ≡ 3) →
+    ((x : ℕ) → lo ≤ x → x ≤ hi → is_covered x window ≡ true) →
     (area_of setup bytes (lo - 1) kind smm ≢ card_area window)
     × (area_of setup bytes (hi + 1) kind smm ≢ card_area window) →
     IsSpan setup bytes addr kind smm lo hi (card_area window)
 unfolding memory_claim
-first_span window later windows on far inside beside =
-    far_span far (λ x from to. rw (
-      windows,
-      on,
-      covers-yes x (window.inside / 2 ^ window.bits) window refl (omega (arith, inside.0)) (omega (arith, inside.1)),
-    ) refl) beside
+first_span window later windows on place far covered beside =
+    far_span place far (λ x from to. rw (windows, on, covered x from to) refl) beside
 
 -- ---- the flat map after reset and after a write to SMRAM, range by range: the register matters in its own range alone
 
@@ -207,9 +185,6 @@ maps = (
 
 -- ---- the histories with looks
 
-abbrev window : (dev base inside bits : ℕ) → Window
-window dev base inside bits = record { dev = dev; base = base; inside = inside; bits = bits }
-
 pub looks : TwoCardsAtOneAddress × CardMovedUnderTheRom × ExpansionRom × OutsideBaseRead × LookInSmm
 unfolding TwoCardsAtOneAddress CardMovedUnderTheRom ExpansionRom OutsideBaseRead LookInSmm byte_of config_address
     reset_control reset_byte writable_bits host_bridge isa_bridge ide_function card_function row_of area_of denial_of
@@ -217,49 +192,39 @@ unfolding TwoCardsAtOneAddress CardMovedUnderTheRom ExpansionRom OutsideBaseRead
     map_change_of map_writes_of
 looks = (
   legal two_cards (from_reset two_cards_at_one_address) (
-    record {
-      version = refl;
-      span = first_span (window 2 0 0xC000_0000 12) _ refl refl (search (rules, arith)) (omega arith) (grind arith);
-    },
+    record { version = refl; span = inner_span (omega arith) (λ x from to. grind (arith, nat_tests)) (grind arith) },
     tt,
   ) refl,
   legal moved_card (from_reset card_moved_under_the_rom) (
-    record {
-      version = refl;
-      span = first_span (window 2 0 0xFFF0_0000 20) _ refl refl (search (rules, arith)) (omega arith) (grind arith);
-    },
+    record { version = refl; span = inner_span (omega arith) (λ x from to. grind (arith, nat_tests)) (grind arith) },
     (
-      record {
-        version = refl;
-        span = far_span (search (rules, arith))
-            (λ x from to. rw (covers-no x 0xFFF (window 2 0 0xFFF0_0000 20) (omega arith) refl (omega arith)) refl)
-            (grind arith);
-      },
+      record { version = refl; span = inner_span (omega arith) (λ x from to. grind (arith, nat_tests)) (grind arith) },
       (
         record {
           version = refl;
-          span = first_span (window 2 0 0xE000_0000 20) _ refl refl (search (rules, arith)) (omega arith) (grind arith);
+          span = inner_span (omega arith) (λ x from to. grind (arith, nat_tests)) (grind arith);
         },
         tt,
       ),
     ),
   ) refl,
   legal rom_card_board (from_reset expansion_rom) (
-    record { version = refl; span = far_span (search (rules, arith)) (λ x from to. refl) (grind arith) },
+    record {
+      version = refl;
+      span = far_span (omega arith) (search (rules, arith), omega arith, refl) (λ x from to. refl) (grind arith);
+    },
     (
-      record {
-        version = refl;
-        span = far_span (search (rules, arith))
-            (λ x from to. rw (covers-yes x 0xD000 (window 2 6 0xD000_0001 16) refl from (omega arith)) refl)
-            (grind arith);
-      },
+      record { version = refl; span = inner_span (omega arith) (λ x from to. grind (arith, nat_tests)) (grind arith) },
       tt,
     ),
   ) refl,
   legal frame_board (from_reset outside_base) (
     record {
       version = refl;
-      span = first_span (window 4 0 0xC000_0000 28) _ refl refl (search (rules, arith)) (omega arith) (grind arith);
+      span =
+          let past : 0x80_0000 ≤ 0xC000_0000 = omega arith in
+          first_span (record { dev = 4; base = 0; inside = 0xC000_0000; bits = 28 }) _ refl refl (omega arith)
+          (past, omega arith, refl) (λ x from to. grind (arith, nat_tests)) (grind arith);
     },
     tt,
   ) refl,
