@@ -1,7 +1,7 @@
 -- What cards say that they are, one after another; and steps of a door over those of its chipset.
-use Rattle.board_prelude.proofs.Common.{nat_tests, drop_more, FittedCard, Setup}
+use Rattle.board_prelude.proofs.Common.{nat_tests, drop_more}
 use Rattle.std.proofs.Common.{◌≡◌, ℕ, ◌+◌, ◌<◌, ◌≤◌, if◌then◌else◌, List, ◌∷◌, length, get_or, drop, IsSomeAnd, Option}
-use Rattle.std.proofs.Common.{Some, option_map, ap, arith}
+use Rattle.std.proofs.Common.{Some, ap, arith}
 use Rattle.board_chipset.specs.Common.{Running}
 use Rattle.uart_16550.specs.declared.com1.Happening.{Happening}
 use Rattle.uart_16550.specs.Common.{Serial}
@@ -11,7 +11,7 @@ use Rattle.board_records.specs.declared.card.CardRecord.{CardRecord}
 use Rattle.board_records.specs.declared.event.EventRecord.{EventRecord}
 use Rattle.board_records.specs.declared.reply.ReplyRecord.{ReplyRecord}
 use Rattle.board_records.specs.Cards.{identities_said, identity_said}
-use Rattle.board_records.specs.Doors.{Held, IsDoorStep, IsOpenedWith, disk_of, setup_said}
+use Rattle.board_records.specs.Doors.{Held, IsDoorStep, IsOpenedWith, setup_said}
 use Rattle.board_records.specs.Identified.{fitted_record}
 use Rattle.board_records.specs.Steps.{IsAskedStep}
 use Rattle.board_records.proofs.Openings.{said_count}
@@ -23,18 +23,9 @@ pub identities_next : (records : List CardRecord) (index : ℕ) (last : CardReco
     ∷ identities_said (drop (index + 1) records))
 identities_next records index last within = ap identities_said (drop_more records index last within)
 
--- there are at most as many as records
-pub some_few : (count : ℕ) (mib : ℕ) (rom disk : List ℕ) (serial : Serial Running) (said : Option (List FittedCard)) →
-    ((cards : List FittedCard) → said ≡ Some cards → length cards ≡ count) →
-    IsSomeAnd
-    (option_map (λ cards. let setup : Setup = record { mib = mib; cards = cards; rom = rom; disk = disk_of disk } in
-    setup) said)
-    (IsOpenedWith serial) → count ≤ 8
-some_few count mib rom disk serial said each opened = grind (arith, nat_tests)
-
 pub few_opened : (mib : ℕ) (records : List CardRecord) (rom disk : List ℕ) (serial : Serial Running) →
     IsSomeAnd (setup_said mib records rom disk) (IsOpenedWith serial) → length records ≤ 8
-few_opened mib records rom disk serial opened = some_few _ _ _ _ _ _ (said_count records) opened
+few_opened mib records rom disk serial opened = grind (arith, nat_tests, said_count)
 
 -- ---- steps
 

@@ -2,21 +2,16 @@
 use Rattle.board_prelude.proofs.Common.{common_steps, nat_tests, byte_of_levels, Entry, Setup, levels_of, levels_with}
 use mir.Val.{bool_byte}
 use Rattle.std.proofs.Common.{◌≡◌, ℕ, ◌+◌, ◌*◌, ◌-◌, ◌<◌, ◌≤◌, ◌^◌, Bool, false, if◌then◌else◌, List, length, get_or}
-use Rattle.std.proofs.Common.{drop, refl, ap, arith}
+use Rattle.std.proofs.Common.{drop, refl, arith}
 use Rattle.std.proofs.lemmas.List.{drop_all, drop_more}
 use Rattle.std.proofs.Math.Nat.{pow-succ'}
-
-pub bits_from : (levels : List Bool) (line next : ℕ) → line < length levels → next ≡ line + 1 →
-    byte_of_levels (drop line levels) ≡ (if get_or levels line false then 1 else 0) + 2 * byte_of_levels
-    (drop next levels)
-unfolding byte_of_levels
-bits_from levels line next within is = rw is (ap byte_of_levels (drop_more levels line false within))
 
 -- one line more in front of `k` lines
 pub one_more_line : (levels : List Bool) (k bits more : ℕ) → k < 16 → length levels ≡ 16 →
     more ≡ (if get_or levels (15 - k) false then 1 else 0) → bits ≡ byte_of_levels (drop (16 - k) levels) →
     2 * bits + more ≡ byte_of_levels (drop (16 - (k + 1)) levels)
-one_more_line levels k bits more few size is so_far = grind (arith, nat_tests, common_steps, bits_from)
+unfolding byte_of_levels
+one_more_line levels k bits more few size is so_far = grind (arith, nat_tests, common_steps, drop_more)
 
 pub level_number : (level : Bool) → bool_byte level ≡ (if level then 1 else 0)
 level_number level = grind (arith, nat_tests)
