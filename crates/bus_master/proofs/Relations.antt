@@ -1,14 +1,15 @@
 -- A relation between two transfers under way whose bytes alone may differ. It holds after words that both move.
 use Rattle.std.proofs.Common.{◌≡◌, ℕ, zero, suc, Bool, true, false, not, ◌&&◌, Option, Some, is_some, sym, subst, ◌==◌}
-use Rattle.std.proofs.Common.{if◌then◌else◌}
-use Rattle.board_prelude.proofs.Common.{Read, Setup, Bytes}
+use Rattle.std.proofs.Common.{if◌then◌else◌, arith}
+use Rattle.board_prelude.proofs.Common.{Setup, Bytes}
 use Rattle.ata_pio.specs.Words.{is_readable}
 use Rattle.bus_master.specs.declared.done.End.{End}
 use Rattle.bus_master.specs.declared.done.End.TheVariants.{Shorter, Sector}
 use Rattle.bus_master.specs.declared.direction.Direction.{Direction}
-use Rattle.bus_master.specs.Common.{Cells, Moving, ◌and_then◌, address_after, answered, descriptor_read, is_used_up}
-use Rattle.bus_master.specs.Common.{kind_of, next_moved, next_sector, next_word, ready_for, region_found, region_taken}
-use Rattle.bus_master.specs.Common.{sector_tested, table_tested, word_moved, words_moved}
+use Rattle.bus_master.specs.Common.{Cells, Moving, ◌and_then◌, answered, is_used_up, kind_of, next_moved, next_sector}
+use Rattle.bus_master.specs.Common.{next_word, ready_for, region_found, region_taken, sector_tested, table_tested}
+use Rattle.bus_master.specs.Common.{word_moved, words_moved}
+use Rattle.std.proofs.lemmas.Bool.Decides.{nat_tests}
 
 abbrev pub with_cells : Cells → Moving → Moving
 with_cells cells moving = record moving { cells = cells }
@@ -49,17 +50,9 @@ module _ (setup : Setup) (bytes : Bytes) (direction : Direction) (lba : ℕ) (R 
       either (next_word moving.place == 0 && not (is_readable moving.medium (next_sector lba moving.place)))
       (ends (Some (Sector (next_sector lba moving.place))) moving cells is) is
 
-  -- the addresses of the two halves do not depend on the bytes
-  descriptor : Keeps R (descriptor_read setup bytes)
-  unfolding answered
-  descriptor moving cells is =
-      then_holds (region_taken setup bytes) region
-      (then_holds (answered setup bytes Read (address_after moving.place.table 4))
-      (λ m others alike. ends _ m others alike) (ends _ moving cells is))
-
   found : Keeps R (region_found setup bytes)
-  unfolding region_found
-  found moving cells is = either (is_used_up moving.place) (descriptor moving cells is) is
+  unfolding region_found answered
+  found moving cells is = grind (arith, nat_tests, either, then_holds)
 
   pub words_hold : (words : ℕ) {one other : Moving} → R one other →
       R (words_moved setup bytes direction lba words one) (words_moved setup bytes direction lba words other)

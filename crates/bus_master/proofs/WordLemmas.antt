@@ -30,10 +30,6 @@ same_shape store = grind (arith, nat_tests)
 
 -- ---- one word
 
-pub moving_is : {store : Store} {place : TransferPlace} {moving : Moving} → StandsAt moving store place None →
-    record { cells = moving.cells; medium = medium_of store.disk; place = place; end = None } ≡ moving
-moving_is is = rw (is.medium, is.come, is.ends) refl
-
 pub word_stands : {setup : Setup} {bytes : Bytes} {store : Store} → IsStoreOf setup bytes store →
     {place : TransferPlace} {moving : Moving} → StandsAt moving store place None → (lba : ℕ) (new : Store)
     (direction : Direction) (area : Area) → place.addr % 2 ≡ 0 →
@@ -49,17 +45,7 @@ pub word_stands : {setup : Setup} {bytes : Bytes} {store : Store} → IsStoreOf 
     (direction ≡ ToDisk → (cell : Cell) → cells_of new cell ≡ cells_of store cell) →
     StandsAt (word_moved setup bytes direction lba moving) new (moved_on place) None
 unfolding word_moved
-word_stands of {place} {moving} is lba new ToMemory area aligned reached memory disk word cells =
-    let put = memory refl reached in let kept = disk refl in grind (arith, nat_tests)
-word_stands {store = store} of {place} {moving} is lba new ToDisk area aligned reached memory disk word cells =
-    rw (sym (moving_is is)) (record {
-      cells = λ cell there. cells refl cell ∙ is.cells cell there;
-      medium =
-          word refl reached
-          ∙ rw (master_value_same of (cells_of store) moving.cells place.addr Width.Two aligned is.cells) refl;
-      come = refl;
-      ends = refl;
-    })
+word_stands h1 h2 lba new direction area h7 h8 h9 h10 h11 h12 = grind (arith, nat_tests, master_value_same)
 
 -- somebody answers in an area wherever in it the access is
 answers_in : (area : Area) (addr other : ℕ) (denial denial' : Option Denial) → None ≡ abort_in area addr denial →
