@@ -7,27 +7,14 @@ use Rattle.board_prelude.proofs.Common.{IsLegal, LegalKeepsLock}
 use Rattle.std.proofs.Math.Nat.{le-add_right}
 use Rattle.board_core.specs.Kept.{Standing}
 use Rattle.uart_16550.specs.declared.com1.Happening.TheVariants.{Comes, Happens}
-use Rattle.uart_16550.specs.Common.{Serial, Sending, sent_by, bytes_sent, after_all, Uart, has_room, com1_at_reset}
-use Rattle.uart_16550.specs.Common.{sending_at_reset}
-use Rattle.command_texts.specs.Common.{bytes_before, left_after, happenings_of, happenings_in, steps_in, sent_in}
-use Rattle.command_texts.specs.Common.{IsStanding, Happened, SerialPlace, WentOn, port_of, IsSerialText, IsForPort}
+use Rattle.uart_16550.specs.Common.{Serial, Sending, sent_by, Uart, has_room, com1_at_reset, sending_at_reset}
+use Rattle.command_texts.specs.Common.{bytes_before, left_after, happenings_in, steps_in, sent_in, IsStanding, Happened}
+use Rattle.command_texts.specs.Common.{SerialPlace, WentOn, port_of, IsSerialText, IsForPort}
 use Rattle.command_texts.proofs.Happenings.{sent-append, none_sent, happened_twice}
 use Rattle.script_spec.specs.Common.{Script as Said, IsInRangeScript, statements_in}
 
--- of what happens for a statement its event alone sends
-sent_of : (port : Sending) (bytes : List ℕ) (statement : Statement) →
-    bytes_sent port (happenings_of bytes statement)
-    ≡ sent_by (after_all port (map Comes bytes)) (Happens statement.event)
-sent_of port bytes statement = grind (arith, nat_tests, sent-append, none_sent, append-nil)
-
 pub went_nowhere : (place : SerialPlace) → IsStanding place.serial → WentOn place [] place
-went_nowhere place standing = record {
-  setup = refl;
-  standing = standing;
-  sent = λ later. refl;
-  steps = λ later. refl;
-  spare = le-add_right place.serial.board.spare 0;
-}
+went_nowhere place standing = grind (arith, nat_tests, le-add_right)
 
 pub went_on_step : (statement : Statement) (old middle new : Serial Standing) (input left sent after : List ℕ) →
     left ≡ left_after old.com1.uart input →
@@ -39,9 +26,7 @@ pub went_on_step : (statement : Statement) (old middle new : Serial Standing) (i
     (record { serial = new; input = left; sent = after })
 unfolding happenings_in steps_in
 went_on_step statement old middle new input left sent after gone received done added one two =
-    let both : Happened statement.actor old (happenings_of (bytes_before old.com1.uart input) statement) new =
-    happened_twice _ _ _ _ _ _ received done in
-    grind (arith, nat_tests, sent_of, sent-append, append_assoc)
+    grind (arith, nat_tests, happened_twice, sent-append, append_assoc, none_sent, append-nil)
 
 pub went_on_twice : (old middle new : SerialPlace) (first second : List Statement) →
     WentOn old first middle → WentOn middle second new → WentOn old (first ++ second) new

@@ -34,9 +34,4 @@ pub map_text-more : (ranges : List Range) (i : ℕ) (default : Range) → i < le
     text ≡ old ++ map_text (map range_of (take i ranges)) → new ≡ text ++ line_of (range_of (get_or ranges i default)) →
     new ≡ old ++ map_text (map range_of (take (i + 1) ranges))
 map_text-more ranges i default inside old text new so_far added =
-    rw (
-      added,
-      so_far,
-      take_more ranges i default inside,
-      map-append range_of (take i ranges) (get_or ranges i default ∷ []),
-    ) (flat_map_more line_of old (map range_of (take i ranges)) (range_of (get_or ranges i default)))
+    grind (arith, nat_tests, common_steps, take_more, map-append, flat_map_more)

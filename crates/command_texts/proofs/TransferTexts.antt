@@ -3,7 +3,7 @@ use Rattle.std.proofs.lemmas.Bool.Decides.{nat_tests}
 use Rattle.std.proofs.Common.{ap, add-one, ◌≡◌, ℕ, ◌<◌, List, [], ◌++◌, length, refl, slice_index, Result, Ok, Err}
 use Rattle.std.proofs.Common.{IfOk, zero, suc, ◌+◌, ◌-◌, ◌*◌, ◌≤◌, take, drop, add-suc, add-zero, arith, ◌∷◌}
 use Rattle.std.proofs.Common.{append_assoc, OnOk}
-use Rattle.board_prelude.proofs.Common.{lt-ltb, One, Entry, Setup, installed, byte_of, disk_of, Cell, DramCell, space}
+use Rattle.board_prelude.proofs.Common.{One, Entry, Setup, installed, byte_of, disk_of, Cell, space}
 use Rattle.dram_store.specs.Dram.{IsDramOf}
 use Rattle.dram_store.proofs.DramLemmas.{read_stored}
 use Rattle.pci_bars.specs.Contents.{IsContentsOf}
@@ -12,8 +12,8 @@ use Rattle.bus_master.specs.declared.done.Done.{Done}
 use Rattle.bus_master.specs.Common.{Master, Moving, done_of, master_after, with_medium, cells_of, transfer_of, IsCell}
 use Rattle.command_words.specs.declared.transfer.Transfer.{Transfer}
 use Rattle.command_texts.specs.Laws.{RomsAreRead}
-use Rattle.command_texts.specs.Transfers.{AreCellsAfter, HasTransferText, started, sum_below, dram_sum, disk_sum}
-use Rattle.command_texts.specs.Transfers.{ended_line, sums_line}
+use Rattle.command_texts.specs.Transfers.{AreCellsAfter, HasTransferText, started, sum_below, disk_sum, ended_line}
+use Rattle.command_texts.specs.Transfers.{sums_line}
 use Rattle.std.proofs.lemmas.List.{get_or_past, get_or-take, get_or-drop, length-take}
 
 -- ---- sums of bytes, in parts
@@ -76,14 +76,6 @@ cells_left setup history store dram contents = record {
 pub roms_are_read : RomsAreRead
 roms_are_read setup history cells are dev off = are.roms dev off
 
--- the bytes of the memory are those that the transfer left
-dram_told : (setup : Setup) (store : Store) (moving : Moving) → length store.dram ≡ installed setup →
-    ((cell : Cell) → IsCell cell → cells_of store cell ≡ moving.cells cell) →
-    sum_below (length store.dram) (slice_index store.dram) ≡ dram_sum setup moving.cells
-dram_told setup store moving size cells =
-    let same = sum_below-same (length store.dram) (slice_index store.dram) (λ addr. moving.cells (DramCell addr)) in
-    grind (arith, nat_tests, lt-ltb)
-
 pub transfer_told : (setup : Setup) (history : List Entry) (transfer : Transfer) (old new : Store)
     (master after : Master) (done : Done) (status dram disk : ℕ) (text : List ℕ) (moving : Moving) →
     moving ≡ transfer_of setup (byte_of setup history) master transfer.lba transfer.count old →
@@ -94,13 +86,8 @@ pub transfer_told : (setup : Setup) (history : List Entry) (transfer : Transfer)
     dram ≡ sum_below (length new.dram) (slice_index new.dram) → disk ≡ disk_sum new.disk →
     text ≡ ended_line done status ++ sums_line dram disk → HasTransferText setup history transfer text
 transfer_told setup history transfer old new master after done status dram disk text moving moved begun left stored size
-    done_told registers disk_left cells status_told dram_told' disk_told lines = record {
-      cells = cells_of old;
-      stored = stored;
-      lines =
-          rw (lines, done_told, status_told, registers, dram_told', dram_told setup new moving size cells)
-          (rw (disk_told, disk_left, moved, begun, left) refl);
-    }
+    done_told registers disk_left cells status_told dram_told disk_told lines =
+    grind (arith, nat_tests, sum_below-same)
 
 pub ok_then : {T E : Type 0} {P Q : T → Type 0} (result : Result T E) → IfOk result P → ((x : T) → P x → Q x)
     → IfOk result Q
