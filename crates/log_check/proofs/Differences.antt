@@ -1,127 +1,111 @@
 -- Where a walk stops, the bytes leave the logs of the script.
-use Rattle.std.proofs.Common.{ℕ, ◌≡◌, ◌≢◌, ◌+◌, List, [], ◌∷◌, ◌++◌, length, reverse, All, refl, sym, ap, ◌∙◌, subst}
-use Rattle.std.proofs.Common.{append_assoc, append-nil, length-append, arith, ◌-◌}
-use Rattle.board_prelude.proofs.Common.{common_steps, nat_tests, All-nil, Entry, Statement, Setup, IsNext, IsLegal}
-use Rattle.board_prelude.proofs.Common.{IsBegunFor, IsCompleteFor, in_file_order, IsAddressed, OneReplay, line_feed}
-use Rattle.board_prelude.proofs.Common.{line_text, lines_text, log_text, complete_is_begun, none_so_far}
-use Rattle.board_prelude.proofs.Common.{begun_is_bounded}
-use Rattle.board_spec.proofs.ReplayLaws.{legal_before}
+use Rattle.std.proofs.Common.{ℕ, zero, suc, ◌≡◌, ◌≢◌, ◌+◌, ◌-◌, List, [], ◌∷◌, ◌++◌, length, reverse, refl, sym, ap}
+use Rattle.std.proofs.Common.{◌∙◌, All, append_assoc, append-nil, arith}
+use Rattle.board_prelude.proofs.Common.{common_steps, nat_tests, All-nil, All-push, All-cons, Entry, Statement, Setup}
+use Rattle.board_prelude.proofs.Common.{IsCompleteFor, in_file_order, line_feed, line_text, lines_text, log_text}
+use Rattle.board_prelude.proofs.Common.{complete_is_begun, none_so_far, reverse-reverse, begun_is_bounded}
+use Rattle.board_prelude.proofs.Common.{whole_is_complete, complete_is_whole, begun_goes_on}
 use Rattle.script_spec.specs.Common.{text_of_lines, IsOneLine, AreBegun, IsLogOf, DiffersAt}
-use Rattle.script_spec.proofs.LogLaws.{line_whole}
-use Rattle.log_check.specs.Common.{IsTyped, GoesOnWithNone, StopsAt}
-use Rattle.log_check.proofs.TextCuts.{cut_line}
-use Rattle.log_check.proofs.LogLines.{heading_whole, log_parts, lines_from, newest_last, lined, one_line_more}
-use Rattle.log_check.proofs.LogLines.{lines_left, log_joined}
-use Rattle.log_check.proofs.Histories.{begun_front, Extends, extends, completed}
+use Rattle.script_spec.proofs.Common.{log_lines}
+use Rattle.log_check.specs.Common.{GoesOnWithNone, StopsAt}
+use Rattle.log_check.proofs.LogLines.{log-newest, lines_in, lines_are, lines_each, lines_count, stand_first, StandFirst}
+use Rattle.log_check.proofs.Histories.{Known, Runs, same_history, no_longer}
 use Rattle.logs_and_maps.specs.Reading.{heading}
 
--- what is known of a script
-pub record Known (setup : Setup) (phases : List (List Statement)) : Type 0 where
-  pub one : OneReplay
-  pub typed : All IsTyped (in_file_order phases)
-  pub addressed : All (λ statement. IsAddressed statement.event) (in_file_order phases)
-
-module _ (setup : Setup) (version : ℕ) (phases : List (List Statement)) where
-  -- lines that are the log of a begun history begin a log
-  lines_begin : (history : List Entry) (lines : List (List ℕ)) → Known setup phases → IsLegal setup history →
-      IsBegunFor phases history → (rest : List ℕ) → text_of_lines lines ++ rest ≡ log_text version history →
+module _ {setup : Setup} {version : ℕ} {phases : List (List Statement)} (known : Known setup phases) where
+  -- lines that begin the log of a begun history begin a log: as many entries as are left complete it
+  begins : (left : ℕ) (history : List Entry) (lines : List (List ℕ)) (rest : List ℕ) → Runs setup phases history →
+      length history + left ≡ length (in_file_order phases) → text_of_lines lines ++ rest ≡ log_text version history →
       AreBegun (IsLogOf setup version phases) lines
-  lines_begin history lines known legal begun rest text =
-      let whole = completed (length (in_file_order phases) - length history) setup phases history known.addressed
-      legal begun (omega (arith, begun_is_bounded phases history begun)) in
-      let more : List ℕ = lines_from (length history) whole.more in
-      record {
-        later = rest ++ more;
-        text = record {
-          history = reverse whole.more ++ history;
-          legal = whole.legal;
-          complete = whole.complete;
-          text =
-              sym (append_assoc (text_of_lines lines) rest more)
-              ∙ rw text (sym (log_joined version whole.more history));
-        };
-      }
+  begins zero history lines rest runs count text = record {
+    later = rest;
+    text = record {
+      history = history;
+      legal = runs.0;
+      complete = whole_is_complete phases history runs.1 (omega (arith, count));
+      text = text;
+    };
+  }
+  begins (suc left) history lines rest runs count text =
+      let next = begun_goes_on setup phases history known.addressed runs.0 runs.1
+      (λ complete. omega (arith, count, complete_is_whole phases history complete)) in
+      let newest = log-newest version next.entry history [] in
+      begins left (next.entry ∷ history) lines
+      (rest ++ line_text (length history + 1) next.entry ++ line_feed ∷ []) ((next.next, runs.0), next.begun)
+      (omega (arith, count)) (grind (arith, nat_tests, append_assoc, append-nil, newest))
 
-  -- an entry after a history, where a longer history goes on with it
-  entry_may_come : (history whole later : List Entry) (next : Entry) → IsLegal setup whole →
-      IsCompleteFor phases whole → whole ≡ reverse (next ∷ later) ++ history →
-      IsNext setup history next × IsBegunFor phases (next ∷ history)
-  entry_may_come history whole later next legal complete is =
-      grind (arith, nat_tests, common_steps, reverse, newest_last, legal_before, begun_front, complete_is_begun)
+  begun_log : (history : List Entry) (lines : List (List ℕ)) (rest : List ℕ) → Runs setup phases history →
+      text_of_lines lines ++ rest ≡ log_text version history → AreBegun (IsLogOf setup version phases) lines
+  begun_log history lines rest runs text =
+      begins (length (in_file_order phases) - length history) history lines rest runs
+      (omega (arith, begun_is_bounded phases history runs.1)) text
 
-  -- with none of the entries that may come next can a whole history have a longer log
-  no_more : (history whole : List Entry) (rest this after : List ℕ) (more : List Entry) →
-      GoesOnWithNone setup phases history (this ++ line_feed ∷ after) → IsOneLine this → IsLegal setup whole →
-      IsCompleteFor phases whole → whole ≡ reverse more ++ history →
-      this ++ line_feed ∷ rest ≡ lines_from (length history) more → ⊥
-  no_more history whole rest this after [] none single legal complete is text =
-      absurd (omega (arith, ap length text, length-append this (line_feed ∷ rest)))
-  no_more history whole rest this after (next ∷ later) none single legal complete is text =
-      grind (arith, nat_tests, common_steps, entry_may_come, cut_line, line_text, lines_from, line_whole, line_feed)
+  log_lines_first : (lines : List (List ℕ)) (rest : List ℕ) → All IsOneLine lines →
+      (log : IsLogOf setup version phases (text_of_lines lines ++ rest)) →
+      StandFirst lines rest (lines_in version log.history)
+  log_lines_first lines rest each log =
+      stand_first lines rest (lines_in version log.history) each (lines_each version log.history)
+      (log.text ∙ sym (lines_are version log.history))
 
-  -- and no whole history has this log
-  no_log : (history whole : List Entry) (rest : List ℕ) (more : List Entry) → GoesOnWithNone setup phases history rest →
-      (rest ≡ [] → ¬ IsCompleteFor phases history) → IsLegal setup whole → IsCompleteFor phases whole →
-      whole ≡ reverse more ++ history → rest ≡ lines_from (length history) more → ⊥
-  no_log history whole rest [] none unfinished legal complete is text = unfinished text (rw is at complete)
-  no_log history whole rest (next ∷ later) none unfinished legal complete is text =
-      grind (arith, nat_tests, common_steps, entry_may_come, lines_from)
+  log_runs : (bytes : List ℕ) (log : IsLogOf setup version phases bytes) → Runs setup phases log.history
+  log_runs bytes log = (log.legal, complete_is_begun phases log.history log.complete)
 
-  pub differs : (bytes : List ℕ) (entries : List Entry) (line : ℕ) → Known setup phases →
+  no_log : (history : List Entry) (rest : List ℕ) → GoesOnWithNone setup phases history rest →
+      (rest ≡ [] → ¬ IsCompleteFor phases history) → Runs setup phases history → (bytes : List ℕ) →
+      (log : IsLogOf setup version phases bytes) (more : List (List ℕ)) →
+      log_lines log.history ≡ log_lines history ++ more → rest ≡ text_of_lines more → ⊥
+  no_log history rest none unfinished runs bytes log [] is text =
+      let same = same_history known log.history history (log_runs bytes log) runs
+      (is ∙ append-nil (log_lines history)) in
+      unfinished text (rw same at log.complete)
+  no_log history rest none unfinished runs bytes log (this ∷ more) is text =
+      no_longer known history log.history rest this (text_of_lines more) (reverse more) none
+      (text ∙ append_assoc this (line_feed ∷ []) (text_of_lines more)) runs (log_runs bytes log)
+      (rw (reverse-reverse more) is)
+
+  pub differs : (bytes : List ℕ) (entries : List Entry) (line : ℕ) →
       StopsAt setup version phases bytes entries line → DiffersAt setup version phases bytes line
-  differs bytes entries line known stops =
+  differs bytes entries line stops =
       let history : List Entry = stops.at_line.before in
       let rest : List ℕ = stops.at_line.rest in
-      let first = lined version history in
-      let goes_on : (log : List ℕ) (left : List ℕ) (whole : IsLogOf setup version phases log) →
-      log ≡ log_text version history ++ left → Extends history whole.history left =
-      λ log left whole is.
-      extends known.one setup phases known.typed whole.history whole.legal
-      (complete_is_begun phases whole.history whole.complete) history left stops.legal stops.begun
-      (lines_left version whole.history history left (sym whole.text ∙ is)) in
+      let lines : List (List ℕ) = lines_in version history in
+      let runs : Runs setup phases history = (stops.legal, stops.begun) in
+      let cut : bytes ≡ text_of_lines lines ++ rest =
+      stops.at_line.text ∙ ap (λ (t : List ℕ). t ++ rest) (sym (lines_are version history)) in
       record {
-        before = first.lines;
-        each = first.each;
+        before = lines;
+        each = lines_each version history;
         rest = rest;
-        cut = rw first.text stops.at_line.text;
-        place = omega (arith, stops.at_line.place, first.count);
-        begun = lines_begin history first.lines known stops.legal stops.begun []
-            (append-nil (text_of_lines first.lines) ∙ first.text);
+        cut = cut;
+        place = omega (arith, stops.at_line.place, lines_count history);
+        begun = begun_log history lines [] runs (append-nil (text_of_lines lines) ∙ lines_are version history);
         leaves = λ this after single is begun.
-            let log : text_of_lines (first.lines ++ this ∷ []) ++ begun.later
-            ≡ log_text version history ++ (this ++ line_feed ∷ begun.later) =
-            rw (
-              one_line_more first.lines this,
-              append_assoc (text_of_lines first.lines) (this ++ line_feed ∷ []) begun.later,
-              append_assoc this (line_feed ∷ []) begun.later,
-              first.text,
-            ) refl in
-            let ext = goes_on _ (this ++ line_feed ∷ begun.later) begun.text log in
-            no_more history begun.text.history begun.later this after ext.more
-            (subst (GoesOnWithNone setup phases history) is stops.none) single begun.text.legal
-            begun.text.complete ext.is ext.text;
+            let first = log_lines_first (lines ++ this ∷ []) begun.later
+            (All-push IsOneLine lines this (lines_each version history) single) begun.text in
+            no_longer known history begun.text.history rest this after (reverse first.more) stops.none is runs
+            (log_runs _ begun.text) (grind (arith, nat_tests, common_steps, first.is, reverse-reverse first.more));
         other = λ log.
-            let ext = goes_on bytes rest log stops.at_line.text in
-            no_log history log.history rest ext.more stops.none stops.unfinished log.legal log.complete ext.is ext.text;
+            let whole = rw cut at log in
+            let first = log_lines_first lines rest (lines_each version history) whole in
+            no_log history rest stops.none stops.unfinished runs _ whole first.more (cc (first.is)) first.text;
       }
 
   -- bytes that do not begin with the heading leave the logs of the script at once
-  pub differs_at_once : (bytes : List ℕ) → Known setup phases →
-      ((after : List ℕ) → bytes ≢ log_text version [] ++ after) → DiffersAt setup version phases bytes 1
+  pub differs_at_once : (bytes : List ℕ) → ((after : List ℕ) → bytes ≢ log_text version [] ++ after) →
+      DiffersAt setup version phases bytes 1
   unfolding lines_text
-  differs_at_once bytes known none = record {
+  differs_at_once bytes none = record {
     before = [];
     each = All-nil IsOneLine;
     rest = bytes;
     cut = refl;
     place = refl;
-    begun = lines_begin [] [] known tt (none_so_far phases) (log_text version []) refl;
+    begun = begun_log [] [] (log_text version []) (tt, none_so_far phases) refl;
     leaves = λ this after single is begun.
-        let log : this ++ line_feed ∷ begun.later ≡ heading version ++ line_feed ∷ lines_text begun.text.history =
-        simp (append_assoc, append-nil) at begun.text.text in
-        let cut =
-        cut_line this (heading version) begun.later (lines_text begun.text.history) single (heading_whole version) log
-        in
-        none after (rw (is, cut.0) (sym (append_assoc (heading version) (line_feed ∷ []) after)));
-    other = λ log. none (lines_text log.history) (log.text ∙ log_parts version log.history);
+        let first = log_lines_first (this ∷ []) begun.later
+        (All-cons IsOneLine this [] single (All-nil IsOneLine)) begun.text in
+        let same : heading version ≡ this = cc (first.is) in
+        none after (is ∙ rw (← same) (sym (append_assoc (heading version) (line_feed ∷ []) after)));
+    other = λ log. none (lines_text log.history)
+        (log.text ∙ sym (append_assoc (heading version) (line_feed ∷ []) (lines_text log.history)));
   }

@@ -1,17 +1,17 @@
--- A history that begins with the lines of another goes on from it, and a begun history can be completed.
-use Rattle.std.proofs.Common.{ℕ, zero, suc, ◌≡◌, ◌+◌, ◌<◌, List, [], ◌∷◌, ◌++◌, length, reverse, All, refl, sym, ap}
-use Rattle.std.proofs.Common.{◌∙◌, append-nil, length-append, add-one, arith, decimal}
-use Rattle.board_spec.proofs.ReplayLaws.{legal_before}
-use Rattle.board_prelude.proofs.Common.{reverse-reverse, Entry, Statement, Setup, IsLegal, IsBegunFor, IsCompleteFor}
-use Rattle.board_prelude.proofs.Common.{in_file_order, IsAddressed, OneReplay, space, line_feed, line_text, lines_text}
-use Rattle.board_prelude.proofs.Common.{front_is_begun, whole_is_complete, complete_is_whole, begun_goes_on}
-use Rattle.board_prelude.proofs.Common.{digits_value}
+-- The histories of a script: the lines of its log say which one it is.
+use Rattle.std.proofs.Common.{ℕ, ◌≡◌, ◌+◌, ◌<◌, List, [], ◌∷◌, ◌++◌, length, reverse, All, refl, sym, ap, ◌∙◌}
+use Rattle.std.proofs.Common.{append-nil, length-append, arith, decimal}
+use Rattle.std.proofs.lemmas.List.{same_from_push}
+use Rattle.board_prelude.proofs.Common.{common_steps, nat_tests, nil_from_length, reverse-append, Entry, Statement}
+use Rattle.board_prelude.proofs.Common.{Setup, IsLegal, IsBegunFor, in_file_order, IsAddressed, OneReplay, space}
+use Rattle.board_prelude.proofs.Common.{line_feed, line_text, statement_of, statements_of, statements-newest}
+use Rattle.board_prelude.proofs.Common.{front_is_begun, digits_value}
 use Rattle.script_spec.proofs.Common.{value_of_decimal, front, back, front-field, back-field, lacks-word, decimal_word}
-use Rattle.script_spec.proofs.Common.{line_whole}
-use Rattle.log_check.specs.Phases.{IsTyped}
-use Rattle.log_check.proofs.TextCuts.{cut_line, named, lacks_stop}
-use Rattle.log_check.proofs.NextStatements.{same_next, known_actor}
-use Rattle.log_check.proofs.LogLines.{lines_from, newest_last, lines-newest, lines-all}
+use Rattle.script_spec.proofs.Common.{log_lines}
+use Rattle.log_check.specs.Common.{IsTyped, GoesOnWithNone}
+use Rattle.log_check.proofs.TextCuts.{named, lacks_stop}
+use Rattle.log_check.proofs.NextStatements.{one_next}
+use Rattle.log_check.proofs.LogLines.{lines_count}
 
 -- ---- the processor of a line
 
@@ -21,91 +21,76 @@ actor_of line = digits_value 10 (front 0x2E (back space line))
 actor_read : (n : ℕ) (entry : Entry) → entry.actor < 256 → actor_of (line_text n entry) ≡ entry.actor
 actor_read n entry small =
     let parts = named n entry [] in
-    let is : line_text n entry ≡ decimal n ++ space ∷ (decimal entry.actor ++ 0x2E ∷ parts.later) =
-    sym (append-nil (line_text n entry)) ∙ parts.is in
     rw (
-      is,
-      back-field space (decimal n) (decimal entry.actor ++ 0x2E ∷ parts.later)
-          (lacks-word space (decimal n) refl (decimal_word n)),
-      front-field 0x2E (decimal entry.actor) parts.later (lacks_stop entry.actor small),
+      simp append-nil at parts.1,
+      back-field space (decimal n) _ (lacks-word space (decimal n) refl (decimal_word n)),
+      front-field 0x2E (decimal entry.actor) parts.0 (lacks_stop entry.actor small),
     ) (value_of_decimal entry.actor (omega (arith, small)))
 
--- ---- fronts
+-- ---- one entry more
 
-pub begun_front : (phases : List (List Statement)) (more history : List Entry) → IsBegunFor phases (more ++ history) →
-    IsBegunFor phases history
-begun_front phases [] history begun = begun
-begun_front phases (entry ∷ more) history begun =
-    begun_front phases more history (front_is_begun phases entry (more ++ history) begun)
+-- what is known of a script
+pub record Known (setup : Setup) (phases : List (List Statement)) : Type 0 where
+  pub one : OneReplay
+  pub typed : All IsTyped (in_file_order phases)
+  pub addressed : All (λ statement. IsAddressed statement.event) (in_file_order phases)
 
--- a history is another with more entries, whose lines are the rest
-pub record Extends (history whole : List Entry) (rest : List ℕ) : Type 0 where
-  pub more : List Entry
-  pub is : whole ≡ reverse more ++ history
-  pub text : rest ≡ lines_from (length history) more
+-- entries of one statement that may come next are one
+pub one_entry : OneReplay → (setup : Setup) (history : List Entry) (left right : Entry) →
+    IsLegal setup (left ∷ history) → IsLegal setup (right ∷ history) → left.actor ≡ right.actor →
+    left.event ≡ right.event → left ≡ right
+one_entry one setup history left right l r actor event =
+    let lists : statements_of (right ∷ history) ≡ statements_of (left ∷ history) =
+    statements-newest right history ∙ rw (← actor, ← event) (sym (statements-newest left history)) in
+    let whole = one setup (statements_of (left ∷ history)) (left ∷ history) (right ∷ history)
+    (record { legal = l; same = refl }) (record { legal = r; same = lists }) in
+    cc
 
--- a history whose log begins with that of a begun one goes on from it
-module _ (one : OneReplay) (setup : Setup) (phases : List (List Statement)) (typed : All IsTyped (in_file_order phases))
-    (whole : List Entry) (all : IsLegal setup whole) (wholly : IsBegunFor phases whole) where
-  extends_step : (entry : Entry) (before : List Entry) (rest : List ℕ) (more : List Entry) →
-      IsLegal setup (entry ∷ before) → IsBegunFor phases (entry ∷ before) → whole ≡ reverse more ++ before →
-      line_text (length before + 1) entry ++ line_feed ∷ rest ≡ lines_from (length before) more →
-      Extends (entry ∷ before) whole rest
-  extends_step entry before rest [] legal begun is text =
-      absurd (omega (arith, ap length text, length-append (line_text (length before + 1) entry) (line_feed ∷ rest)))
-  extends_step entry before rest (next ∷ later) legal begun is text =
-      let n : ℕ = length before + 1 in
-      let cut =
-      cut_line (line_text n entry) (line_text n next) rest (lines_from n later) (line_whole n entry) (line_whole n next)
-      text in
-      let longer : whole ≡ reverse later ++ (next ∷ before) = is ∙ newest_last next later before in
-      let other = legal_before setup (reverse later) (next ∷ before) (rw longer at all) in
-      let others = begun_front phases (reverse later) (next ∷ before) (rw longer at wholly) in
-      let actor : entry.actor ≡ next.actor =
-      sym (actor_read n entry (known_actor phases before entry typed begun)) ∙ ap actor_of cut.0
-      ∙ actor_read n next (known_actor phases before next typed others) in
-      let same : entry ≡ next =
-      same_next one setup phases before entry next legal.1 legal.0 other.0 begun others actor in
-      record {
-        more = later;
-        is = rw same longer;
-        text = cut.1 ∙ ap (λ (m : ℕ). lines_from m later) (add-one (length before));
-      }
+-- a history is legal and begun
+abbrev pub Runs : Setup → List (List Statement) → List Entry → Type 0
+Runs setup phases history = IsLegal setup history × IsBegunFor phases history
 
-  pub extends : (history : List Entry) (rest : List ℕ) → IsLegal setup history → IsBegunFor phases history →
-      lines_text whole ≡ lines_text history ++ rest → Extends history whole rest
-  unfolding lines_text
-  extends [] rest legal begun text = record {
-    more = reverse whole;
-    is = sym (reverse-reverse whole) ∙ sym (append-nil (reverse (reverse whole)));
-    text = sym text ∙ lines-all whole;
-  }
-  extends (entry ∷ before) rest legal begun text =
-      let first =
-      extends before (line_text (length before + 1) entry ++ line_feed ∷ rest) legal.1
-      (front_is_begun phases entry before begun) (text ∙ lines-newest entry before rest) in
-      extends_step entry before rest first.more legal begun first.is first.text
+module _ {setup : Setup} {phases : List (List Statement)} (known : Known setup phases) where
+  runs_before : (entry : Entry) (history : List Entry) → Runs setup phases (entry ∷ history) →
+      Runs setup phases history
+  runs_before entry history runs = (runs.0.1, front_is_begun phases entry history runs.1)
 
--- ---- how a begun history is completed
+  -- after the same history they are one where their lines are
+  same_entry : (n : ℕ) (history : List Entry) (left right : Entry) → Runs setup phases (left ∷ history) →
+      Runs setup phases (right ∷ history) → line_text n left ≡ line_text n right → left ≡ right
+  same_entry n history left right l r same =
+      let next = one_next phases (statements_of history) (statement_of left) (statement_of right) known.typed
+      (rw (statements-newest left history) at l.1) (rw (statements-newest right history) at r.1) in
+      let actor : left.actor ≡ right.actor =
+      sym (actor_read n left next.0) ∙ ap actor_of same ∙ actor_read n right next.1 in
+      one_entry known.one setup history left right l.0 r.0 actor (next.2 actor)
 
-pub record Completed (setup : Setup) (phases : List (List Statement)) (history : List Entry) : Type 0 where
-  pub more : List Entry
-  pub legal : IsLegal setup (reverse more ++ history)
-  pub complete : IsCompleteFor phases (reverse more ++ history)
+  -- histories with the same lines are one
+  pub same_history : (left right : List Entry) → Runs setup phases left → Runs setup phases right →
+      log_lines left ≡ log_lines right → left ≡ right
+  same_history [] right l r same = grind (arith, nat_tests, nil_from_length, lines_count right)
+  same_history (entry ∷ left) [] l r same = absurd (omega (arith, ap length same, lines_count (entry ∷ left)))
+  same_history (entry ∷ left) (other ∷ right) l r same =
+      let cut = same_from_push (log_lines left) (log_lines right) _ _ same in
+      let before : left ≡ right =
+      same_history left right (runs_before entry left l) (runs_before other right r) cut.0 in
+      let last : entry ≡ other =
+      same_entry (length right + 1) right entry other (rw before at l) r (rw before at cut.1) in
+      cc
 
--- with as many entries as are left
-pub completed : (left : ℕ) (setup : Setup) (phases : List (List Statement)) (history : List Entry) →
-    All (λ statement. IsAddressed statement.event) (in_file_order phases) → IsLegal setup history →
-    IsBegunFor phases history → length history + left ≡ length (in_file_order phases) → Completed setup phases history
-completed zero setup phases history addressed legal begun count =
-    record { more = []; legal = legal; complete = whole_is_complete phases history begun (omega (arith, count)) }
-completed (suc left) setup phases history addressed legal begun count =
-    let next = begun_goes_on setup phases history addressed legal begun
-    (λ complete. omega (arith, count, complete_is_whole phases history complete)) in
-    let rest = completed left setup phases (next.entry ∷ history) addressed (next.next, legal) next.begun
-    (omega (arith, count)) in
-    record {
-      more = next.entry ∷ rest.more;
-      legal = rw (newest_last next.entry rest.more history) rest.legal;
-      complete = rw (newest_last next.entry rest.more history) rest.complete;
-    }
+  -- where the rest goes on with none of the entries that may come next, no history has a longer log
+  pub no_longer : (history whole : List Entry) (rest this after : List ℕ) (later : List (List ℕ)) →
+      GoesOnWithNone setup phases history rest → rest ≡ this ++ line_feed ∷ after → Runs setup phases history →
+      Runs setup phases whole → log_lines whole ≡ log_lines history ++ this ∷ reverse later → ⊥
+  no_longer history [] rest this after later none text runs all same =
+      absurd (omega (arith, ap length same, length-append (log_lines history) (this ∷ reverse later)))
+  no_longer history (entry ∷ before) rest this after [] none text runs all same =
+      let cut = same_from_push (log_lines before) (log_lines history) _ this same in
+      let is = same_history before history (runs_before entry before all) runs cut.0 in
+      let next = rw is at all in
+      none entry after next.0.0 next.1 (text ∙ rw (← cut.1, is) refl)
+  no_longer history (entry ∷ before) rest this after (last ∷ later) none text runs all same =
+      let moved = reverse-append (last ∷ []) later in
+      let cut = same_from_push (log_lines before) (log_lines history ++ this ∷ reverse later)
+      (line_text (length before + 1) entry) last (grind (arith, nat_tests, common_steps, same, moved)) in
+      no_longer history before rest this after later none text runs (runs_before entry before all) cut.0

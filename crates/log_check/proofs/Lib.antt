@@ -1,7 +1,7 @@
 pub mod TextCuts
 pub mod NextStatements
-pub mod Histories
 pub mod LogLines
+pub mod Histories
 pub mod Differences
 pub mod PhaseLists
 pub mod LineSteps

@@ -11,7 +11,7 @@ pub statements_cut : (before : List (List Statement)) (phase : List Statement) (
     in_file_order (before ++ phase ∷ later) ≡ in_file_order before ++ (phase ++ in_file_order later)
 statements_cut before phase later = flat_map-append (λ (p : List Statement). p) before (phase ∷ later)
 
-length_cut :
+pub length_cut :
     (before : List (List Statement)) (phase : List Statement) (later : List (List Statement)) →
     length (in_file_order (before ++ phase ∷ later))
     ≡ length (in_file_order before) + (length phase + length (in_file_order later))
@@ -19,10 +19,7 @@ length_cut before phase later = grind (arith, nat_tests, common_steps, statement
 
 pub all_of_phase : (P : Statement → Type 0) (before : List (List Statement)) (phase : List Statement)
     (later : List (List Statement)) → All P (in_file_order (before ++ phase ∷ later)) → All P phase
-all_of_phase P before phase later all =
-    (all_parts P phase (in_file_order later)
-    (all_parts P (in_file_order before) (phase ++ in_file_order later)
-    (rw (statements_cut before phase later) at all)).1).0
+all_of_phase P before phase later all = grind (arith, nat_tests, statements_cut, all_parts)
 
 -- the phases before one, this one, and those after it
 module _ (phases : List (Vec Statement Global)) (i : ℕ) (phase : Vec Statement Global) (within : i < length phases)

@@ -66,7 +66,7 @@ fn check_line<'a>(
 }
 
 /// Goes past the lines of a phase.
-#[tactic(auto, using(crate::proofs::LineSteps::handed_on, crate::proofs::LineSteps::within_start, crate::proofs::LineSteps::within_whole))]
+#[tactic(auto, using(crate::proofs::LineSteps::handed_on, crate::proofs::LineSteps::within_start, crate::proofs::LineSteps::within_whole, std::proofs::lemmas::Bool::Decides::nat_tests))]
 fn check_phase<'a>(
     board: &mut Board,
     text: &mut String,
@@ -95,6 +95,7 @@ fn check_phase<'a>(
 }
 
 /// Goes past the lines of all phases.
+#[tactic(auto, using(crate::proofs::PhaseLists::few_so_far))]
 fn check_phases<'a>(
     board: &mut Board,
     text: &mut String,

@@ -1,47 +1,36 @@
-use Rattle.std.proofs.Common.{◌≡◌, ◌+◌, ◌-◌, [], ◌∷◌, length, refl, sym, ap, ◌∙◌, arith, add-one}
+use Rattle.std.proofs.Common.{◌≡◌, ◌+◌, ◌-◌, [], ◌∷◌, length, refl, ◌∙◌, arith, add-one, Some}
 use Rattle.board_prelude.proofs.Common.{All-head, Entry, Statement, IsInRange, next_entry, nat_tests, eq-eqb}
 use Rattle.board_prelude.proofs.Common.{common_steps, cond-true, entries_by}
 use Rattle.log_check.specs.Common.{left_of}
-use Rattle.log_check.proofs.LineSteps.{Walk, Made, stops_unnamed, stops_idle, stops_without_memory, past_line}
-use Rattle.log_check.proofs.LineSteps.{handed_on}
+use Rattle.log_check.proofs.LineSteps.{Walk, Made, stops_here, stops_without_memory, past_line, handed_on}
 use Rattle.log_check.specs.declared.fault.CheckFault.TheVariants.{NoMemory}
 use Rattle.log_check.proofs.check.check_line.Goals.{After-len-line, After-step-reply}
 use Rattle.log_check.proofs.check.check_line.Goals as goal
 
-walk : (c : After-len-line) → Walk c.args.board.now.setup c.args.front.now.phase.now (left_of c.args.front.now)
-    c.args.board.now.entries c.args.rest.now c.len-line.result
-walk c = record {
-  legal = c.history.ensures.legal;
-  typed = c.requires.typed;
-  count = c.len-line.ensures.length ∙ ap (λ history. length history.entries) c.history.ensures.history;
-}
+walk : (c : After-len-line) → Walk c.args.board.now.setup c.args.front.now.phase.now c.args.board.now.entries
+    c.args.rest.now c.len-line.result
+walk c = grind (arith, nat_tests)
 
 abbrev entry : After-step-reply → Entry
 entry c = next_entry c.args.board.now.entries c.in-Some-next.statement.now.actor c.in-Some-next.statement.now.event
     c.step-reply.result
 
 grown : (c : After-step-reply) → c.step-reply.new.self.entries ≡ entry c ∷ c.args.board.now.entries
-grown c = ap (λ board. board.entries) c.step-reply.ensures.entry
+grown c = grind (arith, nat_tests)
 
 made : (c : After-step-reply) → Made c.args.board.now.setup (left_of c.args.front.now) (left_of c.next.new.self)
     c.args.board.now.entries (entry c)
-made c =
-    let taken = c.in-Some-next.ensures.taken in
-    record {
-      next = record { number = refl; answer = c.step-reply.ensures.answer };
-      own = rw taken.0 taken.1;
-      others = λ other apart. c.next.ensures.others other (λ same. apart (same ∙ sym taken.0));
-    }
+made c = grind (arith, nat_tests)
 
 pub returns-in_default-clause-walked : goal.returns-in_default-clause-walked
 returns-in_default-clause-walked c = λ place within past short.
-    stops_unnamed (walk (goal.at.returns-in_default-clause-walked c).After-len-line) place within past short
-    c.processor.result c.processor.ensures.named c.in_default.is
+    stops_here (walk (goal.at.returns-in_default-clause-walked c).After-len-line) place within past short
+    c.processor.result c.processor.ensures.named (λ actor found. cc (c.in_default.is))
 
 pub returns-in_default-next-clause-walked : goal.returns-in_default-next-clause-walked
 returns-in_default-next-clause-walked c = λ place within past short.
-    stops_idle (walk (goal.at.returns-in_default-next-clause-walked c).After-len-line) place within past short
-    c.in-Some.actor c.in-Some.ensures.named c.in_default-next.ensures.taken
+    stops_here (walk (goal.at.returns-in_default-next-clause-walked c).After-len-line) place within past short
+    (Some c.in-Some.actor) c.in-Some.ensures.named (λ actor found. cc (c.in_default-next.ensures.taken))
 
 pub step-reply-requires-clause-in_range : goal.step-reply-requires-clause-in_range
 step-reply-requires-clause-in_range c =

@@ -1,29 +1,26 @@
-use Rattle.std.proofs.Common.{ℕ, ◌≡◌, ◌++◌, [], List, length, sym, ap, ◌∙◌}
+use Rattle.std.proofs.Common.{arith, ◌≡◌, ◌++◌, [], length, sym, ◌∙◌}
+use Rattle.std.proofs.lemmas.Bool.Decides.{nat_tests}
 use Rattle.board_prelude.proofs.Common.{log_text}
 use Rattle.log_check.specs.declared.fault.CheckFault.TheVariants.{NoMemory}
 use Rattle.script_spec.specs.Phases.{lists_of}
-use Rattle.log_check.proofs.Differences.{Known}
+use Rattle.log_check.proofs.Histories.{Known}
 use Rattle.log_check.proofs.LineSteps.{handed_on}
 use Rattle.log_check.proofs.LogChecks.{known, failed_first, failed_heading, failed_within, passed, failed_end}
-use Rattle.log_check.proofs.LogChecks.{nothing_left, something_left}
 use Rattle.log_check.proofs.check.check_lines.Goals.{After-law_one_replay, After-check_phases, After-len-count}
 use Rattle.log_check.proofs.check.check_lines.Goals as goal
 
 script : (c : After-law_one_replay) → Known c.args.board.now.setup (lists_of c.args.phases.now)
-script c = known c.args.board.now.setup (lists_of c.args.phases.now) c.law_one_replay.ensures.one c.requires.typed
-    c.requires.in_range
+script c = grind (arith, nat_tests, known)
 
 past_heading : (c : After-check_phases) → c.args.bytes.now ≡ log_text c.args.version [] ++ c.in_ok-rest.rest.now
-past_heading c = c.in_ok-rest.ensures.cases
-    ∙ ap (λ (t : List ℕ). t ++ c.in_ok-rest.rest.now) (c.deref.ensures ∙ c.in_ok-print_heading.ensures.printed)
+past_heading c = grind (arith, nat_tests)
 
 count_is : (c : After-len-count) → c.len-count.result ≡ length c.check_phases.new.board.entries
-count_is c = c.len-count.ensures.length ∙ ap (λ history. length history.entries) c.history.ensures.history
+count_is c = grind (arith, nat_tests)
 
 pub returns-in_err-print_heading-clause-checked : goal.returns-in_err-print_heading-clause-checked
 returns-in_err-print_heading-clause-checked c =
-    handed_on c.from_residual.result NoMemory _ _ c.from_residual.ensures.1
-    (failed_first c.requires.fresh)
+    handed_on c.from_residual.result NoMemory _ _ c.from_residual.ensures.1 (failed_first c.requires.fresh)
 
 pub returns-in_err-rest-clause-checked : goal.returns-in_err-rest-clause-checked
 returns-in_err-rest-clause-checked c =
@@ -46,16 +43,14 @@ returns-then-is_empty-clause-checked c =
     let at = goal.at.returns-then-is_empty-clause-checked c in
     let walked =
     c.in_ok-rest-2.ensures.walked c.args.version c.args.bytes.now (past_heading at.After-check_phases) in
-    passed c.in_ok-rest-2.rest.now c.len-count.result
-    (rw c.check_phases.ensures.setup at c.history.ensures.legal) walked.0 walked.1
-    (nothing_left c.in_ok-rest-2.rest.now (sym c.is_empty.ensures ∙ c.if-is_empty.true)) (count_is at.After-len-count)
+    passed c.in_ok-rest-2.rest.now c.len-count.result (rw c.check_phases.ensures.setup at c.history.ensures.legal)
+    walked.0 walked.1 (count_is at.After-len-count) (sym c.is_empty.ensures ∙ c.if-is_empty.true)
 
 pub returns-clause-checked : goal.returns-clause-checked
 returns-clause-checked c =
     let at = goal.at.returns-clause-checked c in
     let walked =
     c.in_ok-rest-2.ensures.walked c.args.version c.args.bytes.now (past_heading at.After-check_phases) in
-    failed_end c.in_ok-rest-2.rest.now c.len-count.result (script at.After-law_one_replay)
-    (rw c.check_phases.ensures.setup at c.history.ensures.legal) walked.0 walked.1
-    (something_left c.in_ok-rest-2.rest.now (sym c.is_empty.ensures ∙ c.if-is_empty.false))
-    (count_is at.After-len-count)
+    failed_end c.in_ok-rest-2.rest.now c.len-count.result (rw c.check_phases.ensures.setup at c.history.ensures.legal)
+    walked.0 walked.1 (count_is at.After-len-count) (script at.After-law_one_replay)
+    (sym c.is_empty.ensures ∙ c.if-is_empty.false)

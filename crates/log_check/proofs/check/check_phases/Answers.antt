@@ -4,7 +4,7 @@ use Rattle.board_prelude.proofs.Common.{statements_of, IsCompleteFor}
 use Rattle.script_spec.specs.Phases.{lists_of}
 use Rattle.log_check.specs.Common.{IsTyped, WalkPlace}
 use Rattle.log_check.proofs.LineSteps.{handed_on}
-use Rattle.log_check.proofs.PhaseLists.{phases_cut, phases_more, few_so_far, length_more, all_in_phase}
+use Rattle.log_check.proofs.PhaseLists.{phases_cut, phases_more, length_more, all_in_phase}
 use Rattle.log_check.proofs.check.check_phases.Goals as goal
 
 -- a place between phases
@@ -14,31 +14,24 @@ between version bytes done later = record { version = version; bytes = bytes; do
 pub loop-phase-init : goal.loop-phase-init
 loop-phase-init c = grind (arith, nat_tests, common_steps, statements_of, log_text)
 
-pub check_phase-requires-clause-spare : goal.check_phase-requires-clause-spare
-check_phase-requires-clause-spare c =
-    let few =
-    few_so_far c.args.phases.now c.loop-phase.phase-index c.phase-item.result c.loop-phase-test.true c.phase-item.is in
-    omega (arith, c.loop-phase.invariant.spare, few, ap length c.deref.ensures.value)
-
 pub check_phase-requires-clause-in_range : goal.check_phase-requires-clause-in_range
 check_phase-requires-clause-in_range c =
     rw (c.loop-phase.invariant.setup, c.deref.ensures.value)
-    (all_in_phase c.args.phases.now c.loop-phase.phase-index c.phase-item.result c.loop-phase-test.true c.phase-item.is
+    (all_in_phase _ _ _ c.loop-phase-test.true c.phase-item.is
     (λ statement. IsInRange c.args.board.now.setup statement.event) c.requires.in_range)
 
 pub check_phase-requires-clause-typed : goal.check_phase-requires-clause-typed
 check_phase-requires-clause-typed c =
     rw c.deref.ensures.value
-    (all_in_phase c.args.phases.now c.loop-phase.phase-index c.phase-item.result c.loop-phase-test.true c.phase-item.is
-    IsTyped c.requires.typed)
+    (all_in_phase _ _ _ c.loop-phase-test.true c.phase-item.is IsTyped c.requires.typed)
 
 pub loop-phase-preserved : goal.loop-phase-preserved
 loop-phase-preserved c =
     let l = c.loop-phase in
     let i : ℕ = l.phase-index in
     let before : List (List Statement) = lists_of (take i c.args.phases.now) in
-    let more = phases_more c.args.phases.now i c.phase-item.result c.loop-phase-test.true c.phase-item.is in
-    let size = length_more c.args.phases.now i c.phase-item.result c.loop-phase-test.true c.phase-item.is in
+    let more = phases_more _ _ _ c.loop-phase-test.true c.phase-item.is in
+    let size = length_more _ _ _ c.loop-phase-test.true c.phase-item.is in
     let same = ap length c.deref.ensures.value in
     record {
       setup = c.check_phase.ensures.setup ∙ l.invariant.setup;
@@ -60,7 +53,7 @@ returns-in_err-left-clause-walked c = λ version bytes text.
     (between version bytes (lists_of (take i c.args.phases.now)) (lists_of (drop (i + 1) c.args.phases.now)))
     l.invariant.complete (l.invariant.past version bytes text) in
     handed_on c.from_residual.result c.in_err-left.field-0.0 _ _ c.from_residual.ensures.1
-    (rw (phases_cut c.args.phases.now i c.phase-item.result c.loop-phase-test.true c.phase-item.is)
+    (rw (phases_cut _ _ _ c.loop-phase-test.true c.phase-item.is)
     (rw (l.invariant.setup, c.deref.ensures.value) at stopped))
 
 pub returns-clause-walked : goal.returns-clause-walked

@@ -1,17 +1,15 @@
-use Rattle.std.proofs.Common.{sym, ◌∙◌, ap, arith, decimal, subst}
+use Rattle.std.proofs.Common.{sym, ◌∙◌, ap, arith, decimal}
 use Rattle.std.specs.Result.{result_ok}
 use Rattle.std.proofs.lemmas.Fmt.{parse-decimal, IsAscii-decimal}
-use Rattle.log_check.proofs.TextCuts.{the_error, the_value}
-use Rattle.std.specs.Str.{IsUtf8}
-use Rattle.board_prelude.proofs.Common.{IsUtf8-from_ascii}
+use Rattle.log_check.proofs.TextCuts.{the_value}
+use Rattle.board_prelude.proofs.Common.{nat_tests, IsUtf8-from_ascii}
 use Rattle.log_check.proofs.field.number.Goals as goal
 
 pub returns-in_err-ok : goal.returns-in_err-ok
 returns-in_err-ok c = record {
   number = λ number small is.
-      let error = the_error _ _ c.from_utf8.result c.from_utf8.ensures.cases (sym c.in_err-ok.ensures.value) in
-      absurd (error.1.0 (subst IsUtf8 (sym is)
-      (IsUtf8-from_ascii (decimal number) (IsAscii-decimal number (omega (arith, small))))));
+      let utf8 = IsUtf8-from_ascii (decimal number) (IsAscii-decimal number (omega (arith, small))) in
+      grind (arith, nat_tests);
 }
 
 pub returns : goal.returns
