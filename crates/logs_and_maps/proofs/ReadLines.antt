@@ -8,14 +8,9 @@ use Rattle.logs_and_maps.specs.Reading.{heading, parse_heading, HasEntry, HasNoE
 
 -- ---- the next line
 
--- the cut after an entry
-entry_cut : (version n : ℕ) (rest : List ℕ) (entry : Entry) (after : List ℕ) → HasEntry version n rest entry after
-    → cut line_feed rest ≡ Some (line_text n entry, after)
-entry_cut version n rest entry after has =
-    rw has.line (cut_field line_feed (line_text n entry) after (lacks-line (line_text n entry) (line_whole n entry)))
-
 pub none_uncut : (version n : ℕ) (rest : List ℕ) → None ≡ cut line_feed rest → HasNoEntry version n rest
-none_uncut version n rest uncut entry after has = absurd (cc (uncut, entry_cut version n rest entry after has))
+none_uncut version n rest uncut entry after has =
+    grind (arith, nat_tests, common_steps, cut_field, lacks-line, line_whole)
 
 -- the line before the next line feed has an entry, or none
 pub line_told : (version n : ℕ) (rest line after : List ℕ) (read : Option Entry) →
