@@ -1,6 +1,6 @@
 -- No answer depends on the looks and the numbers before it: each definition over histories gives the same without them.
-use Rattle.std.proofs.Common.{◌≡◌, ℕ, zero, suc, ◌==◌, nat_lt, Bool, true, false, List, [], ◌∷◌, length, refl, sym, ◌∙◌}
-use Rattle.std.proofs.Common.{ap, arith, Option, Some, None, if◌then◌else◌}
+use Rattle.std.proofs.Common.{◌≡◌, ℕ, zero, suc, ◌==◌, nat_lt, Bool, true, false, List, [], ◌∷◌, refl, sym, ◌∙◌, ap}
+use Rattle.std.proofs.Common.{arith, Option, Some, None, if◌then◌else◌}
 use Rattle.board_prelude.proofs.Common.{option_map_or, Pic0, Pic1, Pit, Elcr, Ata, trigger_byte, read_value, read_of}
 use Rattle.board_prelude.proofs.Common.{port_byte, Event, Memory, Wide, Port, Ack, Pulses, Reply, Bus, Saw, nat_tests}
 use Rattle.board_prelude.proofs.Common.{Entry, plain_value, map-same, levels-same, disk_of-same, elcr-same}
@@ -76,8 +76,7 @@ writes_bare setup = along (map_writes_of setup) (λ e h is. rw is.3 refl)
 
 pub version_same : (setup : Setup) (final before : List Entry) → bare final ≡ bare before
     → version_of setup final ≡ version_of setup before
-version_same setup final before same =
-    ap length (writes_bare setup final ∙ (ap (map_writes_of setup) same ∙ sym (writes_bare setup before)))
+version_same setup final before same = grind (arith, writes_bare setup final, writes_bare setup before)
 
 -- ---- the devices
 

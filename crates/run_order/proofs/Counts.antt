@@ -1,6 +1,6 @@
 -- How many looks there are, and how many entries each has.
-use Rattle.std.proofs.Common.{◌≡◌, ℕ, zero, suc, ◌+◌, ◌≤◌, ◌==◌, List, [], ◌∷◌, map, get_or, set, refl, ap, arith, ◌-◌}
-use Rattle.std.proofs.Common.{◌^◌, ◌<◌, Bool, ◌++◌, length, take, All, ◌≢◌, sym, ◌∙◌, slice_index, reverse}
+use Rattle.std.proofs.Common.{◌≡◌, ℕ, zero, suc, ◌+◌, ◌≤◌, List, [], ◌∷◌, map, get_or, set, refl, ap, arith, ◌-◌, ◌^◌}
+use Rattle.std.proofs.Common.{◌<◌, ◌++◌, length, take, All, ◌≢◌, ◌∙◌, slice_index, reverse}
 use Rattle.board_prelude.proofs.Common.{nat_tests, take_more, map-append, length-map, get_or-set_other, reverse-append}
 use Rattle.board_prelude.proofs.Common.{length-reverse, get_or-set_at, All-cons, Entry, entries_by}
 use Rattle.run_order.specs.declared.done.Done.{Done}
@@ -43,8 +43,7 @@ looks_append (one ∷ xs) ys = grind (arith, looks_append xs ys)
 -- one more statement
 pub looks_next : (xs : List Done) (k : ℕ) (d : Done) (count one : ℕ) → k < length xs → count ≡ looks_in (take k xs) →
     one ≡ looks_in (get_or xs k d ∷ []) → count + one ≡ looks_in (take (k + 1) xs)
-looks_next xs k d count one less count_is one_is =
-    rw (count_is, one_is, take_more xs k d less) (sym (looks_append (take k xs) (get_or xs k d ∷ [])))
+looks_next xs k d count one less count_is one_is = grind (arith, take_more xs k d less, looks_append (take k xs))
 
 count_append : (xs ys : List (List Done)) → all_looks_in (xs ++ ys) ≡ all_looks_in xs + all_looks_in ys
 count_append [] ys = omega arith
@@ -54,8 +53,7 @@ count_append (x ∷ xs) ys = let more = count_append xs ys in omega (arith, more
 pub count_next : {X : Type 0} (f : X → List Done) (xs : List X) (k : ℕ) (d : X) → k < length xs →
     all_looks_in (map f (take (k + 1) xs)) ≡ all_looks_in (map f (take k xs)) + looks_in (f (get_or xs k d))
 count_next f xs k d less =
-    rw (take_more xs k d less, map-append f (take k xs) (get_or xs k d ∷ []))
-    (omega (arith, count_append (map f (take k xs)) (f (get_or xs k d) ∷ [])))
+    grind (arith, take_more xs k d less, map-append f (take k xs), count_append (map f (take k xs)))
 
 -- a list of them is no longer than all
 pub one_of : {X : Type 0} (f : X → List Done) (xs : List X) (k : ℕ) (d : X) → k < length xs
@@ -75,9 +73,7 @@ count_set (x ∷ xs) (suc k) y less = let more = count_set xs k y (omega (arith,
 pub number_fits : {order : Order} {capacity : ℕ} {counts : List ℕ} (actor place : ℕ) → place ≡ actor → actor < 8
     → IsOrder order capacity counts → slice_index counts place + order.spare < 2 ^ 32
 number_fits {order} actor place same below kept =
-    let all : List Entry = over [] order.entries in let own : Entry → Bool = λ entry. entry.actor == actor in
-    let size = length-map order.entries (entry_of []) in let counted = kept.counted [] actor below in
-    rw same (omega (arith, counted, length-filter own all, count_by-le-length own all, size))
+    grind (arith, kept.counted [] actor below, kept, length-filter, count_by-le-length, length-map)
 
 counts_more : (counts : List ℕ) (actor other : ℕ) (entry : Entry) (before : List Entry) → length counts ≡ 8 →
     other < 8 → entry.actor ≡ actor → slice_index counts other ≡ length (entries_by other before) →
@@ -98,15 +94,11 @@ order_more {spare} {bus} {capacity} {counts} items items' capacity' actor place 
     below own within least next some =
     let old : List RunEntry = reverse items in
     let is : reverse items' ≡ entry ∷ old = ap reverse more ∙ reverse-append items (entry ∷ []) in
-    rw (is, same) (record {
-      room = omega (arith, kept.room, some, wider);
-      few = omega (arith, kept.few, some);
-      fewer = omega (arith, kept.fewer, next);
-      within = All-cons (IsPlacedBelow bus') entry old within
-          (λ k d less. within_more bus bus' least (get_or old k d) (kept.within k d less));
-      counted = λ of_bus other small. counts_more counts actor other (entry_of of_bus entry) (over of_bus old) eight
-          small (own of_bus) (kept.counted of_bus other small);
-    })
+    let all = All-cons (IsPlacedBelow bus') entry old within
+    (λ k d less. within_more bus bus' least (get_or old k d) (kept.within k d less)) in
+    let counted = λ (of_bus : List Entry) (other : ℕ) (small : other < 8). counts_more counts actor other
+    (entry_of of_bus entry) (over of_bus old) eight small (own of_bus) (kept.counted of_bus other small) in
+    grind (arith, is, same, all, counted, kept)
 
 -- room for more
 pub order_reserved : {spare bus capacity : ℕ} {counts : List ℕ} (items items' : List RunEntry) (capacity' n : ℕ)
@@ -114,10 +106,7 @@ pub order_reserved : {spare bus capacity : ℕ} {counts : List ℕ} (items items
     → length items + n ≤ capacity' → length items + n < 2 ^ 32
     → IsOrder (record { entries = reverse items'; spare = n; bus = bus }) capacity' counts
 order_reserved items items' capacity' n kept same room few =
-    let size = length-reverse items in
-    let wide : length (reverse items) + n ≤ capacity' = omega (arith, size, room) in
-    let less : length (reverse items) + n < 2 ^ 32 = omega (arith, size, few) in
-    rw same assumption
+    let size = length-reverse items in rw same (grind (arith, size, kept))
 
 -- ---- where nobody looked
 

@@ -1,10 +1,10 @@
--- A processor's statements fit into the history of the bus: at each place its looks that are due there are right.
-use Rattle.std.proofs.Common.{ℕ, ◌≡◌, ◌≤◌, false, List, [], ◌∷◌, ◌+◌, ◌-◌, Bool, ◌++◌, length, refl, sym, ◌∙◌, ap}
-use Rattle.std.proofs.Common.{arith, inl, inr, append_assoc, length-append, ⊎_elim, map}
+-- A processor's statements in the history of the bus: where its calls stand, and between which versions its looks.
+use Rattle.std.proofs.Common.{ℕ, ◌≡◌, ◌≤◌, false, List, [], ◌∷◌, ◌+◌, Bool, ◌++◌, length, refl, sym, ◌∙◌, ap, arith}
+use Rattle.std.proofs.Common.{append_assoc, length-append, map}
 use Rattle.board_prelude.proofs.Common.{Event, Look, Saw, Entry, Setup, version_of, IsAnswer, entries_by}
 use Rattle.board_prelude.proofs.Common.{drop-append_seam, option_to_list, Kind, Area, MapChange, IsCardList, byte_of}
-use Rattle.board_prelude.proofs.Common.{map_change_of, map_writes_of, registers_after, Bytes, area_of, IsSpan}
-use Rattle.board_prelude.proofs.Common.{SameMapBytes, map_writes_decide, map_bytes_decide}
+use Rattle.board_prelude.proofs.Common.{map_change_of, map_writes_of, registers_after, Bytes, IsSpan, SameMapBytes}
+use Rattle.board_prelude.proofs.Common.{map_writes_decide, map_bytes_decide}
 use Rattle.board_spec.specs.declared.event.Event.TheVariants.{Look as LookAt}
 use Rattle.run_order.specs.declared.done.Done.{Done}
 use Rattle.run_order.specs.declared.done.Done.TheVariants.{Went, Looked}
@@ -59,28 +59,16 @@ unfolding map_writes_of
 writes_extend setup [] before = ([], refl)
 writes_extend setup (entry ∷ more) before =
     let rest = writes_extend setup more before in
-    let change : List MapChange = option_to_list (map_change_of setup (more ++ before) entry.event) in (
-      change ++ rest.0,
-      ap (λ (ws : List MapChange). change ++ ws) rest.1
-          ∙ sym (append_assoc change rest.0 (map_writes_of setup before)),
-    )
+    let change : List MapChange = option_to_list (map_change_of setup (more ++ before) entry.event) in
+    (change ++ rest.0, grind (arith, rest.1, append_assoc change rest.0))
 
 -- a span of one state of the registers is one of each state with the same map bytes
 span_moves : (setup : Setup) (bytes other : Bytes) → IsCardList setup.cards → SameMapBytes setup bytes other
     → (addr : ℕ) (kind : Kind) (smm : Bool) (lo hi : ℕ) (area : Area)
     → IsSpan setup bytes addr kind smm lo hi area → IsSpan setup other addr kind smm lo hi area
 span_moves setup bytes other cards same addr kind smm lo hi area span =
-    let area_same : (x : ℕ)
-    → area_of setup bytes x kind smm ≡ area_of setup other x kind smm =
-    λ x. (map_bytes_decide setup bytes other cards same x kind smm).0 in
-    record {
-      above = span.above;
-      below = span.below;
-      last = span.last;
-      same = λ x low high. sym (area_same x) ∙ span.same x low high;
-      begins = ⊎_elim (λ e. inl e) (λ not. inr (λ e. not (area_same (lo - 1) ∙ e))) span.begins;
-      ends = ⊎_elim (λ e. inl e) (λ not. inr (λ e. not (area_same (hi + 1) ∙ e))) span.ends;
-    }
+    let area_same = λ (x : ℕ). (map_bytes_decide setup bytes other cards same x kind smm).0 in
+    grind (arith, area_same, span)
 
 module _ (setup : Setup) (cards : IsCardList setup.cards) (whole : List Entry) (actor : ℕ) (opened : List Entry) where
   right : (known : List MapChange) (kind : Kind) (addr : ℕ) (smm : Bool) (look : Look)
@@ -91,8 +79,7 @@ module _ (setup : Setup) (cards : IsCardList setup.cards) (whole : List Entry) (
       let same : map_writes_of setup before ≡ known = same_end part.0 e.0 (map_writes_of setup before) known
       (sym part.1 ∙ e.1) (version ∙ is.version) in
       let bytes : SameMapBytes setup (registers_after setup known) (byte_of setup before) =
-      λ reg on. ap (λ (ws : List MapChange). registers_after setup ws reg) (sym same)
-      ∙ sym (map_writes_decide setup before reg on) in
+      λ reg on. grind (arith, same, map_writes_decide setup before reg on) in
       record {
         version = sym version;
         span = span_moves setup (registers_after setup known) (byte_of setup before) cards
@@ -119,10 +106,9 @@ module _ (setup : Setup) (cards : IsCardList setup.cards) (whole : List Entry) (
       let was : List Entry = d.0 in let older : List MapChange = d.1 in let one = d.2 in
       let place : Begins (one.entry ∷ one.list) whole = rw one.now_is at b in
       let inside : Begins one.list whole = begins_before one.entry one.list whole place in
-      let noted : version ≡ version_of setup (one.entry ∷ one.list) =
-      d.3 ∙ ap length one.known_is ∙ ap (version_of setup) one.now_is in
-      let known = extends_length older (map_writes_of setup one.list) one.meets in
-      let call : IsCall setup whole actor was (length older) event version one.list one.entry = assumption in
+      let less = extends_length older (map_writes_of setup one.list) one.meets in
+      let call : IsCall setup whole actor was (length older) event version one.list one.entry =
+      grind (arith, one, place, less, d.3, d.4) in
       let rest : Follows setup whole actor (one.entry ∷ one.list) (version_of setup (one.entry ∷ one.list)) items =
       rw (one.known_is, one.now_is) at f in
       follows_on before was older (Went version event ∷ items) d.5 (begins_trans was one.list whole one.begins inside)
@@ -193,20 +179,15 @@ module _ (setup : Setup) (whole : List Entry) where
       let f = w.follows in let call = f.2 in
       let one = same_place entry.actor whole f.1 entry f.0 before call.place b call.own refl (call.next ∙ sym w.mine) in
       let next : f.1 ∷ f.0 ≡ entry ∷ before = cc (one.0, one.1) in
-      let said : event ≡ entry.event = sym call.said ∙ ap (λ (e : Entry). e.event) one.0 in
       let rest : Waits setup whole (entry ∷ before) entry.actor items = record {
         from = f.1 ∷ f.0;
         low = version_of setup (f.1 ∷ f.0);
         mine = ap (entries_by entry.actor) (sym next);
         follows = f.3;
       } in
-      record {
-        version_is = λ v. call.noted ∙ ap (version_of setup) next;
-        call = rw (← said) call.no_look;
-        events = ap (λ (e : Event). e ∷ map event_of items) said;
-        rest = rest;
-        late = late_by rest (omega (arith, ap (version_of setup) next));
-      }
+      let late : Late (version_of setup (entry ∷ before)) items =
+      late_by rest (omega (arith, ap (version_of setup) next)) in
+      grind (arith, one, call, rest, late)
 
   -- at the end nothing is left
   pub none_left : (actor : ℕ) (before : List Entry) (items : List Done) → whole ≡ before

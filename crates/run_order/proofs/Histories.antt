@@ -15,9 +15,8 @@ onto (x ∷ later) before = onto later (x ∷ before)
 
 pub onto_is : {X : Type 0} (later before : List X) → onto later before ≡ reverse later ++ before
 onto_is [] before = refl
-onto_is {X} (x ∷ later) before =
-    onto_is later (x ∷ before) ∙ sym (ap (λ (h : List X). h ++ before) (reverse-append (x ∷ []) later)
-    ∙ append_assoc (reverse later) (x ∷ []) before)
+onto_is (x ∷ later) before = let turned = reverse-append (x ∷ []) later in
+    grind (arith, turned, append_assoc (reverse later) (x ∷ []), onto_is later (x ∷ before))
 
 pub legal_front : (setup : Setup) (later before : List Entry) → IsLegal setup (onto later before) → IsLegal setup before
 legal_front setup [] before legal = legal

@@ -1,12 +1,12 @@
 -- The law of the places: a phase that was placed is whole.
-use Rattle.std.proofs.Common.{◌≡◌, ℕ, ◌+◌, ◌<◌, ◌≤◌, ◌==◌, cond, List, [], ◌∷◌, ◌++◌, map, length, take, drop, All}
-use Rattle.std.proofs.Common.{refl, sym, ◌∙◌, ap, arith, inl, inr, reverse, if◌then◌else◌, get_or, suc}
+use Rattle.std.proofs.Common.{◌≡◌, ℕ, ◌+◌, ◌<◌, ◌≤◌, ◌==◌, cond, List, [], ◌∷◌, ◌++◌, map, length, drop, All, refl, sym}
+use Rattle.std.proofs.Common.{◌∙◌, ap, arith, inl, inr, reverse, if◌then◌else◌, get_or, suc}
 use Rattle.std.proofs.lemmas.List.{append_cancel_right}
 use Rattle.board_spec.proofs.OrderLawProofs.{events-append, statements-append, statements-newest}
 use Rattle.board_prelude.proofs.Common.{cases_lt, nat_tests, append-nil, reverse-append, reverse-reverse, get_or_past}
 use Rattle.board_prelude.proofs.Common.{filter-append, map-append, length-map, length-reverse, length-take, take_all}
 use Rattle.board_prelude.proofs.Common.{drop_all, take-append-le, drop-append-le, Event, Entry, Statement, version_of}
-use Rattle.board_prelude.proofs.Common.{entries_by, statement_of, statements_of, events_by, IsWholePhase, HasPhases}
+use Rattle.board_prelude.proofs.Common.{statement_of, statements_of, events_by, IsWholePhase, HasPhases}
 use Rattle.run_order.specs.declared.done.Done.{Done}
 use Rattle.run_order.specs.Common.{event_of, placed, done_by, bare, AnswersAreBlind, PhaseRuns}
 use Rattle.run_order.proofs.Histories.{onto, onto_is}
@@ -17,9 +17,7 @@ use Rattle.run_order.proofs.Counts.{from_first}
 -- ---- statements and events
 
 own_append : (c : ℕ) (xs ys : List Entry) → own c (xs ++ ys) ≡ own c xs ++ own c ys
-own_append c xs ys =
-    ap (map (λ (e : Entry). e.event)) (filter-append (λ (e : Entry). e.actor == c) xs ys)
-    ∙ map-append (λ (e : Entry). e.event) (entries_by c xs) (entries_by c ys)
+own_append c xs ys = grind (arith, filter-append (λ (e : Entry). e.actor == c) xs ys, map-append)
 
 events_own : (c : ℕ) (h : List Entry) → events_by c (statements_of h) ≡ reverse (own c h)
 events_own c [] = refl
@@ -29,7 +27,7 @@ events_own c (entry ∷ before) =
     grind (arith, nat_tests, statements-newest entry before, events_own c before, none, split, turned)
 
 back_again : (items : List Done) → onto (reverse items) [] ≡ items
-back_again items = onto_is (reverse items) [] ∙ (append-nil (reverse (reverse items)) ∙ reverse-reverse items)
+back_again items = grind (arith, onto_is (reverse items) [], append-nil, reverse-reverse)
 
 nobody_else : (actor n : ℕ) (phase : List Statement) → n ≤ actor → All (λ statement. statement.actor < n) phase
     → events_by actor phase ≡ []
@@ -69,13 +67,10 @@ same_size (x ∷ xs) ys same =
 has_more : (phases : List (List Statement)) (phase xs part : List Statement) → HasPhases phases xs
     → IsWholePhase phase part → HasPhases (phases ++ phase ∷ []) (xs ++ part)
 has_more [] phase xs part none whole =
-    let all : take (length phase) part ≡ part = take_all (length phase) part (omega (arith, whole.size)) in
-    let rest : drop (length phase) part ≡ [] = drop_all (length phase) part (omega (arith, whole.size)) in
-    rw (none, all, rest) (whole, refl)
+    grind (arith, whole, take_all (length phase) part, drop_all (length phase) part)
 has_more (p ∷ phases) phase xs part has whole =
-    let fits : length p ≤ length xs = omega (arith, has.0.size, length-take (length p) xs) in
-    rw (take-append-le (length p) xs part fits, drop-append-le (length p) xs part fits)
-    (has.0, has_more phases phase (drop (length p) xs) part has.1 whole)
+    let front = take-append-le (length p) xs part in let back = drop-append-le (length p) xs part in
+    grind (arith, has, length-take (length p) xs, front, back, has_more phases phase (drop (length p) xs) part)
 
 -- ---- the law
 

@@ -1,9 +1,9 @@
 -- Lists in which no look is due.
 use Rattle.std.proofs.Common.{◌≡◌, ℕ, zero, suc, ◌+◌, ◌<◌, ◌≤◌, List, [], ◌∷◌, length, All, drop, get_or, map, set}
-use Rattle.std.proofs.Common.{refl, sym, ◌∙◌, ap, arith, take, ◌++◌, reverse, inl, inr, ◌≢◌}
+use Rattle.std.proofs.Common.{refl, sym, ap, arith, take, ◌++◌, reverse, ◌≢◌}
 use Rattle.board_prelude.proofs.Common.{nat_tests, length-map, get_or-map, map-set, get_or-set_other, drop_more}
 use Rattle.board_prelude.proofs.Common.{drop_all, Entry, next_entry, take_more, reverse-append, take-append-drop, Setup}
-use Rattle.board_prelude.proofs.Common.{IsLegal, get_or-set_at, cases_eq}
+use Rattle.board_prelude.proofs.Common.{IsLegal, get_or-set_at}
 use Rattle.run_order.specs.declared.done.Done.{Done}
 use Rattle.run_order.specs.declared.done.Done.TheVariants.{Looked}
 use Rattle.run_order.specs.Common.{with_looks, left_after, with_all_looks, all_left, without_first, noted, placed}
@@ -74,22 +74,9 @@ pub look_at : {X : Type 0} {version : ℕ} {before now : List Entry} {spare spar
     → spare' + looks_in (f (get_or xs k none)) ≡ spare + looks_in (f x)
     → Enter version k (map f xs) (map f (set xs k x)) before now spare spare'
 look_at {version = version} {before = before} k actor f xs x none is less so left now_is spare_is =
-    let rests : List (List Done) = map f xs in let few : k < length rests = omega (arith, less, length-map xs f) in
-    let rest : List Done = left_after version (get_or rests k []) in
-    let at : f (get_or xs k none) ≡ get_or rests k [] = sym (get_or-map f xs k none [] less) in
-    let looks = looks_first version 0 k actor rests before (omega (arith, is)) so in
-    let left_is : f x ≡ rest = left ∙ ap (left_after version) at in
-    let now_is' = now_is ∙ ap (λ (done : List Done). with_looks version actor done before) at in
-    let count = count_set rests k rest few in
-    rw (now_is', map-set f xs k x, left_is) (record {
-      placed = looks.0;
-      left_is = looks.1;
-      others = λ j other. elim (cases_eq j k) [
-        | inl e ↦ rw (get_or-set_at rests k j rest [] e few) (not_due_left version (get_or rests k []))
-        | inr apart ↦ rw (get_or-set_other rests k j rest [] apart) (other apart)
-      ];
-      room = omega (arith, count, ap looks_in at, ap looks_in left_is, spare_is);
-    })
+    let looks = looks_first version 0 k actor (map f xs) before in let at = get_or-map f xs k none [] less in
+    let here = map-set f xs k x in
+    grind (arith, length-map xs f, at, looks, here, count_set, get_or-set_at, get_or-set_other, not_due_left)
 
 -- ---- one entry of the bus after another
 
@@ -114,15 +101,9 @@ pub next_placed : {X : Type 0} {i : ℕ} {now : List Entry} (version : ℕ) (lat
 unfolding placed
 next_placed {i = i} {now} version later f xs x none version' place next d so less callers place_is version_is rest_is
     next_is =
-    let rests : List (List Done) = map f xs in let a : ℕ = (get_or later i d).actor in
-    let first = from_first rests a in let none_due = settled version 0 rests now so in
-    let one : get_or rests a [] ≡ f (get_or xs a none) = get_or-map f xs a none [] (callers i d less) in
-    let step : placed (noted version (done_by 0 a (all_left version rests))) (drop (i + 1) later)
-    (passed 0 a (all_left version rests)) (next_entry (with_all_looks version 0 rests now) a (get_or later i d).event
-    (get_or later i d).reply ∷ with_all_looks version 0 rests now) ≡ placed version (drop i later) rests now =
-    rw (drop_more later i d less) refl in
-    rw (next_is, version_is, map-set f xs place x, rest_is, place_is)
-    (rw (none_due.1, none_due.0, first.0, first.1, one) at step)
+    let first = from_first (map f xs) (get_or later i d).actor in let cut = drop_more later i d less in
+    let one = get_or-map f xs (get_or later i d).actor none [] (callers i d less) in
+    grind (arith, settled version 0 (map f xs) now so, first, one, cut, map-set f xs place x)
 
 pub placed_last : (version i : ℕ) (later : List Entry) (rests : List (List Done)) (now : List Entry)
     → IsSettled version rests → length later ≤ i → placed version (drop i later) rests now ≡ now
@@ -133,8 +114,7 @@ pub but_one : {X : Type 0} (f : X → List Done) (xs : List X) (x : X) (version 
     → IsSettled version (map f xs) → place ≡ actor → version' ≡ version
     → IsSettledBut version' actor (map f (set xs place x))
 but_one f xs x version version' place actor so place_is version_is k other =
-    let same = get_or-set_other (map f xs) place k (f x) [] (λ e. other (e ∙ place_is)) in
-    rw (version_is, map-set f xs place x, same) (so k)
+    grind (arith, map-set f xs place x, get_or-set_other (map f xs) place k (f x) [], so k)
 
 -- ---- where nobody looked, the placed history is that of the bus
 
@@ -166,9 +146,8 @@ unfolding placed with_all_looks done_by passed
 placed_alone version [] rests history none = (settled version 0 rests history (none_settled version rests none)).0
 placed_alone version (entry ∷ later) rests history none =
     let so = settled version 0 rests history (none_settled version rests none) in
-    rw (so.0, so.1) (placed_alone (noted version (done_by 0 entry.actor rests)) later (passed 0 entry.actor rests)
-    (next_entry history entry.actor entry.event entry.reply ∷ history)
-    (omega (arith, passed_fewer 0 entry.actor rests, none)))
+    let rest = placed_alone (noted version (done_by 0 entry.actor rests)) later (passed 0 entry.actor rests) in
+    grind (arith, so, passed_fewer 0 entry.actor rests, rest)
 
 alone : (setup : Setup) (later history : List Entry) → IsLegal setup (onto later history)
     → placed 0 later [] history ≡ onto later history
@@ -181,8 +160,7 @@ pub unlooked : (setup : Setup) (version : ℕ) (later : List Entry) (rests : Lis
     → all_looks_in rests ≡ 0
     → IsLegal setup (reverse later ++ history) → placed version later rests history ≡ reverse later ++ history
 unlooked setup version later rests history none legal =
-    let is = onto_is later history in
-    placed_alone version later rests history none ∙ (alone setup later history (rw is legal) ∙ is)
+    grind (arith, onto_is later history, placed_alone version later rests history, alone setup later history)
 
 -- ---- a history that begins as that of a bus
 
@@ -193,9 +171,8 @@ pub begin_step : (setup : Setup) (entries : List Entry) (i : ℕ) (d : Entry) �
     history → next ≡ reverse (take (i + 1) entries)
 begin_step setup entries i d legal less history is next pushed =
     let entry : Entry = get_or entries i d in let front : List Entry = reverse (take i entries) in
-    let cut : reverse entries ≡ onto (entry ∷ drop (i + 1) entries) front =
-    ap reverse (sym (take-append-drop i entries)) ∙ (reverse-append (take i entries) (drop i entries)
-    ∙ (sym (onto_is (drop i entries) front)
-    ∙ ap (λ (later : List Entry). onto later front) (drop_more entries i d less))) in
-    let next = next_onto setup (drop (i + 1) entries) front entry (rw cut at legal) in
-    rw (pushed, is, next, take_more entries i d less, reverse-append (take i entries) (entry ∷ [])) refl
+    let later : List Entry = drop (i + 1) entries in let next = next_onto setup later front entry in
+    let whole = take-append-drop i entries in let cut = drop_more entries i d less in
+    let turned = reverse-append (take i entries) (entry ∷ later) in let onto = onto_is (entry ∷ later) front in
+    let one = reverse-append (take i entries) (entry ∷ []) in
+    grind (arith, whole, cut, turned, one, onto, next, take_more entries i d less)

@@ -10,8 +10,4 @@ loop-done-preserved c =
     let next = count_next (λ done. done.now) c.deref-done-items.result.now c.loop-done.done-index
     (record { ref_ptr = (0, 0); now = [] }) c.loop-done-test.true in
     let sum = c.saturating_add-count.ensures in let one = c.looks_in.ensures.count in
-    record {
-      count = λ few. let inv = c.loop-done.invariant.count (omega (arith, sum, few)) in
-          omega (arith, next, one, sum, inv, few);
-      small = let inv = c.loop-done.invariant.small in omega (arith, next, one, sum, inv);
-    }
+    let was = c.loop-done.invariant in grind (arith, next, sum, one, was)

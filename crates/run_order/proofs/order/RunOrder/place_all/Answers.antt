@@ -8,18 +8,10 @@ use Rattle.run_order.proofs.order.RunOrder.place_all.Goals as goal
 
 pub loop-i-init : goal.loop-i-init
 loop-i-init c =
-    let bus : List Entry = c.args.bus.now in let later : List Entry = c.from-later.result in
-    let later_is : later ≡ drop c.args.self.now.bus bus = c.from-later.ensures.entries
-    ∙ ap (λ (o : Order). drop o.bus bus) c.self.view_is in
-    let old : List (List Done) = map (λ done. done.now) c.args.rests.now in let looked = c.all_looks.ensures in
-    record {
-      placed = rw (looked.left, looked.placed bus)
-          (looked_again c.args.version later old (over bus c.args.self.now.entries));
-      fits = omega (arith, ap length later_is, c.requires.room, looked.room);
-      settled = rw looked.left (left_is_settled c.args.version old);
-      bus = omega (arith, looked.bus);
-      keeps = looked.keeps;
-    }
+    let bus : List Entry = c.args.bus.now in let old : List (List Done) = map (λ done. done.now) c.args.rests.now in
+    let looked = c.all_looks.ensures in let is = c.self.view_is in let so = left_is_settled c.args.version old in
+    let again = looked_again c.args.version c.from-later.result old (over bus c.args.self.now.entries) in
+    grind (arith, looked, looked.placed bus, again, so, is, c.from-later.ensures, c.requires.room)
 
 pub next_looks-requires-clause-room : goal.next_looks-requires-clause-room
 next_looks-requires-clause-room c =

@@ -1,4 +1,4 @@
-use Rattle.std.proofs.Common.{rules, ◌+◌, ◌≤◌, ap, arith, vec_capacity}
+use Rattle.std.proofs.Common.{rules, ap, arith, vec_capacity}
 use Rattle.run_order.specs.Room.{Order}
 use Rattle.run_order.proofs.Counts.{number_fits, order_more}
 use Rattle.run_order.proofs.order.RunOrder.push.Goals as goal
@@ -10,10 +10,8 @@ overflow_add-self c =
 
 pub invariant_of-self : goal.invariant_of-self
 invariant_of-self c =
-    let old = c.self.inside in
-    let some : 1 ≤ old.spare = rw (ap (λ (o : Order). o.spare) c.self.view_is) c.requires.room in
-    let least : old.bus ≤ c.args.bus = rw (ap (λ (o : Order). o.bus) c.self.view_is) c.requires.least in
-    let next : c.args.bus ≤ old.bus + 1 = rw (ap (λ (o : Order). o.bus) c.self.view_is) c.requires.next in
-    order_more old.entries.items c.push.new.self.items (vec_capacity c.push.new.self) c.args.actor c.from.result
-    c.args.entry c.args.bus c.self.invariant (search rules) c.push.ensures.capacity (search rules) c.from.ensures
-    c.requires.actor c.requires.own c.requires.within least next some
+    let old = c.self.inside in let is = c.self.view_is in
+    let more = order_more old.entries.items c.push.new.self.items (vec_capacity c.push.new.self) c.args.actor
+    c.from.result c.args.entry c.args.bus c.self.invariant (search rules) c.push.ensures.capacity (search rules)
+    c.from.ensures c.requires.actor c.requires.own c.requires.within in
+    grind (arith, is, more, c.requires)
