@@ -1,6 +1,6 @@
 -- Fields are read as a card exactly where they spell it.
 use Rattle.std.proofs.Common.{◌≡◌, ℕ, ◌<◌, ◌≤◌, ◌⊎◌, inl, inr, Bool, true, false, Some, None, List, [], ◌∷◌, ◌++◌}
-use Rattle.std.proofs.Common.{length, map, All, refl, append_assoc, arith, codes, decimal, ◌+◌, Option, sym, IfSome, ap}
+use Rattle.std.proofs.Common.{length, map, All, refl, append_assoc, arith, codes, decimal, ◌+◌, Option, IfSome}
 use Rattle.std.proofs.Common.{append-nil, length-append, eq-eqb, lt-ltb}
 use Rattle.board_prelude.proofs.Common.{nat_tests, All-nil, All-push, map-append, Base, All-head, All-tail}
 use Rattle.script_spec.specs.Common.{IsBaseForm, IsRomForm, IsCardForm, parse_base, Tail, parse_rom_bits, with_base}
@@ -85,14 +85,10 @@ card_if version (dev ∷ kind ∷ fields) =
     grind (arith, decimal_if dev, vga_if kind)
 card_if version _ = tt
 
-no_rom : (version : ℕ) (base : Base) → parse_rom_bits version (base_word base) ≡ None
-unfolding parse_rom_bits
-no_rom version base = grind (arith, nat_tests)
-
 next_back : (version : ℕ) (before : List Base) (base : Base) → IsBaseForm base → length before < 6
     → with_field version (fresh before) (base_word base) ≡ Some (fresh (before ++ base ∷ []))
-unfolding parse_base with_base with_field with_rom
-next_back version before base form room = grind (arith, nat_tests, no_rom, lt-ltb, decimal_back)
+unfolding parse_base with_base with_field with_rom parse_rom_bits
+next_back version before base form room = grind (arith, nat_tests, lt-ltb, decimal_back)
 
 rom_back : (version : ℕ) (before : List Base) (bits : ℕ) → IsRomForm version (Some bits)
     → with_field version (fresh before) (codes "x" ++ decimal bits) ≡ Some (record { bases = before; rom = Some bits })
@@ -105,8 +101,7 @@ tail_back : (version : ℕ) (before more : List Base) (rom : Option ℕ) → len
     → with_fields version (fresh before) (map base_word more ++ rom_words rom) ≡ Some
     (record { bases = before ++ more; rom = rom })
 unfolding with_fields
-tail_back version before [] None few each form = ap (λ (b : List Base). Some (fresh b)) (sym (append-nil before))
-tail_back version before [] (Some bits) few each form = simp (rom_back, append-nil)
+tail_back version before [] rom few each form = grind (arith, nat_tests, append-nil, rom_back)
 tail_back version before (base ∷ more) rom few each form =
     let room = length-append before (base ∷ []) in
     let forms = All-tail IsBaseForm base more each in

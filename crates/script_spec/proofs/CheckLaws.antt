@@ -1,8 +1,8 @@
 -- A text leaves a kind of texts at one line.
 use Rattle.board_prelude.proofs.Common.{nat_tests, common_steps, ne_eqb, eqb-false, flat_map-append, All-nil, All-cons}
 use Rattle.board_prelude.proofs.Common.{All-head, All-tail, line_feed}
-use Rattle.std.proofs.Common.{arith, ℕ, ◌≡◌, ◌≢◌, ◌+◌, ◌⊎◌, true, List, [], ◌∷◌, ◌++◌, length, All, refl, sym, ap, ◌∙◌}
-use Rattle.std.proofs.Common.{inl, inr, append_assoc}
+use Rattle.std.proofs.Common.{arith, ℕ, ◌≡◌, ◌≢◌, ◌⊎◌, true, List, [], ◌∷◌, ◌++◌, All, refl, sym, ap, ◌∙◌, inl, inr}
+use Rattle.std.proofs.Common.{append_assoc}
 use Rattle.script_spec.specs.Common.{text_of_lines, IsOneLine, AreBegun, LeavesAt, IsSomeLog, IsLogOf, OneBadLog}
 use Rattle.script_spec.specs.Common.{OneDifference, cut}
 use Rattle.std.proofs.lemmas.Option.{some_pair_parts}
@@ -69,11 +69,10 @@ module _ (IsText : List ℕ → Type 0) where
   one_leaving : (bytes : List ℕ) (line place : ℕ) → LeavesAt IsText bytes line → LeavesAt IsText bytes place
       → line ≡ place
   one_leaving bytes line place one two =
-      elim (compared one.before one.rest two.before two.rest one.each two.each (sym one.cut ∙ two.cut)) [
-        | inl same ↦ one.place ∙ ap (λ ls. length ls + 1) same ∙ sym two.place
-        | inr (inl on) ↦ absurd (not_longer bytes line place one two on)
-        | inr (inr on) ↦ absurd (not_longer bytes place line two one on)
-      ]
+      let both = compared one.before one.rest two.before two.rest one.each two.each (sym one.cut ∙ two.cut) in
+      let up = not_longer bytes line place one two in
+      let down = not_longer bytes place line two one in
+      grind (arith, nat_tests, one.place, two.place)
 
 pub one_bad_log : OneBadLog
 one_bad_log = one_leaving IsSomeLog

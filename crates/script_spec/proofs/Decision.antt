@@ -1,7 +1,7 @@
 -- What a text says is found line by line: the items of a script, or the first bad line and the least reason.
 use Rattle.board_prelude.proofs.Common.{nat_tests, digits, lt-ltb, le-ltb, bytes_eq-Decides}
 use Rattle.std.proofs.Common.{sym, ℕ, ◌≡◌, ◌⊎◌, ◌+◌, false, Option, Some, None, Result, Ok, Err, List, [], ◌∷◌, ◌++◌}
-use Rattle.std.proofs.Common.{length, refl, ap, ◌∙◌, inl, inr, append-nil, arith, nat_lt, if◌then◌else◌, bytes_eq, ◌≤◌}
+use Rattle.std.proofs.Common.{length, refl, ap, ◌∙◌, inl, inr, append-nil, arith, nat_lt, if◌then◌else◌, bytes_eq}
 use Rattle.script_spec.specs.Common.{lines_of, Item, HasForm, parse_line, lacks_setup, least_reason, most_bytes}
 use Rattle.script_spec.specs.Common.{is_skipped, IsBadLine, AreRead, EndsBadly, IsVersion, first_line, BeginsBadly}
 use Rattle.script_spec.specs.Common.{IsBadLater, Script, IsScriptText}
@@ -28,18 +28,11 @@ abbrev IsLine : (version : ℕ) → List Item → List ℕ → Result (List Item
 IsLine version before line (Ok items) = AreRead version before (line ∷ []) items
 IsLine version before line (Err why) = IsBadLine version before line why
 
-reason_is : (version : ℕ) (before : List Item) (line : List ℕ) (item : Item) → length line ≤ most_bytes →
-    is_skipped line ≡ false → parse_line version line ≡ Some item → (reason : Option ℕ) →
-    least_reason before item ≡ reason → IsLine version before line (judged_item before item reason)
-reason_is version before line item short read e None none =
-    inr (item, record { short = short; read = read; has = read_says version line item e; none = none }, refl)
-reason_is version before line item short read e (Some why) least =
-    inr (inr (record { short = short; read = read; item = item; has = read_says version line item e; least = least }))
-
 line_is : (version : ℕ) (before : List Item) (line : List ℕ)
     → IsLine version before line (judged_line version before line)
 unfolding judged_line
-line_is version before line = grind (arith, nat_tests, lt-ltb, le-ltb, nothing_said, reason_is)
+line_is version before line =
+    grind (arith, nat_tests, lt-ltb, le-ltb, nothing_said version line, read_says version line)
 
 -- ---- the lines after the first, of which the next has this number
 

@@ -1,18 +1,19 @@
 -- The fields of each item, which its line joins.
 use Rattle.std.proofs.Common.{◌≡◌, ℕ, Bool, true, false, Option, Some, None, List, [], ◌∷◌, ◌++◌, flat_map, map, refl}
-use Rattle.std.proofs.Common.{sym, ap, ◌∙◌, append_assoc, append-nil, arith, codes, decimal, if◌then◌else◌}
-use Rattle.board_prelude.proofs.Common.{join_with_byte, nat_tests, and_from, Base, MemoryBase, IoBase, OutsideBase}
-use Rattle.board_prelude.proofs.Common.{Event, Ack, stimulus_form, space}
+use Rattle.std.proofs.Common.{sym, ap, ◌∙◌, append_assoc, append-nil, arith, codes, decimal}
+use Rattle.board_prelude.proofs.Common.{join_with_byte, nat_tests, Base, MemoryBase, IoBase, OutsideBase, Event, Ack}
+use Rattle.board_prelude.proofs.Common.{stimulus_form, space}
 use Rattle.script_spec.specs.Common.{Item, SetCpus, SetMemory, SetRom, SetDisk, FitCard, BeginPhase, Ask, AskLevel}
 use Rattle.script_spec.specs.Common.{IsForm, Says, base_text, rom_text, card_text, item_text, fields_of}
 use Rattle.script_spec.proofs.Chains.{Reads, joined}
-use Rattle.script_spec.proofs.PlainText.{split, split_exact, is_word, are_words, decimal_word, name_word}
+use Rattle.script_spec.proofs.PlainText.{split, split_exact, are_words, decimal_word, name_word}
 use Rattle.script_spec.proofs.Words.{spaced, line_spaced, event_words, event_joined, event_are}
 
 -- ---- cards
 
 abbrev pub kind_word : Bool → List ℕ
-kind_word vga = codes (if vga then "vga" else "plain")
+kind_word true = codes "vga"
+kind_word false = codes "plain"
 
 abbrev pub base_word : Base → List ℕ
 base_word (MemoryBase bits) = codes "m" ++ decimal bits
@@ -29,8 +30,7 @@ tail_words bases rom = map base_word bases ++ rom_words rom
 
 spaced_tail : (bases : List Base) (rom : Option ℕ)
     → spaced (tail_words bases rom) ≡ flat_map base_text bases ++ rom_text rom
-spaced_tail [] None = refl
-spaced_tail [] (Some bits) = append-nil (codes " x" ++ decimal bits)
+spaced_tail [] rom = grind (arith, nat_tests, append-nil)
 spaced_tail (base ∷ bases) rom = grind (arith, nat_tests, append_assoc, spaced_tail bases rom)
 
 card_joined : (dev : ℕ) (vga : Bool) (bases : List Base) (rom : Option ℕ)
@@ -70,17 +70,12 @@ item_joined (Ask statement) = rw (event_after, event_joined) refl
 item_joined (AskLevel actor one number level) = simp append_assoc
 item_joined _ = refl
 
-vga_is : (vga : Bool) → is_word (kind_word vga) ≡ true
-vga_is true = refl
-vga_is false = refl
-
 tail_are : (bases : List Base) (rom : Option ℕ) → are_words (tail_words bases rom) ≡ true
 tail_are [] rom = grind (arith, nat_tests, decimal_word)
 tail_are (base ∷ bases) rom = grind (arith, nat_tests, decimal_word, tail_are bases rom)
 
 item_are : (version : ℕ) (item : Item) → IsForm version item → are_words (item_words item) ≡ true
-item_are version (FitCard card) form =
-    and_from _ _ (decimal_word card.dev) (and_from _ _ (vga_is card.vga) (tail_are card.bases card.rom))
+item_are version (FitCard card) form = grind (arith, nat_tests, decimal_word, tail_are card.bases card.rom)
 item_are version item form = grind (arith, nat_tests, decimal_word, name_word, event_are)
 
 -- ---- a line that says an item is its fields joined

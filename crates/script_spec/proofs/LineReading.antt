@@ -1,16 +1,16 @@
 -- What a line says is what is read from its fields, so it says at most one thing.
 use Rattle.std.proofs.Common.{ℕ, ◌≡◌, Option, Some, None, List, sym, ◌∙◌, Bool, true, [], ◌∷◌, subst, arith, IfSome}
 use Rattle.std.proofs.Common.{codes, decimal, refl}
-use Rattle.script_spec.specs.Common.{Item, HasForm, parse_line, OneItem, IsDecimal, IsName, IsForm, fields_of, ask}
-use Rattle.script_spec.specs.Common.{parse_decimal, stimulus_item, parse_given, parse_stimulus_item, parse_time_item}
+use Rattle.script_spec.specs.Common.{IsEventForm, Item, HasForm, parse_line, OneItem, IsDecimal, IsName, IsForm}
+use Rattle.script_spec.specs.Common.{fields_of, ask, stimulus_item, parse_given, parse_stimulus_item, parse_time_item}
 use Rattle.script_spec.specs.Common.{parse_ack, parse_by_verb, parse_statement_words, is_name, parse_name, parse_phase}
 use Rattle.script_spec.specs.Common.{parse_statement, parse_by_key, parse_item}
-use Rattle.script_spec.proofs.Chains.{some_is, then_said, then_read, Reads, same, if_some, by_word_if, word_is}
+use Rattle.script_spec.proofs.Chains.{some_is, then_said, Reads, same, if_some, by_word_if, word_is}
 use Rattle.script_spec.proofs.ItemBack.{line_back}
 use Rattle.board_prelude.proofs.Common.{nat_tests, option_map, Fetch, Read, Event, Time, Stimulus, stimulus_form}
 use Rattle.board_prelude.proofs.Common.{stimulus_of_word, applied, event_applied, word_found, space, level_text}
 use Rattle.std.proofs.lemmas.List.Splits.{join_with_byte-slice_split}
-use Rattle.script_spec.proofs.NumberTexts.{decimal_read}
+use Rattle.script_spec.proofs.NumberTexts.{decimal_if}
 use Rattle.script_spec.proofs.Words.{given_words, applied_words, applied_is, zero_text, one_text}
 use Rattle.script_spec.proofs.ItemWords.{AreFields, fields_say}
 use Rattle.script_spec.proofs.EventTexts.{IsRead, read_read, write_read, in_if, out_if, look_read, time_if, number_if}
@@ -43,12 +43,9 @@ module _ (version n : ℕ) (small : IsDecimal n) where
       words ≡ given_words (stimulus_form one).has_level (decimal number) (level_text on) → IsDecimal number →
       IsSaid version (decimal n ∷ (stimulus_form one).word ∷ words) (ask n (event_applied one number on))
   applied_read one number on words is few =
-      subst (λ (w : List (List ℕ)). IsSaid version (decimal n ∷ (stimulus_form one).word ∷ w)
-      (ask n (event_applied one number on))) (sym is)
-      (ask_read (applied_words (applied one number on)) (event_applied one number on) (
-        rw (applied_is one number on) (same_all (applied_words (applied one number on))),
-        grind (arith, nat_tests),
-      ))
+      let all = same_all (applied_words (applied one number on)) in
+      let form : IsEventForm version (event_applied one number on) = grind (arith, nat_tests) in
+      grind (arith, applied_is one number on, same (decimal n))
 
   level_read : (one : Stimulus) (number level : ℕ) → (stimulus_form one).has_level ≡ true → IsDecimal number →
       IsDecimal level → IsSaid version (decimal n ∷ (stimulus_form one).word ∷ decimal number ∷ decimal level ∷ [])
@@ -83,24 +80,17 @@ module _ (version n : ℕ) (small : IsDecimal n) where
       (by_word_if P verb (codes "moment") _ _ (asks Time (codes "moment" ∷ words) _ (time_if version words))
       (if_some _ _ (stimulus_read verb words)))))))))
 
-statement_read : (version : ℕ) (actor : List ℕ) (words : List (List ℕ)) (item : Item) →
-    parse_statement version actor words ≡ Some item → IsSaid version (actor ∷ words) item
+statement_if : (version : ℕ) (actor : List ℕ) (words : List (List ℕ)) →
+    IfSome (parse_statement version actor words) (IsSaid version (actor ∷ words))
 unfolding parse_statement parse_statement_words
-statement_read version actor [] item e = grind (arith, nat_tests)
-statement_read version actor (verb ∷ words) item e =
-    let a = then_read (parse_decimal actor) _ item (decimal_read actor) e in
-    rw a.1.0 (subst (λ (found : Option Item). IfSome found (IsSaid version (decimal a.0 ∷ verb ∷ words))) a.2
-    (verb_if version a.0 a.1.1 verb words))
+statement_if version actor [] = grind (arith, nat_tests)
+statement_if version actor (verb ∷ words) = grind (arith, decimal_if actor, verb_if version)
 
 -- ---- all lines
 
-name_is : (name : List ℕ) → is_name name ≡ true → IsName name
-unfolding is_name
-name_is name e = grind (arith, nat_tests)
-
 name_if : (words : List (List ℕ)) → IfSome (parse_name words) (λ name. (words ≡ name ∷ []) × IsName name)
-unfolding parse_name
-name_if words = grind (arith, nat_tests, name_is)
+unfolding parse_name is_name
+name_if words = grind (arith, nat_tests)
 
 fields_if : (version : ℕ) (fields : List (List ℕ)) → IfSome (parse_item version fields) (IsSaid version fields)
 unfolding parse_item parse_by_key parse_phase
@@ -109,7 +99,7 @@ fields_if version (key ∷ words) =
     let number = number_if words in
     let name = name_if words in
     let card = card_if version words in
-    let statement = if_some _ _ (statement_read version key words) in
+    let statement = statement_if version key words in
     grind (arith, word_is key)
 
 -- what is read from a line's fields, the line says

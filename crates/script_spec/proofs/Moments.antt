@@ -1,6 +1,6 @@
 -- A field is read as a moment exactly where it spells one.
 use Rattle.board_prelude.proofs.Common.{nat_tests, Moment, two_digits, moment_text}
-use Rattle.std.proofs.Common.{◌≡◌, ℕ, ◌/◌, ◌%◌, ◌<◌, true, Some, List, ◌∷◌, ◌++◌, arith, IfSome, Option}
+use Rattle.std.proofs.Common.{◌≡◌, ℕ, ◌<◌, true, Some, List, ◌++◌, arith, IfSome, Option}
 use Rattle.script_spec.specs.Common.{IsMomentForm, parse_two_digits, after_mark, parse_moment_part, parse_year}
 use Rattle.script_spec.specs.Common.{parse_date, parse_time, whole_moment, parse_moment}
 use Rattle.script_spec.proofs.NumberTexts.{is_plain}
@@ -25,16 +25,10 @@ plain_moment moment = grind (arith, nat_tests)
 abbrev Tells : {A : Type 0} → Option A → (A → Type 0) → Type 0
 Tells found P = (found ≡ found) × IfSome found P
 
-part_tells : (mark : ℕ) (text : List ℕ) →
-    Tells (parse_moment_part mark text) (λ p. (text ≡ mark ∷ (two_digits p.0 ++ p.1)) × (p.0 < 100))
-unfolding parse_moment_part after_mark parse_two_digits
-part_tells mark text = grind (arith, nat_tests)
-
-year_tells : (text : List ℕ) → Tells (parse_year text)
-    (λ p. (text ≡ two_digits (p.0 / 100) ++ (two_digits (p.0 % 100) ++ p.1)) × (p.0 < 10_000))
-unfolding parse_year parse_two_digits
-year_tells text = grind (arith, nat_tests)
+two_tells : (text : List ℕ) → Tells (parse_two_digits text) (λ p. (text ≡ two_digits p.0 ++ p.1) × (p.0 < 100))
+unfolding parse_two_digits
+two_tells text = grind (arith, nat_tests)
 
 pub moment_if : (field : List ℕ) → IfSome (parse_moment field) (λ m. (field ≡ moment_text m) × IsMomentForm m)
-unfolding parse_moment whole_moment parse_date parse_time
-moment_if field = grind (arith, year_tells, part_tells)
+unfolding parse_moment whole_moment parse_date parse_time parse_year parse_moment_part after_mark
+moment_if field = grind (arith, nat_tests, two_tells)

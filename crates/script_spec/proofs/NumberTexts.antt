@@ -2,7 +2,7 @@
 use Rattle.script_spec.proofs.Chains.{then_read, some_is, guarded, if_some, Spells}
 use Rattle.std.proofs.Common.{Bool, true, ◌≡◌, ℕ, zero, suc, ◌+◌, ◌*◌, ◌/◌, ◌%◌, ◌^◌, ◌<◌, ◌≤◌, false, not, eqb, ◌&&◌}
 use Rattle.std.proofs.Common.{Some, List, [], ◌∷◌, length, refl, sym, ap, ◌∙◌, arith, pow-suc, lit<, decimal, ◌-◌}
-use Rattle.std.proofs.Common.{IfSome, subst, leb-true, eqb-true, lt-ltb, le-leb, eq-eqb}
+use Rattle.std.proofs.Common.{IfSome, leb-true, eqb-true, lt-ltb, le-leb, eq-eqb}
 use Rattle.board_prelude.proofs.Common.{nat_tests, AllZip, AllDigits, digits_value, pow-le-pow_right, byte, hex_digit}
 use Rattle.board_prelude.proofs.Common.{hex_number, list_all, and_parts, is_within}
 use Rattle.std.specs.Char.{digit_value as value_of_digit}
@@ -52,12 +52,15 @@ decimal_if field = if_some (parse_decimal field) _ (decimal_read field)
 digit_stands : (c d : ℕ) → parse_digit 16 c ≡ Some d → StandsFor c (hex_digit d) × (d < 16)
 digit_stands c d e = grind (arith, nat_tests)
 
+above_byte : (n k : ℕ) → n / 256 ^ suc k ≡ n / 256 ^ k / 256
+above_byte n k = ap (λ (p : ℕ). n / p) (pow-suc 256 k) ∙ sym (div-div-eq-div-mul n (256 ^ k) 256)
+
 -- two digits are a byte
 two_digits : (h a b q : ℕ) → a < 16 → b < 16 → q ≡ (h * 16 + a) * 16 + b
     → (q / 256 ≡ h) × ((q % 256 / 16 % 16 ≡ a) × (q % 256 % 16 ≡ b))
 two_digits h a b q la lb is = omega arith
 
-pub digit_again : (n d : ℕ) → n % 16 ≡ d → hex_digit n ≡ hex_digit d
+digit_again : (n d : ℕ) → n % 16 ≡ d → hex_digit n ≡ hex_digit d
 digit_again n d is = let e : d % 16 ≡ d = omega (arith, is) in rw (is, e) refl
 
 -- so many digits after those that made `high`
@@ -69,10 +72,8 @@ hex_digits (suc k) high n (c ∷ d ∷ cs) long e =
     let s = then_read (parse_digit 16 c) _ n (digit_stands c) e in
     let t = then_read (parse_digit 16 d) _ n (digit_stands d) s.2 in
     let later = hex_digits k ((high * 16 + s.0) * 16 + t.0) n cs (omega (arith, long)) t.2 in
-    let parts = two_digits high s.0 t.0 (n / 256 ^ k) s.1.1 t.1.1 later.0 in
-    let whole : n / 256 ^ suc k ≡ n / 256 ^ k / 256 =
-    ap (λ (p : ℕ). n / p) (pow-suc 256 k) ∙ (sym (div-div-eq-div-mul n (256 ^ k) 256)) in (
-      whole ∙ parts.0,
+    let parts = two_digits high s.0 t.0 (n / 256 ^ k) s.1.1 t.1.1 later.0 in (
+      above_byte n k ∙ parts.0,
       (
         rw (digit_again (byte n k / 16) s.0 parts.1.0) s.1.0,
         (rw (digit_again (byte n k) t.0 parts.1.1) t.1.0, later.1),
@@ -128,27 +129,20 @@ decimal_back n small =
 
 -- ---- hexadecimal numbers
 
--- what stands for a digit of so much is read as so much
-pub hex_digit_read : (c d : ℕ) → d < 16 → StandsFor c (hex_digit d) → parse_digit 16 c ≡ Some d
-hex_digit_read c d small stands = grind (arith, nat_tests)
+-- what stands for a digit is read as the digit
+digit_read : (c n : ℕ) → StandsFor c (hex_digit n) → parse_digit 16 c ≡ Some (n % 16)
+digit_read c n stands = grind (arith, nat_tests)
 
 -- after the digits that made what stands above so many bytes
 pub hex_after : (k high n : ℕ) (field : List ℕ) → high ≡ n / 256 ^ k → Spells field (hex_number k n)
     → number_after 16 high field ≡ Some n
 unfolding number_after
 hex_after zero high n [] is spells = let same : high ≡ n = omega (arith, is) in ap (λ (x : ℕ). Some x) same
-hex_after zero high n (c ∷ cs) is spells = absurd spells
-hex_after (suc k) high n [] is spells = absurd spells
-hex_after (suc k) high n (c ∷ []) is spells = absurd spells.1
 hex_after (suc k) high n (c ∷ d ∷ cs) is spells =
-    let b : ℕ = byte n k in
-    let above : high ≡ n / 256 ^ k / 256 = is ∙ ap (λ (p : ℕ). n / p) (pow-suc 256 k) ∙
-    (sym (div-div-eq-div-mul n (256 ^ k) 256)) in
-    let first : parse_digit 16 c ≡ Some (b / 16) = hex_digit_read c _ (omega arith) spells.0 in
-    let low : hex_digit b ≡ hex_digit (b % 16) = digit_again b _ refl in
-    let second : parse_digit 16 d ≡ Some (b % 16) = hex_digit_read d _ (omega arith)
-    (subst (StandsFor d) low spells.1.0) in
-    rw (first, second) (hex_after k ((high * 16 + b / 16) * 16 + b % 16) n cs (omega (arith, above)) spells.1.1)
+    let above : high ≡ n / 256 ^ k / 256 = is ∙ above_byte n k in
+    rw (digit_read c (byte n k / 16) spells.0, digit_read d (byte n k) spells.1.0)
+    (hex_after k _ n cs (omega (arith, above)) spells.1.1)
+hex_after _ high n _ is spells = grind arith
 
 hex_length : (k n : ℕ) → length (hex_number k n) ≡ 2 * k
 hex_length zero n = refl

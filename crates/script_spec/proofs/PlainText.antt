@@ -3,8 +3,8 @@ use Rattle.std.proofs.Common.{ℕ, zero, suc, ◌≡◌, ◌/◌, ◌%◌, Bool,
 use Rattle.std.proofs.Common.{refl, ◌∙◌, arith, decimal, All}
 use Rattle.board_prelude.proofs.Common.{nat_tests, digits, list_all, and_from, and_parts, Reg, Area, Target, Denial}
 use Rattle.board_prelude.proofs.Common.{byte, is_within, space, hex_number, hex_offset, register_text, base_text}
-use Rattle.board_prelude.proofs.Common.{area_text, target_text, denial_text, Moment, moment_text, two_digits}
-use Rattle.board_prelude.proofs.Common.{value_text, common_steps, join_with_byte, All-nil, All-cons}
+use Rattle.board_prelude.proofs.Common.{area_text, target_text, denial_text, Moment, moment_text, value_text}
+use Rattle.board_prelude.proofs.Common.{common_steps, join_with_byte, All-nil, All-cons}
 use Rattle.script_spec.specs.Grammar.{is_name_byte}
 use Rattle.std.specs.Fmt.{digits_onto, digit_glyph}
 use Rattle.std.proofs.lemmas.List.Folds.{list_all-append}
@@ -23,14 +23,10 @@ is_word bytes = list_all is_word_byte bytes
 pub word-append : (xs ys : List ℕ) → is_word xs ≡ true → is_word ys ≡ true → is_word (xs ++ ys) ≡ true
 word-append xs ys one two = list_all-append is_word_byte xs ys ∙ and_from (is_word xs) (is_word ys) one two
 
-pub word-more : (byte : ℕ) (xs : List ℕ) → is_word_byte byte ≡ true → is_word xs ≡ true → is_word (byte ∷ xs) ≡ true
-word-more byte xs one two = and_from (is_word_byte byte) (is_word xs) one two
-
 -- the marks that end words stand in none
 pub lacks-word : (mark : ℕ) (xs : List ℕ) → is_word_byte mark ≡ false → is_word xs ≡ true → lacks mark xs ≡ true
 lacks-word mark [] outside word = refl
-lacks-word mark (c ∷ cs) outside word =
-    grind (arith, nat_tests, lacks-word mark cs outside (and_parts (is_word_byte c) (is_word cs) word).1)
+lacks-word mark (c ∷ cs) outside word = grind (arith, nat_tests, lacks-word mark cs outside)
 
 -- ---- digits
 
@@ -42,7 +38,7 @@ digits_word : (count n : ℕ) (after : List ℕ) → is_word after ≡ true →
     is_word (digits_onto count 10 false n after) ≡ true
 digits_word zero n after word = word
 digits_word (suc count) n after word =
-    grind (arith, nat_tests, word-more, digits_word count (n / 10) (digit_glyph false (n % 10) ∷ after))
+    grind (arith, nat_tests, digits_word count (n / 10) (digit_glyph false (n % 10) ∷ after))
 
 pub decimal_word : (n : ℕ) → is_word (decimal n) ≡ true
 unfolding digits
@@ -76,11 +72,8 @@ pub name_word : (name : List ℕ) → list_all is_name_byte name ≡ true → is
 name_word [] each = refl
 name_word (c ∷ name) each = grind (arith, nat_tests, name_word name (and_parts (is_name_byte c) _ each).1)
 
-two_word : (n : ℕ) → is_word (two_digits n) ≡ true
-two_word n = grind (arith, nat_tests)
-
 pub moment_word : (m : Moment) → is_word (moment_text m) ≡ true
-moment_word m = simp two_word
+moment_word m = grind (arith, nat_tests)
 
 pub value_word : (bytes : ℕ) (value : Option ℕ) → is_word (value_text bytes value) ≡ true
 value_word bytes value = grind (arith, nat_tests, hex_number_word)
@@ -100,9 +93,7 @@ plain-word (c ∷ cs) word = grind (arith, nat_tests, plain-word cs (and_parts (
 pub lacks-plain : (mark : ℕ) (xs : List ℕ) → (eqb mark space || is_word_byte mark) ≡ false → is_plain xs ≡ true →
     lacks mark xs ≡ true
 lacks-plain mark [] outside plain = refl
-lacks-plain mark (c ∷ cs) outside plain =
-    let parts = and_parts (eqb c space || is_word_byte c) (is_plain cs) plain in
-    grind (arith, nat_tests, lacks-plain mark cs outside parts.1)
+lacks-plain mark (c ∷ cs) outside plain = grind (arith, nat_tests, lacks-plain mark cs outside)
 
 -- ---- a line that spells words has just those fields
 

@@ -2,8 +2,7 @@
 use Rattle.board_prelude.proofs.Common.{nat_tests, common_steps, option_map, find, list_any, IsPermutation, false≢true}
 use Rattle.board_prelude.proofs.Common.{or_parts, or_right, and_parts, All-nil, All-cons, All-head, All-tail}
 use Rattle.board_prelude.proofs.Common.{All-append, sum_by-cons, sum_by-append, All-permutation, Statement, Setup}
-use Rattle.board_prelude.proofs.Common.{FittedCard, IsExpansionRom, IsCard, Rises, memory_size, memory_of_cards}
-use Rattle.board_prelude.proofs.Common.{IsScripted, is_rom_in_range, Event, card_at, IsInRange}
+use Rattle.board_prelude.proofs.Common.{FittedCard, IsCard, Rises, memory_size, memory_of_cards, IsScripted, card_at}
 use Rattle.std.proofs.Common.{ℕ, ◌≡◌, ◌+◌, ◌*◌, ◌<◌, ◌≤◌, Bool, true, false, not, cond, Option, Some, None, List, []}
 use Rattle.std.proofs.Common.{◌∷◌, ◌++◌, length, map, reverse, All, filter, flat_map, refl, sym, ◌∙◌, arith, is_some}
 use Rattle.std.proofs.Common.{◌==◌, sum_by}
@@ -15,17 +14,12 @@ use Rattle.script_spec.specs.Common.{Item, SetCpus, SetMemory, SetRom, SetDisk, 
 use Rattle.script_spec.specs.Common.{is_phase, is_statement, is_setup, is_cpus, is_memory, is_rom, is_disk}
 use Rattle.script_spec.specs.Common.{is_cpus_above, has_card, cards_of, pulses_of, is_card_there, Script, IsVersion}
 use Rattle.script_spec.specs.Common.{phase_items, IsSaidBy, IsDiskName, statements_in, IsInRangeScript}
-use Rattle.script_spec.specs.Common.{ScriptsAreInRange, IsEventForm, is_event_in_range, is_event_placed}
+use Rattle.script_spec.specs.Common.{ScriptsAreInRange}
 use Rattle.script_spec.proofs.GoodItems.{NoReason, AreGood, read_good, found_good, IsWithinLimits, within_limits}
 
 -- the cards of the items before are those of the setup
 abbrev pub HasCards : List Item → Setup → Type 0
 HasCards before setup = (dev : ℕ) → has_card before dev ≡ true → is_some (card_at setup dev) ≡ true
-
-pub event_in_range : (version : ℕ) (setup : Setup) (before : List Item) (event : Event) → IsEventForm version event →
-    is_event_in_range event ≡ true → is_event_placed event ≡ true → is_card_there before event ≡ true →
-    HasCards before setup → IsInRange setup event
-event_in_range version setup before event form range place there cards = grind (arith, nat_tests)
 
 -- ---- processors
 
@@ -60,7 +54,7 @@ module _ (version cpus : ℕ) (setup : Setup) where
       none.there in
       record {
         actor = are.0 statement.actor there.0;
-        event = event_in_range version setup before statement.event form.1 none.range none.aligned there.1 are.1;
+        event = grind (arith, nat_tests, form.1, none.range, none.aligned, there.1, are.1);
         sector = grind (arith, nat_tests, none.range);
         said = grind (arith, nat_tests, form.1);
       }
@@ -107,14 +101,11 @@ has_cards items cards setup same is dev has =
     rw is (sym (any_found (λ card. card.dev == dev) cards)
     ∙ sym (list_any-IsPermutation (λ card. card.dev == dev) (cards_of items) cards same) ∙ has)
 
-rom_there : (rom : Option ℕ) → is_rom_in_range rom ≡ true → IsExpansionRom rom
-rom_there rom test = grind (arith, nat_tests)
-
 all_cards : (version : ℕ) (items : List Item) → AreGood version items → All IsCard (cards_of items)
 all_cards version [] good = All-nil IsCard
 all_cards version (FitCard card ∷ before) good =
     let rest = all_cards version before good.2 in
-    grind (arith, nat_tests, common_steps, is_within_parts, All-nil, All-cons, rom_there, and_parts)
+    grind (arith, nat_tests, common_steps, All-nil, All-cons)
 all_cards version (_ ∷ before) good = all_cards version before good.2
 
 -- devices that rise from 2 to 9 are few

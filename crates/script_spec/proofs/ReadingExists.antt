@@ -23,7 +23,7 @@ whole_setup : (version : ℕ) (items : List Item) → AreGood version items → 
     (list_any is_cpus items ≡ true) × (list_any is_memory items ≡ true) × (list_any is_rom items ≡ true)
 whole_setup version [] good whole = absurd (true≢false whole)
 whole_setup version (item ∷ before) good whole =
-    let front = whole_setup version before good.2 in grind (arith, nat_tests, good.1.begun)
+    grind (arith, nat_tests, good.1.begun, whole_setup version before good.2)
 
 -- what is found of a kind
 found : {X : Type 0} (test : Item → Bool) (make : X → Item) (of : Option Item → X) (items : List Item)

@@ -35,9 +35,7 @@ hex_digit_back : (n : ℕ) → parse_digit 16 (hex_digit n) ≡ Some (n % 16)
 hex_digit_back n = grind (arith, nat_tests)
 
 byte_back : (n : ℕ) → n < 0x100 → parse_hex 2 (hex_byte n) ≡ Some n
-byte_back n small =
-    let e : byte n 0 ≡ n = omega (arith, small) in
-    ap (λ (b : ℕ). parse_hex 2 (hex_byte b)) (sym e) ∙ hex_read 1 n (omega (arith, small))
+byte_back n small = let e : byte n 0 ≡ n = omega (arith, small) in grind (arith, hex_read 1 n)
 
 nibble_back : (n : ℕ) → n < 16 → parse_hex 1 (hex_digit n ∷ []) ≡ Some n
 unfolding number_after

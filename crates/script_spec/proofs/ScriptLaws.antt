@@ -1,10 +1,10 @@
 -- A text says at most one script.
-use Rattle.board_prelude.proofs.Common.{nat_tests, option_map, IsPermutation, All-head, All-tail, All-nil, All-cons}
+use Rattle.board_prelude.proofs.Common.{nat_tests, IsPermutation, All-head, All-tail, All-nil, All-cons}
 use Rattle.board_prelude.proofs.Common.{All-permutation, IsPermutation-sym, Statement, FittedCard, Rises}
-use Rattle.std.proofs.Common.{ℕ, ◌≡◌, ◌<◌, ◌⊎◌, Option, Some, None, List, [], ◌∷◌, ◌++◌, map, All, refl, sym, ap, ◌∙◌}
-use Rattle.std.proofs.Common.{inl, inr, arith, drop}
-use Rattle.script_spec.specs.Common.{Item, SetCpus, SetMemory, SetRom, SetDisk, Ask, cards_of, Script, phase_items}
-use Rattle.script_spec.specs.Common.{IsSaidBy, OneScript}
+use Rattle.std.proofs.Common.{ℕ, ◌≡◌, ◌<◌, ◌⊎◌, Option, Some, List, [], ◌∷◌, ◌++◌, map, All, refl, sym, ap, ◌∙◌, inl}
+use Rattle.std.proofs.Common.{inr, arith, drop}
+use Rattle.script_spec.specs.Common.{Item, SetCpus, SetMemory, SetRom, Ask, cards_of, Script, phase_items, IsSaidBy}
+use Rattle.script_spec.specs.Common.{OneScript}
 use Rattle.script_spec.proofs.Decision.{text_so}
 
 -- ---- cards in rising order
@@ -78,24 +78,12 @@ abbrev pub name_of : Option Item → List ℕ
 name_of (Some (SetRom name)) = name
 name_of _ = []
 
-abbrev disk_of : Option Item → Option (List ℕ)
-disk_of (Some (SetDisk name)) = Some name
-disk_of _ = None
-
-disk_said : (disk : Option (List ℕ)) → disk_of (option_map SetDisk disk) ≡ disk
-disk_said disk = grind (arith, nat_tests)
-
 one_meaning : (items : List Item) (left right : Script) → left.version ≡ right.version →
     IsSaidBy left items → IsSaidBy right items → left ≡ right
-one_meaning items left right version one two = λ i. record {
-  version = version i;
-  cpus = ap count_of (sym one.cpus ∙ two.cpus) i;
-  mib = ap count_of (sym one.memory ∙ two.memory) i;
-  rom = ap name_of (sym one.rom ∙ two.rom) i;
-  disk = (sym (disk_said left.disk) ∙ ap disk_of (sym one.disk ∙ two.disk) ∙ disk_said right.disk) i;
-  cards = one_order (cards_of items) left.cards right.cards one.cards two.cards one.rises two.rises i;
-  phases = one_cutting left.phases right.phases (sym one.phases ∙ two.phases) i;
-}
+one_meaning items left right version one two =
+    let cards = one_order (cards_of items) left.cards right.cards one.cards two.cards one.rises two.rises in
+    let phases = one_cutting left.phases right.phases (sym one.phases ∙ two.phases) in
+    grind (arith, nat_tests)
 
 pub one_script : OneScript
 one_script bytes script other one two =

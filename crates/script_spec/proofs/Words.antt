@@ -4,9 +4,9 @@ use Rattle.std.proofs.Common.{lit<, sym, ◌∙◌, ◌&&◌, flat_map, codes, d
 use Rattle.board_prelude.proofs.Common.{join_with_byte, nat_tests, Kind, bytes_of, Event, Memory, Wide, Port, Ack, Time}
 use Rattle.board_prelude.proofs.Common.{Stimulus, Applied, stimulus_form, applied, event_applied, applied_by}
 use Rattle.board_prelude.proofs.Common.{option_map_or, is_write, space, hex_number, size_text, width_text, kind_text}
-use Rattle.board_prelude.proofs.Common.{level_text, moment_text, event_text, and_from, and_parts, Part, Reply, Bus, Saw}
-use Rattle.board_prelude.proofs.Common.{parts_list, hex_long, area_text, target_text, denial_text, value_text}
-use Rattle.board_prelude.proofs.Common.{answered_text, reply_text}
+use Rattle.board_prelude.proofs.Common.{level_text, moment_text, event_text, Part, Reply, Bus, Saw, parts_list}
+use Rattle.board_prelude.proofs.Common.{hex_long, area_text, target_text, denial_text, value_text, answered_text}
+use Rattle.board_prelude.proofs.Common.{reply_text}
 use Rattle.script_spec.proofs.Digits.{own}
 use Rattle.std.proofs.lemmas.Fmt.{decimal-digits_value}
 use Rattle.board_spec.specs.declared.event.Event.TheVariants.{Look as LookAt}
@@ -139,9 +139,7 @@ reply_are bytes reply = grind (arith, nat_tests, value_word, target_word, denial
 
 plain-spaced : (words : List (List ℕ)) → are_words words ≡ true → is_plain (spaced words) ≡ true
 plain-spaced [] are = refl
-plain-spaced (word ∷ words) are =
-    let parts = and_parts (is_word word) (are_words words) are in
-    simp (list_all-append, and_from, plain-word word parts.0, plain-spaced words parts.1)
+plain-spaced (word ∷ words) are = grind (arith, nat_tests, list_all-append, plain-word, plain-spaced words)
 
 plain-joined : (words : List (List ℕ)) → are_words words ≡ true → is_plain (join_with_byte space words) ≡ true
 plain-joined [] are = refl
