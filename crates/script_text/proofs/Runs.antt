@@ -1,7 +1,7 @@
 -- The run over the lines.
-use Rattle.board_prelude.proofs.Common.{common_steps, nat_tests, digits, true≢false, bytes_eq-Decides}
-use Rattle.std.proofs.Common.{◌≡◌, ℕ, ◌+◌, true, false, Result, List, [], ◌∷◌, ◌++◌, length, refl, sym, ◌∙◌}
-use Rattle.std.proofs.Common.{append_assoc, length-append, arith, IfOk, codes, bytes_eq}
+use Rattle.board_prelude.proofs.Common.{nat_tests, digits, bytes_eq-Decides}
+use Rattle.std.proofs.Common.{◌≡◌, ℕ, ◌+◌, true, false, Result, List, [], ◌∷◌, ◌++◌, length, refl, append_assoc}
+use Rattle.std.proofs.Common.{length-append, arith, IfOk, codes, bytes_eq}
 use Rattle.script_spec.specs.Common.{lines_of, Item, AreRead, first_line, IsScriptText, BeginsBadly, IsInRangeScript}
 use Rattle.script_spec.proofs.Common.{same_head, read_more, skip_more, scripts_are_in_range, word_is}
 use Rattle.script_text.specs.declared.fault.ScriptFault.{ScriptFault}
@@ -19,9 +19,6 @@ pub second_is : first_line 2 ≡ codes "board 2"
 unfolding digits
 second_is = refl
 
-other_text : (line text : List ℕ) → bytes_eq line text ≡ false → line ≡ text → ⊥
-other_text line text e same = true≢false (sym ((bytes_eq-Decides line text).1 same) ∙ e)
-
 -- a line that is this text is the first one of its version
 pub said_version : (version : ℕ) (text : List ℕ) (lines later : List (List ℕ)) (line : List ℕ) →
     first_line version ≡ text → lines ≡ line ∷ later → bytes_eq line text ≡ true → lines ≡ first_line version ∷ later
@@ -30,7 +27,7 @@ said_version version text lines later line first cut e = rw (cut, first, word_is
 pub no_version : (lines later : List (List ℕ)) (line : List ℕ) → lines ≡ line ∷ later →
     bytes_eq line (codes "board 1") ≡ false → bytes_eq line (codes "board 2") ≡ false → BeginsBadly lines
 no_version lines later line cut one two version rest known e =
-    grind (arith, nat_tests, common_steps, other_text, codes, same_head, first_is, second_is)
+    grind (arith, nat_tests, bytes_eq-Decides, codes, same_head, first_is, second_is)
 
 -- ---- the lines after it
 

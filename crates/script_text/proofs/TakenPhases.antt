@@ -1,6 +1,6 @@
 -- What `phase` and statements add to what is kept.
-use Rattle.board_prelude.proofs.Common.{common_steps, nat_tests, list_any, false≢true, map-append, map-set, get_or-map}
-use Rattle.board_prelude.proofs.Common.{length-map, sum_by-cons, get_or-append_seam, Statement}
+use Rattle.board_prelude.proofs.Common.{nat_tests, list_any, false≢true, map-append, map-set, get_or-map, length-map}
+use Rattle.board_prelude.proofs.Common.{sum_by-cons, get_or-append_seam, Statement}
 use Rattle.std.proofs.Common.{◌≡◌, ℕ, ◌+◌, ◌-◌, ◌<◌, true, not, List, [], ◌∷◌, ◌++◌, Vec, Global, vec_len, length}
 use Rattle.std.proofs.Common.{get_or, filter, set, refl, sym, ap, ◌∙◌, arith, length-append, reverse, append_assoc}
 use Rattle.std.proofs.Math.Seq.{set-append_seam}
@@ -17,8 +17,7 @@ list_of phase = phase.items
 -- the last phase with one statement more
 statements_more : (front : List (List Statement)) (last : List Statement) (statement : Statement) →
     phase_items (front ++ (last ++ statement ∷ []) ∷ []) ≡ phase_items (front ++ last ∷ []) ++ Ask statement ∷ []
-statements_more front last statement =
-    grind (arith, nat_tests, common_steps, phases_more, front, last, map-append, append_assoc)
+statements_more front last statement = simp (phases_more, map-append, append_assoc)
 
 -- ---- `phase`
 
@@ -29,15 +28,7 @@ pub phase_taken :
 phase_taken old phases empty nothing longer items is least =
     let none : NoReason items BeginPhase = no_reason items BeginPhase least in
     let limits = within_limits (BeginPhase ∷ items) none.limits in
-    let many : length phases.items ≡ length old.phases.items + 1 =
-    ap length longer ∙ length-append old.phases.items (empty ∷ []) in
-    let lists : lists_of phases.items ≡ lists_of old.phases.items ++ [] ∷ [] =
-    rw (longer, map-append list_of old.phases.items (empty ∷ []), nothing) refl in
-    let spelled : reverse (filter (λ item. not (is_setup item)) (BeginPhase ∷ items))
-    ≡ phase_items (lists_of phases.items) =
-    reverse_more BeginPhase (filter (λ item. not (is_setup item)) items)
-    ∙ rw (is.phases, lists, phases_more (lists_of old.phases.items) []) refl in
-    grind (arith, nat_tests, sum_by-cons)
+    grind (arith, nat_tests, sum_by-cons, reverse_more, phases_more, map-append, length-append, is.phases)
 
 -- ---- statements
 
