@@ -13,9 +13,7 @@ use Rattle.std.proofs.lemmas.Bool.Decides.{nat_tests}
 -- ---- four bytes
 
 pub long_byte : (n j : ℕ) → j < 4 → get_or (to_le_bytes w32 n) j 0 ≡ byte n j
-long_byte n j below =
-    each_below (λ j. get_or (to_le_bytes w32 n) j 0 ≡ byte n j) 4 j
-    (omega arith, (omega arith, (omega arith, (omega arith, tt)))) below
+long_byte n j below = grind (arith, nat_tests, each_below)
 
 small_set : (n lane v i : ℕ) → lane < 4 → v < 256 → get_or (set (to_le_bytes w32 n) lane v) i 0 < 256
 small_set n lane v i within below = grind (arith, nat_tests, get_or-set_at, get_or-set_other, get_or_past)
@@ -34,9 +32,7 @@ other_bytes n lane v new j within below is j_below apart =
 -- ---- bases by their numbers
 
 pub is_base : (bases : List Base) (k : ℕ) (base : Base) → All IsBase bases → slice_get bases k ≡ Some base → IsBase base
-is_base bases k base each there =
-    rw (get_or_from_slice_get bases k base base there) at
-    (All-get_or IsBase bases k base (slice_get_within bases k base there) each)
+is_base bases k base each there = grind (arith, nat_tests, get_or_from_slice_get, slice_get_within)
 
 -- the base that is found at a place
 pub found_base : (bases : List Base) (k : ℕ) {found : Option BaseSpec} {base : BaseSpec} → All IsBase bases →

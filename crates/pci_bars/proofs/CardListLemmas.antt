@@ -2,8 +2,8 @@
 use Rattle.std.proofs.Common.{◌≡◌, ℕ, Bor, get_or, List, [], ◌∷◌, length, ◌++◌, ◌+◌, Option, Some, None, refl, arith}
 use Rattle.std.proofs.Common.{◌==◌, All, find, option_map, nat_lt, is_some, slice_get}
 use Rattle.std.specs.Option.{IfSome}
-use Rattle.board_prelude.proofs.Common.{position, position_or_len, nat_tests, All-nil, All-cons, All-append, All-head}
-use Rattle.board_prelude.proofs.Common.{All-tail, length-append, map-append, FittedCard, Setup, card_at}
+use Rattle.board_prelude.proofs.Common.{position, nat_tests, All-nil, All-cons, All-append, All-head, All-tail}
+use Rattle.board_prelude.proofs.Common.{length-append, map-append, FittedCard, Setup, card_at}
 use Rattle.std.proofs.lemmas.List.Folds.{find_at}
 use Rattle.std.proofs.lemmas.Option.{slice_get_past, slice_get-get_or}
 use Rattle.pci_bars.specs.declared.regs.CardRegs.{CardRegs}
@@ -37,9 +37,7 @@ at_position cards dev i is = rw (find_at (λ card. card.card.dev == dev) cards) 
 
 pub no_position : (cards : List CardBytes) (dev : ℕ) → None ≡ position (λ card. card.card.dev == dev) cards →
     None ≡ find (λ card. card.card.dev == dev) cards
-no_position cards dev is =
-    let past = slice_get_past cards (position_or_len (λ card. card.card.dev == dev) cards) in
-    rw (find_at (λ card. card.card.dev == dev) cards) (grind (arith, nat_tests))
+no_position cards dev is = grind (arith, nat_tests, slice_get_past, find_at)
 
 -- the card at a place of the list
 pub at_index :

@@ -13,6 +13,7 @@ use Rattle.pci_bars.specs.Common.{CardBytes, HoldsRom, DecodesAs, AreCards, AreD
 use Rattle.pci_bars.specs.Common.{rom_claim, vga_claim, covering_base, is_enabled, is_gate, first_claim}
 use Rattle.pci_bars.specs.Claims.{base_covers}
 use Rattle.std.proofs.lemmas.Bool.Decides.{nat_tests}
+use Rattle.std.proofs.lemmas.Grind.{common_steps}
 
 -- device and base of a window
 abbrev named : Option Window → Option (ℕ × ℕ)
@@ -89,10 +90,9 @@ module _ (counts : ℕ → Bool) (bytes : Bytes) (place : ℕ) where
   pick_bases : (windows : Windows) (dev : ℕ) (values : List ℕ) →
       ((k : ℕ) → k < 6 → base_value bytes dev k ≡ slice_index values k) → (k : ℕ) (bases : List Base) →
       k + length bases ≤ 6 → Claims (base_windows windows bytes dev k bases) dev (covering windows values place k bases)
-  pick_bases windows dev values same k [] few = none dev
+  pick_bases windows dev values same k [] few = grind (arith, nat_tests, common_steps, none)
   pick_bases windows dev values same k (base ∷ later) few =
-      pick_base windows dev k (slice_index values k) base _ _ (same k (omega arith))
-      (pick_bases windows dev values same (k + 1) later (omega arith))
+      grind (arith, nat_tests, common_steps, none, pick_bases windows dev values same (k + 1) later (omega arith))
 
   pick_rom : (windows : Windows) (dev register : ℕ) (rom : Option ℕ) → HoldsRom bytes dev register rom →
       Claims (rom_windows windows bytes dev rom) dev (rom_claim windows rom register place)
@@ -104,12 +104,7 @@ module _ (counts : ℕ → Bool) (bytes : Bytes) (place : ℕ) where
 
   pick_card : (windows : Windows) (setup : Setup) (card : CardBytes) → IsCard card.card → DecodesAs setup bytes card →
       Claims (windows_in windows bytes card.card) card.card.dev (covering_base windows place card)
-  pick_card windows setup card fit is =
-      let few = fit.count in
-      both _ _ _ _ _
-      (both _ _ _ _ _ (pick_bases windows _ _ (λ k below. (is.bases k below).number) 0 _ (omega arith))
-      (pick_rom windows _ _ _ is.rom))
-      (pick_vga windows card.card)
+  pick_card windows setup card fit is = grind (arith, nat_tests, both, pick_bases, pick_rom, pick_vga)
 
   pick_cards :
       (windows : Windows) (gate : Gate) (setup : Setup) →

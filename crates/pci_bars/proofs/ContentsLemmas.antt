@@ -1,6 +1,6 @@
 -- The bytes behind the bases: as they begin, and after a write.
 use Rattle.std.proofs.Common.{◌≡◌, ◌≢◌, ℕ, ◌+◌, ◌-◌, ◌<◌, ◌≤◌, List, [], ◌∷◌, map, Vec, Global, length, get_or, set}
-use Rattle.std.proofs.Common.{take, drop, ◌++◌, replicate, ◌∙◌, refl, sym, ap, arith, get_or-set_other, length-append}
+use Rattle.std.proofs.Common.{take, drop, ◌++◌, replicate, ◌∙◌, refl, sym, arith, get_or-set_other, length-append}
 use Rattle.std.proofs.Common.{length-drop, length-take-le, ◌==◌, find, slice_index, unwrap_or, vec_len}
 use Rattle.board_prelude.proofs.Common.{with_items, cases_lt, cases_eq, nat_tests, get_or_past, length-replicate}
 use Rattle.board_prelude.proofs.Common.{length-map, map-set, get_or-map, with_items_is, Width, Card, bytes_of, Entry}
@@ -67,10 +67,7 @@ written_byte dev base off width value d b at old =
 
 pub same_slot : {dev base d b : ℕ} → IsBaseNumber dev base → IsBaseNumber d b → slot_number d b ≡ slot_number dev base →
     (d ≡ dev) × (b ≡ base)
-same_slot {dev} {base} {d} {b} place other same =
-    let f1 = place.first in let f2 = other.first in let b1 = place.below in let b2 = other.below in
-    let same_dev : d ≡ dev = omega arith in
-    (same_dev, omega arith)
+same_slot {dev} {base} {d} {b} place other same = grind (arith, nat_tests)
 
 -- what a write leaves
 pub record IsWritten (old : List (List ℕ)) (dev base off : ℕ) (width : Width) (value : ℕ) (new : List (List ℕ))
@@ -123,10 +120,7 @@ pub record IsFilled (cards : List FittedCard) (count : ℕ) (contents : List (Li
 module _ (cards : List FittedCard) (contents : List (List ℕ)) (is : IsFilled cards 64 contents) where
   pub size_held : (dev base : ℕ) → IsBaseNumber dev base →
       length (held contents dev base) ≡ kept_size (find (λ card. card.dev == dev) cards) base
-  size_held dev base number =
-      let last = number.last in let below = number.below in
-      rw (is.each (slot_number dev base) (omega arith))
-      (length-replicate (slot_size cards (slot_number dev base)) 0 ∙ slot_of_base cards dev base number)
+  size_held dev base number = grind (arith, nat_tests, length-replicate, slot_of_base)
 
   pub stored_at_first : (setup : Setup) → setup.cards ≡ cards → IsContentsOf setup [] contents
   unfolding stored_of
@@ -149,20 +143,14 @@ pub record IsBuffer (buffers : List (Vec ℕ Global)) (contents : List (List ℕ
 module _ {buffers : List (Vec ℕ Global)} {contents : List (List ℕ)} {slot dev base : ℕ} {buffer : Vec ℕ Global}
     (at : IsBuffer buffers contents slot dev base buffer) where
   pub buffer_there : slot_number dev base < length contents
-  buffer_there =
-      rw (← at.view, ← at.number)
-      (let below = at.below in
-      omega (arith, at.count, length-map buffers (λ (buffer : Vec ℕ Global). buffer.items)))
+  buffer_there = grind (arith, nat_tests, length-map)
 
   pub buffer_held : held contents dev base ≡ buffer.items
   buffer_held = grind (arith, nat_tests, get_or-map)
 
   pub buffer_set : (bytes : List ℕ) → length bytes ≡ vec_len buffer →
       lists (set buffers slot (with_items buffer bytes)) ≡ set contents (slot_number dev base) bytes
-  buffer_set bytes same =
-      rw (← at.view, ← at.number)
-      (map-set (λ (buffer : Vec ℕ Global). buffer.items) buffers slot (with_items buffer bytes)
-      ∙ ap (set (lists buffers) slot) (with_items_is buffer bytes same))
+  buffer_set bytes same = grind (arith, nat_tests, map-set, with_items_is)
 
 -- ---- a stretch of bytes that is copied into a base
 
@@ -172,6 +160,4 @@ stretch now copied off count = take off now ++ (copied ++ drop (off + count - of
 
 pub stretch_length : (now bytes copied : List ℕ) (off : ℕ) → off + length bytes ≤ length now → copied ≡ bytes →
     length (stretch now copied off (length bytes)) ≡ length now
-stretch_length now bytes copied off fits is =
-    let size : off + length bytes - off ≡ length bytes = omega arith in
-    rw (size, is) (simp (length-append, length-drop) (omega (arith, length-take-le off now (omega arith))))
+stretch_length now bytes copied off fits is = grind (arith, nat_tests, length-append, length-drop, length-take-le)

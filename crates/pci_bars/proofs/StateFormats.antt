@@ -1,7 +1,7 @@
 -- The bytes behind the bases are spelled base by base, and read back.
 use Rattle.std.proofs.Common.{◌≡◌, ℕ, zero, suc, ◌+◌, ◌-◌, ◌/◌, ◌%◌, ◌≤◌, ◌<◌, List, [], ◌∷◌, ◌++◌, Vec, Global, length}
 use Rattle.std.proofs.Common.{drop, get_or, Option, Some, None, Result, refl, sym, ◌∙◌, append_assoc, arith, All, find}
-use Rattle.std.proofs.Common.{◌==◌, slice_get}
+use Rattle.std.proofs.Common.{◌==◌}
 use Rattle.board_prelude.proofs.Common.{append-nil, flat_map-cons, drop_more, drop_all, All-head, All-tail}
 use Rattle.board_prelude.proofs.Common.{option_map_or, Base, OutsideBase, IsBase, FittedCard, IsCard, kept_of_base}
 use Rattle.board_prelude.proofs.Common.{kept_size}
@@ -28,9 +28,7 @@ base_few (Some (OutsideBase bits)) each = omega arith
 base_few (Some base) each = let range = each base refl in pow_mono {i = _} {j = 24} (omega (arith, range.1))
 
 card_few : (card : FittedCard) (base : ℕ) → IsCard card → kept_size (Some card) base ≤ 0x100_0000
-card_few card base is =
-    let few = base_few (slice_get card.bases base) (λ found there. is_base card.bases base found is.each there) in
-    grind arith
+card_few card base is = grind (arith, nat_tests, base_few, is_base)
 
 kept_few : (cards : List FittedCard) (dev base : ℕ) → All IsCard cards →
     kept_size (find (λ card. card.dev == dev) cards) base ≤ 0x100_0000

@@ -1,12 +1,13 @@
 -- A card in the table of registers.
 use Rattle.std.proofs.Common.{◌≡◌, ℕ, zero, suc, ◌+◌, ◌-◌, ◌*◌, ◌/◌, ◌%◌, ◌<◌, ◌≤◌, false, List, [], ◌∷◌, length}
-use Rattle.std.proofs.Common.{get_or, Some, ◌∙◌, refl, ap, arith, ◌==◌, flat_map, if◌then◌else◌, replicate}
+use Rattle.std.proofs.Common.{get_or, Some, refl, ap, arith, ◌==◌, flat_map, if◌then◌else◌, replicate}
 use Rattle.board_prelude.proofs.Common.{ne_eqb, nat_tests, get_or_append_left, get_or-append_right, get_or_past, Base}
 use Rattle.board_prelude.proofs.Common.{FittedCard, Setup, IsCard, card_at, byte, is_within, long_bytes, line}
 use Rattle.board_prelude.proofs.Common.{card_function, function_lines, listed, base_reset, base_writable, rom_writable}
 use Rattle.board_prelude.proofs.Common.{reset_byte, writable_bits, card_register, each_below, get_or-replicate}
 use Rattle.board_spec.specs.RegisterTable.{Line}
 use Rattle.pci_bars.specs.Common.{of_base, CardBytes, is_kept_offset, header_of}
+use Rattle.std.proofs.lemmas.Grind.{common_steps}
 
 module _ (setup : Setup) (card : FittedCard) (off : ℕ) (above : 2 ≤ card.dev)
     (fitted : card_at setup card.dev ≡ Some card) where
@@ -37,20 +38,20 @@ long_byte n j below = each_below (λ j. get_or (long_bytes n) j 0 ≡ byte n j) 
 
 get_or-base_bytes : (number_of : Base → ℕ) (bases : List Base) (k j i : ℕ) → i ≡ 4 * k + j → j < 4 →
     get_or (base_bytes number_of bases) i 0 ≡ byte (of_base number_of bases k) j
-get_or-base_bytes number_of [] k j i at below = grind (arith, nat_tests, get_or_append_left, get_or-append_right)
-get_or-base_bytes number_of (base ∷ later) zero j i at below = grind (
-  arith,
-  nat_tests,
-  get_or_append_left,
-  get_or-append_right,
-)
-get_or-base_bytes number_of (base ∷ later) (suc k) j i at below = grind (
-  arith,
-  nat_tests,
-  get_or_append_left,
-  get_or-append_right,
-  get_or-base_bytes number_of later k j (i - 4) (omega arith) below,
-)
+get_or-base_bytes number_of [] k j i at below =
+    grind (arith, nat_tests, common_steps, get_or_append_left, get_or-append_right)
+get_or-base_bytes number_of (base ∷ later) zero j i at below =
+    grind (arith, nat_tests, common_steps, get_or_append_left, get_or-append_right)
+get_or-base_bytes number_of (base ∷ later) (suc k) j i at below =
+    grind (
+      arith,
+      nat_tests,
+      common_steps,
+      get_or_append_left,
+      get_or-append_right,
+      get_or-base_bytes number_of later k
+          j (i - 4) (omega arith) below,
+    )
 
 abbrev base_entry : FittedCard → Line
 base_entry card = line 0x10 (base_bytes base_reset card.bases) (base_bytes base_writable card.bases)
@@ -70,13 +71,13 @@ pub past_header : (column : Line → List ℕ) (number_of : Base → ℕ) (card 
     if is_within 0x30 0x33 off then get_or (column (rom_entry card)) (off - 0x30) 0 else
     if is_within 0x3C 0x3D off then get_or (column last_entry) (off - 0x3C) 0 else 0)
 unfolding card_function
-past_header column number_of card same few off above =
-    let long = length-base_bytes base_reset card.bases in
-    let own_long = length-base_bytes number_of card.bases in
-    let here = get_or-base_bytes number_of card.bases ((off - 0x10) / 4) ((off - 0x10) % 4) (off - 0x10) (omega arith)
-    (omega arith) in
-    let past = get_or_past (base_bytes number_of card.bases) (off - 0x10) 0 in
-    grind (arith, nat_tests, long, own_long, here, past)
+past_header column number_of card same few off above = grind (
+  arith,
+  nat_tests,
+  length-base_bytes,
+  get_or-base_bytes,
+  get_or_past,
+)
 
 module _ (card : FittedCard) (few : length card.bases ≤ 6) where
   pub reset_past : (off : ℕ) → 0x10 ≤ off →
@@ -103,10 +104,7 @@ module _ (card : FittedCard) (few : length card.bases ≤ 6) where
   pub writable-base : (k j : ℕ) → k < 6 → j < 4 →
       listed (λ entry. entry.writable) (card_function card) (0x10 + 4 * k + j)
       ≡ byte (of_base base_writable card.bases k) j
-  writable-base k j k_below j_below =
-      let index : (0x10 + 4 * k + j - 0x10) / 4 ≡ k = omega arith in
-      let lane : (0x10 + 4 * k + j - 0x10) % 4 ≡ j = omega arith in
-      writable_past (0x10 + 4 * k + j) (omega arith) ∙ rw (index, lane) (grind (arith, nat_tests))
+  writable-base k j k_below j_below = grind (arith, nat_tests, writable_past)
 
 -- ---- the header, and what is not kept
 

@@ -4,15 +4,19 @@ use Rattle.std.proofs.lemmas.List.{map_push}
 use Rattle.byte_fields.proofs.Loops.{goes_on, is_done}
 use Rattle.pci_bars.proofs.StateFormats.{slots_loop, slot_failed}
 use Rattle.pci_bars.proofs.contents.Contents.read_state.Goals as goal
+use Rattle.std.proofs.lemmas.Bool.Decides.{nat_tests}
 
 pub returns-in_err-read_buffer : goal.returns-in_err-read_buffer
-returns-in_err-read_buffer c =
-    let p = err_from_is_err_and c.from_residual.result c.from_residual.ensures.1 in
-    record {
-      filled =
-          rw (p.1, p.2) (slot_failed _ _ _ _ _ _ _ c.loop-slot-test.true c.loop-slot.invariant.read
-          (rw c.slot_size-size.ensures.size at c.in_err-read_buffer.ensures.filled));
-    }
+returns-in_err-read_buffer c = grind (
+  arith,
+  nat_tests,
+  err_from_is_err_and,
+  slot_failed,
+  c.from_residual.ensures.1,
+  c.loop-slot.invariant.read,
+  c.slot_size-size.ensures.size,
+  c.in_err-read_buffer.ensures.filled,
+)
 
 pub loop-slot-preserved : goal.loop-slot-preserved
 loop-slot-preserved c =

@@ -1,10 +1,11 @@
-use Rattle.std.proofs.Common.{◌≡◌, ◌≤◌, ◌+◌, ◌-◌, [], length, set, sym, refl, ◌∙◌, arith}
+use Rattle.std.proofs.Common.{◌≡◌, ◌+◌, ◌-◌, [], length, set, sym, refl, ◌∙◌, arith}
 use Rattle.board_prelude.proofs.Common.{get_or-set_same, get_or-set_other, with_items, drop-drop}
 use Rattle.pci_bars.specs.Contents.{slot_number}
 use Rattle.pci_bars.proofs.ContentsLemmas.{IsBuffer, buffer_held, buffer_set, buffer_there, lists, stretch}
 use Rattle.pci_bars.proofs.ContentsLemmas.{stretch_length, same_slot}
 use Rattle.pci_bars.proofs.contents.Contents.write_bytes.Goals.{After-copy_from_slice}
 use Rattle.pci_bars.proofs.contents.Contents.write_bytes.Goals as goal
+use Rattle.std.proofs.lemmas.Bool.Decides.{nat_tests}
 
 there : (c : After-copy_from_slice) → IsBuffer c.self.inside.buffers.items c.args.self.now c.slot_of.result c.args.dev
     c.args.base c.index_mut.result.now
@@ -16,11 +17,7 @@ new : (c : After-copy_from_slice) →
     (length c.args.bytes.now))))
     ≡ set c.args.self.now (slot_number c.args.dev c.args.base)
     (stretch c.deref_mut.result.now c.copy_from_slice.new.self c.args.off (length c.args.bytes.now))
-new c =
-    let fits : c.args.off + length c.args.bytes.now ≤ length c.deref_mut.result.now =
-    rw (buffer_held (there c) ∙ sym c.deref_mut.ensures.value) at c.requires.within in
-    buffer_set (there c) _ (stretch_length _ _ _ _ fits c.copy_from_slice.ensures.after
-    ∙ c.deref_mut.ensures.len)
+new c = grind (arith, nat_tests, buffer_held, there, buffer_set, stretch_length)
 
 pub returns-clause-here : goal.returns-clause-here
 returns-clause-here c =
