@@ -1,17 +1,16 @@
 -- The spans that the worked examples look at, the flat maps, the histories with looks, and both orders of the script
 -- for two processors.
-use Rattle.std.proofs.Common.{ℕ, ◌≡◌, ◌+◌, ◌-◌, ◌/◌, ◌<◌, ◌≤◌, ◌≢◌, Bool, true, false, ◌∷◌, [], nat_lt, refl, List}
-use Rattle.std.proofs.Common.{arith, inr, ◌∙◌, suc, ◌&&◌, not, if◌then◌else◌, map, replicate, All, rules, inl, drop}
-use Rattle.std.proofs.Common.{flat_map}
+use Rattle.std.proofs.Common.{ℕ, ◌≡◌, ◌+◌, ◌-◌, ◌<◌, ◌≤◌, ◌≢◌, Bool, true, false, ◌∷◌, [], nat_lt, refl, List, arith}
+use Rattle.std.proofs.Common.{inr, ◌∙◌, ◌&&◌, not, if◌then◌else◌, map, replicate, All, rules, inl, drop, flat_map}
 use Rattle.board_prelude.proofs.Common.{nat_tests, Kind, is_within, Setup, Bytes, Area, is_rom_selected, is_smram_range}
 use Rattle.board_prelude.proofs.Common.{row_of, area_of, memory_claim, IsSpan, address_count, xbcs, Fetch, Read, Write}
-use Rattle.board_prelude.proofs.Common.{bridge, pam, is_shadowed, is_smram_open, fdhc, drb, MapRange, IsRight}
-use Rattle.board_prelude.proofs.Common.{NeighboursDiffer, byte_of, reset_byte, writable_bits, host_bridge, isa_bridge}
-use Rattle.board_prelude.proofs.Common.{config_address, reset_control, card_function, denial_of, memory_shut}
-use Rattle.board_prelude.proofs.Common.{rom_unselected, port_target_of, stored_of, port_answer, memory_answer}
-use Rattle.board_prelude.proofs.Common.{map_change_of, map_writes_of, ide_function, io_claim, io_shut, events_by}
-use Rattle.board_prelude.proofs.Common.{statement_of, AllByRecursion, top_of, first_of, card_area, option_map, Window}
-use Rattle.board_prelude.proofs.Common.{is_covered, memory_windows, is_enabled_for}
+use Rattle.board_prelude.proofs.Common.{bridge, pam, is_smram_open, fdhc, drb, MapRange, IsRight, NeighboursDiffer}
+use Rattle.board_prelude.proofs.Common.{byte_of, reset_byte, writable_bits, host_bridge, isa_bridge, config_address}
+use Rattle.board_prelude.proofs.Common.{reset_control, card_function, denial_of, memory_shut, rom_unselected}
+use Rattle.board_prelude.proofs.Common.{port_target_of, stored_of, port_answer, memory_answer, map_change_of}
+use Rattle.board_prelude.proofs.Common.{map_writes_of, ide_function, io_claim, io_shut, events_by, statement_of}
+use Rattle.board_prelude.proofs.Common.{AllByRecursion, top_of, first_of, card_area, option_map, Window, is_covered}
+use Rattle.board_prelude.proofs.Common.{memory_windows, is_enabled_for}
 use Rattle.board_base.specs.declared.target.Area.TheVariants.{Abort, Dram, Rom, Smram}
 use Rattle.std.proofs.lemmas.List.Elements.{All-from_recursion}
 use Rattle.board_examples.specs.Common.{small_board, range, smram_range, smram_written, map_round, MapAfterReset}
@@ -42,12 +41,7 @@ claimed setup bytes x = first_of (option_map card_area (memory_claim setup bytes
 far_area : (setup : Setup) (bytes : Bytes) (kind : Kind) (smm : Bool) (x : ℕ) → bytes xbcs ≡ 3 → top_of bytes ≤ x →
     0x10_0000 ≤ x → x < 0xFFFF_0000 → area_of setup bytes x kind smm ≡ claimed setup bytes x
 unfolding area_of row_of
-far_area setup bytes kind smm x selected past far before =
-    let row : nat_lt x (top_of bytes) ≡ false = grind (arith, nat_tests) in
-    let smram : is_smram_range x ≡ false = grind (arith, nat_tests) in
-    let upper : is_within 0xA_0000 0xF_FFFF x ≡ false = grind (arith, nat_tests) in
-    let rom : is_rom_selected 0x03 x ≡ false = grind (arith, nat_tests) in
-    rw (row, smram, upper, selected, rom) refl
+far_area setup bytes kind smm x selected past far before = grind (arith, nat_tests)
 
 far_span : {setup : Setup} {bytes : Bytes} {addr lo hi : ℕ} {kind : Kind} {smm : Bool} {area : Area} →
     (lo ≤ addr) × (addr ≤ hi) × (hi < 0xFFFF_0000) → (top_of bytes ≤ lo) × (0x10_0000 ≤ lo) × (bytes xbcs ≡ 3) →
@@ -91,17 +85,10 @@ plain_area opened x =
     if is_rom_selected 0x03 x then Rom else Abort
 
 module _ (bytes : Bytes) (plain : IsPlain bytes) where
-  pam_byte : (k : ℕ) → k < 6 → bytes (bridge (0x5A + k)) ≡ 0
-  pam_byte (suc (suc (suc (suc (suc (suc k)))))) less = absurd (omega arith)
-  pam_byte _ less = cc plain.pams
-
-  no_shadow : (x : ℕ) (kind : Kind) → is_shadowed bytes x kind ≡ false
-  no_shadow x kind = grind (arith, nat_tests, plain.bios, pam_byte ((x - 0xC_0000) / 0x8000))
-
   pub area_is : (x : ℕ) (kind : Kind) (smm : Bool) →
       area_of small_board bytes x kind smm ≡ plain_area (is_smram_open bytes kind smm) x
   unfolding area_of row_of memory_claim
-  area_is x kind smm = rw (plain.last, plain.first, plain.hole, plain.rom, no_shadow x kind) (grind (arith, nat_tests))
+  area_is x kind smm = grind (arith, nat_tests)
 
   -- the six areas of an address that go by whether SMRAM is open
   abbrev by_smram : (Bool → Area) → List Area

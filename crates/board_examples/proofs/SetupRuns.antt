@@ -14,6 +14,7 @@ use Rattle.board_examples.specs.Limits.{after_millions, AmountBorders}
 use Rattle.script_spec.specs.Common.{Item, BeginPhase, is_phase, is_statement, is_cpus_above, cards_of, is_in_range}
 use Rattle.script_spec.specs.Common.{pulses_of, least_reason}
 use Rattle.script_spec.proofs.LeastReasons.{first_of}
+use Rattle.std.proofs.lemmas.Bool.Decides.{nat_tests}
 
 pub setup_borders : SetupBorders
 setup_borders = record {
@@ -121,11 +122,4 @@ pulses count more good =
     simp (has.open_phase, has.cpus, has.asked, has.phased, more.pulsed, has.bare, good)
 
 pub amount_borders : AmountBorders
-amount_borders = record {
-  last_statement = statements 249_999;
-  statement_more = statements 250_000;
-  last_phase = phases 998;
-  phase_more = phases 999;
-  last_pulse = pulses 99 1_000_000 refl;
-  pulse_more = pulses 100 1 refl;
-}
+amount_borders = grind (arith, nat_tests, statements, phases, pulses)
