@@ -106,20 +106,15 @@ pub alone_is : {setup : Setup} {before mid : List ℕ} {chipset : Running} → L
     (other : Running) → other.setup ≡ setup → IsChipset other → before ≡ chipset_bytes other →
     (chipset ≡ other) × (mid ≡ [])
 alone_is loads other same is begins =
-    elim (loads.exact other [] same is (begins ∙ sym (append-nil (chipset_bytes other)))) [
-      | inl none ↦ absurd cc
-      | inr one ↦ (let is = one.0 in cc, one.1)
-    ]
+    grind (arith, nat_tests, loads.exact other [] same is (begins ∙ sym (append-nil (chipset_bytes other))))
 
 -- a bad field begins within the bytes
 pub bad_within : {setup : Setup} {bytes all : List ℕ} (after : List ℕ) → IsSetup setup → AreBytes bytes → all ≡ bytes →
     alone (chipset_fields setup) all ≡ Err (length after) →
     (length after ≤ length bytes) × ((at : ℕ) → at + length after ≡ length bytes → IsBadStateAt setup bytes at)
 bad_within {setup} {bytes} after fits are same is =
-    let read = rw same at is in (
-      alone_bad (chipset_format setup fits) bytes (length after) are read,
-      λ at place. record { left = length after; place = place; bad = read },
-    )
+    let read = rw same at is in
+    (alone_bad (chipset_format setup fits) bytes (length after) are read, λ at place. grind (arith, nat_tests))
 
 -- the bytes of a chipset are of this version
 pub own_version : (chipset : Running) (bytes : List ℕ) → bytes ≡ chipset_bytes chipset → is_other_version bytes ≡ false

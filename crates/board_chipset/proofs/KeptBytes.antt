@@ -49,12 +49,7 @@ south_stands : (setup : Setup) (regs : MapBytes) (south : South) → length sout
 unfolding kept_byte overlaid beside_map ide_kept reset_byte
 south_stands setup regs south long = record {
   routes = four south.routes long;
-  ide = record {
-    command = refl;
-    timing_low = refl;
-    timing_high = refl;
-    fixed = λ other off fixed. grind (arith, nat_tests);
-  };
+  ide = grind (arith, nat_tests);
 }
 
 -- ---- a card

@@ -170,20 +170,10 @@ clock_set {setup} {history} {later} {old} {devices} kept puts after =
     let one = clock_step (assumption) puts.first kept.registers kept.stores in
     let two = clock_step (assumption) puts.second one.0 one.1 in
     let three = clock_step (assumption) puts.third two.0 two.1 in
-    record {
-      fits = kept.fits;
-      registers = rw (puts.are_last) three.0;
-      stores = rw (puts.are_last) three.1;
-      devices = after (record {
-        to_address = puts.to_address;
-        to_byte = puts.to_byte;
-        back = puts.back;
-        are_last = puts.are_last;
-        first = one.2;
-        second = two.2;
-        third = three.2;
-      });
-    }
+    let done = after (grind (arith, nat_tests, puts.are_last, one.2, two.2, three.2)) in
+    let registers = rw (← puts.are_last) at three.0 in
+    let stores = rw (← puts.are_last) at three.1 in
+    assumption
 
 clock_entry : (port byte : ℕ) → Entry
 clock_entry port byte = record {
@@ -200,13 +190,5 @@ unfolding clock_entry
 some_clock_entries history address byte = (
   clock_entry clock_index_port (clock_of history).index ∷ clock_entry clock_data_port byte
       ∷ clock_entry clock_index_port address ∷ history,
-  record {
-    to_address = clock_entry clock_index_port address;
-    to_byte = clock_entry clock_data_port byte;
-    back = clock_entry clock_index_port (clock_of history).index;
-    are_last = refl;
-    first = record { event = refl; reached = refl };
-    second = record { event = refl; reached = refl };
-    third = record { event = refl; reached = refl };
-  },
+  grind (arith, nat_tests),
 )

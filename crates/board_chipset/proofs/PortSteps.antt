@@ -225,21 +225,14 @@ chip_changed {setup} {history} {access} {dev} {entry} named control kept is afte
     let beside : IsBeside setup (config_address history) access.port access.width = grind (arith, nat_tests, at) in
     let none : Writes setup history entry.event None None None =
     rw (is.event) (writes_beside setup history access beside) in
-    devices_move kept none (puts_none is (λ cell. refl))
-    (after (record { event = is.event; device = rw (is.reply) refl; soft = soft none }))
+    devices_move kept none (puts_none is (λ cell. refl)) (after (grind (arith, nat_tests, soft none, is.reply)))
 
 -- ---- the entry of an access that reached this
 
 pub entry_is : {setup : Setup} {history : List Entry} {access : PortAccess} {target : Target} {denial : Option Denial}
     {value : Option ℕ} {entry : Entry} → record { target = target; denial = denial } ≡ reached setup history access →
     entry.event ≡ Port access → entry.reply ≡ Bus value target denial → IsEntryOf setup history access target entry
-entry_is {denial = denial} {value} is event said = record {
-  value = value;
-  denial = denial;
-  target_is = ap (λ (d : Decoded). d.target) is;
-  event = event;
-  reply = said;
-}
+entry_is is event said = grind (arith, nat_tests)
 
 -- ---- the change of the map that an event makes
 
