@@ -1,13 +1,14 @@
 -- The window that claims a place has the size of its base, and an access that it claims lies in its contents.
-use Rattle.std.proofs.Common.{◌≡◌, ◌≢◌, ◌⊎◌, ℕ, suc, ◌+◌, ◌-◌, ◌*◌, ◌%◌, ◌^◌, ◌<◌, ◌≤◌, Bool, List, [], ◌∷◌, ◌++◌}
-use Rattle.std.proofs.Common.{length, Some, ◌∙◌, ap, arith, All, find, flat_map, slice_get, pow-add, pow_pos}
+use Rattle.std.proofs.Common.{sym, subst, ◌≡◌, ◌≢◌, ◌⊎◌, ℕ, suc, ◌+◌, ◌-◌, ◌*◌, ◌%◌, ◌^◌, ◌<◌, ◌≤◌, Bool, List, [], ◌∷◌}
+use Rattle.std.proofs.Common.{◌++◌, length, Some, ◌∙◌, ap, arith, All, find, flat_map, slice_get, pow-add, pow_pos}
 use Rattle.board_prelude.proofs.Common.{nil_from_length, All-nil, All-cons, All-head, All-tail, All-append, base_value}
 use Rattle.board_prelude.proofs.Common.{Base, FittedCard, Setup, IsBase, IsCard, card_at, kept_size, Width, bytes_of}
 use Rattle.board_prelude.proofs.Common.{window_bits, bits_of_base, Bytes, Window, io_windows, memory_claim, io_claim}
 use Rattle.std.proofs.lemmas.Nat.{mod-pow-add}
+use Rattle.std.proofs.lemmas.List.Elements.{All-map}
 use Rattle.std.proofs.Math.Nat.{mod-lt}
 use Rattle.pci_bars.specs.declared.claims.Windows.{Windows}
-use Rattle.pci_bars.specs.Common.{CardBytes, DecodesAs, AreCards, AreDecoded, cards_of, IsBaseNumber, LiesIn, HaveSizes}
+use Rattle.pci_bars.specs.Common.{CardBytes, AreCards, AreDecoded, cards_of, IsBaseNumber, LiesIn, HaveSizes}
 use Rattle.pci_bars.proofs.BaseLemmas.{is_base}
 use Rattle.pci_bars.proofs.ClaimLemmas.{window_in, base_windows, rom_windows, vga_windows, windows_in, windows_are}
 use Rattle.pci_bars.proofs.ClaimLemmas.{io_windows_are, Memory, Ports, Open}
@@ -82,32 +83,43 @@ module _ (setup : Setup) (bytes : Bytes) (card : FittedCard) (fit : IsCard card)
       (both_sized (sized_bases windows 0 card.bases (omega arith) (λ i. ap (slice_get card.bases) (omega arith)))
       (sized_rom windows)) (sized_vga windows)
 
+-- a card that can be fitted, and is found by its number
+abbrev pub IsFound : Setup → FittedCard → Type 0
+IsFound setup card = IsCard card × (card_at setup card.dev ≡ Some card)
+
 module _ (setup : Setup) (bytes : Bytes) where
-  sized_cards : (windows : Windows) (cards : List CardBytes) → AreCards cards → All (DecodesAs setup bytes) cards →
-      AreSized setup (flat_map (windows_in windows bytes) (cards_of cards))
-  sized_cards windows [] fit are = no_windows
-  sized_cards windows (card ∷ later) fit are =
-      both_sized
-      (sized_card setup bytes card.card (All-head (λ card. IsCard card.card) card later fit)
-      (All-head (DecodesAs setup bytes) card later are).fitted windows)
-      (sized_cards windows later (All-tail (λ card. IsCard card.card) card later fit)
-      (All-tail (DecodesAs setup bytes) card later are))
+  sized_cards : (windows : Windows) (cards : List FittedCard) → All (IsFound setup) cards →
+      AreSized setup (flat_map (windows_in windows bytes) cards)
+  sized_cards windows [] are = no_windows
+  sized_cards windows (card ∷ later) are =
+      let first = All-head (IsFound setup) card later are in
+      both_sized (sized_card setup bytes card first.0 first.1 windows)
+      (sized_cards windows later (All-tail (IsFound setup) card later are))
 
   -- the window that claims an address is that of a base
-  pub memory_claim_sized : (cards : List CardBytes) (addr : ℕ) (window : Window) → AreCards cards →
-      AreDecoded setup bytes cards → memory_claim setup bytes addr ≡ Some window → IsSized setup window
+  pub claim_sized : (addr : ℕ) (window : Window) → All (IsFound setup) setup.cards →
+      memory_claim setup bytes addr ≡ Some window → IsSized setup window
   unfolding memory_claim
-  memory_claim_sized cards addr window fit are found =
-      All-find (IsSized setup) _ _ window (sized_cards Memory cards fit are.1).each (rw are.0 at found)
+  claim_sized addr window are found = All-find (IsSized setup) _ _ window (sized_cards Memory setup.cards are).each found
+
+module _ (setup : Setup) (bytes : Bytes) (cards : List CardBytes) where
+  all_found : AreCards cards → AreDecoded setup bytes cards → All (IsFound setup) (cards_of cards)
+  all_found fit are =
+      All-map (IsFound setup) (λ card. card.card) cards (λ k d within. (fit k d within, (are.1 k d within).fitted))
+
+  pub memory_claim_sized : (addr : ℕ) (window : Window) → AreCards cards → AreDecoded setup bytes cards →
+      memory_claim setup bytes addr ≡ Some window → IsSized setup window
+  memory_claim_sized addr window fit are =
+      claim_sized setup bytes addr window (subst (All (IsFound setup)) (sym are.0) (all_found fit are))
 
   -- and so is the window that claims a port
-  pub io_claim_sized : (cards : List CardBytes) (port : ℕ) (window : Window) → AreCards cards →
-      AreDecoded setup bytes cards → io_claim setup bytes port ≡ Some window → IsSized setup window
+  pub io_claim_sized : (port : ℕ) (window : Window) → AreCards cards → AreDecoded setup bytes cards →
+      io_claim setup bytes port ≡ Some window → IsSized setup window
   unfolding io_claim
-  io_claim_sized cards port window fit are found =
+  io_claim_sized port window fit are found =
       All-find (IsSized setup) _ _ window
       (rw (windows_are setup bytes cards port fit are Ports Open (io_windows bytes) (io_windows_are bytes)) at
-      (sized_cards Ports cards fit are.1).each) found
+      (sized_cards setup bytes Ports (cards_of cards) (all_found fit are)).each) found
 
 -- ---- an aligned access in a window
 
