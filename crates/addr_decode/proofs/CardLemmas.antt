@@ -167,6 +167,11 @@ find_at [] rises k d within = grind (arith, nat_tests)
 find_at (card ∷ later) rises zero d within = grind (arith, nat_tests)
 find_at (card ∷ later) rises (suc k) d within = grind (arith, nat_tests, find_at later rises.1 k d (omega arith))
 
+-- each card of a setup can be fitted, and is found by its number
+pub found_cards : (setup : Setup) → IsCardList setup.cards →
+    All (λ card. IsCard card × (card_at setup card.dev ≡ Some card)) setup.cards
+found_cards setup list k d within = (list.each k d within, find_at setup.cards list.rises k d within)
+
 pub reset_cards : (setup : Setup) (cards : List CardBytes) → AreFitted cards → AreReset cards →
     setup.cards ≡ cards_of cards → AreCardsOf setup (reset_byte setup) cards
 reset_cards setup cards fitted reset same = (
