@@ -1,5 +1,5 @@
 -- What a command answers, from the files that it read and the text that came of them.
-use Rattle.std.proofs.Common.{arith, ◌≡◌, ◌≢◌, ℕ, [], ◌∷◌, List, Some, refl, Result, Ok, Err, IfOk, IfErr}
+use Rattle.std.proofs.Common.{arith, ◌≡◌, ◌≢◌, ℕ, [], ◌∷◌, List, Some, refl, Result, Err, IfOk, IfErr}
 use Rattle.std.proofs.lemmas.Bool.Decides.{nat_tests}
 use Rattle.board_spec.specs.Setup.{Setup}
 use Rattle.script_spec.specs.Common.{Script as Said, DiffersAt}
@@ -9,19 +9,17 @@ use Rattle.command_words.specs.Words.{Command, Check}
 use Rattle.command_files.specs.declared.status.Which.{Which}
 use Rattle.command_files.specs.declared.status.Which.TheVariants.{Script, Rom, Disk}
 use Rattle.command_files.specs.declared.status.Status.{Status}
-use Rattle.command_files.specs.declared.status.Status.TheVariants.{ReadFault, Differs, OtherBoard, NoMemory}
+use Rattle.command_files.specs.declared.status.Status.TheVariants.{ReadFault, Differs}
 use Rattle.command_files.specs.Common.{status_of_check_fault, Files, Known, AllRead, board_of, CanBeDone, OfCheck}
-use Rattle.command_files.specs.Common.{OfResume, LogDiffers, BoardsDiffer, AsksFor, ShelfCall, OfFiles, CanEnd}
-use Rattle.command_files.specs.Common.{CompareBoards, IsRefused}
+use Rattle.command_files.specs.Common.{OfResume, ShelfCall, OfFiles, CanEnd, CompareBoards, IsRefused}
 use Rattle.command_files.proofs.Refusals.{of_files, at_files}
-use Rattle.board_commands.specs.Common.{IsTextFor, IsCommandText, HasNoText, IsAnswered}
+use Rattle.board_commands.specs.Common.{IsTextFor, HasNoText, IsAnswered}
 
 pub refused_answer : (command : Command) (shelf : ShelfCall) (result : Result (List ℕ) Status) (status : Status) →
     result ≡ Err status → IsRefused command shelf status →
     (((which : Which) → status ≢ ReadFault which) → shelf.faults_now ≡ shelf.faults_before) →
     IsAnswered command shelf result
-refused_answer command shelf result status is refused quiet =
-    rw is (record { text = tt; refused = refused; quiet = tt; no_fault_hidden = quiet })
+refused_answer command shelf result status is refused quiet = grind (arith, nat_tests)
 
 -- ---- after the files were read
 
@@ -37,37 +35,17 @@ module _ (command : Command) (shelf : ShelfCall) (known : Known)
     (read : OfFiles shelf.files (λ files. AllRead command files known)) where
   asked_at_end :
       (P : Files → Type 0) → ((files : Files) → AllRead command files known → P files) → OfFiles shelf.files P
-  asked_at_end P each =
-      of_files shelf.files P
-      (λ files is. each files (at_files shelf.files files (λ files'. AllRead command files' known) is read))
+  asked_at_end P each = grind (arith, nat_tests)
 
   -- the text stopped
   pub stopped : (status : Status) → HasNoText command known status → IsRefused command shelf status
-  stopped (Differs line) is = (
-    log_is_read command (LogDiffers known line) is,
-    asked_at_end (λ files. AsksFor command files (Differs line)) (λ files all. (known, all, is)),
-  )
-  stopped OtherBoard is = (
-    boards_compared command (BoardsDiffer known) is,
-    asked_at_end (λ files. AsksFor command files OtherBoard) (λ files all. (known, all, is)),
-  )
-  stopped NoMemory is = tt
-  stopped _ is = absurd is
+  stopped status is = grind (arith, nat_tests, log_is_read, boards_compared, asked_at_end)
 
   -- what a command answers whose files were read
   pub read_answer : (result : Result (List ℕ) Status) → shelf.faults_now ≡ shelf.faults_before →
       IfOk result (IsTextFor command known) → IfOk result (λ _. CanBeDone command known) →
       IfErr result (HasNoText command known) → IsAnswered command shelf result
-  read_answer (Ok text) quiet says done stops = record {
-    text =
-        asked_at_end (λ files. IsCommandText command files text)
-        (λ files all. record { known = known; read = all; done = done; says = says });
-    refused = tt;
-    quiet = quiet;
-    no_fault_hidden = tt;
-  }
-  read_answer (Err status) quiet says done stops =
-      refused_answer command shelf (Err status) status refl (stopped status stops) (λ _. quiet)
+  read_answer result quiet says done stops = grind (arith, nat_tests, stopped, of_files, at_files)
 
 -- a log was not that of the script, or memory ran out
 pub check_stopped : (known : Known) (said : Said) (setup : Setup) (bytes script log : List ℕ) →

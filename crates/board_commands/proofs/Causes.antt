@@ -1,5 +1,5 @@
 -- What each way out of a command says of its cause.
-use Rattle.std.proofs.Common.{arith, ◌≡◌, ◌≢◌, ℕ, inr, List, Some, refl}
+use Rattle.std.proofs.Common.{arith, ◌≡◌, ◌≢◌, ℕ, List, Some}
 use Rattle.std.proofs.lemmas.Bool.Decides.{nat_tests}
 use Rattle.board_prelude.proofs.Common.{Appends, Keeps}
 use Rattle.board_outside.specs.Outside.{Rose}
@@ -9,9 +9,8 @@ use Rattle.command_files.specs.declared.status.Which.{Which}
 use Rattle.command_files.specs.declared.status.Status.{Status}
 use Rattle.command_files.specs.declared.status.Status.TheVariants.{Done, ReadFault}
 use Rattle.command_words.specs.Words.{Command}
-use Rattle.board_commands.specs.Common.{IsCommandText, AppendsFront, SinkCall, OfCommand, PutsText, PutsTextFront}
-use Rattle.board_commands.specs.Common.{Stopped, HasCause, IsCaused}
-use Rattle.command_files.specs.Common.{ShelfCall, OfFiles, CanEnd, status_of_put_fault, IsRefusal, IsRefused}
+use Rattle.board_commands.specs.Common.{IsCommandText, AppendsFront, SinkCall, OfCommand, PutsTextFront, IsCaused}
+use Rattle.command_files.specs.Common.{ShelfCall, OfFiles, status_of_put_fault, IsRefusal, IsRefused}
 use Rattle.command_files.proofs.Refusals.{of_files, at_files}
 
 abbrev HidesNoFault : ShelfCall → Status → Type 0
@@ -20,13 +19,6 @@ HidesNoFault shelf status = ((which : Which) → status ≢ ReadFault which) →
 module _ (command : Command) (shelf : ShelfCall) (sink : SinkCall) where
   abbrev Front : Type 0
   Front = OfCommand (Some command) shelf.files (PutsTextFront sink.taken_before sink.taken_now)
-
-  -- what a refusal says of the cause, of the command, and of what was put
-  refusal_says :
-      (status : Status) → IsRefused command shelf status → Keeps sink.taken_before sink.taken_now →
-      HasCause status (Some command) shelf sink × CanEnd command status
-      × Stopped status sink.taken_before sink.taken_now Front
-  refusal_says status refused keeps = grind (arith, nat_tests)
 
   -- a command was refused before it had its text, and nothing was put
   pub caused_refusal : (status : Status) → IsRefused command shelf status → HidesNoFault shelf status →
@@ -45,38 +37,13 @@ module _ (command : Command) (shelf : ShelfCall) (sink : SinkCall) where
         (fault ≡ Failed → Rose sink.faults_before sink.faults_now) →
         (fault ≡ NoMemoryForPut → sink.faults_now ≡ sink.faults_before) →
         IsCaused (status_of_put_fault fault) (Some command) shelf sink
-    caused_put_fault Failed taken rose calm = record {
-      cause = rose refl;
-      possible = tt;
-      no_fault_hidden = λ _. quiet;
-      no_put_fault_hidden = λ other. absurd (other refl);
-      stopped = front_put taken;
-    }
-    caused_put_fault NoMemoryForPut taken rose calm = record {
-      cause = tt;
-      possible = tt;
-      no_fault_hidden = λ _. quiet;
-      no_put_fault_hidden = λ _. calm refl;
-      stopped = inr (front_put taken);
-    }
+    caused_put_fault fault taken rose calm = grind (arith, nat_tests, front_put)
 
     -- the sink took the whole text
     pub caused_done :
         Appends sink.taken_before sink.taken_now text → sink.faults_now ≡ sink.faults_before →
         IsCaused Done (Some command) shelf sink
-    caused_done taken calm = record {
-      cause =
-          of_files shelf.files (PutsText sink.taken_before sink.taken_now command)
-          (λ files is. record {
-            text = text;
-            says = at_files shelf.files files (λ files'. IsCommandText command files' text) is says;
-            taken = taken;
-          });
-      possible = tt;
-      no_fault_hidden = λ _. quiet;
-      no_put_fault_hidden = λ _. calm;
-      stopped = tt;
-    }
+    caused_done taken calm = grind (arith, nat_tests, of_files, at_files)
 
 pub refusal_of : (command : Command) (shelf : ShelfCall) (status : Status) → IsRefused command shelf status
     → IsRefusal status
