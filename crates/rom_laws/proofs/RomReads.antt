@@ -7,9 +7,10 @@ use Rattle.board_prelude.proofs.Common.{further, WideAccess, longest_at, part_at
 use Rattle.board_prelude.proofs.Common.{AllByRecursion, cases_Bool, eq-eqb, w64, to_le_bytes, from_le_bytes, Denial}
 use Rattle.board_prelude.proofs.Common.{IsSetup, IsInRange, Memory, Wide, Parts, Reply, Bytes, is_write, memory_target}
 use Rattle.board_prelude.proofs.Common.{memory_denial, parts_of, parts_list, address_count, IsPart, AreParts, IsAnswer}
+use Rattle.board_prelude.proofs.Common.{each_below}
 use Rattle.std.proofs.Common.{◌≡◌, ℕ, suc, ◌+◌, ◌-◌, ◌*◌, ◌/◌, ◌%◌, ◌^◌, ◌<◌, ◌≤◌, List, [], length, inl, inr, refl, ap}
 use Rattle.std.proofs.Common.{◌∙◌, arith, slice_index, lit<, zero, false, ◌∷◌, ◌++◌, Some, ◌==◌, nat_lt, All, map, true}
-use Rattle.std.proofs.Common.{get_or, Option, None, sym}
+use Rattle.std.proofs.Common.{get_or, Option, None, sym, rules}
 use Rattle.std.proofs.lemmas.Nat.{mod-pow-add, le_bytes_8}
 use Rattle.board_base.specs.declared.access.Width.TheVariants.{Two, Four}
 use Rattle.board_base.specs.declared.target.Area.TheVariants.{Rom as RomArea, Card as CardArea}
@@ -20,7 +21,7 @@ use Rattle.rom_laws.proofs.CardWindows.{IsWindow, same_area, card_window}
 use Rattle.board_base.specs.declared.access.Access.{Access}
 use Rattle.board_records.specs.declared.reply.PartRecord.{PartRecord}
 use Rattle.board_records.specs.RomReplies.{part_of, byte_by, byte_told, is_given, parts_said, reads_given, with_roms}
-use Rattle.expansion_roms.specs.Roms.{given, byte_over}
+use Rattle.expansion_roms.specs.Roms.{given}
 use Rattle.board_records.specs.declared.event.EventRecord.{EventRecord}
 use Rattle.board_records.specs.declared.reply.ReplyRecord.{ReplyRecord}
 use Rattle.std.proofs.lemmas.Simd.{map-map}
@@ -63,13 +64,7 @@ window_moved addr i bits width above aligned within =
 
 rom_moved : (addr i size : ℕ) (width : Width) → IsRomSize size → addr % bytes_of width ≡ 0 → i < bytes_of width →
     (addr + i) % size ≡ addr % size + i
-rom_moved addr i size width (inl is) aligned within = rw is (window_moved addr i 16 width (omega arith) aligned within)
-rom_moved addr i size width (inr (inl is)) aligned within =
-    rw is (window_moved addr i 17 width (omega arith) aligned within)
-rom_moved addr i size width (inr (inr (inl is))) aligned within =
-    rw is (window_moved addr i 18 width (omega arith) aligned within)
-rom_moved addr i size width (inr (inr (inr is))) aligned within =
-    rw is (window_moved addr i 19 width (omega arith) aligned within)
+rom_moved addr i size width is aligned within = grind (arith, nat_tests)
 
 pub target_moved : (setup : Setup) (area : Area) (addr i : ℕ) (width : Width) → IsRomSize (length setup.rom) →
     ((dev base : ℕ) → area ≡ CardArea dev base → IsWindow setup dev base) → addr % bytes_of width ≡ 0 →
@@ -88,11 +83,6 @@ InMemory setup (Card dev base off) = IsWindow setup dev base
 InMemory setup (Device dev) = ⊥
 InMemory setup (Config reg) = ⊥
 InMemory setup target = Unit {0}
-
-pub reaches_memory : (setup : Setup) (area : Area) (addr : ℕ) →
-    ((dev base : ℕ) → area ≡ CardArea dev base → IsWindow setup dev base) → InMemory setup (target_at setup area addr)
-reaches_memory setup (CardArea dev base) addr claim = claim dev base refl
-reaches_memory setup _ addr claim = tt
 
 wide_byte : (width : Width) (byte_at : ℕ → ℕ) (from i : ℕ) → ((at : ℕ) → byte_at at < 256) → i < bytes_of width →
     byte (wide byte_at from width) i ≡ byte_at (from + i)
@@ -118,13 +108,7 @@ module _ (setup : Setup) (before : List Entry) (rom : (at : ℕ) → slice_index
 
   pub value_fits : (target : Target) (place : ℕ) (width : Width) → InMemory setup target →
       value_at setup before target place width < 256 ^ bytes_of width
-  value_fits (Rom off) place width is = wide_below (slice_index setup.rom) off width rom
-  value_fits (Card dev base off) place width is =
-      wide_below (λ at. card_byte setup before dev base at) off width (card_below dev base is.number)
-  value_fits (Device dev) place width is = absurd is
-  value_fits (Config reg) place width is = absurd is
-  value_fits Abort place width is = rw (all_ones width) (wide_below (λ at. 255) 0 width (λ at. lit< tt))
-  value_fits _ place width is = wide_below (dram_byte setup before) place width dram_below
+  value_fits target place width h4 = grind (arith, nat_tests, common_steps, wide_below, card_below, all_ones, dram_below)
 
   pub byte_alone : (target : Target) (place i : ℕ) (width : Width) → InMemory setup target → i < bytes_of width →
       byte (value_at setup before target place width) i ≡ value_at setup before (moved target i) (place + i) One
@@ -146,14 +130,9 @@ low_byte Two n above (suc (suc i)) fits within = absurd (omega arith)
 low_byte Four n above (suc (suc (suc (suc i)))) fits within = absurd (omega arith)
 low_byte _ n above _ fits within = omega (arith, fits)
 
-above_low : (n above : ℕ) (width : Width) → n < 256 ^ bytes_of width →
-    (n + 256 ^ bytes_of width * above) / 256 ^ bytes_of width ≡ above
-above_low n above One fits = omega (arith, fits)
-above_low n above _ fits = omega (arith, fits)
-
 high_byte : (n above i : ℕ) (width : Width) → n < 256 ^ bytes_of width →
     byte (n + 256 ^ bytes_of width * above) (bytes_of width + i) ≡ byte above i
-high_byte n above i width fits = grind (arith, nat_tests, common_steps, further, bytes_of, above_low)
+high_byte n above i width fits = grind (arith, nat_tests, common_steps, further)
 
 -- ---- the parts
 
@@ -227,47 +206,28 @@ module _ (access : WideAccess) (said : Access → PartRecord) (value : Access �
 
 -- ---- a number of eight bytes
 
--- what holds of 0 to 7 holds of every number below 8
-below_eight : (P : ℕ → Type 0) → P 0 → P 1 → P 2 → P 3 → P 4 → P 5 → P 6 → P 7 → (k : ℕ) → k < 8 → P k
-below_eight P a b c d e f g h zero within = a
-below_eight P a b c d e f g h (suc zero) within = b
-below_eight P a b c d e f g h (suc (suc zero)) within = c
-below_eight P a b c d e f g h (suc (suc (suc zero))) within = d
-below_eight P a b c d e f g h (suc (suc (suc (suc zero)))) within = e
-below_eight P a b c d e f g h (suc (suc (suc (suc (suc zero))))) within = f
-below_eight P a b c d e f g h (suc (suc (suc (suc (suc (suc zero)))))) within = g
-below_eight P a b c d e f g h (suc (suc (suc (suc (suc (suc (suc zero))))))) within = h
-below_eight P a b c d e f g h (suc (suc (suc (suc (suc (suc (suc (suc k)))))))) within = absurd (omega arith)
-
 abbrev eight : (ℕ → ℕ) → List ℕ
 eight f = f 0 ∷ f 1 ∷ f 2 ∷ f 3 ∷ f 4 ∷ f 5 ∷ f 6 ∷ f 7 ∷ []
 
 small : (f : ℕ → ℕ) → ((k : ℕ) → f k < 256) → (i : ℕ) → get_or (eight f) i 0 < 256
 small f below i =
     elim (cases_lt i 8) [
-      | inl here ↦
-          below_eight (λ k. get_or (eight f) k 0 < 256) (below 0) (below 1) (below 2) (below 3) (below 4) (below 5)
-          (below 6) (below 7) i here
+      | inl here ↦ each_below (λ k. get_or (eight f) k 0 < 256) 8 i (search (rules, below)) here
       | inr past ↦ rw (get_or_past (eight f) i 0 past) (lit< tt)
     ]
 
-byte_in : (n k : ℕ) → k < 8 → byte n k ≡ get_or (to_le_bytes w64 n) k 0
-byte_in n =
-    below_eight (λ k. byte n k ≡ get_or (to_le_bytes w64 n) k 0) (omega arith) refl refl refl refl refl refl refl
-
 byte_of_eight : (f : ℕ → ℕ) → ((k : ℕ) → f k < 256) → (k : ℕ) → k < 8 → byte (from_le_bytes w64 (eight f)) k ≡ f k
 byte_of_eight f below k within =
-    grind (arith, nat_tests, common_steps, byte_in, from_le_bytes, w64, le_bytes_8, small, below_eight)
+    let n : ℕ = from_le_bytes w64 (eight f) in
+    let told = each_below (λ k. byte n k ≡ get_or (to_le_bytes w64 n) k 0) 8 k (omega arith, search rules) within in
+    let at = each_below (λ k. get_or (eight f) k 0 ≡ f k) 8 k (search rules) within in
+    told ∙ (ap (λ (bytes : List ℕ). get_or bytes k 0) (le_bytes_8 (eight f) n refl (small f below) refl) ∙ at)
 
 -- ---- a byte that is told
 
 module _ (roms : List (List ℕ)) (bytes : (dev at : ℕ) → slice_index (given roms dev) at < 256) where
-  over_below : (dev off old : ℕ) → old < 256 → byte_over roms dev off old < 256
-  over_below dev off old below = grind (arith, nat_tests, bytes dev off)
-
   by_below : (by : Option (PartRecord × ℕ)) (old : ℕ) → old < 256 → byte_by roms by old < 256
-  by_below None old below = below
-  by_below (Some by) old below = grind (arith, nat_tests, over_below by.0.unit (by.0.offset + by.1) old)
+  by_below by old h3 = grind (arith, nat_tests, common_steps)
 
   -- no part is of a ROM that was given bytes
   abbrev pub AreOthers : List PartRecord → Type 0
@@ -320,7 +280,7 @@ module _ (setup : Setup) (before : List Entry) (roms : List (List ℕ)) (fits : 
       card_window setup (register_byte setup before) part.addr part.kind part.smm dev base fits.cards is
 
   pub in_memory : (part : Access) → InMemory setup (memory_target setup before part)
-  in_memory part = grind (arith, nat_tests, common_steps, reaches_memory, window_of)
+  in_memory part = grind (arith, nat_tests, common_steps, window_of)
 
   abbrev value_of : Access → ℕ
   value_of part = value_at setup before (memory_target setup before part) part.addr part.width
