@@ -100,7 +100,8 @@ module _ (setup : Setup) (bytes : Bytes) where
   pub claim_sized : (addr : ℕ) (window : Window) → All (IsFound setup) setup.cards →
       memory_claim setup bytes addr ≡ Some window → IsSized setup window
   unfolding memory_claim
-  claim_sized addr window are found = All-find (IsSized setup) _ _ window (sized_cards Memory setup.cards are).each found
+  claim_sized addr window are found =
+      All-find (IsSized setup) _ _ window (sized_cards Memory setup.cards are).each found
 
 module _ (setup : Setup) (bytes : Bytes) (cards : List CardBytes) where
   all_found : AreCards cards → AreDecoded setup bytes cards → All (IsFound setup) (cards_of cards)

@@ -108,7 +108,8 @@ module _ (setup : Setup) (before : List Entry) (rom : (at : ℕ) → slice_index
 
   pub value_fits : (target : Target) (place : ℕ) (width : Width) → InMemory setup target →
       value_at setup before target place width < 256 ^ bytes_of width
-  value_fits target place width h4 = grind (arith, nat_tests, common_steps, wide_below, card_below, all_ones, dram_below)
+  value_fits target place width is =
+      grind (arith, nat_tests, common_steps, wide_below, card_below, all_ones, dram_below)
 
   pub byte_alone : (target : Target) (place i : ℕ) (width : Width) → InMemory setup target → i < bytes_of width →
       byte (value_at setup before target place width) i ≡ value_at setup before (moved target i) (place + i) One
