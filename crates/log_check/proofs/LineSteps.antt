@@ -46,14 +46,7 @@ module _ (place : WalkPlace) (phase : List Statement) (left : ℕ → List Event
 
   -- with fewer it is not
   within_unfinished : place.count < length phase → ¬ IsCompleteFor (phases_of place phase) history
-  within_unfinished short complete =
-      omega (
-        arith,
-        short,
-        within_size,
-        length_cut place.done phase place.later,
-        complete_is_whole (phases_of place phase) history complete,
-      )
+  within_unfinished short complete = grind (arith, nat_tests, common_steps, within_size, length_cut, complete_is_whole)
 
   said : (entry : Entry) →
       statements_of (entry ∷ history) ≡ within.before ++ (within.part ++ statement_of entry ∷ [])
