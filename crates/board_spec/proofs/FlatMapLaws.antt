@@ -21,7 +21,7 @@ module _ (setup : Setup) (bytes : Bytes) where
   -- a range that ends before another that begins at the same address has a next one with the other's areas
   ends_no_later : (from : ℕ) (x y : MapRange) (xs ys : List MapRange) → Tiles from (x ∷ xs) → Tiles from (y ∷ ys) →
       AreRight (x ∷ xs) → IsRight setup bytes y → Differs x xs → y.hi ≤ x.hi
-  ends_no_later from x y xs ys h6 h7 h8 h9 h10 = grind (arith, nat_tests, tiles_below, first_areas)
+  ends_no_later from x y xs ys tiles others right other differs = grind (arith, nat_tests, tiles_below, first_areas)
 
   one_tiling : (from : ℕ) (xs ys : List MapRange) → Tiles from xs → Tiles from ys → AreRight xs → AreRight ys →
       NeighboursDiffer xs → NeighboursDiffer ys → xs ≡ ys

@@ -109,7 +109,7 @@ module _ {T E F : Type 0} (entries : T → List E) (actor : E → ℕ) (fixed : 
       → log_of first b ≡ log_of first o.book
       → (o.book.serving < o.book.ticket → b.owner b.serving ≡ o.book.owner o.book.serving)
       → (p : Place T) → L o.book s.views p → L b (set s.views id w) p
-  lies_on s o b id v w h7 h8 h9 h10 p h12 = grind (arith, nat_tests, some-injective, is_held, set_else)
+  lies_on s o b id v w at other same owner p lies = grind (arith, nat_tests, some-injective, is_held, set_else)
 
   -- the pass id goes from the view v to w, and the book from that of o to b
   moved : (s : S) (o : O s) (id : ℕ) (v w : V) (words : List ℕ) (homes : Homes) (b : B)

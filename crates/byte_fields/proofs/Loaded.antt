@@ -18,11 +18,11 @@ module _ {A : Type 0} {n : ℕ} {reads : Reading A} {spelled : A → List ℕ} {
 
     pub loads : (after : List ℕ) (result : Result A Bad) → AreBytes before →
         Took (λ value. value) result after (reads before) → Loads reads spelled IsSound before after result
-    loads after result h3 h4 = grind (arith, nat_tests, again)
+    loads after result bytes took = grind (arith, nat_tests, again)
 
     pub loads_with : (after : List ℕ) (result : Result A Fault) → AreBytes before →
         Filled (λ value. value) result after (reads before) → LoadsWith reads spelled IsSound before after result
-    loads_with after result h3 h4 = grind (arith, nat_tests, again)
+    loads_with after result bytes filled = grind (arith, nat_tests, again)
 
   pub one_spelling : OneSpelling spelled IsSound
   one_spelling left right of_left of_right same =

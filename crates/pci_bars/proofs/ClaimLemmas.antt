@@ -96,7 +96,7 @@ module _ (counts : ℕ → Bool) (bytes : Bytes) (place : ℕ) where
 
   pick_rom : (windows : Windows) (dev register : ℕ) (rom : Option ℕ) → HoldsRom bytes dev register rom →
       Claims (rom_windows windows bytes dev rom) dev (rom_claim windows rom register place)
-  pick_rom windows dev register rom h5 = grind (arith, nat_tests)
+  pick_rom windows dev register rom held = grind (arith, nat_tests)
 
   pick_vga : (windows : Windows) (card : FittedCard) →
       Claims (vga_windows windows card) card.dev (vga_claim windows card.vga place)

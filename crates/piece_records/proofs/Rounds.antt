@@ -114,7 +114,7 @@ module _ (chipset : Running) (bytes : Bytes) (held : HoldsBytes chipset bytes) w
       said ≡ piece_said (master_part chipset.setup bytes) (going_in last.transfer) piece → said.what ≡ ended_piece →
       ((end : End) → piece ≡ Ended end → IsEnd moving (going_in last.transfer) last.cells last.medium end) →
       HasCome moving last said
-  end_so moving last piece after said h6 h7 h8 = grind (arith, nat_tests, common_steps)
+  end_so moving last piece after said is ended finds = grind (arith, nat_tests, common_steps)
 
 -- ---- the law
 

@@ -12,7 +12,7 @@ use Rattle.record_text.specs.Parts.{area_recorded}
 
 device_back : (dev : Dev) → FitsDevice dev → device_recorded (device_number dev) ≡ Some dev
 unfolding device_recorded
-device_back dev h2 = grind (arith, nat_tests)
+device_back dev fits = grind (arith, nat_tests)
 
 target_back : (target : Target) → FitsTarget target → target_recorded (target_said target) ≡ Some target
 unfolding target_recorded config_recorded

@@ -228,7 +228,7 @@ byte_of_eight f below k within =
 
 module _ (roms : List (List ℕ)) (bytes : (dev at : ℕ) → slice_index (given roms dev) at < 256) where
   by_below : (by : Option (PartRecord × ℕ)) (old : ℕ) → old < 256 → byte_by roms by old < 256
-  by_below by old h3 = grind (arith, nat_tests, common_steps)
+  by_below by old below = grind (arith, nat_tests, common_steps)
 
   -- no part is of a ROM that was given bytes
   abbrev pub AreOthers : List PartRecord → Type 0

@@ -46,7 +46,7 @@ pub record IsPlain (event : Event) : Type 0 where
 
 pub is_plain : (event : Event) → ((access : PortAccess) → event ≡ Port access → ⊥) →
     ((irq : ℕ) (on : Bool) → event ≡ Line irq on → ⊥) → IsPlain event
-is_plain event h2 h3 = grind (arith, nat_tests)
+is_plain event no_port no_line = grind (arith, nat_tests)
 
 -- ---- steps
 
