@@ -1,7 +1,7 @@
 -- A relation between two transfers under way whose bytes alone may differ. It holds after words that both move.
 use Rattle.std.proofs.Common.{◌≡◌, ℕ, zero, suc, Bool, true, false, not, ◌&&◌, Option, Some, is_some, sym, subst, ◌==◌}
 use Rattle.std.proofs.Common.{if◌then◌else◌, arith}
-use Rattle.board_prelude.proofs.Common.{Setup, Bytes}
+use Rattle.board_prelude.proofs.Common.{nat_tests, Setup, Bytes}
 use Rattle.ata_pio.specs.Words.{is_readable}
 use Rattle.bus_master.specs.declared.done.End.{End}
 use Rattle.bus_master.specs.declared.done.End.TheVariants.{Shorter, Sector}
@@ -9,7 +9,6 @@ use Rattle.bus_master.specs.declared.direction.Direction.{Direction}
 use Rattle.bus_master.specs.Common.{Cells, Moving, ◌and_then◌, answered, is_used_up, kind_of, next_moved, next_sector}
 use Rattle.bus_master.specs.Common.{next_word, ready_for, region_found, region_taken, sector_tested, table_tested}
 use Rattle.bus_master.specs.Common.{word_moved, words_moved}
-use Rattle.std.proofs.lemmas.Bool.Decides.{nat_tests}
 
 abbrev pub with_cells : Cells → Moving → Moving
 with_cells cells moving = record moving { cells = cells }

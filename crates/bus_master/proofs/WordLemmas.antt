@@ -45,7 +45,8 @@ pub word_stands : {setup : Setup} {bytes : Bytes} {store : Store} → IsStoreOf 
     (direction ≡ ToDisk → (cell : Cell) → cells_of new cell ≡ cells_of store cell) →
     StandsAt (word_moved setup bytes direction lba moving) new (moved_on place) None
 unfolding word_moved
-word_stands of stands lba new direction area aligned is put kept word cells = grind (arith, nat_tests, master_value_same)
+word_stands of is lba new direction area aligned reached memory disk word cells =
+    grind (arith, nat_tests, master_value_same)
 
 -- somebody answers in an area wherever in it the access is
 answers_in : (area : Area) (addr other : ℕ) (denial denial' : Option Denial) → None ≡ abort_in area addr denial →
