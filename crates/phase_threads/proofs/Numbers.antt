@@ -82,8 +82,7 @@ asked_again most works next e all =
 -- what a slice of a whole list leaves of it
 pub lent_back : {X : Type 0} (n : ℕ) (old now : List X) → n ≡ length old → length now ≡ length old
     → take n (now ++ drop (length now) old) ≡ now
-lent_back n old now size same =
-    rw (drop_all (length now) old (omega (arith, same)), append-nil now) (take_all n now (omega (arith, size, same)))
+lent_back n old now size same = grind (arith, drop_all (length now) old, append-nil now, take_all n now)
 
 -- as many as there were
 pub counted : (works old now : List Work) (count len : ℕ)
@@ -128,8 +127,7 @@ due_more works work phase actor next more size was own =
     grind (arith, ap length more, length-append works (work ∷ []), split, last)
 
 same_each : {X : Type 0} (f g : X → ℕ) (xs : List X) → map f xs ≡ map g xs → All (λ x. f x ≡ g x) xs
-same_each f g xs e = λ k d less.
-    sym (get_or-map f xs k d 0 less) ∙ (ap (λ (ns : List ℕ). slice_index_or ns k 0) e ∙ get_or-map g xs k d 0 less)
+same_each f g xs e k d less = grind (arith, get_or-map f xs k d 0 less, get_or-map g xs k d 0 less, e)
 
 -- each job has the work of its own processor
 pub due_by_number : (jobs : List Job) (works : List Work) (phase : List Statement) (n : ℕ)

@@ -1,12 +1,11 @@
 -- A phase in which one processor acts.
 use Rattle.std.proofs.Common.{set, Result, OnOk, ◌≡◌, ◌≢◌, ℕ, ◌+◌, ◌<◌, ◌≤◌, ◌==◌, not, List, [], ◌∷◌, length, All}
-use Rattle.std.proofs.Common.{get_or, slice_index_or, refl, sym, ◌∙◌, ap, arith, inl, inr, map, suc, false, ◌++◌, take}
-use Rattle.std.proofs.Common.{reverse, Bool, filter, true}
-use Rattle.board_prelude.proofs.Common.{cases_eq, nat_tests, length-map, get_or-map, All-cons, Entry, Statement}
-use Rattle.board_prelude.proofs.Common.{MapChange, Setup, entries_by, events_by, map_writes_of, ne_eqb, eq-eqb}
-use Rattle.board_prelude.proofs.Common.{get_or-set_at, get_or-set_other, length-reverse, length-set, map-append}
-use Rattle.board_prelude.proofs.Common.{reverse-append, reverse-reverse, take_more, Event, All-permutation}
-use Rattle.board_prelude.proofs.Common.{IsPermutation-sym}
+use Rattle.std.proofs.Common.{get_or, slice_index_or, refl, sym, ◌∙◌, ap, arith, map, suc, false, ◌++◌, take, reverse}
+use Rattle.std.proofs.Common.{Bool, filter, true}
+use Rattle.board_prelude.proofs.Common.{nat_tests, length-map, get_or-map, All-cons, Entry, Statement, MapChange, Setup}
+use Rattle.board_prelude.proofs.Common.{entries_by, events_by, map_writes_of, ne_eqb, eq-eqb, get_or-set_at}
+use Rattle.board_prelude.proofs.Common.{get_or-set_other, length-reverse, length-set, map-append, reverse-append}
+use Rattle.board_prelude.proofs.Common.{reverse-reverse, take_more, Event, All-permutation, IsPermutation-sym}
 use Rattle.std.proofs.lemmas.List.{get_or-set_same}
 use Rattle.std.proofs.lemmas.List.Elements.{All-filter, All-map, All-append, All-weaker, filter_passes}
 use Rattle.std.proofs.lemmas.List.Sorted.{IsPermutation-filter_both}
@@ -70,17 +69,7 @@ no_events number actor unlike phase all =
 pub gone_alone : (setup : Setup) (number : ℕ) (entry : Entry) (before : List Entry) → entry.actor ≡ number
     → IsGone setup number before (map_writes_of setup before) entry.event (entry ∷ before)
     (map_writes_of setup (entry ∷ before))
-gone_alone setup number entry before own = record {
-  list = before;
-  entry = entry;
-  begins = ([], refl);
-  mine = refl;
-  meets = ([], refl);
-  own = own;
-  said = refl;
-  now_is = refl;
-  known_is = refl;
-}
+gone_alone setup number entry before own = grind (arith, nat_tests)
 
 -- ---- the phase
 
@@ -101,33 +90,11 @@ pub one_acted : {number : ℕ} {before now : Standing} {phase : List Statement} 
 one_acted {number} {before} {now} {phase} lists {known = known} grown only has known_is count own none same =
     let begins = begins_opened before.setup number before.entries _ now.entries known has.trace in
     let at = λ (actor : ℕ). (from_first lists actor).0 in
-    record {
-      setup = grown.setup;
-      begins = begins;
-      lists = lists;
-      count = count;
-      each = λ actor less. elim (cases_eq actor number) [
-        | inl is ↦ rw (is, at number, own) (record {
-          seen = now.entries;
-          known = known;
-          trace = has.trace;
-          closed = record { begins = ([], refl); meets = ([], sym known_is); mine = refl };
-          said = has.said;
-        })
-        | inr other ↦ rw (at actor, none actor other (omega (arith, less, count))) (record {
-          seen = before.entries;
-          known = map_writes_of before.setup before.entries;
-          trace = (refl, refl);
-          closed = record {
-            begins = begins;
-            meets = writes_extend before.setup before.entries now.entries begins;
-            mine = theirs number actor before.entries now.entries other grown.others;
-          };
-          said = no_events number actor other phase only;
-        })
-      ];
-      same = same;
-    }
+    let writes = writes_extend before.setup before.entries now.entries begins in
+    let theirs = λ (actor : ℕ) (other : actor ≢ number). theirs number actor before.entries now.entries other
+    grown.others in
+    let quiet = λ (actor : ℕ) (other : actor ≢ number). no_events number actor other phase only in
+    grind (arith, begins, at, writes, theirs, quiet, grown, has, known_is, count, own, none, same)
 
 pub alone_has_run : {number : ℕ} {before now : Standing} {phase : List Statement} {new : List Work} (old : List Work)
     → CanAct number before old phase → All (λ statement. statement.actor ≡ number) phase
@@ -197,14 +164,7 @@ module _ (number : ℕ) (before now : Standing) (phase : List Statement) (old : 
     (mine : length (entries_by number now.entries) ≤ length (entries_by number before.entries) + length phase)
     (asked : work.asked ≤ was.asked + length phase) where
   pub has_grown : HasGrown number before now phase old (set old number work)
-  has_grown = record {
-    setup = setup;
-    others = same;
-    count = length-set old number work;
-    same = λ k d unlike. get_or-set_other old number k work d unlike;
-    mine = mine;
-    asked = λ most d few. grind (arith, get_or-set_same old number work d within, few number was within, is, asked);
-  }
+  has_grown = grind (arith, nat_tests, length-set, get_or-set_other, get_or-set_same)
 
   pub has_acted : HasDone before.setup number before.entries phase work.done.items now.entries
       (map_writes_of now.setup now.entries) → HasActed number before now phase old (set old number work)
@@ -231,8 +191,7 @@ no_looks setup opened (entry ∷ before) =
 dones_events : (setup : Setup) (opened more : List Entry)
     → map event_of (dones setup opened more) ≡ map (λ (entry : Entry). entry.event) more
 dones_events setup opened [] = refl
-dones_events setup opened (entry ∷ before) = ap (λ (events : List Event). entry.event ∷ events) (dones_events setup
-    opened before)
+dones_events setup opened (entry ∷ before) = grind (arith, dones_events setup opened before)
 
 dones_trace : (setup : Setup) (number : ℕ) (opened more : List Entry) → All (λ entry. entry.actor ≡ number) more
     → All (λ entry. is_look entry.event ≡ false) more
@@ -263,14 +222,7 @@ own_more number (entry ∷ more) opened own =
 -- what is kept is what was done
 pub so : (before now : Standing) (phase : List Statement) (works : List Work) → HasRun before now phase works
     → HasRunSo before now phase works
-so before now phase works run = record {
-  setup = run.setup;
-  begins = run.begins;
-  lists = done_in works;
-  count = length-map works (λ (work : Work). work.done.items);
-  each = run.each;
-  same = λ version later history. refl;
-}
+so before now phase works run = grind (arith, run, length-map works (λ (work : Work). work.done.items))
 
 has_done : (number : ℕ) (phase : List Statement) (before now : Standing) (a : HasAdded number phase before now)
     → All (λ statement. statement.actor ≡ number) phase
@@ -278,13 +230,12 @@ has_done : (number : ℕ) (phase : List Statement) (before now : Standing) (a : 
     now.entries (map_writes_of before.setup now.entries)
 has_done number phase before now a only =
     let done : List Done = dones before.setup before.entries a.more in
-    record {
-      trace = rw (reverse-reverse done, a.grows)
-          (dones_trace before.setup number before.entries a.more a.own a.plain);
-      said = map_reverse event_of done ∙ (ap reverse (dones_events before.setup before.entries a.more)
-          ∙ (a.said ∙ sym (ap (map (λ (s : Statement). s.event)) (filter_all (λ (s : Statement). s.actor == number)
-          phase (λ k d less. eq-eqb (get_or phase k d).actor number (only k d less))))));
-    }
+    let trace = dones_trace before.setup number before.entries a.more a.own a.plain in
+    let all = filter_all (λ (s : Statement). s.actor == number) phase
+    (λ k d less. eq-eqb (get_or phase k d).actor number (only k d less)) in
+    let turned = reverse-reverse done in let mapped = map_reverse event_of done in
+    let events = dones_events before.setup before.entries a.more in
+    grind (arith, a, trace, all, turned, mapped, events)
 
 pub plain_has_run : {number : ℕ} {before now : Standing} {phase : List Statement} {old new : List Work}
     → CanAct number before old phase → All (λ statement. statement.actor ≡ number) phase
@@ -316,14 +267,10 @@ pub has_stepped : {number : ℕ} {before now : Standing} {phase : List Statement
 has_stepped {number} {before} {now} {phase} old was work within is a asked same =
     let count : length a.more ≡ length phase = grind (arith, ap length a.said, length-reverse, length-map) in
     let more = own_more number a.more before.entries a.own in
-    let mine = ap (λ (h : List Entry). length (entries_by number h)) a.grows ∙ more.1 in
-    record {
-      added = a;
-      grown = has_grown number before now phase old was work within is a.setup (ap (others number) a.grows ∙ more.0)
-          (omega (arith, mine, count)) asked;
-      kept = map-set_same (λ (w : Work). w.done.items) old number work was
-          (same ∙ ap (λ (w : Work). w.done.items) is);
-    }
+    let kept = map-set_same (λ (w : Work). w.done.items) old number work was in
+    let size = length-set old number work in let apart = get_or-set_other old number in
+    let here = get_or-set_same old number work in
+    grind (arith, a, count, more, kept, same, is, within, asked, size, apart, here)
 
 -- one statement more
 pub added_more : {number : ℕ} {before board now : Standing} {entry : Entry} (phase : List Statement) (i : ℕ)

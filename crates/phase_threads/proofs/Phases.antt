@@ -67,6 +67,7 @@ pub takes_in : {before now : Standing} {opened entries : List Entry} {phase : Li
 takes_in {before} {now} {opened} {entries} {phase} {works} old new version law run grew cards legal callers speakers
     version_is kept same placed_is =
     let later : List Entry = gained opened entries in let history : List Entry = entries_of old before.entries in
+    let whole = whole_is grew in
     let is_run : IsPhaseRun before.setup before.entries later phase run.lists = record {
       cards = cards;
       legal = rw (whole_is grew, ← run.setup) legal;
@@ -74,18 +75,9 @@ takes_in {before} {now} {opened} {entries} {phase} {works} old new version law r
       speakers = rw run.count (λ k d less. (speakers k d less).actor);
       each = λ actor less. rw (whole_is grew) (run.each actor (rw run.count at less));
     } in
-    let all : entries_of new now.entries ≡ placed (version_of before.setup before.entries) later run.lists history =
-    rw (back_is grew, version_is, front_is grew) at (placed_is ∙ run.same version later _) in
-    let there = rw (← all) at (law before.setup before.entries later phase run.lists history is_run kept same) in
-    record {
-      legal = there.legal;
-      same = there.bus ∙ ap bare (whole_is grew);
-      phases = there.phases;
-      added = there.added;
-      adds = there.adds;
-      size = there.size;
-      places = there.places;
-    }
+    let there = law before.setup before.entries later phase run.lists history is_run kept same in
+    let added = there.added in
+    grind (arith, there, added, back_is grew, front_is grew, whole, version_is, placed_is, run.same version later)
 
 -- ---- phase after phase
 

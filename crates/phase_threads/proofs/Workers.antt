@@ -1,11 +1,10 @@
 -- What the workers of a phase leave, put together.
 use Rattle.std.proofs.Common.{◌≡◌, ℕ, ◌<◌, List, [], ◌∷◌, ◌++◌, length, map, All, Option, refl, sym, ◌∙◌, ap, arith}
-use Rattle.std.proofs.Common.{◌+◌, ◌≤◌, ◌==◌, false, Some, inl, inr, reverse, get_or, suc}
+use Rattle.std.proofs.Common.{◌+◌, ◌≤◌, ◌==◌, false, Some, reverse, get_or, suc}
 use Rattle.std.specs.List.{AllZip}
 use Rattle.std.proofs.lemmas.List.Elements.{AllZip-get_or, length_all_zip, All-map}
-use Rattle.board_prelude.proofs.Common.{Entry, Event, Statement, entries_by, events_by, Any, range_with_len, cases_lt}
-use Rattle.board_prelude.proofs.Common.{ne_eqb, length-map, length-reverse, MapChange, Setup, IsInRange}
-use Rattle.board_prelude.proofs.Common.{most_statements}
+use Rattle.board_prelude.proofs.Common.{Entry, Event, Statement, entries_by, Any, range_with_len, ne_eqb, length-map}
+use Rattle.board_prelude.proofs.Common.{length-reverse, MapChange, Setup, IsInRange, most_statements}
 use Rattle.board_core.specs.Kept.{Standing}
 use Rattle.board_live.specs.declared.live.Live.{Live}
 use Rattle.shared_board.specs.declared.shared.Origin.{Origin}
@@ -14,7 +13,7 @@ use Rattle.phase_threads.specs.Jobs.{IsReadyToWork, IsRun, Runs, AreAsked, AreDu
 use Rattle.std.proofs.lemmas.Simd.{map-map}
 use Rattle.bus_turn.specs.Passes.{part_of}
 use Rattle.board_live.specs.declared.cpu.Cpu.{Cpu}
-use Rattle.board_live.specs.Callers.{IsCallerOf, IsNew, AreAllOf, AreOpened, ClosesBoard, seen_of, known_of}
+use Rattle.board_live.specs.Callers.{IsCallerOf, IsNew, AreAllOf, AreOpened, ClosesBoard, seen_of}
 use Rattle.run_order.specs.declared.done.Done.{Done}
 use Rattle.run_order.specs.declared.done.Done.TheVariants.{Went, Looked}
 use Rattle.run_order.specs.Common.{done_by, IsWork, Begins, IsDone}
@@ -22,6 +21,7 @@ use Rattle.run_order.proofs.Histories.{begins_trans, all_reverse, all_turned}
 use Rattle.phase_work.specs.declared.worker.Work.{Work}
 use Rattle.phase_threads.proofs.Numbers.{due_by_number, filter_none, map_reverse, all_mapped, same_lengths}
 use Rattle.phase_threads.proofs.Numbers.{numbered_length, numbers_below, same_numbers, by_number}
+use Rattle.std.proofs.lemmas.Bool.Decides.{nat_tests}
 
 -- ---- what the halves of a phase's workers do
 
@@ -41,23 +41,7 @@ no_events (event ∷ events) none = absurd (omega (arith, none))
 
 -- a worker that has no statement ends as it began
 idle_runs : (live : Live) (phase : List Statement) (job : Job) → job.work.due ≡ 0 → Runs live phase job job
-idle_runs live phase job idle = record {
-  number = refl;
-  run = λ board part before ready.
-      let none : length (events_by job.cpu.number phase) ≡ 0 = sym ready.due ∙ idle in
-      let mine = ap (λ (seen : List Entry). length (entries_by job.cpu.number seen)) ready.new.seen in
-      record {
-        own = ready.own;
-        same = ready.same;
-        setup = ready.new.setup;
-        asked = omega (arith, ready.asked);
-        mine = λ fine. omega (arith, mine, ready.mine);
-        done = λ fine. rw ready.empty (record {
-          trace = (ready.new.seen, ready.new.known);
-          said = sym (no_events (events_by job.cpu.number phase) none);
-        });
-      };
-}
+idle_runs live phase job idle = grind (arith, nat_tests, no_events)
 
 pub all_idle : (live : Live) (phase : List Statement) (jobs : List Job) → All (λ job. job.work.due ≡ 0) jobs
     → AllZip (Runs live phase) jobs jobs
@@ -121,14 +105,7 @@ work_of : (live : Live) (board now : Standing) (part : Option Origin) (phase : L
     → IsRun live board part phase before job → ClosesBoard now job.cpu → job.refused ≡ false
     → IsWork board.setup board.entries now.entries phase job.cpu.number job.work.done.items
 work_of live board now part phase before job run closes fine =
-    let same : now.setup ≡ board.setup = sym closes.setup ∙ run.setup in
-    record {
-      seen = seen_of job.cpu;
-      known = known_of job.cpu;
-      trace = (run.done fine).trace;
-      closed = record { begins = closes.begins; meets = rw same at closes.meets; mine = closes.mine };
-      said = (run.done fine).said;
-    }
+    let done = run.done fine in grind (arith, run, closes, done)
 
 whole_begins : (live : Live) (board now : Standing) (part : Option Origin) (phase : List Statement) (before : ℕ)
     (jobs : List Job) → 0 < length jobs → All (IsRun live board part phase before) jobs →
@@ -150,20 +127,16 @@ module _ {live : Live} {board : Standing} {n : ℕ} {cpus : List Cpu} {phase : L
       → ((actor : ℕ) → length (entries_by actor board.entries) ≤ before)
       → before + length phase ≤ most_statements → All (IsReadyToWork live board (Some o.all.opened) phase before) jobs
   ready works are_works empty due asked in_range mine room k d less =
-      let named : map number_in (reverse jobs) ≡ range_with_len 0 n = job_numbers cpus jobs n are_cpus o.numbers in
-      let size : length works ≡ n = sym (ap length are_works)
-      ∙ (length-map (reverse jobs) work_in ∙ numbered_length number_in (reverse jobs) n named) in
-      record {
-        own = from_jobs cpu_in (IsCallerOf live) jobs cpus are_cpus o.all.own k d less;
-        same = from_jobs cpu_in (λ cpu. part_of cpu.pass ≡ Some o.all.opened) jobs cpus are_cpus o.all.same k d less;
-        new = from_jobs cpu_in (IsNew board) jobs cpus are_cpus o.new k d less;
-        in_range = in_range;
-        empty = from_jobs work_in (λ work. work.done.items ≡ []) jobs works are_works empty k d less;
-        due = due_by_number jobs works phase n are_works named size due k d less;
-        mine = mine _;
-        asked = from_jobs work_in (λ work. work.asked ≤ before) jobs works are_works asked k d less;
-        room = room;
-      }
+      let named = job_numbers cpus jobs n are_cpus o.numbers in let size = length-map (reverse jobs) work_in in
+      let own = from_jobs cpu_in (IsCallerOf live) jobs cpus are_cpus o.all.own k d less in
+      let part = λ (cpu : Cpu). part_of cpu.pass ≡ Some o.all.opened in
+      let same = from_jobs cpu_in part jobs cpus are_cpus o.all.same k d less in
+      let new = from_jobs cpu_in (IsNew board) jobs cpus are_cpus o.new k d less in
+      let nothing = from_jobs work_in (λ work. work.done.items ≡ []) jobs works are_works empty k d less in
+      let were = from_jobs work_in (λ work. work.asked ≤ before) jobs works are_works asked k d less in
+      let its = due_by_number jobs works phase n are_works named in
+      let long = numbered_length number_in (reverse jobs) n named in
+      grind (arith, own, same, new, nothing, were, its, named, size, long, are_works, due, less, in_range, mine, room)
 
 -- the jobs of the callers of a board that was opened for a phase, when the workers have ended
 pub record HaveRun (live : Live) (board : Standing) (n : ℕ) (cpus cpus1 : List Cpu) (phase : List Statement)
@@ -219,31 +192,20 @@ module _ {live : Live} {board : Standing} {n : ℕ} {cpus cpus1 : List Cpu} {pha
         has_run some =
             let many : 0 < length jobs1 = omega (arith, size_again, length-reverse jobs1, some) in
             let whole = whole_begins live board now (Some h.o.all.opened) phase before jobs1 many h.run closed fine in
-            record {
-              setup = whole.0;
-              begins = whole.1;
-              each = λ actor less. by_processor
-                  (λ actor done. IsWork board.setup board.entries now.entries phase actor done)
-                  (λ k d less. work_of live board now (Some h.o.all.opened) phase before _ (h.run k d less)
-                  (closed k d less) (fine k d less)) actor (omega (arith, less, listed));
-            }
+            let works = by_processor (λ actor done. IsWork board.setup board.entries now.entries phase actor done)
+            (λ k d less. work_of live board now (Some h.o.all.opened) phase before _ (h.run k d less) (closed k d less)
+            (fine k d less)) in
+            grind (arith, whole, works, listed)
 
         pub are_asked : All (λ entry. Any (λ cpu. cpu.number ≡ entry.actor) cpus1) now.entries
             → AreAsked (before + length phase) now.entries works1
         are_asked callers =
-            let actors : All (λ entry. entry.actor < n) now.entries =
-            λ k d less. numbers_below number_by cpus1 n _ (again ∙ h.o.numbers) (callers k d less) in
-            record {
-              actors = rw listed actors;
-              mine = λ actor. elim (cases_lt actor n) [
-                | inl few ↦ by_processor
-                    (λ actor done. length (entries_by actor now.entries) ≤ before + length phase) (λ k d less.
-                    rw (closed k d less).mine ((h.run k d less).mine (fine k d less))) actor few
-                | inr past ↦
-                    let none = filter_none (λ (e : Entry). e.actor == actor) now.entries (λ k d less.
-                    ne_eqb (get_or now.entries k d).actor actor (λ e. omega (arith, past, actors k d less, e))) in
-                    omega (arith, ap length none)
-              ];
-              asked = to_jobs work_in (λ work. work.asked ≤ before + length phase) jobs1 works1 are_works1
-                  (λ k d less. (h.run k d less).asked);
-            }
+            let actors : All (λ entry. entry.actor < n) now.entries = λ k d less. numbers_below number_by cpus1 n _
+            (again ∙ h.o.numbers) (callers k d less) in
+            let mine = by_processor (λ actor done. length (entries_by actor now.entries) ≤ before + length phase)
+            (λ k d less. rw (closed k d less).mine ((h.run k d less).mine (fine k d less))) in
+            let asked = to_jobs work_in (λ work. work.asked ≤ before + length phase) jobs1 works1 are_works1
+            (λ k d less. (h.run k d less).asked) in
+            let none = λ (actor : ℕ) (past : n ≤ actor). filter_none (λ (e : Entry). e.actor == actor) now.entries
+            (λ k d less. ne_eqb (get_or now.entries k d).actor actor (λ e. omega (arith, past, actors k d less, e))) in
+            grind (arith, nat_tests, actors, mine, asked, none, listed)

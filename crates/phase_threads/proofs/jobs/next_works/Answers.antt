@@ -6,14 +6,8 @@ use Rattle.phase_threads.proofs.jobs.next_works.Goals as goal
 
 pub loop-actor-preserved : goal.loop-actor-preserved
 loop-actor-preserved c =
-    let l = c.loop-actor in
-    let due = slice_index_or c.own_in-own.result l.actor 0 in
+    let l = c.loop-actor in let due = slice_index_or c.own_in-own.result l.actor 0 in
     let work : Work = record { done = c.in_ok-done.done; asked = c.index-works-actor.result.asked; due = due } in
-    record {
-      count = grind (arith, common_steps);
-      asked = grind (arith, common_steps);
-      empty = grind (arith, common_steps);
-      due = due_more l.next.items work c.args.phase.now l.actor c.push.new.self.items (search rules) l.invariant.count
-          l.invariant.due
-          (c.own_in-own.ensures.own l.actor (search rules));
-    }
+    let more = due_more l.next.items work c.args.phase.now l.actor c.push.new.self.items (search rules)
+    l.invariant.count l.invariant.due (c.own_in-own.ensures.own l.actor (search rules)) in
+    grind (arith, common_steps, more)

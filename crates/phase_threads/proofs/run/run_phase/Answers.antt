@@ -1,5 +1,4 @@
-use Rattle.std.proofs.Common.{◌≡◌, ◌+◌, ◌<◌, List, Bor, map, length, sym, ◌∙◌, ap, reverse}
-use Rattle.access_history.specs.Past.{Past}
+use Rattle.std.proofs.Common.{◌≡◌, ◌+◌, ◌<◌, List, Bor, map, length, sym, ◌∙◌, ap, arith}
 use Rattle.board_prelude.proofs.Common.{Entry, length-map}
 use Rattle.run_order.specs.declared.done.Done.{Done}
 use Rattle.phase_work.specs.declared.worker.Work.{Work}
@@ -12,11 +11,9 @@ use Rattle.phase_threads.proofs.run.run_phase.Goals as goal
 -- the board's history before the phase and after it
 grew : (g : Over) (c : After-works_of g)
     → Grew c.args.run.board.entries c.in_ok-run.run'.board.entries c.entries.result c.entries-entries.result
-grew g c = record {
-  begins = c.in_ok-run.ensures.run.begins;
-  old = c.entries.ensures.entries ∙ ap (λ (past : Past). reverse past.entries) c.history.ensures.history;
-  is = c.entries-entries.ensures.entries ∙ ap (λ (past : Past). reverse past.entries) c.history-2.ensures.history;
-}
+grew g c =
+    let old = c.history.ensures.history in let now = c.history-2.ensures.history in
+    grind (arith, old, now, c.entries.ensures.entries, c.entries-entries.ensures.entries, c.in_ok-run.ensures.run)
 
 -- what was done, as it is handed on
 are_done : (g : Over) (c : After-works_of g)

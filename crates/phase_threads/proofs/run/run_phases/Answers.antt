@@ -1,5 +1,4 @@
-use Rattle.std.proofs.Common.{rules, ◌≡◌, ◌+◌, ◌<◌, ◌≤◌, List, [], ◌∷◌, ◌++◌, length, flat_map, All, ◌∙◌, ap, arith}
-use Rattle.std.proofs.Common.{append_assoc, map}
+use Rattle.std.proofs.Common.{◌≡◌, ◌+◌, ◌<◌, ◌≤◌, List, [], ◌∷◌, ◌++◌, length, flat_map, All, arith, append_assoc, map}
 use Rattle.board_prelude.proofs.Common.{into_iter_items, length-append, get_or-append_seam, most_statements}
 use Rattle.board_prelude.proofs.Common.{reverse-append, map-append}
 use Rattle.phase_threads.specs.Common.{IsStatement}
@@ -20,46 +19,28 @@ room_for done phase rest phases whole most = omega (arith, rw whole at (statemen
 
 pub run_phase-requires-clause-can : goal.run_phase-requires-clause-can
 run_phase-requires-clause-can g c κs within =
-    let l = c.loop-phase in let phase = c.in-Some.phase in
-    let rest : List Phase = into_iter_items c.next.new.self in
+    let l = c.loop-phase in let phase = c.in-Some.phase in let rest : List Phase = into_iter_items c.next.new.self in
     let steps : into_iter_items l.phase-iterator ≡ phase ∷ rest = c.in-Some.ensures.steps.0 in
     let whole : l.yielded ++ phase ∷ rest ≡ c.args.phases.items = rw steps at l.invariant.left in
     let ranges = of_one (λ (one : Phase). All (IsStatement c.args.board.setup c.args.cpus) one.items) l.yielded phase
     rest (rw whole c.requires.in_range) in
-    record {
-      some = search rules;
-      few = search rules;
-      in_range = rw (l.invariant.count, l.invariant.setup) ranges;
-      most = length (flat_map in_phase l.yielded);
-      asked = l.invariant.asked;
-      room = room_for l.yielded phase rest c.args.phases.items whole c.requires.statements;
-    }
+    let most = length (flat_map in_phase l.yielded) in
+    let room = room_for l.yielded phase rest c.args.phases.items whole c.requires.statements in let was = l.invariant in
+    grind (arith, ranges, room, was, c.requires)
 
 pub loop-phase-preserved : goal.loop-phase-preserved
 loop-phase-preserved g c =
-    let l = c.loop-phase in let phase = c.in-Some.phase in
+    let l = c.loop-phase in let phase = c.in-Some.phase in let was = l.invariant in
     let rest : List Phase = into_iter_items c.next.new.self in
     let steps : into_iter_items l.phase-iterator ≡ phase ∷ rest = c.in-Some.ensures.steps.0 in
     let whole : l.yielded ++ phase ∷ rest ≡ c.args.phases.items = rw steps at l.invariant.left in
     let room = room_for l.yielded phase rest c.args.phases.items whole c.requires.statements in
-    let next = c.in_ok-run.run' in let taken = c.in_ok-run.ensures.takes_in in
-    let asked = c.in_ok-run.ensures.goes_on.asked (length (flat_map in_phase l.yielded)) l.invariant.asked room in
-    record {
-      left = append_assoc l.yielded (phase ∷ []) rest ∙ whole;
-      len =
-          let was = l.invariant.len in
-          let gone = c.in-Some.ensures.steps.1 in
-          let short = ap length steps in
-          omega arith;
-      setup = c.in_ok-run.ensures.setup ∙ l.invariant.setup;
-      count = c.in_ok-run.ensures.goes_on.count ∙ l.invariant.count;
-      legal = rw l.invariant.setup at taken.legal;
-      same = taken.same;
-      up_to = c.in_ok-run.ensures.up_to;
-      phases = rw (map-append in_phase l.yielded (phase ∷ [])) (taken.phases _ l.invariant.phases);
-      places = rw
-          (map-append in_phase l.yielded (phase ∷ []), reverse-append (map in_phase l.yielded) (phase.items ∷ []))
-          (all_in_place c.args.board.setup phase.items _ taken.added _ _ taken.adds taken.size
-          (rw l.invariant.setup at taken.places) l.invariant.places);
-      asked = rw (statements_more l.yielded phase) asked;
-    }
+    let ran = c.in_ok-run.ensures in
+    let asked = ran.goes_on.asked (length (flat_map in_phase l.yielded)) was.asked room in
+    let more = map-append in_phase l.yielded (phase ∷ []) in
+    let turned = reverse-append (map in_phase l.yielded) (phase.items ∷ []) in
+    let places = all_in_place c.args.board.setup phase.items _ ran.takes_in.added _ _ ran.takes_in.adds
+    ran.takes_in.size (rw was.setup at ran.takes_in.places) was.places in
+    let phases = ran.takes_in.phases _ was.phases in
+    let joined = append_assoc l.yielded (phase ∷ []) rest in let count = statements_more l.yielded phase in
+    grind (arith, was, ran, asked, whole, steps, c.in-Some.ensures, joined, more, turned, places, phases, count)

@@ -71,16 +71,7 @@ overflow_cast-len g c =
 
 pub open-requires : goal.open-requires
 open-requires g c =
-    let count = many g (goal.at.open-requires g c).After-len-2 in
-    let asked = c.requires.can.asked in
-    record {
-      few = record {
-        some = omega (arith, count, c.requires.can.some);
-        most = omega (arith, count, c.requires.can.few);
-        actors = rw count asked.actors;
-        each = λ actor. omega (arith, asked.mine actor, c.requires.can.room);
-      };
-    }
+    let count = many g (goal.at.open-requires g c).After-len-2 in let can = c.requires.can in grind (arith, count, can)
 
 pub begin-requires-clause-same : goal.begin-requires-clause-same
 begin-requires-clause-same g c =
@@ -97,9 +88,9 @@ pub run_jobs-requires-clause-some : goal.run_jobs-requires-clause-some
 run_jobs-requires-clause-some g c κs within =
     let count = many g (goal.at.run_jobs-requires-clause-some g c).After-len-2 in
     let size = numbered_length number_by c.in-Ok.cpus.items c.len-2.result c.in-Ok.ensures.opened.numbers in
-    let jobs = sym (length-reverse c.begin.new.jobs.items)
-    ∙ (sym (length-map (reverse c.begin.new.jobs.items) cpu_in) ∙ ap length c.begin.ensures.cpus) in
-    omega (arith, size, count, jobs, ap length c.deref_mut.ensures.value, c.requires.can.some)
+    let turned = length-reverse c.begin.new.jobs.items in
+    let mapped = length-map (reverse c.begin.new.jobs.items) cpu_in in
+    grind (arith, size, count, turned, mapped, c.begin.ensures.cpus, c.deref_mut.ensures.value, c.requires.can)
 
 pub run_jobs-requires-clause-can : goal.run_jobs-requires-clause-can
 run_jobs-requires-clause-can g c κs within =
