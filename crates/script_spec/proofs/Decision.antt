@@ -115,11 +115,6 @@ judged_is lines = grind (arith, nat_tests, version_is, bytes_eq-Decides, lines_a
 
 -- ---- what holds is decided so
 
-good_line : (version : ℕ) (before items : List Item) (line : List ℕ) → AreRead version before (line ∷ []) items →
-    judged_line version before line ≡ Ok items
-unfolding judged_line
-good_line version before items line read = grind (arith, nat_tests, le-ltb, line_back)
-
 -- a line of which nothing is read has no form
 no_form : (version : ℕ) (line : List ℕ) (found : Option Item) → parse_line version line ≡ found →
     ((item : Item) → ¬ HasForm version line item) → found ≡ None
@@ -139,14 +134,24 @@ bad_line version before line why (inr (inr refused)) = grind (arith, nat_tests, 
 front_so : (version number place : ℕ) (good rest : List (List ℕ)) (before items : List Item) →
     AreRead version before good items → place ≡ length good + number →
     judged_lines version before number (good ++ rest) ≡ judged_lines version items place rest
-unfolding judged_lines
-front_so version number place [] rest before items read is = grind (arith, nat_tests)
+unfolding judged_lines judged_line
+front_so version number place [] rest before items read is = grind (arith, nat_tests, line_back)
 front_so version number place (line ∷ good) rest before items (inl skipped) is =
-    rw (good_line version before before line (inl (skipped.0, refl)))
-    (front_so version (number + 1) place good rest before items skipped.1 (omega (arith, is)))
+    grind (
+      arith,
+      nat_tests,
+      line_back,
+      front_so version (number + 1) place good rest before items skipped.1
+          (omega (arith, is)),
+    )
 front_so version number place (line ∷ good) rest before items (inr one) is =
-    rw (good_line version before (one.0 ∷ before) line (inr (one.0, one.1, refl)))
-    (front_so version (number + 1) place good rest (one.0 ∷ before) items one.2 (omega (arith, is)))
+    grind (
+      arith,
+      nat_tests,
+      line_back,
+      front_so version (number + 1) place good rest (one.0 ∷ before) items one.2
+          (omega (arith, is)),
+    )
 
 end_so : (version number : ℕ) (items : List Item) (rest : List (List ℕ)) (why : ℕ) →
     EndsBadly version items rest why → judged_lines version items number rest ≡ Err (number, why)

@@ -151,22 +151,12 @@ event_back version actor (BadSector sector) fields form reads =
 abbrev pub IsRead : (version : ℕ) → (fields : List (List ℕ)) → Event → Type 0
 IsRead version fields event = Reads fields (event_words event) × IsEventForm version event
 
-access_is : (version : ℕ) (kind : Kind) (bytes addr value : ℕ) (smm : Bool) → IsSize version bytes
-    → event_words (memory_event version kind bytes addr value smm) ≡ access_words kind bytes addr value smm
-unfolding memory_event
-access_is version kind bytes addr value smm size = grind (arith, nat_tests)
-
-access_form : (version : ℕ) (kind : Kind) (bytes addr value : ℕ) (smm : Bool) → IsSize version bytes → addr < 2 ^ 32 →
-    FitsBytes (is_write kind) bytes value → IsEventForm version (memory_event version kind bytes addr value smm)
-unfolding memory_event
-access_form version kind bytes addr value smm size small fits = grind (arith, nat_tests)
-
 access_read : (version : ℕ) (kind : Kind) (bytes addr value : ℕ) (smm : Bool) (fields : List (List ℕ))
     → IsSize version bytes → addr < 2 ^ 32 → FitsBytes (is_write kind) bytes value
     → Reads fields (access_words kind bytes addr value smm)
     → IsRead version fields (memory_event version kind bytes addr value smm)
-access_read version kind bytes addr value smm fields size small fits reads =
-    grind (arith, nat_tests, access_is, access_form)
+unfolding memory_event
+access_read version kind bytes addr value smm fields size small fits reads = grind (arith, nat_tests)
 
 pub read_read : (version : ℕ) (kind : Kind) (words : List (List ℕ)) → is_write kind ≡ false → (event : Event) →
     parse_read version kind words ≡ Some event → IsRead version (kind_text kind ∷ words) event

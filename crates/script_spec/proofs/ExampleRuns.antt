@@ -1,6 +1,6 @@
 -- The worked texts of scripts, decided by computation.
 use Rattle.board_prelude.proofs.Common.{nat_tests, digits, false≢true, All-nil, All-cons, weekday_of, days_since_1980}
-use Rattle.board_prelude.proofs.Common.{days_of_years, days_of_months, IsPermutation, option_map, Rises, find}
+use Rattle.board_prelude.proofs.Common.{days_of_years, days_of_months, option_map, Rises, find}
 use Rattle.std.proofs.Common.{ℕ, ◌≡◌, ◌<◌, Bool, true, false, List, [], ◌∷◌, map, All, Result, Ok, Err, refl, arith}
 use Rattle.std.proofs.Common.{subst, Some, ap, drop}
 use Rattle.script_spec.specs.Common.{is_cpus, is_memory, is_rom, is_disk, SetCpus, SetMemory, SetRom, SetDisk, cards_of}
@@ -15,10 +15,9 @@ use Rattle.script_spec.specs.Common.{parse_statement, parse_by_key, parse_item, 
 use Rattle.script_spec.specs.Common.{IsScriptBad, IsBadText, bad_texts, AreBad, Bound, with_line, IsBound, bounds}
 use Rattle.script_spec.specs.Common.{AreBounds, TwoProcessors, TwoOrders, WideScript}
 use Rattle.script_spec.proofs.ReadingExists.{run_of, text_said}
-use Rattle.std.proofs.lemmas.List.Sorted.{IsPermutation-refl}
 use Rattle.script_spec.specs.Events.{read_event, write_event, in_event, out_event, look_event}
 use Rattle.script_spec.proofs.Chains.{same_head}
-use Rattle.script_spec.proofs.Decision.{judged, judged_line, judged_lines, AreGoodLines, AreJudged, judged_is}
+use Rattle.script_spec.proofs.Decision.{judged, judged_line, judged_lines, AreJudged, judged_is}
 use Rattle.script_spec.specs.ExampleEntries.{NameBorders, EntryBorders}
 
 abbrev Judged : Type 0
@@ -33,11 +32,6 @@ is_good (Err end) = false
 
 is_bad : (bytes : List ℕ) (line why : ℕ) → judge bytes ≡ Err (line, why) → IsScriptBad bytes line why
 is_bad bytes line why e = subst (AreJudged (lines_of bytes)) e (judged_is (lines_of bytes))
-
-some_script : (bytes : List ℕ) (result : Judged) → AreJudged (lines_of bytes) result → is_good result ≡ true →
-    (script : Script) × IsScriptText bytes script
-some_script bytes (Ok found) good e = text_said bytes found.0 found.1 good
-some_script bytes (Err end) bad e = absurd (false≢true e)
 
 -- what computes to what it should be in each row
 each : {X Y : Type 0} (P : X → Type 0) (has is : X → Y) → ((x : X) → has x ≡ is x → P x) → (rows : List X) →
@@ -56,31 +50,14 @@ abbrev bound_is : Bound → Bool × Judged
 bound_is row = (true, Err (row.place, row.why))
 
 bound_so : (row : Bound) → bound_judged row ≡ bound_is row → IsBound row
-bound_so row e =
-    let bytes : List ℕ = text_of_lines (with_line row.place row.good) in
-    record {
-      good = some_script bytes (judge bytes) (judged_is (lines_of bytes)) (ap (λ p. p.0) e);
-      bad = is_bad (text_of_lines (with_line row.place row.bad)) row.place row.why (ap (λ p. p.1) e);
-    }
+bound_so row e = grind (arith, nat_tests, judged_is, is_bad, text_said, false≢true)
 
 says : (bytes : List ℕ) (script : Script) (items : List Item) → judge bytes ≡ Ok (script.version, items) →
     find is_cpus items ≡ Some (SetCpus script.cpus) → find is_memory items ≡ Some (SetMemory script.mib) →
     find is_rom items ≡ Some (SetRom script.rom) → find is_disk items ≡ option_map SetDisk script.disk →
     cards_of items ≡ script.cards → Rises script.cards → run_of items ≡ phase_items script.phases →
     IsScriptText bytes script
-says bytes script items e cpus memory rom disk cards rises phases =
-    let good : AreGoodLines (lines_of bytes) script.version items =
-    subst (AreJudged (lines_of bytes)) e (judged_is (lines_of bytes)) in
-    let same = subst (IsPermutation (cards_of items)) cards (IsPermutation-refl (cards_of items)) in
-    record {
-      version = good.known;
-      later = good.later;
-      lines = good.cut;
-      items = items;
-      read = good.read;
-      whole = good.whole;
-      said = assumption same;
-    }
+says bytes script items e cpus memory rom disk cards rises phases = grind (arith, nat_tests, judged_is)
 
 -- ---- the worked texts
 
