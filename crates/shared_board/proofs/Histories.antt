@@ -15,11 +15,11 @@ use Rattle.board_core.specs.Kept.{Standing}
 -- ---- lists that go on
 
 pub extends_trans : {E : Type 0} (xs ys zs : List E) → Extends xs ys → Extends ys zs → Extends xs zs
-extends_trans {E} xs ys zs a b = (b.0 ++ a.0, b.1 ∙ (ap (λ (w : List E). b.0 ++ w) a.1 ∙ sym (append_assoc b.0 a.0 xs)))
+extends_trans xs ys zs (a, is) (b, is') = (b ++ a, grind (arith, is, is', append_assoc))
 
 -- the oldest first, and the newest first
 pub extends_prefix : {E : Type 0} (xs ys : List E) → IsPrefix xs ys → Extends (reverse xs) (reverse ys)
-extends_prefix xs ys (rest, is) = (reverse rest, ap reverse (sym is) ∙ reverse-append xs rest)
+extends_prefix xs ys (rest, is) = (reverse rest, grind (arith, is, reverse-append xs rest))
 
 -- ---- the entries of a caller
 
@@ -27,10 +27,9 @@ pub entries_reversed : (actor : ℕ) (entries : List Entry) →
     entries_by actor (reverse entries) ≡ reverse (own_by (λ (e : Entry). e.actor) actor entries)
 entries_reversed actor [] = refl
 entries_reversed actor (entry ∷ later) =
-    let test : Entry → Bool = λ e. e.actor == actor in let own : List Entry = filter test later in
-    let whole = reverse-append (entry ∷ []) later in let split = filter-append test (reverse later) (entry ∷ []) in
-    let turned = reverse-append (entry ∷ []) own in let none = append-nil (reverse own) in
-    grind (arith, nat_tests, whole, split, turned, none, entries_reversed actor later)
+    let test : Entry → Bool = λ e. e.actor == actor in let whole = reverse-append (entry ∷ []) in
+    let split = filter-append test (reverse later) (entry ∷ []) in
+    grind (arith, nat_tests, whole later, split, whole (filter test later), append-nil, entries_reversed actor later)
 
 -- ---- what was opened
 
