@@ -18,8 +18,8 @@ use Rattle.std.proofs.Common.{length, get_or, refl, sym, ◌∙◌, ap, subst, a
 use Rattle.std.proofs.Common.{ne_eqb, get_or-set_same, get_or-set_other, length-set, ◌↔◌, Result, Err, ◌==◌, unwrap_or}
 use Rattle.std.proofs.Common.{map, option_map, slice_index_or, slice_set, if◌then◌else◌}
 use Rattle.board_devices.specs.Common.{LeavesDevices, DevicesValue, AreIrqsOf, AreRoutesOf, AreAfter, AreDevicesOf}
-use Rattle.board_devices.specs.Common.{ReachesDevice, Asks, is_chip, PassesBy, Leaves, value_read, after_read}
-use Rattle.board_devices.specs.Common.{after_write, devices_accessed, driven, fitted_accessed, level_driven}
+use Rattle.board_devices.specs.Common.{ReachesDevice, Asks, PassesBy, Leaves, value_read, after_read, after_write}
+use Rattle.board_devices.specs.Common.{devices_accessed, driven, fitted_accessed, level_driven}
 use Rattle.ata_pio.specs.declared.ata.AtaOpen.{AtaOpen}
 use Rattle.board_base.specs.declared.target.Dev.TheVariants.{Clock}
 use Rattle.device_spec.specs.Clock.{interrupt_line, power_on as clock_at_power_on}
@@ -305,16 +305,6 @@ module _ (setup : Setup) (history : List Entry) (entry : Entry) (sets : SetsNoLe
 
 -- ---- events that ask nothing of the devices
 
-untouched : (reached : Option Dev) (access : PortAccess) (devices : DevicesValue) → is_chip reached ≡ false →
-    devices_accessed reached access devices ≡ devices
-unfolding devices_accessed
-untouched reached access devices none = grind (arith, nat_tests)
-
-pub passed : (event : Event) (reply : Reply) (devices : DevicesValue) → PassesBy event (device_reached reply) →
-    devices ≡ devices_after event reply devices
-unfolding devices_accessed
-passed event reply devices by = grind (arith, nat_tests, untouched)
-
 pub passing : (event : Event) (reached : Option Dev) → PassesBy event reached → SetsNoLevel event
 passing event reached by = grind (arith, nat_tests)
 
@@ -326,7 +316,8 @@ module _ {history : List Entry} {entry : Entry} (leaves : Leaves history entry) 
   left_levels = passing entry.event (device_reached entry.reply) leaves.passes
 
   pub left_as : (devices : DevicesValue) → devices ≡ devices_after entry.event entry.reply devices
-  left_as devices = passed entry.event entry.reply devices leaves.passes
+  unfolding devices_accessed
+  left_as devices = grind (arith, nat_tests, common_steps)
 
 -- an event that passes the devices by leaves them
 pub leaves_devices : LeavesDevices
@@ -360,19 +351,7 @@ module _ (setup : Setup) (history : List Entry) (entry : Entry) (hard : is_hard_
         plain = plain_at_reset;
       } → AreAfter setup (entry ∷ history) after
   unfolding timer_of clock_of triggers_of plain_of irq_of disk_with
-  reset_after devices after are is =
-      rw is (record {
-        timer = rw hard refl;
-        clock = rw hard (ap (λ t. clock_after_reset t) are.clock);
-        disk = ap (λ (d : Option Disk). option_map (λ disk. disk_after_reset disk) d) are.disk ∙
-            (grind (arith, nat_tests));
-        triggers = rw hard refl;
-        plain = rw hard refl;
-        wires = λ dev low high. are.wires dev low high ∙ sym (wire_stays setup history entry no_level dev);
-        irqs = λ line below.
-            are.irqs line below
-            ∙ ap (λ (on : Bool). is_free_line line && on) (sym (rw (no_level.line line) refl));
-      })
+  reset_after devices after are is = grind (arith, nat_tests, common_steps, clock_after_reset, wire_stays, no_level)
 
   pub reset_pair : pair_of setup (entry ∷ history)
       ≡ lined setup (entry ∷ history) (pair_at_reset (levels_of setup (entry ∷ history)))

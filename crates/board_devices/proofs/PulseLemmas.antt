@@ -23,16 +23,9 @@ is_stale chip = has chip.latches 0 && not (has chip.inputs 0)
 pub record IsFresh (pair : Pair) : Type 0 where
   pub fresh : is_stale pair.master ≡ false
 
-same_zero : (latches : Levels) → has (with_level latches 2) 0 ≡ has latches 0
-unfolding levels_where
-same_zero latches = refl
-
-settled_stale : (pair : Pair) → is_stale (settled pair).master ≡ is_stale pair.master
-settled_stale pair =
-    grind (arith, nat_tests, common_steps, cases_Bool, is_some, interrupt, settled-asks, has, same_zero, settled-quiet)
-
 settled_fresh : (pair : Pair) → IsFresh pair → IsFresh (settled pair)
-settled_fresh pair is = record { fresh = settled_stale pair ∙ is.fresh }
+unfolding levels_where
+settled_fresh pair is = grind (arith, nat_tests, common_steps, settled-asks, settled-quiet)
 
 -- ---- what an event leaves fresh
 

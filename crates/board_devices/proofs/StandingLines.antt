@@ -1,14 +1,14 @@
 -- Events that move no line: the lines reach the pair as it saw them, and leave it.
 use Rattle.board_prelude.proofs.Common.{common_steps, cases_Bool, and-true, and-false, nat_tests, is_bit, Levels, has}
-use Rattle.board_prelude.proofs.Common.{levels_of_byte, levels_where-same, Chip, interrupt, chip_after_inputs, Pair}
-use Rattle.board_prelude.proofs.Common.{settled, master_inputs, pair_after_lines, same-levels, settled-asks}
-use Rattle.board_prelude.proofs.Common.{settled-quiet, PortAccess, Dev, System, bytes_of, PitState, out_of, set_gate2}
-use Rattle.board_prelude.proofs.Common.{port_read, Event, Port, Ack, Entry, Setup, is_hard_reset, is_config_port}
-use Rattle.board_prelude.proofs.Common.{timer_accessed, config_store, levels_of, elcr_of, pair_accessed, pair_after}
-use Rattle.board_prelude.proofs.Common.{pair_of, pair_has_seen}
+use Rattle.board_prelude.proofs.Common.{levels_of_byte, levels_where-same, Chip, chip_after_inputs, Pair, settled}
+use Rattle.board_prelude.proofs.Common.{master_inputs, pair_after_lines, same-levels, settled-asks, settled-quiet}
+use Rattle.board_prelude.proofs.Common.{PortAccess, Dev, System, bytes_of, PitState, out_of, set_gate2, port_read}
+use Rattle.board_prelude.proofs.Common.{Event, Port, Ack, Entry, Setup, is_hard_reset, is_config_port, timer_accessed}
+use Rattle.board_prelude.proofs.Common.{config_store, levels_of, elcr_of, pair_accessed, pair_after, pair_of}
+use Rattle.board_prelude.proofs.Common.{pair_has_seen}
 use Rattle.std.proofs.Common.{◌≡◌, ℕ, ◌/◌, ◌%◌, ◌&&◌, Bool, true, false, List, ◌∷◌, Option, Some, None, length, take}
-use Rattle.std.proofs.Common.{rules, drop, refl, sym, ap, subst, ◌∙◌, is_some, arith}
-use Rattle.device_spec.specs.Pit.{Access, CounterState, read, read_live}
+use Rattle.std.proofs.Common.{drop, refl, sym, ap, subst, ◌∙◌, arith}
+use Rattle.device_spec.specs.Pit.{read, read_live}
 use Rattle.device_spec.proofs.Common.{levels_where-has}
 use Rattle.board_spec.specs.Registers.{config_address}
 use Rattle.board_devices.specs.Common.{DevicesValue, AreAfter, AreDevicesOf, driven, level_driven, sets_triggers}
@@ -35,9 +35,6 @@ given_again chip inputs triggers holds =
     (levels_where-same _ (λ l. has chip.latches l) (λ l small. grind (arith, nat_tests)) ∙ levels_where-has chip.latches
     holds.whole))
 
-given_holds : (chip : Chip) (inputs triggers : Levels) → Holds inputs triggers (chip_after_inputs chip inputs triggers)
-given_holds chip inputs triggers = record { inputs_are = refl; triggers_are = refl; whole = eight _ }
-
 -- ---- a pair whose lines stand
 
 record Sees (levels : List Bool) (elcr : ℕ) (pair : Pair) : Type 0 where
@@ -45,12 +42,8 @@ record Sees (levels : List Bool) (elcr : ℕ) (pair : Pair) : Type 0 where
   slave : Holds (drop 8 levels) (levels_of_byte (elcr / 256)) pair.slave
 
 module _ (levels : List Bool) (elcr : ℕ) where
-  settled_sees : (pair : Pair) → Sees levels elcr pair → Sees levels elcr (settled pair)
-  settled_sees pair sees =
-      grind (arith, nat_tests, common_steps, cases_Bool, is_some, interrupt, settled-asks, settled-quiet, eight)
-
   lines_seen : (pair : Pair) → Sees levels elcr (pair_after_lines pair levels elcr)
-  lines_seen pair = search (rules, settled_sees, given_holds)
+  lines_seen pair = grind (arith, nat_tests, common_steps, eight, settled-asks, settled-quiet)
 
   -- the lines change nothing of a pair that sees them so, once its slave is heard
   stands : (pair : Pair) → Sees levels elcr pair → pair_after_lines (settled pair) levels elcr ≡ settled pair
@@ -76,15 +69,6 @@ module _ (levels : List Bool) (elcr : ℕ) where
       })
 
 -- ---- OUT of counter 0 after a read of the timer, and after its gate 2 moved
-
-read_out : (c : CounterState) (status : Option ℕ) (count : List ℕ) (access : Access) →
-    c.status_latch ≡ status → c.count_latch ≡ count → c.access ≡ access → (read c).1.out ≡ c.out
-unfolding read read_live
-read_out c status count access is counts accesses = grind (arith, nat_tests)
-
-port_read_out : (port : ℕ) (timer : PitState) → out_of 0 (port_read port timer).1 ≡ out_of 0 timer
-unfolding port_read out_of
-port_read_out port timer = grind (arith, nat_tests, common_steps, cases_Bool, read_out)
 
 gate_out : (on : Bool) (timer : PitState) → out_of 0 (set_gate2 on timer) ≡ out_of 0 timer
 unfolding set_gate2 out_of
@@ -148,10 +132,8 @@ module _ (setup : Setup) (history : List Entry) (entry : Entry) (dev : Dev) (acc
   -- one that can move no line leaves the level of its own device
   own_level_stands : moves_lines dev access.write ≡ false →
       level_driven dev setup (entry ∷ history) ≡ level_driven dev setup history
-  unfolding devices_accessed
-  own_level_stands none =
-      sym (driven_is setup (entry ∷ history) next are dev)
-      ∙ ((grind (arith, nat_tests, port_read_out)) ∙ driven_is setup history old were dev)
+  unfolding devices_accessed read read_live port_read out_of
+  own_level_stands none = grind (arith, nat_tests, common_steps, driven_is, are, were)
 
   -- a port of a device is none of configuration data, so that no route moves
   still_stands : is_chip_port dev access.port (bytes_of access.width) ≡ true →
