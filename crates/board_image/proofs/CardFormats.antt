@@ -26,13 +26,11 @@ AreBasesIn room bases = All IsBase bases × (sum_by memory_size bases ≤ room)
 
 bases_are : (bases : List Base) (room : ℕ) →
     AreGood room_after IsBaseIn room bases ↔ (AllByRecursion IsBase bases × (sum_by memory_size bases ≤ room))
-bases_are [] room = (λ good. (tt, omega arith), λ is. tt)
+bases_are [] room = grind (arith, nat_tests)
 bases_are (base ∷ later) room =
     let whole = sum_by-cons memory_size base later in
-    let rest = bases_are later (room - memory_size base) in (
-      λ good. let told = rest.0 good.1 in ((good.0.0, told.0), omega (arith, whole, told.1, good.0.1)),
-      λ is. ((is.0.0, omega (arith, whole, is.1)), rest.1 (is.0.1, omega (arith, whole, is.1))),
-    )
+    let rest = bases_are later (room - memory_size base) in
+    (λ good. grind (arith, nat_tests), λ is. grind (arith, nat_tests))
 
 bases_format : (room count : ℕ) → count ≤ 6 → IsFormat 6 (bases_fields count room) (map base_byte)
     (λ bases. (length bases ≡ count) × AreBasesIn room bases)
@@ -102,38 +100,20 @@ record AreCards (cards : List FittedCard) (above room : ℕ) : Type 0 where
 
 cards_are : (cards : List FittedCard) (above room : ℕ) → 1 ≤ above →
     AreGood past_card IsCardAfter (above, room) cards ↔ AreCards cards above room
-cards_are [] above room some = (λ good. record { each = tt; high = tt; rise = tt; fit = omega arith }, λ are. tt)
+cards_are [] above room some = grind (arith, nat_tests)
 cards_are (card ∷ later) above room some =
     let whole = memory_of_more card later in
     let one = memory_of_more card [] in
     let rest = cards_are later card.dev (room - memory_of_cards (card ∷ [])) in (
       λ good.
-          let low : above + 1 ≤ card.dev = good.0.0.0 in
-          let first : 2 ≤ card.dev = omega (arith, low, some) in
-          let is : IsCard card = assumption (first, good.0) in
-          let more = (rest (omega (arith, low))).0 good.1 in
-          record {
-            each = (is, more.each);
-            high = (omega (arith, low), higher above card.dev later (omega (arith, low)) more.high);
-            rise = (All-from_recursion (LiesAbove card.dev) later more.high, more.rise);
-            fit = omega (arith, whole, one, more.fit, good.0.3.1);
-          },
+          let more = (rest (omega (arith, some, good.0.0.0))).0 good.1 in
+          let all_above = higher above card.dev later (omega (arith, good.0.0.0)) more.high in
+          let rises = All-from_recursion (LiesAbove card.dev) later more.high in
+          grind (arith, nat_tests),
       λ are.
-          let is = are.each.0 in
-          let fit = are.fit in (
-            (
-              (omega (arith, are.high.0), is.last),
-              is.rom,
-              (omega arith, is.count),
-              (is.each, omega (arith, whole, fit)),
-            ),
-            (rest (omega (arith, is.first))).1 (record {
-              each = are.each.1;
-              high = recursion_from_All (LiesAbove card.dev) later are.rise.0;
-              rise = are.rise.1;
-              fit = omega (arith, whole, one, fit);
-            }),
-          ),
+          let high = recursion_from_All (LiesAbove card.dev) later are.rise.0 in
+          let more = (rest (omega (arith, are.each.0.first))).1 (grind (arith, nat_tests)) in
+          grind (arith, nat_tests),
     )
 
 -- ---- all cards of a board

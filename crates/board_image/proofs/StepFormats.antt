@@ -1,17 +1,17 @@
 -- The fields of steps, by their tags.
-use Rattle.std.proofs.Common.{◌≡◌, ℕ, ◌^◌, ◌<◌, ◌&&◌, Bool, true, false, Option, refl, sym, ap, ◌∙◌, arith}
+use Rattle.std.proofs.Common.{◌≡◌, ℕ, ◌^◌, ◌<◌, ◌&&◌, Bool, true, false, refl, sym, ap, arith}
 use Rattle.board_prelude.proofs.Common.{nat_tests, option_map_or, Kind, Fetch, PortAccess, WideAccess, Moment, IsMoment}
 use Rattle.board_prelude.proofs.Common.{days_in_month, moment_of, Event, Memory, Wide, Port, Ack, Time, Setup}
-use Rattle.board_prelude.proofs.Common.{IsWideAccess, IsInRange, IsScriptSector, Stimulus, Applied, stimulus_form}
-use Rattle.board_prelude.proofs.Common.{applied, applied_by, applied_again, event_applied}
+use Rattle.board_prelude.proofs.Common.{IsWideAccess, IsInRange, IsScriptSector, Stimulus, stimulus_form, applied_by}
+use Rattle.board_prelude.proofs.Common.{applied_again, event_applied}
 use Rattle.board_base.specs.declared.access.Access.{Access}
 use Rattle.board_spec.specs.declared.event.Event.TheVariants.{Look as LookAt}
 use Rattle.board_spec.specs.declared.stimulus.Stimulus.TheVariants as stimuli
 use Rattle.image_writer.specs.declared.tag.Tag.{Tag}
 use Rattle.image_writer.specs.declared.tag.Tag.TheVariants as tags
-use Rattle.board_image.specs.Common.{tag_of_event, look_bytes, moment_bytes, applied_bytes, field_bytes, step_bytes}
-use Rattle.board_image.specs.Common.{FitsField, IsImageStep, can_have, look_fields, moment_fields, applied_fields}
-use Rattle.board_image.specs.Common.{event_fields, step_fields, tag_byte}
+use Rattle.board_image.specs.Common.{tag_of_event, look_bytes, moment_bytes, field_bytes, step_bytes, FitsField}
+use Rattle.board_image.specs.Common.{IsImageStep, can_have, look_fields, moment_fields, applied_fields, event_fields}
+use Rattle.board_image.specs.Common.{step_fields, tag_byte}
 use Rattle.byte_fields.proofs.Formats.{IsFormat, format_as, fields_format, ◌then◌, ◌&◌, last_field, made_format}
 use Rattle.byte_fields.proofs.Formats.{done_format}
 use Rattle.byte_fields.proofs.Numbers.{flag_format, wide8, wide16, wide32, byte_within, where_format, within_format}
@@ -89,36 +89,20 @@ IsStimulus setup one has_level event =
     ((number_of event < limit has_level) × (can_have setup one (number_of event) ≡ true))
     × (event ≡ event_applied one (number_of event) (has_level && level_of event))
 
-module _ (one : Stimulus) (number : ℕ) (on : Bool) where
-  number_again : number_of (event_applied one number on) ≡ number
-  number_again = grind (arith, nat_tests, applied_again one number on)
-
-bytes_again : (one : Stimulus) (number : ℕ) (on : Bool) →
-    field_bytes (event_applied one number on) ≡ applied_bytes (applied one number on)
-unfolding field_bytes
-bytes_again one number on = grind (arith, nat_tests)
-
 applied_format : (setup : Setup) (one : Stimulus) (has_level : Bool) → (stimulus_form one).has_level ≡ has_level →
     IsFormat 15 (applied_fields setup one has_level) field_bytes (IsStimulus setup one has_level)
-unfolding applied_fields
+unfolding applied_fields field_bytes
 applied_format setup one true is =
     wider 15 (fields_format
     (where_format wide8 (can_have setup one) then λ number good.
     last_field (λ on. event_applied one number on) flag_format)
     (λ event can. ((number_of event, can.0) & (level_of event, tt), can.1))
-    (λ t. (
-      rw (
-        number_again one t.0 t.2.0,
-        ap (λ (said : Option Applied). option_map_or (λ said. said.on) said false)
-            (applied_again one t.0 t.2.0) ∙ ap (λ (has_level : Bool). has_level && t.2.0) is,
-      ) (t.1, refl),
-      bytes_again one t.0 t.2.0 ∙ rw is refl,
-    ))) (omega arith)
+    (λ t. (grind (arith, nat_tests, t.1, applied_again one t.0 t.2.0), grind (arith, nat_tests)))) (omega arith)
 applied_format setup one false is =
     wider 15 (fields_format
     (last_field (λ number. event_applied one number false) (where_format wide32 (can_have setup one)))
     (λ event can. ((number_of event, can.0), can.1))
-    (λ t. (rw (number_again one t.0 false) (t.1, refl), bytes_again one t.0 false ∙ rw is refl))) (omega arith)
+    (λ t. (grind (arith, nat_tests, t.1, applied_again one t.0 false), grind (arith, nat_tests)))) (omega arith)
 
 -- ---- events
 
