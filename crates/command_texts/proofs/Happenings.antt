@@ -9,8 +9,8 @@ use Rattle.board_core.specs.Kept.{Standing}
 use Rattle.uart_16550.specs.declared.com1.Happening.{Happening}
 use Rattle.uart_16550.specs.declared.com1.Happening.TheVariants.{Comes, Happens}
 use Rattle.uart_16550.specs.Common.{received, differ, com1_actor, com1_at_reset, com1_irq, level_of, line_steps}
-use Rattle.uart_16550.specs.Common.{change_steps, com1_after, board_steps, Serial, GoesOnBy, IsLeftAt, IsLeftAfter}
-use Rattle.uart_16550.specs.Common.{Sending, sending_after, bytes_sent, after_all}
+use Rattle.uart_16550.specs.Common.{change_steps, com1_after, board_steps, Serial, GoesOnBy, IsLeftAfter, Sending}
+use Rattle.uart_16550.specs.Common.{sending_after, bytes_sent, after_all}
 use Rattle.uart_16550.proofs.Common.{control_follows}
 use Rattle.command_texts.specs.Common.{steps_for_all, IsStanding, Happened}
 
@@ -40,10 +40,6 @@ none_sent port [] = refl
 none_sent port (byte ∷ bytes) = none_sent (sending_after port (Comes byte)) bytes
 
 -- ---- the steps of the board
-
-abbrev IsLeftHere : Standing → Bool → List Entry → Type 0
-IsLeftHere board level history =
-    IsLeftAt (λ (b : Standing) (h : List Entry). b.entries ≡ h) board level history
 
 abbrev IsAfterHere : Standing → Bool → List Entry → List Statement → Type 0
 IsAfterHere board level before steps =
