@@ -86,10 +86,7 @@ module _ (setup : Setup) (keep : List ℕ) where
       chosen keep changes ≡ []
   unfolding chosen
   none_among [] later = refl
-  none_among (change ∷ before) later = elim (cases_Bool (is_among (length before + 1) keep)) [
-    | inl is ↦ absurd (omega (arith, later (length before + 1) is))
-    | inr none ↦ rw none (none_among before (λ number is. omega (arith, later number is)))
-  ]
+  none_among (change ∷ before) later = grind (arith, nat_tests, later (length before + 1), none_among before, later)
 
   none_of_reset : (before : List MapChange) → Since (Reset ∷ before) → chosen keep (Reset ∷ before) ≡ []
   none_of_reset before since = none_among (Reset ∷ before) (λ number is. omega (arith, since number is))
@@ -105,8 +102,7 @@ module _ (setup : Setup) (keep : List ℕ) where
       HasLast reg (Store at width value ∷ before) →
       chosen keep (Store at width value ∷ before) ≡ Store at width value ∷ chosen keep before
   unfolding last_cover chosen
-  last_chosen reg at width value before covered has =
-      let among : is_among (length before + 1) keep ≡ true = has (length before + 1) (rw covered refl) in rw among refl
+  last_chosen reg at width value before covered has = grind (arith, nat_tests, has (length before + 1))
 
   -- a change that leaves what is looked at, chosen or not
   left_alone : {X : Type 0} (look : ℕ → X) (reg at : Reg) (width : Width) (value : ℕ) (before : List MapChange) →
@@ -132,10 +128,7 @@ module _ (setup : Setup) (keep : List ℕ) where
 
     left_stays : (at : Reg) (width : Width) (value old : ℕ) →
         left mask (changed_byte setup (Store at width value) reg old) ≡ left mask old
-    left_stays at width value old = elim (cases_Bool (covers at width reg)) [
-      | inl covered ↦ rw (covered_is at width value old covered) (left_merged mask old (byte value (reg.off - at.off)))
-      | inr other ↦ rw other refl
-    ]
+    left_stays at width value old = grind (arith, nat_tests, covered_is, left_merged)
 
     -- the bits that no write changes are those of the reset
     left_same : (changes : List MapChange) → Since changes →

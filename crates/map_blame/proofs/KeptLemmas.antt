@@ -1,10 +1,10 @@
 -- The kept changes as they are found, one after another.
 use Rattle.std.proofs.Common.{◌≡◌, ℕ, suc, ◌+◌, ◌-◌, ◌<◌, ◌≤◌, ◌⊎◌, inl, inr, Bool, true, false, ◌||◌, List, [], ◌∷◌}
-use Rattle.std.proofs.Common.{◌++◌, length, get_or, reverse, take, refl, sym, ap, ◌∙◌, arith, ◌==◌, Option, Some, None}
-use Rattle.board_prelude.proofs.Common.{AllPairs, cases_Bool, eq-eqb, eqb-true, and_parts, and_from, false≢true}
-use Rattle.board_prelude.proofs.Common.{nat_tests, get_or_default, length-reverse, list_any_at, One, Reg, bytes_of}
-use Rattle.board_prelude.proofs.Common.{bytes_few, MapChange, Store, Reset, Setup, IsCardList, bridge, covers}
-use Rattle.board_prelude.proofs.Common.{is_map_byte, reg_after, or_right, or-false}
+use Rattle.std.proofs.Common.{◌++◌, length, get_or, reverse, take, refl, sym, ap, ◌∙◌, arith, ◌==◌, Option, Some}
+use Rattle.board_prelude.proofs.Common.{AllPairs, cases_Bool, eq-eqb, and_parts, and_from, false≢true, nat_tests}
+use Rattle.board_prelude.proofs.Common.{get_or_default, length-reverse, list_any_at, One, Reg, bytes_of, bytes_few}
+use Rattle.board_prelude.proofs.Common.{MapChange, Store, Reset, Setup, IsCardList, bridge, covers, is_map_byte}
+use Rattle.board_prelude.proofs.Common.{reg_after, or_right, or-false}
 use Rattle.std.proofs.lemmas.List.{get_or-reverse}
 use Rattle.std.proofs.lemmas.List.Folds.{list_any-append, Any-from_list_any}
 use Rattle.std.proofs.lemmas.List.Quantifiers.{all_pairs_push}
@@ -61,17 +61,14 @@ no_change = Store (bridge 0) One 0
 pub change_is : (changes : List MapChange) (index : ℕ) (change d : MapChange) → index < length changes →
     get_or changes index d ≡ change → change_at (reverse changes) (index + 1) ≡ change
 change_is changes index change d within is =
-    let count : length (reverse changes) ≡ length changes = length-reverse changes in
-    let place : length (reverse changes) - (index + 1) ≡ length changes - (index + 1) = omega (arith, count) in
-    let back : length changes - 1 - (length changes - (index + 1)) ≡ index = omega (arith, within) in
-    let reversed = get_or-reverse changes (length changes - (index + 1)) Reset (omega (arith, within)) in
-    rw (place, reversed, back, get_or_default changes index Reset d within) is
+    let count = length-reverse changes in
+    let reversed = get_or-reverse changes (length changes - (index + 1)) Reset in
+    grind (arith, nat_tests, count, reversed, get_or_default)
 
 -- ---- whether a change is kept
 
 is_number_true : (number : ℕ) (found : Option ℕ) → is_number number found ≡ true → found ≡ Some number
-is_number_true number None is = absurd (false≢true is)
-is_number_true number (Some other) is = ap Some (eqb-true other number is)
+is_number_true number found is = grind (arith, nat_tests)
 
 module _ (setup : Setup) (changes : List MapChange) (covers : Covers) (cards : IsCardList setup.cards)
     (are : AreCoversOf changes covers) where
@@ -160,11 +157,7 @@ kept_pushed setup changes count keep kept are = record {
 
 pub all_kept : (setup : Setup) (changes : List MapChange) (keep : List ℕ) →
     AreKept setup changes (length changes) keep → IsKeep setup changes keep
-all_kept setup changes keep are = record {
-  rises = are.rises;
-  only = are.only;
-  each = λ number kept. are.each number (kept_number setup changes number kept).most kept;
-}
+all_kept setup changes keep are = grind (arith, nat_tests, kept_number, are.each, are.only)
 
 pub none_kept : (setup : Setup) (changes : List MapChange) → AreKept setup changes 0 []
 none_kept setup changes = record {

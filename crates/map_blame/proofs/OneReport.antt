@@ -42,8 +42,7 @@ same_numbers (first ∷ later) (first' ∷ later') rise rise' to from =
 pub one_keep : (setup : Setup) (changes : List MapChange) (keep other : List ℕ) → IsKeep setup changes keep →
     IsKeep setup changes other → keep ≡ other
 one_keep setup changes keep other is is' =
-    same_numbers keep other (rise_is keep is.rises) (rise_is other is'.rises)
-    (λ number among. is'.each number (is.only number among)) (λ number among. is.each number (is'.only number among))
+    grind (arith, nat_tests, same_numbers, rise_is, is.each, is.only, is'.each, is'.only)
 
 -- ---- since when
 
@@ -52,15 +51,10 @@ one_since : (setup : Setup) (changes : List MapChange) (blamed other : List Blam
     AllByRecursion (λ one. IsSince setup changes (map_range_of one) one.since) other →
     map map_range_of blamed ≡ map map_range_of other → map (λ one. one.since) blamed ≡ map (λ one. one.since) other
 one_since setup changes [] [] each each' same = refl
-one_since setup changes [] (one ∷ later) each each' same = cc
-one_since setup changes (one ∷ later) [] each each' same = cc
 one_since setup changes (one ∷ later) (one' ∷ later') each each' same =
-    let range : map_range_of one ≡ map_range_of one' = cc in
-    let rest : map map_range_of later ≡ map map_range_of later' = cc in
-    let is = rw range at each.0 in
-    let is_same : one.since ≡ one'.since =
-    omega (arith, is.least one'.since each'.0.stands, each'.0.least one.since is.stands) in
-    rw (is_same, one_since setup changes later later' each.1 each'.1 rest) refl
+    let rest = one_since setup changes later later' each.1 each'.1 in
+    grind (arith, nat_tests, each.0, each'.0, rest)
+one_since setup changes _ _ each each' same = grind arith
 
 pub one_report : OneFlatMap → OneReport
 one_report one_map setup changes blamed blamed' kept kept' is is' =

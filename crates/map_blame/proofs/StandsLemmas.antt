@@ -1,6 +1,6 @@
 -- Whether a range stands in a map, by the range of the map that holds its first address.
-use Rattle.std.proofs.Common.{◌≡◌, ◌≢◌, ℕ, ◌+◌, ◌<◌, ◌≤◌, inl, inr, List, length, map, sym, ◌∙◌, arith}
-use Rattle.board_prelude.proofs.Common.{cases_lt, get_or-map, length-map, Setup, Bytes, six_areas, IsRight, IsFlatMapOf}
+use Rattle.std.proofs.Common.{◌≡◌, ◌≢◌, ℕ, ◌+◌, ◌<◌, ◌≤◌, List, map, sym, ◌∙◌, arith}
+use Rattle.board_prelude.proofs.Common.{get_or-map, length-map, Setup, Bytes, six_areas, IsRight, IsFlatMapOf}
 use Rattle.map_builder.specs.Common.{Range, range_of, no_range, range_at, Holds}
 use Rattle.map_builder.proofs.Common.{Placed, placed, row_at, differ_at}
 use Rattle.map_blame.specs.Watch.{IsInterval}
@@ -28,14 +28,10 @@ module _ (setup : Setup) (bytes : Bytes) (ranges : List Range) (is_map : IsFlatM
       other_row other right = other (first_same right)
 
       pub ends_below : (range_at ranges k).hi < range.hi → IsRight setup bytes (range_of range) → ⊥
-      ends_below ends right = elim (cases_lt (k + 1) (length ranges)) [
-        | inr last ↦ absurd (omega (arith, is_placed.last k (omega (arith, last, holds.within)), ends, is.last))
-        | inl more ↦
-            let next : ℕ = (range_at ranges k).hi + 1 in
-            let joined : (range_at ranges (k + 1)).lo ≡ next = is_placed.next k more in
-            let there : Holds ranges (k + 1) next = omega (arith, is_placed.whole (k + 1) more) in
-            let inside : range.lo ≤ next = omega (arith, holds.below) in
-            differ_at ranges k is_map.least more
-            (sym (areas_held (k + 1) next there) ∙ right.at_each next inside (omega (arith, ends))
-            ∙ sym (first_same right))
-      ]
+      ends_below ends right =
+          let next : ℕ = (range_at ranges k).hi + 1 in
+          let held = areas_held (k + 1) next in
+          let differ = differ_at ranges k is_map.least in
+          let first = first_same right in
+          let at = right.at_each next in
+          grind (arith, is_placed.last k, is_placed.next k, is_placed.whole (k + 1), differ, held, first, at)

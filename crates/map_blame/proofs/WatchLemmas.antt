@@ -136,8 +136,7 @@ since_is setup changes watched is right = grind (arith, nat_tests)
 top_after_changes : (setup : Setup) (changes : List MapChange) → top_of (registers_after setup changes) ≤ 0x7F80_0000
 unfolding registers_after reset_byte host_bridge
 top_after_changes setup [] = omega arith
-top_after_changes setup (change ∷ before) =
-    top_after setup (registers_after setup before) change (top_after_changes setup before)
+top_after_changes setup (change ∷ before) = grind (arith, nat_tests, top_after, top_after_changes setup before)
 
 pub holds_change : (setup : Setup) (before : List MapChange) (change : MapChange) (bounds : Changed) →
     IsCardList setup.cards → bounds ≡ bounds_or_zero (changed_windows setup (registers_after setup before) change) →
@@ -161,8 +160,7 @@ all_set P old now index new d₀ long within done rest here k d below =
 pub are_intervals : (from : ℕ) (ranges : List Range) → Tiles from (map range_of ranges) → All IsInterval ranges
 are_intervals from [] tiles = All-nil IsInterval
 are_intervals from (range ∷ later) tiles =
-    All-cons IsInterval range later (record { order = tiles.1; last = omega (arith, tiles_below _ _ tiles.2) })
-    (are_intervals (range.hi + 1) later tiles.2)
+    grind (arith, nat_tests, All-cons, tiles_below, are_intervals (range.hi + 1) later)
 
 -- what is read past the end of a list of ranges that are watched
 abbrev pub no_watched : Watched
@@ -174,9 +172,7 @@ watched_range watched = watched.blamed.range
 pub are_watchable : (watched : List Watched) (ranges : List Range) → map watched_range watched ≡ ranges →
     All IsInterval ranges → All IsWatchable watched
 are_watchable watched ranges same are k d within =
-    let all = rw (← same) at are in
-    rw (get_or-map watched_range watched k d no_range within)
-    at (all k no_range (omega (arith, within, length-map watched watched_range)))
+    let range = are k no_range in grind (arith, nat_tests, get_or-map, length-map, range)
 
 -- ---- the ranges at the end
 
