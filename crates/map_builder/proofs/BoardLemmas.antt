@@ -2,9 +2,9 @@
 -- its own.
 use Rattle.board_prelude.proofs.Common.{common_steps, option_map_or, get_or-map, length-map, nat_tests, Setup, Rises}
 use Rattle.board_prelude.proofs.Common.{IsCard, IsCardList, byte, is_within, card_register, bridge, Bytes, Reg}
-use Rattle.std.proofs.Common.{eq-eqb, ne_eqb, ◌≡◌, ℕ, zero, suc, ◌+◌, ◌-◌, ◌*◌, ◌/◌, ◌%◌, ◌^◌, ◌<◌, ◌≤◌, List, [], ◌∷◌}
-use Rattle.std.proofs.Common.{length, get_or, Option, Some, None, refl, ◌∙◌, arith, ◌==◌, nat_lt, if◌then◌else◌, false}
-use Rattle.std.proofs.Common.{◌&&◌, All, find, is_some, slice_index}
+use Rattle.std.proofs.Common.{ne_eqb, ◌≡◌, ℕ, zero, suc, ◌+◌, ◌-◌, ◌*◌, ◌/◌, ◌%◌, ◌^◌, ◌<◌, ◌≤◌, List, [], ◌∷◌, length}
+use Rattle.std.proofs.Common.{get_or, Option, Some, None, refl, ◌∙◌, arith, ◌==◌, nat_lt, if◌then◌else◌, false, ◌&&◌}
+use Rattle.std.proofs.Common.{All, find, is_some, slice_index}
 use Rattle.pci_bars.specs.Cards.{CardBytes, HoldsLong, HoldsRom, DecodesAs, AreFitted, cards_of}
 use Rattle.std.proofs.lemmas.List.Elements.{All-map}
 use Rattle.pci_bars.proofs.CardListLemmas.{find-cards}
@@ -58,11 +58,10 @@ pub found : (cards : List CardBytes) → Rises (cards_of cards) → (k : ℕ) (d
     card_with (get_or cards k d).card.dev cards ≡ Some (get_or cards k d)
 unfolding card_with
 found [] rises k d within = absurd (omega arith)
-found (card ∷ later) rises zero d within = rw (eq-eqb card.card.dev card.card.dev refl) refl
+found (card ∷ later) rises zero d within = grind (arith, nat_tests)
 found (card ∷ later) rises (suc k) d within =
-    let above = rw (get_or-map (λ (it : CardBytes). it.card) later k d d.card (omega arith))
-    at (rises.0 k d.card (omega (arith, length-map later (λ (it : CardBytes). it.card)))) in
-    rw (ne_eqb card.card.dev (get_or later k d).card.dev (omega arith)) (found later rises.1 k d (omega arith))
+    let above = rises.0 k d.card in
+    grind (arith, nat_tests, get_or-map, length-map, above, found later rises.1 k d)
 
 rom_byte : (other : ℕ) (card : CardBytes) (bits j : ℕ) → card.card.rom ≡ Some bits → j < 4 →
     card_byte other (0x30 + j) card ≡ byte card.rom j

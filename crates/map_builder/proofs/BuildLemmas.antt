@@ -78,8 +78,7 @@ one_address regs addr end next setup bytes stands x low high = let one : x ≡ a
 
 pub same_at_each : (regs : MapBytes) (lo hi : ℕ) (areas : List Area) → lo ≤ hi →
     ((x : ℕ) → lo ≤ x → x ≤ hi → AreasAt regs x areas) → StaySame regs lo (hi + 1)
-same_at_each regs lo hi areas order each setup bytes stands x low high =
-    sym (each x low (omega arith) setup bytes stands) ∙ each lo (omega arith) order setup bytes stands
+same_at_each regs lo hi areas order each = grind (arith, nat_tests, each)
 
 pub is_built_first : {regs : MapBytes} (areas : List Area) → AreasAt regs 0 areas →
     IsBuilt regs [] (range 0 0xFFFF_FFFF areas) 0

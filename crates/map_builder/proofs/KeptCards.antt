@@ -26,15 +26,7 @@ Kept setup bytes new addr reg =
 pub each_or : (P : ℕ → Type 0) (Q : Type 0) (count : ℕ) → ((k : ℕ) → k < count → P k ⊎ Q) →
     ((k : ℕ) → k < count → P k) ⊎ Q
 each_or P Q zero each = inl (λ k below. absurd (omega arith))
-each_or P Q (suc n) each =
-    elim (each_or P Q n (λ k below. each k (omega arith))) [
-      | inr other ↦ inr other
-      | inl before ↦
-          elim (each n (omega arith)) [
-            | inr other ↦ inr other
-            | inl here ↦ inl (λ k below. below_more P n before here k (omega arith))
-          ]
-    ]
+each_or P Q (suc n) each = grind (arith, nat_tests, each_or P Q n, each n, below_more P n)
 
 -- the expansion ROM where it is selected
 abbrev rom_part : Bytes → FittedCard → List Window

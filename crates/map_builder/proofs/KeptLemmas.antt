@@ -182,6 +182,4 @@ pub held_alone : (bytes : Bytes) (change : MapChange) (cards : List FittedCard) 
     (found : Option ℕ) → length names ≡ 1 → names ≡ names_of cards change →
     ((reg : Reg) → get_or names 0 None ≡ map_register cards reg → IfSome found (λ held. held ≡ bytes reg)) →
     IfSome found (IsHeldAt change bytes)
-held_alone bytes (Store at One value) cards names found one named is =
-    let place : at.off + 0 ≡ at.off = omega arith in is at (rw (named, place) refl)
-held_alone bytes _ cards names found one named is = grind (arith, nat_tests)
+held_alone bytes change cards names found one named is = grind (arith, nat_tests)

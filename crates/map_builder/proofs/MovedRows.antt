@@ -43,13 +43,10 @@ named_row cards reg _ named is = absurd (false≢true is)
 beside : (setup : Setup) (at : Reg) (width : Width) (value : ℕ) (reg : Reg) →
     CoversRows setup.cards (Store at width value) → is_boundary reg ≡ false → covers at width reg ≡ false
 beside setup at width value reg rows other =
-    elim (cases_Bool (covers at width reg)) [
-      | inr not ↦ not
-      | inl over ↦
-          let is = covered_at at width reg over in
-          let row = rw is.2 at (each_row setup at width value is.0 rows is.1) in
-          absurd (false≢true (sym other ∙ named_row setup.cards reg _ refl row))
-    ]
+    let is = covered_at at width reg in
+    let row = λ (k : ℕ). each_row setup at width value k rows in
+    let boundary = named_row setup.cards reg _ refl in
+    grind (arith, nat_tests, cases_Bool (covers at width reg), is, row, boundary)
 
 -- two tests of rows, of which the one fails where the other does, find the same row first
 same_first : (old new : List ℕ) (addr first count : ℕ) → ((row : ℕ) → row < first → is_below old addr row ≡ false) →

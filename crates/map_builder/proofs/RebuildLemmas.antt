@@ -261,8 +261,7 @@ rows_at edges_above windows k within = ap (rows_in edges_above) (drop_more windo
 -- the last range has the areas at which it went on
 pub areas_on : {ranges ranges' : List MapRange} {last last' : MapRange} (addr : ℕ) {areas : List Area} →
     ContinuesAt ranges ranges' last last' addr areas → last'.areas ≡ areas
-areas_on addr (inl (here, is, last_is)) = rw last_is (sym here)
-areas_on addr (inr (other, is, last_is)) = rw last_is refl
+areas_on addr on = grind (arith, nat_tests)
 
 -- the ranges from an index on are those before the last, and the last
 taken_last : (ranges : List Range) (n end : ℕ) → n ≤ end → end + 1 ≡ length ranges →

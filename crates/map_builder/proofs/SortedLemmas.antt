@@ -1,6 +1,6 @@
 -- Windows in rising order hold the addresses of those that were sorted, and are no more than there are different ones.
-use Rattle.board_prelude.proofs.Common.{common_steps, AllByRecursion, list_any, cases_Bool, cases_lt, false≢true}
-use Rattle.board_prelude.proofs.Common.{nat_tests, Setup, Bytes, each_below}
+use Rattle.board_prelude.proofs.Common.{common_steps, AllByRecursion, list_any, cases_Bool, false≢true, nat_tests}
+use Rattle.board_prelude.proofs.Common.{Setup, Bytes, each_below}
 use Rattle.std.proofs.Common.{◌≡◌, ℕ, ◌+◌, ◌<◌, ◌≤◌, inl, inr, Bool, true, false, List, [], ◌∷◌, ◌++◌, length, refl}
 use Rattle.std.proofs.Common.{arith, nat_lt, min, max, filter, rules, Some}
 use Rattle.addr_decode.specs.Edges.{edges_of, edges_after}
@@ -130,10 +130,8 @@ Covers window windows = AllByRecursion (Misses window.lo window.hi) windows → 
 covers_above : (addr : ℕ) (window : Changed) (windows : List Changed) → AreAbove addr windows → Covers window windows →
     addr < window.lo
 covers_above addr window [] above covers = absurd (covers tt)
-covers_above addr window (other ∷ later) above covers = elim (cases_lt addr window.lo) [
-  | inl is ↦ is
-  | inr not ↦ covers_above addr window later above.1 (λ each. covers (inl (omega (arith, above.0)), each))
-]
+covers_above addr window (other ∷ later) above covers =
+    grind (arith, nat_tests, above.0, above.1, covers, covers_above addr window later)
 
 covers_sorted : (old : Changed) (windows : List Changed) → Covers old windows → Covers old (sorted windows)
 covers_sorted old windows covers each = covers (parts_sorted _ (λ other window. misses_both other window) _ each)
