@@ -1,9 +1,9 @@
 -- Stores of one byte to the registers of the host bridge.
-use Rattle.std.proofs.Common.{◌≡◌, ◌≢◌, ℕ, ◌+◌, ◌<◌, ◌⊎◌, List, [], length, set, None, refl, arith, inl, inr}
-use Rattle.std.proofs.Common.{get_or-set_other, get_or-set_same}
-use Rattle.board_prelude.proofs.Common.{cases_lt, ne_eqb, One, Store, Setup, merged, reset_byte, writable_bits}
-use Rattle.board_prelude.proofs.Common.{changed_byte, Bytes, bridge, fdhc, merged-all, merged-none}
-use Rattle.board_prelude.proofs.Common.{changed_byte-one_same, changed_byte-one_other}
+use Rattle.std.proofs.Common.{◌≡◌, ◌≢◌, ℕ, ◌+◌, ◌<◌, ◌⊎◌, List, [], length, set, None, refl, arith, get_or-set_other}
+use Rattle.std.proofs.Common.{get_or-set_same}
+use Rattle.board_prelude.proofs.Common.{ne_eqb, One, Store, Setup, merged, reset_byte, writable_bits, changed_byte}
+use Rattle.board_prelude.proofs.Common.{Bytes, bridge, fdhc, merged-all, merged-none, changed_byte-one_same}
+use Rattle.board_prelude.proofs.Common.{changed_byte-one_other}
 use Rattle.pmc_regs.specs.Pmc.{PmcBytes, IsFixedOffset, IsRowsOf, IsPmcOf}
 use Rattle.pmc_regs.proofs.TableLemmas.{header_byte, row_bytes, rows_are, writable_bits-row, reset_byte-header}
 use Rattle.pmc_regs.proofs.TableLemmas.{reset_byte-blank, writable_bits-fixed}
@@ -39,11 +39,7 @@ module _ (setup : Setup) (bytes : Bytes) (off written : ℕ) where
 -- ---- the fixed registers stay
 
 pub reset_byte-small : (setup : Setup) (off : ℕ) → IsFixedOffset off → reset_byte setup (bridge off) < 256
-reset_byte-small setup off fixed =
-    elim (cases_lt off 12) [
-      | inl below ↦ rw (← reset_byte-header setup off below) (header_byte off below)
-      | inr from ↦ omega (arith, reset_byte-blank setup off fixed from)
-    ]
+reset_byte-small setup off fixed = grind (arith, nat_tests, reset_byte-header, header_byte, reset_byte-blank)
 
 abbrev IsFixedIn : Bytes → Type 0
 IsFixedIn bytes = (setup : Setup) (off : ℕ) → IsFixedOffset off → bytes (bridge off) ≡ reset_byte setup (bridge off)

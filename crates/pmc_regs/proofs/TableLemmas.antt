@@ -1,8 +1,8 @@
 -- The registers of the host bridge in the table of registers.
-use Rattle.std.proofs.Common.{◌≡◌, ℕ, ◌+◌, ◌<◌, ◌≤◌, List, [], ◌∷◌, length, refl, arith, inl, inr, map, slice_index}
-use Rattle.std.proofs.Common.{Bool, true, nat_lt, nat_le, ◌&&◌, ◌||◌, rules}
-use Rattle.board_prelude.proofs.Common.{cases_lt, Setup, host_bridge, listed, reset_byte, writable_bits, Bytes, bridge}
-use Rattle.board_prelude.proofs.Common.{drb, listed-past, listed-before, each_below, nat_tests}
+use Rattle.std.proofs.Common.{◌≡◌, ℕ, ◌+◌, ◌<◌, ◌≤◌, List, [], ◌∷◌, length, refl, arith, map, slice_index, Bool, true}
+use Rattle.std.proofs.Common.{nat_lt, nat_le, ◌&&◌, ◌||◌, rules}
+use Rattle.board_prelude.proofs.Common.{Setup, host_bridge, listed, reset_byte, writable_bits, Bytes, bridge, drb}
+use Rattle.board_prelude.proofs.Common.{listed-past, listed-before, each_below, nat_tests}
 use Rattle.board_spec.specs.RegisterTable.{Line}
 use Rattle.pmc_regs.specs.Pmc.{IsFixedOffset, IsRowsOf}
 
@@ -61,8 +61,4 @@ pub ruleset fixed_registers = (nat_tests, reset_byte-header, reset_byte-blank)
 
 pub writable_bits-fixed : (setup : Setup) (off : ℕ) → IsFixedOffset off → writable_bits setup (bridge off) ≡ 0
 unfolding writable_bits host_bridge
-writable_bits-fixed setup off fixed =
-    elim (cases_lt off 12) [
-      | inl below ↦ each_below (λ off. writable_bits setup (bridge off) ≡ 0) 12 off (search rules) below
-      | inr from ↦ unlisted (λ entry. entry.writable) host_bridge off (outside off fixed from)
-    ]
+writable_bits-fixed setup off fixed = grind (arith, nat_tests, each_below, unlisted, outside)
