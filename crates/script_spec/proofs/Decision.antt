@@ -137,21 +137,11 @@ front_so : (version number place : ℕ) (good rest : List (List ℕ)) (before it
 unfolding judged_lines judged_line
 front_so version number place [] rest before items read is = grind (arith, nat_tests, line_back)
 front_so version number place (line ∷ good) rest before items (inl skipped) is =
-    grind (
-      arith,
-      nat_tests,
-      line_back,
-      front_so version (number + 1) place good rest before items skipped.1
-          (omega (arith, is)),
-    )
+    let later = front_so version (number + 1) place good rest before items skipped.1 (omega (arith, is)) in
+    grind (arith, nat_tests, line_back)
 front_so version number place (line ∷ good) rest before items (inr one) is =
-    grind (
-      arith,
-      nat_tests,
-      line_back,
-      front_so version (number + 1) place good rest (one.0 ∷ before) items one.2
-          (omega (arith, is)),
-    )
+    let later = front_so version (number + 1) place good rest (one.0 ∷ before) items one.2 (omega (arith, is)) in
+    grind (arith, nat_tests, line_back)
 
 end_so : (version number : ℕ) (items : List Item) (rest : List (List ℕ)) (why : ℕ) →
     EndsBadly version items rest why → judged_lines version items number rest ≡ Err (number, why)
