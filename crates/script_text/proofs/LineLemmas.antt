@@ -32,10 +32,7 @@ lines_at (x ∷ xs) (suc end) inside feed none =
 
 pub cut_at : (bytes : List ℕ) (end : ℕ) → IsFirstByte is_feed bytes (Some end)
     → lines_of bytes ≡ take end bytes ∷ lines_of (take (length bytes - (end + 1)) (drop (end + 1) bytes))
-cut_at bytes end first =
-    let feed : get_or bytes end 0 ≡ 10 = grind (arith, nat_tests, common_steps, first.1) in
-    rw take_rest (lines_at bytes end first.0.high feed (λ k below is.
-    first.0.before k (omega arith) below (grind (arith, nat_tests, common_steps))))
+cut_at bytes end first = grind (arith, nat_tests, common_steps, take_rest, lines_at)
 
 -- with none it is the whole text
 alone : (x : ℕ) (line : List ℕ) → ((k : ℕ) → k < length (x ∷ line) → get_or (x ∷ line) k 0 ≢ 10) →

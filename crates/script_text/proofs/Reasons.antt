@@ -7,8 +7,8 @@ use Rattle.std.proofs.Common.{is_some, if◌then◌else◌, IsErr, IsErrAnd}
 use Rattle.std.proofs.lemmas.List.Sorted.{list_any-IsPermutation}
 use Rattle.script_spec.specs.Common.{Item, SetCpus, SetMemory, SetRom, SetDisk, FitCard, BeginPhase, is_phase}
 use Rattle.script_spec.specs.Common.{is_statement, is_setup, is_cpus, is_memory, is_rom, is_disk, cards_of, has_card}
-use Rattle.script_spec.specs.Common.{has_setup, lacks_setup, is_misplaced, is_repeated, is_event_in_range, is_in_range}
-use Rattle.script_spec.specs.Common.{is_placed, is_there, pulses_of_event, pulses_of, passes_limits, least_reason, ask}
+use Rattle.script_spec.specs.Common.{has_setup, lacks_setup, is_misplaced, is_repeated, is_in_range, is_placed}
+use Rattle.script_spec.specs.Common.{is_there, pulses_of_event, pulses_of, passes_limits, least_reason, ask}
 use Rattle.script_spec.specs.Common.{is_event_placed, is_card_there}
 use Rattle.script_spec.proofs.RangeLaws.{any_found}
 use Rattle.script_spec.proofs.LeastReasons.{first_is, first_of}
@@ -49,10 +49,6 @@ module _ (items : List Item) (item : Item) where
 pub setup_place : (items : List Item) (item : Item) (any : Bool) → is_setup item ≡ true →
     list_any is_phase items ≡ any → is_misplaced items item ≡ any
 setup_place items item any setup e = grind (arith, nat_tests)
-
-pub begun_setup : (items : List Item) (item : Item) → is_setup item ≡ true
-    → (is_phase item && lacks_setup items) ≡ false
-begun_setup items item setup = grind (arith, nat_tests)
 
 pub phase_placed : (items : List Item) → is_misplaced items BeginPhase ≡ false
 phase_placed items = grind (arith, nat_tests)
@@ -109,9 +105,6 @@ pub asked_begun : (items : List Item) (actor : ℕ) (asked : Asked) →
     (is_phase (asked_said actor asked) && lacks_setup items) ≡ false
 asked_begun items actor asked = grind (arith, nat_tests)
 
-few : (event : Event) → is_event_in_range event ≡ true → pulses_of_event event ≤ 1_000_000
-few event e = grind (arith, nat_tests)
-
 -- ---- numbers in range
 
 pub none_in_case : {X : Type 0} (holds : Bool) (x : X) → None ≡ in_case holds x → holds ≡ false
@@ -159,7 +152,7 @@ limits_with items reading item is = grind (arith, nat_tests, common_steps, sum_b
 module _ (actor : ℕ) (asked : Asked) (event : Event)
     (valid : Some (ask actor event) ≡ in_case (is_in_range (asked_said actor asked)) (asked_said actor asked)) where
   pub few_pulses : pulses_of_event event ≤ 1_000_000
-  few_pulses = let read = some_in_case _ _ _ valid in few event (ap is_in_range read.1 ∙ read.0)
+  few_pulses = grind (arith, nat_tests, common_steps, some_in_case)
 
   -- the least reason, of those that are left after a `phase`
   pub asked_reason : (items : List Item) (reading : Reading) → IsReadingOf items reading →
@@ -194,7 +187,7 @@ pub name_judged : (items : List Item) (reading : Reading) (item : Item) (result 
     is_there items item ≡ true → memory_with item reading.memory ≡ reading.memory → pulses_of item ≡ 0 →
     Stands items item result → Judges (λ done. item) items item result
 name_judged items reading item result is setup range placed there memory pulses stands =
-    grind (arith, nat_tests, common_steps, no_reason, begun_setup, setup_within)
+    grind (arith, nat_tests, common_steps, no_reason, setup_within)
 
 -- ---- what functions of `reason` cite
 
