@@ -23,10 +23,6 @@ IsMemory target = (target ≡ dram_target) ⊎ (target ≡ shadow_target)
 pub no_memory : (target : ℕ) → 3 ≤ target → IsMemory target → ⊥
 no_memory target past is = grind arith
 
-outside_target : (target : Target) (addr : ℕ) → IsOutsideSmram target addr → IsMemory (target_said target).target →
-    is_smram_range addr ≡ false
-outside_target target addr outside is = grind (arith, nat_tests, outside addr)
-
 pub outside_said : (target : Target) (denial : Option Denial) (addr : ℕ) → IsOutsideSmram target addr →
     IsMemory (part_said target denial).target → is_smram_range addr ≡ false
-outside_said target denial addr outside is = outside_target target addr outside (rw (said_target target denial) at is)
+outside_said target denial addr outside is = grind (arith, nat_tests, said_target)

@@ -1,7 +1,6 @@
 -- What an open looks at before it copies: the cards that records say are as many as the records.
 use Rattle.board_prelude.proofs.Common.{common_steps, nat_tests, drop_more, FittedCard}
-use Rattle.std.proofs.Common.{◌≡◌, ℕ, ◌+◌, ◌<◌, ◌&&◌, true, arith, List, [], ◌∷◌, length, get_or, drop, is_some, Option}
-use Rattle.std.proofs.Common.{Some, option_map, option_and_then}
+use Rattle.std.proofs.Common.{◌≡◌, ℕ, ◌+◌, ◌<◌, ◌&&◌, true, arith, List, [], ◌∷◌, length, get_or, drop, is_some, Some}
 use Rattle.board_chipset.specs.Setups.{IsMemory}
 use Rattle.board_records.specs.Doors.{IsSetupRefusal, setup_said}
 use Rattle.board_records.specs.Statuses.{bad_cards}
@@ -13,15 +12,11 @@ pub said_count : (records : List CardRecord) (cards : List FittedCard) → cards
 said_count [] cards is = grind (arith, nat_tests, common_steps)
 said_count (first ∷ later) cards is = grind (arith, nat_tests, common_steps, said_count later)
 
-both_said : {B : Type 0} (one : Option B) (others : Option (List B)) →
-    is_some (option_and_then (λ it. option_map (λ later. it ∷ later) others) one) ≡ (is_some one && is_some others)
-both_said one others = grind arith
-
 -- all say something where the first does, and all behind it do
 pub said_next : (records : List CardRecord) (index : ℕ) (last : CardRecord) → index < length records →
     is_some (all_said card_said (drop index records))
     ≡ (is_some (card_said (get_or records index last)) && is_some (all_said card_said (drop (index + 1) records)))
-said_next records index last within = grind (arith, nat_tests, common_steps, drop_more, both_said)
+said_next records index last within = grind (arith, nat_tests, common_steps, drop_more)
 
 -- ---- more than eight
 

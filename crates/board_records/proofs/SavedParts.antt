@@ -22,16 +22,13 @@ use Rattle.state_room.specs.Room.{IsPutAt}
 use Rattle.state_room.proofs.Puts.{put_then}
 use Rattle.board_records.specs.Doors.{Behind}
 use Rattle.board_records.specs.Images.{IsWritten, after_bytes, before_bytes, image_bytes, with_dram}
+use Rattle.std.proofs.lemmas.Bool.Decides.{nat_tests}
 
 -- the DRAM's bytes stand between the others
 pub image_with : (behind : Behind) (bytes : List ℕ) (at : ℕ) → at ≡ length (before_bytes behind) →
     bytes ≡ before_bytes behind ++ after_bytes behind →
     with_dram bytes at behind.serial.board.state.stores.dram ≡ image_bytes behind
-image_with behind bytes at is whole =
-    let front = before_bytes behind in
-    let rest = after_bytes behind in
-    rw (whole, take_at front rest at (sym is), drop_at front rest at (sym is), between behind.serial.board)
-    (simp append_assoc)
+image_with behind bytes at is whole = grind (arith, nat_tests, take_at, drop_at, between, append_assoc)
 
 -- the bytes in three
 pub image_split : (behind : Behind) →
