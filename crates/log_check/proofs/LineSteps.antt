@@ -40,13 +40,11 @@ module _ (place : WalkPlace) (phase : List Statement) (left : ℕ → List Event
 
   -- with all statements of the phase it is complete
   pub within_whole : place.count ≡ length phase → IsCompleteFor (place.done ++ phase ∷ []) history
-  within_whole full =
-      whole_is_complete (place.done ++ phase ∷ []) history (within_begun [] (omega (arith, full)))
-      (omega (arith, within_size, length_cut place.done phase [], full))
+  within_whole full = grind (arith, nat_tests, within_begun, within_size, length_cut, whole_is_complete)
 
   -- with fewer it is not
   within_unfinished : place.count < length phase → ¬ IsCompleteFor (phases_of place phase) history
-  within_unfinished short complete = grind (arith, nat_tests, common_steps, within_size, length_cut, complete_is_whole)
+  within_unfinished short complete = grind (arith, nat_tests, within_size, length_cut, complete_is_whole)
 
   said : (entry : Entry) →
       statements_of (entry ∷ history) ≡ within.before ++ (within.part ++ statement_of entry ∷ [])

@@ -26,8 +26,7 @@ lines_in version history = heading version ∷ log_lines history
 
 pub lines_are : (version : ℕ) (history : List Entry) →
     text_of_lines (lines_in version history) ≡ log_text version history
-lines_are version history =
-    rw (← (lines_joined history)) (append_assoc (heading version) (line_feed ∷ []) (lines_text history))
+lines_are version history = grind (arith, nat_tests, lines_joined, append_assoc)
 
 pub lines_each : (version : ℕ) (history : List Entry) → All IsOneLine (lines_in version history)
 lines_each version history =

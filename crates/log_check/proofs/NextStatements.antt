@@ -1,11 +1,10 @@
 -- The phases that are done, and what follows them: a processor has one statement that may come next.
 use Rattle.std.proofs.Common.{◌≡◌, ◌<◌, ◌≤◌, List, [], ◌∷◌, ◌++◌, length, drop, inl, inr, length-append, arith, ℕ, All}
-use Rattle.std.proofs.Common.{refl, subst, ap, append_assoc, get_or, add-one}
+use Rattle.std.proofs.Common.{subst, ap, append_assoc, get_or, add-one}
 use Rattle.board_prelude.proofs.Common.{take-append-le, drop-append-le, length-take, length-drop, take_all, Statement}
-use Rattle.board_prelude.proofs.Common.{IsFrontOfPhase, HasPhases, HasPhasesSoFar, whole_is_front, BeginsWith}
-use Rattle.board_prelude.proofs.Common.{common_steps, nat_tests, take-append_seam, drop-append_seam, cases_lt, eq-eqb}
-use Rattle.board_prelude.proofs.Common.{drop-cons, append_cancel_left, All-head, All-tail, All-drop, events_by}
-use Rattle.board_prelude.proofs.Common.{in_file_order}
+use Rattle.board_prelude.proofs.Common.{HasPhases, HasPhasesSoFar, whole_is_front, BeginsWith, common_steps, nat_tests}
+use Rattle.board_prelude.proofs.Common.{take-append_seam, drop-append_seam, cases_lt, drop-cons, append_cancel_left}
+use Rattle.board_prelude.proofs.Common.{All-head, All-tail, All-drop, events_by, in_file_order}
 use Rattle.std.proofs.lemmas.List.Elements.{All-take}
 use Rattle.board_spec.proofs.OrderLawProofs.{events-append}
 use Rattle.std.proofs.lemmas.Option.{slice_get-get_or}
@@ -66,9 +65,8 @@ GoesFirst phase part last =
 pub goes_first : (phase : List Statement) (later : List (List Statement)) (part : List Statement) (last : Statement) →
     length part < length phase → HasPhasesSoFar (phase ∷ later) (part ++ last ∷ []) → GoesFirst phase part last
 goes_first phase later part last short begun =
-    let front : IsFrontOfPhase phase (part ++ last ∷ []) =
-    grind (arith, nat_tests, whole_is_front, take_all, length-append) in
-    rw (events-append last.actor part (last ∷ []), eq-eqb last.actor last.actor refl) at (front.each last.actor)
+    let more = events-append last.actor part (last ∷ []) in
+    grind (arith, nat_tests, whole_is_front, take_all, length-append, more)
 
 same_first : (phase part : List Statement) (left right : Statement) → GoesFirst phase part left →
     GoesFirst phase part right → left.actor ≡ right.actor → left.event ≡ right.event
