@@ -2,7 +2,7 @@
 use Rattle.std.proofs.Common.{◌≡◌, ℕ, ◌+◌, ◌-◌, ◌<◌, ◌≤◌, inl, inr, Bool, true, false, ◌||◌, List, [], ◌∷◌, length}
 use Rattle.std.proofs.Common.{refl, sym, ap, ◌∙◌, arith, Some, bit_and, bit_or, is_some}
 use Rattle.board_prelude.proofs.Common.{and_zero_r, cases_Bool, cases_lt, nat_tests, Width, Reg, MapChange, Store}
-use Rattle.board_prelude.proofs.Common.{Reset, Setup, bit, is_bit, byte, merged, smram, is_same, writable_bits, covers}
+use Rattle.board_prelude.proofs.Common.{Reset, Setup, is_bit, byte, merged, smram, is_same, writable_bits, covers}
 use Rattle.board_prelude.proofs.Common.{smram_after, changed_byte, is_map_byte, registers_after, reset_byte}
 use Rattle.board_prelude.proofs.Common.{host_bridge}
 use Rattle.std.specs.Int.Bits.{and_self}
@@ -34,13 +34,9 @@ left_merged mask old written =
 
 -- ---- the lock
 
-bit_of_test : (a b k : ℕ) → is_bit a k ≡ is_bit b k → bit a k ≡ bit b k
-bit_of_test a b k same = let x : bit a k < 2 = omega arith in let y : bit b k < 2 = omega arith in
-    grind (arith, nat_tests)
-
 write_same : (old other written : ℕ) → is_bit old 4 ≡ is_bit other 4 →
     smram_after old written ≡ smram_after other written
-write_same old other written same = rw (bit_of_test old other 4 same) refl
+write_same old other written same = grind (arith, nat_tests)
 
 -- ---- the numbers of the changes since the last reset
 

@@ -50,11 +50,10 @@ one_since : (setup : Setup) (changes : List MapChange) (blamed other : List Blam
     AllByRecursion (λ one. IsSince setup changes (map_range_of one) one.since) blamed →
     AllByRecursion (λ one. IsSince setup changes (map_range_of one) one.since) other →
     map map_range_of blamed ≡ map map_range_of other → map (λ one. one.since) blamed ≡ map (λ one. one.since) other
-one_since setup changes [] [] each each' same = refl
+one_since setup changes [] [] each each' same = grind (arith, nat_tests)
 one_since setup changes (one ∷ later) (one' ∷ later') each each' same =
-    let rest = one_since setup changes later later' each.1 each'.1 in
-    grind (arith, nat_tests, each.0, each'.0, rest)
-one_since setup changes _ _ each each' same = grind arith
+    grind (arith, nat_tests, one_since setup changes later later' each.1 each'.1)
+one_since setup changes _ _ each each' same = grind (arith, nat_tests)
 
 pub one_report : OneFlatMap → OneReport
 one_report one_map setup changes blamed blamed' kept kept' is is' =

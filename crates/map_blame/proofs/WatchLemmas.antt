@@ -69,10 +69,7 @@ watched_same : (setup : Setup) (change : MapChange) (before : List MapChange) (s
     (stands ≡ false → RightNow setup (range_of self.blamed.range) (change ∷ before) → ⊥) →
     IsWatched setup before self → IsWatched setup (change ∷ before) (record { blamed = self.blamed; stands = stands })
 watched_same setup change before self stands stood right other watched =
-    let range : MapRange = range_of self.blamed.range in
-    let on = stands_on setup range change before self.blamed.since in
-    let before_same = earlier_changes change before (self.blamed.since - 1) in
-    grind (arith, nat_tests, on, all_changes (change ∷ before), before_same)
+    grind (arith, nat_tests, stands_on, earlier_changes, all_changes)
 
 -- by the map after it
 module _ (map : Mapped) (bounds : Changed) (number : ℕ) (self : Watched) (is : IsInterval self.blamed.range) where
