@@ -1,24 +1,21 @@
 -- Callers of a board that was just opened.
-use Rattle.std.proofs.Common.{◌≡◌, ℕ, zero, suc, ◌+◌, ◌<◌, Option, Some, List, [], ◌∷◌, ◌++◌, length, get_or, map, refl}
-use Rattle.std.proofs.Common.{sym, ap, ◌∙◌, arith, add-zero, Any, reverse}
+use Rattle.std.proofs.Common.{◌≡◌, ℕ, zero, suc, ◌+◌, ◌<◌, Some, List, [], ◌∷◌, ◌++◌, length, get_or, map, refl, ap}
+use Rattle.std.proofs.Common.{◌∙◌, arith, add-zero, Any, reverse}
 use Rattle.board_prelude.proofs.Common.{range_with_len, map-append, reverse-reverse, get_or_default}
 use Rattle.bus_turn.specs.Passes.{opened_of as opened_by, part_of}
 use Rattle.map_publish.specs.declared.viewer.Viewer.{Viewer}
 use Rattle.map_publish.specs.Lists.{changes_of}
-use Rattle.map_publish.specs.declared.front.Front.{Front}
 use Rattle.board_live.specs.declared.cpu.Cpu.{Cpu}
 use Rattle.board_live.specs.declared.live.Live.{Live}
-use Rattle.shared_board.specs.declared.shared.Origin.{Origin}
-use Rattle.board_live.specs.Common.{oldest, origin, origin_in, SharedPass, IsViewerFor, setup_in, callers_in, opened_in}
-use Rattle.board_live.specs.Common.{opened_with, IsCallerOf, IsSameCaller, AreAllOf, IsNewOf}
+use Rattle.board_live.specs.Common.{SharedPass, IsViewerFor, opened_with, IsCallerOf, IsSameCaller, AreAllOf, IsNewOf}
 use Rattle.shared_board.specs.declared.shared.Shared.{Shared}
 use Rattle.shared_board.proofs.Histories.{oldest_whole}
+use Rattle.std.proofs.lemmas.Bool.Decides.{nat_tests}
 
 -- a pass that was opened with the same has the same viewers and the same callers
 pub viewer_for : (one other : SharedPass) (viewer : Viewer) → opened_by other ≡ opened_by one →
     part_of other ≡ part_of one → IsViewerFor one viewer → IsViewerFor other viewer
-viewer_for one other viewer opened part has =
-    record { part = rw (part, opened) has.part; opens = rw (part, opened) has.opens; none = has.none }
+viewer_for one other viewer opened part has = grind (arith, nat_tests)
 
 pub new_of : (one other : SharedPass) (cpu : Cpu) → opened_by other ≡ opened_by one → part_of other ≡ part_of one →
     IsNewOf other cpu → IsNewOf one cpu
@@ -41,16 +38,7 @@ pub opened_viewer : (pass : SharedPass) (shared : Shared) (viewer : Viewer) → 
     opened_by pass ≡ reverse shared.board.value.entries → shared.opened ≡ length shared.board.value.entries →
     viewer.front ≡ shared.publisher.value.front → changes_of shared.publisher.value.front.seen.log ≡ [] →
     IsViewerFor pass viewer
-opened_viewer pass shared viewer part opened count front none =
-    let setup : shared.board.value.setup ≡ setup_in pass = sym (ap (λ (o : Option Origin). (origin_in o).setup) part) in
-    let callers : shared.callers ≡ callers_in pass = sym (ap (λ (o : Option Origin). (origin_in o).callers) part) in
-    let whole : oldest shared.opened shared.board.value.entries ≡ opened_in pass =
-    rw (count, opened, oldest_whole shared.board.value.entries, reverse-reverse shared.board.value.entries) refl in
-    record {
-      part = part ∙ λ k. Some (origin (setup k) (callers k) (whole k) (sym front k).seen.book);
-      opens = rw (front, ← setup, ← whole) shared.opens;
-      none = ap (λ (f : Front). changes_of f.seen.log) front ∙ none;
-    }
+opened_viewer pass shared viewer part opened count front none = grind (arith, nat_tests, oldest_whole, reverse-reverse)
 
 pub any_numbered : (a : ℕ) (cpus : List Cpu) → map (λ (c : Cpu). c.number) cpus ≡ range_with_len a (length cpus) →
     (number : ℕ) → number < length cpus → Any (λ cpu. cpu.number ≡ a + number) cpus

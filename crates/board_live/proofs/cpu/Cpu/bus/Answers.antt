@@ -1,13 +1,13 @@
-use Rattle.std.proofs.Common.{append_assoc, rules, ◌≡◌, ◌∷◌, [], ◌++◌, drop, reverse, length, sym, ap, ◌∙◌, refl}
+use Rattle.std.proofs.Common.{append_assoc, rules, ◌≡◌, ◌∷◌, [], reverse, sym, ap, ◌∙◌, refl, arith}
 use Rattle.board_prelude.proofs.Common.{reverse-append, reverse-reverse, Entry, next_entry, map_writes_of}
 use Rattle.bus_turn.specs.Common.{opened_of as opened_by, seen_of as seen_in, mine_of as mine_in}
 use Rattle.bus_turn.specs.Common.{IsSameCaller as IsSamePass, own_by}
 use Rattle.bus_turn.proofs.Rows.{prefix_trans, own_more, drop_front}
 use Rattle.board_live.specs.Common.{IsSameBoard, setup_in}
-use Rattle.board_live.proofs.Turns.{by_actor, Finds, finds, known_left, passed_again, opens_again, own_first}
-use Rattle.board_live.proofs.Turns.{passed_idly, has_learnt}
+use Rattle.board_live.proofs.Turns.{by_actor, Finds, finds, known_left, own_first, has_learnt}
 use Rattle.board_live.proofs.cpu.Cpu.bus.Given.{Over}
 use Rattle.board_live.proofs.cpu.Cpu.bus.Goals.{After-enter-held}
+use Rattle.std.proofs.lemmas.Bool.Decides.{nat_tests}
 use Rattle.board_live.proofs.cpu.Cpu.bus.Goals as goal
 
 -- the shared board as the caller finds it
@@ -23,49 +23,35 @@ pub commit-requires-clause-adds : goal.commit-requires-clause-adds
 commit-requires-clause-adds g c =
     let cpu = c.args.self.now in let held = c.enter-held.result.value in
     let entry : Entry = next_entry held.board.value.entries cpu.number c.args.event.now c.in-Ok.answered.reply in
-    let entries : c.step.new.self.board.value.entries ≡ entry ∷ held.board.value.entries = search rules in
-    let list : seen_in c.enter-held.new.pass ≡ reverse held.board.value.entries = c.enter-held.ensures.list in
-    (entry, rw (entries, list) (reverse-append (entry ∷ []) held.board.value.entries), search rules)
+    let turned = reverse-append (entry ∷ []) held.board.value.entries in
+    (entry, grind (arith, turned, c.step.ensures, c.enter-held.ensures), search rules)
 
 pub leave-requires-clause-begins : goal.leave-requires-clause-begins
 leave-requires-clause-begins g c =
-    let viewer : c.enter-held.new.viewer.front.seen.log ≡ c.args.self.now.viewer.front.seen.log = search rules in
-    let now : c.commit.new.held.value.publisher.value.front.seen.log ≡ c.step.new.self.publisher.value.front.seen.log =
-    search rules in
-    rw (viewer, now) (prefix_trans c.args.self.now.viewer.front.seen.log
+    let trans = prefix_trans c.args.self.now.viewer.front.seen.log
     c.enter-held.result.value.publisher.value.front.seen.log c.step.new.self.publisher.value.front.seen.log
-    c.enter-held.ensures.meets c.step.ensures.later)
+    c.enter-held.ensures.meets c.step.ensures.later in
+    grind (arith, trans, c.enter-held.ensures, c.commit.ensures)
 
 pub invariant_of-self : goal.invariant_of-self
 invariant_of-self g c =
     let cpu = c.args.self.now in let held = c.enter-held.result.value in
-    let pass = cpu.pass in
-    let now = c.leave.new.pass in
     let found = found g (goal.at.invariant_of-self g c).After-enter-held in
-    let same : IsSamePass pass now = search rules in
+    let same : IsSamePass cpu.pass c.leave.new.pass = search rules in
     let entry : Entry = next_entry held.board.value.entries cpu.number c.args.event.now c.in-Ok.answered.reply in
     let entries : c.step.new.self.board.value.entries ≡ entry ∷ held.board.value.entries = search rules in
-    let list = reverse held.board.value.entries in
-    let whole : reverse c.step.new.self.board.value.entries ≡ list ++ entry ∷ [] =
-    ap reverse entries ∙ reverse-append (entry ∷ []) held.board.value.entries in
-    let seen : seen_in now ≡ list ++ entry ∷ [] = search (rules, whole) in
-    let mine : mine_in now ≡ mine_in pass ++ drop (length list) (list ++ entry ∷ []) = search (rules, whole) in
-    record {
-      passed = passed_again cpu same (search rules) (search rules)
-          (rw (seen, mine, own_more by_actor cpu.number list entry refl, found.listed, drop_front list (entry ∷ []))
-          (append_assoc (own_by by_actor cpu.number (opened_by pass)) (mine_in pass) (entry ∷ [])));
-      idle = c.leave.ensures.idle;
-      opens = opens_again cpu now same (search rules);
-    }
+    let list = reverse held.board.value.entries in let turned = reverse-append (entry ∷ []) held.board.value.entries in
+    let own = own_more by_actor cpu.number list entry refl in let passed = cpu.passed in let opens = cpu.opens in
+    let last = drop_front list (entry ∷ []) in let left = c.leave.ensures in let entered = c.enter-held.ensures in
+    let told = c.commit.ensures in
+    let joined = append_assoc (own_by by_actor cpu.number (opened_by cpu.pass)) (mine_in cpu.pass) (entry ∷ []) in
+    grind (arith, nat_tests, found, same, entries, turned, own, passed, opens, last, joined, left, told, entered)
 
 pub invariant_of-self-in-Err : goal.invariant_of-self-in-Err
 invariant_of-self-in-Err g c =
     let found = found g (goal.at.invariant_of-self-in-Err g c).After-enter-held in
-    record {
-      passed = passed_idly found (search rules) (search rules) (search rules) (search rules) (search rules);
-      idle = c.leave-in-Err.ensures.idle;
-      opens = opens_again c.args.self.now c.leave-in-Err.new.pass (search rules) (search rules);
-    }
+    let passed = c.args.self.now.passed in let opens = c.args.self.now.opens in
+    grind (arith, nat_tests, found, passed, opens, c.leave-in-Err.ensures, c.enter-held.ensures)
 
 pub returns-in-Ok-clause-added : goal.returns-in-Ok-clause-added
 returns-in-Ok-clause-added g c =

@@ -22,9 +22,7 @@ new-requires-clause-viewer c =
     let i = c.loop-viewer.invariant in
     let viewers = All-pop (IsViewerFor c.args.pass) c.loop-viewer.viewers.items c.pop-in-loop-viewer.new.self.items
     (Some c.in-Some.viewer) (search rules) i.viewers in
-    let further = c.split-further.ensures.further in let same = c.split-further.ensures.same in
-    viewer_for c.args.pass c.split-further.result c.in-Some.viewer (further.opened ∙ (same.1 ∙ i.same.1))
-    (further.part ∙ (same.2 ∙ i.same.2)) viewers.1
+    grind (arith, i, viewers, c.split-further.ensures, viewer_for)
 
 pub loop-viewer-preserved : goal.loop-viewer-preserved
 loop-viewer-preserved c =
