@@ -3,8 +3,7 @@ use Rattle.std.proofs.Common.{◌≡◌, ◌≢◌, ℕ, ◌≤◌, ◌+◌, Lis
 use Rattle.std.proofs.Common.{append_assoc, arith, Result, Ok, Err}
 use Rattle.board_prelude.proofs.Common.{nat_tests}
 use Rattle.board_outside.specs.Outside.{Fetch, Made}
-use Rattle.command_files.specs.Calls.{OfCalls, count_come, place_after, BroughtBytes, FoundEnd, IsReading, FetchesOnce}
-use Rattle.command_files.specs.Calls.{ReadsBy}
+use Rattle.command_files.specs.Calls.{OfCalls, place_after, BroughtBytes, FoundEnd, IsReading, FetchesOnce, ReadsBy}
 
 -- ---- lists of calls
 
@@ -76,16 +75,7 @@ module _ (before between now : Option (List Fetch)) (name : List ℕ) (limit pla
   -- it brought bytes
   pub read_piece : {E : Type 0} (count : ℕ) → count ≢ 0 → FetchesOnce {E = E} between now name place (Ok count) →
       OfCalls before now (ReadTo name limit (place + count))
-  read_piece count some is =
-      let came : count_come is.came ≡ count = ap count_come is.count in
-      call_more _ _ _ _ _ _
-      (λ made so.
-      let there : place_after made ≡ place = so.reached in
-      record {
-        reading = next_fetch is.came _ so;
-        reached = omega (arith, there, came);
-        goes_on = omega (arith, came, some);
-      }) so_far is.made
+  read_piece count some is = grind (arith, nat_tests, call_more)
 
 -- the file was not taken
 pub reading_failed : {T E : Type 0} (before now : Option (List Fetch)) (result : Result T E) (error : E) (name : List ℕ)

@@ -35,11 +35,8 @@ passed_as files before which name now is = grind (arith, nat_tests)
 taken_as : (command : Command) (files : Files) (whiches : List Which) (known : Known) →
     AreTaken command (Some files) whiches known → AreReadAs command files whiches known
 taken_as command files [] known is = is
-taken_as command files (which ∷ before) known (earlier, are, passed) = (
-  earlier,
-  taken_as command files before earlier are,
-  passed_as files earlier which (file_name command earlier which) known passed,
-)
+taken_as command files (which ∷ before) known is =
+    let earlier = taken_as command files before is.0 in grind (arith, nat_tests, passed_as)
 
 pub are_read : (command : Command) (told : Option Files) (whiches : List Which) (known : Known) →
     AreTaken command told whiches known → OfFiles told (λ files. AreReadAs command files whiches known)
