@@ -1,12 +1,11 @@
 -- After a change the ranges of a map are right again for each address outside the bounds of the changed windows.
 use Rattle.std.proofs.Common.{◌≡◌, ℕ, ◌<◌, ◌≤◌, Bool, true, false, List, [], ◌∷◌, ◌++◌, Option, Some, refl, sym, ◌∙◌}
-use Rattle.std.proofs.Common.{ap, arith, IfSome, ◌||◌, not, is_some, map, subst, true≢false, append-nil}
+use Rattle.std.proofs.Common.{ap, arith, IfSome, ◌||◌, not, is_some, map, subst, append-nil}
 use Rattle.board_prelude.proofs.Common.{list_any, Width, One, Reg, MapChange, Store, FittedCard, Setup, touches_map}
 use Rattle.board_prelude.proofs.Common.{Bytes, address_count, six_areas, MapRange, nat_tests, false≢true}
 use Rattle.pci_bars.specs.Cards.{CardBytes, AreFitted, cards_of}
 use Rattle.addr_decode.proofs.Common.{no_low_card, names_touch}
 use Rattle.addr_decode.specs.declared.register.MapRegister.{MapRegister}
-use Rattle.addr_decode.specs.declared.register.MapRegister.TheVariants.{Card}
 use Rattle.addr_decode.specs.Common.{is_of_card, names_from, names_of, MapBytes, StandsFor, edges_after}
 use Rattle.map_builder.specs.Common.{Changed, IsOfSomeBoard, IsMapOf, IsMapWhere, IsBeside, sorted, Rise, rows_in}
 use Rattle.map_builder.specs.Common.{AreChanged, after, rest_on_registers, name_windows, windows_covered}
@@ -92,8 +91,7 @@ keeps_byte change next same held held' setup bytes stands =
 -- those of registers of the bridges rest on nothing
 name_fixed : (setup setup' : Setup) (bytes bytes' : Bytes) (name : Option MapRegister) → is_card_name name ≡ false →
     name_windows setup bytes name ≡ name_windows setup' bytes' name
-name_fixed setup setup' bytes bytes' (Some (Card dev register)) bridge = absurd (true≢false bridge)
-name_fixed setup setup' bytes bytes' _ bridge = refl
+name_fixed setup setup' bytes bytes' name bridge = grind (arith, nat_tests)
 
 fixed_same : (setup : Setup) (bytes bytes' : Bytes) (change : MapChange) →
     rest_on_registers (names_of setup.cards change) ≡ false →

@@ -133,10 +133,8 @@ module _ (setup : Setup) (bytes new : Bytes) (addr : ℕ)
       find (claims registers) (memory_windows registers card) ≡ None
   command_outside registers card is out =
       let all = base_windows registers card ++ rom_window registers card ++ vga_window card in
-      let none = none_covered addr all (λ dev. is_enabled_for 1 registers dev)
-      (rw (governed registers card 0x04 _ is refl) at out) in
-      let each = simp find-append at none in
-      simp find-append (grind (arith, nat_tests, each))
+      let none = none_covered addr all (λ dev. is_enabled_for 1 registers dev) in
+      grind (arith, nat_tests, find-append, none, governed registers card 0x04 _ is refl)
 
   card_same : (card : FittedCard) → IsFitted setup card →
       find (claims new) (memory_windows new card) ≡ find (claims bytes) (memory_windows bytes card)

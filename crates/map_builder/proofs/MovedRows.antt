@@ -4,8 +4,7 @@ use Rattle.board_base.proofs.Common.{common_steps, cases_Bool, cases_lt, false�
 use Rattle.board_prelude.proofs.Common.{AllByRecursion, list_any, Width, One, Reg, bytes_of, MapChange, Store, Reset}
 use Rattle.board_prelude.proofs.Common.{FittedCard, Setup, IsCardList, covers, Bytes, row_of, reg_after, six_areas}
 use Rattle.std.proofs.Common.{◌≡◌, ℕ, zero, suc, ◌⊎◌, ◌+◌, ◌*◌, ◌<◌, ◌≤◌, inl, inr, true, false, List, [], ◌∷◌, ◌++◌}
-use Rattle.std.proofs.Common.{take, refl, sym, ◌∙◌, arith, Option, Some, min, max, slice_index, find, flat_map}
-use Rattle.std.proofs.Common.{below_more}
+use Rattle.std.proofs.Common.{take, refl, arith, Option, Some, min, max, slice_index, find, flat_map, below_more}
 use Rattle.board_base.specs.declared.access.Width.TheVariants.{Two, Four}
 use Rattle.addr_decode.specs.declared.register.MapRegister.{MapRegister}
 use Rattle.addr_decode.specs.declared.register.MapRegister.TheVariants.{RowBoundary}
@@ -54,18 +53,11 @@ same_first : (old new : List ℕ) (addr first count : ℕ) → ((row : ℕ) → 
     find (is_below new addr) (rows_from first count) ≡ find (is_below old addr) (rows_from first count)
 same_first old new addr first zero none alike = refl
 same_first old new addr first (suc count) none alike =
-    elim (alike first (omega arith)) [
-      | inr found ↦ absurd (false≢true (sym (none found.earlier found.before) ∙ found.old_below))
-      | inl same ↦
-          elim (cases_Bool (is_below old addr first)) [
-            | inl is ↦ rw (same, is) refl
-            | inr not ↦
-                rw (same, not)
-                (same_first old new addr (first + 1) count
-                (below_more (λ row. is_below old addr row ≡ false) first none not)
-                (λ row below. alike row (omega arith)))
-          ]
-    ]
+    let here = alike first (omega arith) in
+    let none_here = below_more (λ row. is_below old addr row ≡ false) first none in
+    let rest = λ (not : is_below old addr first ≡ false).
+    same_first old new addr (first + 1) count (none_here not) (λ row below. alike row (omega arith)) in
+    grind (arith, nat_tests, here, none, rest)
 
 row_kept : (old new : MapBytes) (setup : Setup) (bytes later : Bytes) (addr : ℕ) → StandsFor setup bytes old →
     StandsFor setup later new → RowStays old.drb new.drb addr → row_of later addr ≡ row_of bytes addr
@@ -98,8 +90,7 @@ BeginsWithRows windows = (rest : List Changed) × (windows ≡ from_to 0 0x7F7F_
 
 row_windows : (setup : Setup) (bytes : Bytes) (name : Option MapRegister) → is_row_name name ≡ true →
     name_windows setup bytes name ≡ from_to 0 0x7F7F_FFFF ∷ []
-row_windows setup bytes (Some (RowBoundary row)) is = refl
-row_windows setup bytes _ is = absurd (false≢true is)
+row_windows setup bytes name is = grind (arith, nat_tests)
 
 first_offset : (windows : ℕ → List Changed) (width : Width) (more : List Changed) →
     windows 0 ≡ from_to 0 0x7F7F_FFFF ∷ [] →

@@ -26,8 +26,7 @@ module _ {regs : MapBytes} {setup setup' : Setup} {bytes bytes' : Bytes} (stands
 
   rom_same : (dev register k : ℕ) (rom : Option ℕ) → k < 4 → is_some rom ≡ true → HoldsRom bytes dev register rom →
       HoldsRom bytes' dev register rom → Same (card_register dev (0x30 + k))
-  rom_same dev register k None below has holds holds' = absurd (false≢true has)
-  rom_same dev register k (Some bits) below has holds holds' = holds.each k below ∙ sym (holds'.each k below)
+  rom_same dev register k rom below has holds holds' = grind (arith, nat_tests)
 
   decoded_same : (card : CardBytes) (register : CardRegister) → 2 ≤ card.card.dev → IsCardNumber register →
       DecodesAs setup bytes card → DecodesAs setup' bytes' card →

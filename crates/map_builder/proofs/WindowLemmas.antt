@@ -82,8 +82,7 @@ HoldRom bytes dev register rom = map decoded (rom_window_of bytes dev rom) ≡ r
 
 pub rom_is : (bytes : Bytes) (dev register : ℕ) (rom : Option ℕ) → HoldsRom bytes dev register rom →
     HoldRom bytes dev register rom
-rom_is bytes dev register None holds = refl
-rom_is bytes dev register (Some bits) holds = rw holds.number refl
+rom_is bytes dev register rom holds = grind (arith, nat_tests)
 
 -- ---- the command governs them all
 
