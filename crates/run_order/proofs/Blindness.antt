@@ -1,19 +1,17 @@
 -- No answer depends on the looks and the numbers before it: each definition over histories gives the same without them.
 use Rattle.std.proofs.Common.{◌≡◌, ℕ, zero, suc, ◌==◌, nat_lt, Bool, true, false, List, [], ◌∷◌, refl, sym, ◌∙◌, ap}
-use Rattle.std.proofs.Common.{arith, Option, Some, None, if◌then◌else◌}
-use Rattle.board_prelude.proofs.Common.{option_map_or, Pic0, Pic1, Pit, Elcr, Ata, trigger_byte, read_value, read_of}
-use Rattle.board_prelude.proofs.Common.{port_byte, Event, Memory, Wide, Port, Ack, Pulses, Reply, Bus, Saw, nat_tests}
-use Rattle.board_prelude.proofs.Common.{Entry, plain_value, map-same, levels-same, disk_of-same, elcr-same}
-use Rattle.board_spec.specs.Common.{Kind, Width, Reg, Target, Rom, Card, Device, Config, Abort, Dev, largest_of}
-use Rattle.board_spec.specs.Common.{Triggers, PitState, out_of, pulses, port_read, Clock, Disk, Pair, answer_of, Setup}
-use Rattle.board_spec.specs.Common.{installed, version_of, wide, pirq, reset_control, config_address, register_change}
-use Rattle.board_spec.specs.Common.{byte_of, map_change_of, map_writes_of, Cell, DramCell, CardCell, entry_put}
-use Rattle.board_spec.specs.Common.{stored_of, dram_byte, expansion_byte, parts_of, wire_of, irq_of, triggers_of}
-use Rattle.board_spec.specs.Common.{PlainPorts, plain_of, timer_of, clock_of, disk_with, pirqs, levels_with, levels_of}
-use Rattle.board_spec.specs.Common.{elcr_of, pair_pulsed, pair_stepped, pair_of, device_value, who_answered}
-use Rattle.board_spec.specs.Common.{SameDevices, MemoryLeavesDevices, IsAnswer, memory_answer, part_answer, wide_value}
-use Rattle.board_spec.specs.Common.{port_answer, port_value, value_at, card_at, card_byte, kept_size}
-use Rattle.board_base.specs.declared.target.Dev.TheVariants.{Confadd, Reset, Clock as ClockChip}
+use Rattle.std.proofs.Common.{arith, Some, None, if◌then◌else◌}
+use Rattle.board_prelude.proofs.Common.{Event, Memory, Wide, Port, Ack, Reply, Bus, Saw, nat_tests, Entry, map-same}
+use Rattle.board_prelude.proofs.Common.{levels-same, disk_of-same, elcr-same}
+use Rattle.board_spec.specs.Common.{Kind, Width, Reg, Target, Rom, Card, Device, Config, Abort, Dev, PitState, out_of}
+use Rattle.board_spec.specs.Common.{pulses, Pair, answer_of, Setup, installed, version_of, wide, pirq, reset_control}
+use Rattle.board_spec.specs.Common.{config_address, register_change, byte_of, map_change_of, map_writes_of, Cell}
+use Rattle.board_spec.specs.Common.{DramCell, CardCell, entry_put, stored_of, dram_byte, expansion_byte, parts_of}
+use Rattle.board_spec.specs.Common.{wire_of, irq_of, triggers_of, plain_of, timer_of, clock_of, disk_with, pirqs}
+use Rattle.board_spec.specs.Common.{levels_with, elcr_of, pair_pulsed, pair_stepped, pair_of, device_value}
+use Rattle.board_spec.specs.Common.{who_answered, SameDevices, MemoryLeavesDevices, IsAnswer, memory_answer}
+use Rattle.board_spec.specs.Common.{part_answer, wide_value, port_answer, port_value, value_at, card_at, card_byte}
+use Rattle.board_spec.specs.Common.{kept_size}
 use Rattle.board_spec.specs.declared.event.Event.TheVariants.{Look as LookAt}
 use Rattle.board_spec.specs.declared.event.Reply.TheVariants.{Parts}
 use Rattle.run_order.specs.Common.{is_look, bare}
@@ -129,12 +127,10 @@ module _ (leaves : MemoryLeavesDevices) (setup : Setup) where
   -- an entry that is no look, after a history and after that history without its looks
   stepped_next : (entry : Entry) (before : List Entry) (event : Event) (pair : Pair) → is_look entry.event ≡ false
       → pair_stepped setup entry before event pair ≡ pair_stepped setup (plain entry) (bare before) event pair
-  stepped_next entry before (Pulses count) pair not = pulsed_bare before count pair
-  stepped_next entry before _ pair not =
-      let is = bare_entry entry before not in
-      let levels : levels_of setup (entry ∷ before) ≡ levels_of setup (plain entry ∷ bare before) =
-      levels_bare (entry ∷ before) _ _ (timer_bare (entry ∷ before)) ∙ ap (levels_of setup) is in
-      cc (control_bare before, edges_bare (entry ∷ before) ∙ ap elcr_of is)
+  stepped_next entry before event pair not =
+      let is = bare_entry entry before not in let edges = edges_bare (entry ∷ before) in
+      let levels = levels_bare (entry ∷ before) _ _ (timer_bare (entry ∷ before)) in
+      grind (arith, is, levels, pulsed_bare before, control_bare before, edges)
 
   pair_bare : (h : List Entry) → pair_of setup h ≡ pair_of setup (bare h)
   unfolding pair_of
@@ -164,23 +160,14 @@ module _ (leaves : MemoryLeavesDevices) (setup : Setup) (final before : List Ent
     port_same : (dev : Dev) (port : ℕ) (width : Width)
         → port_value setup final dev port width ≡ port_value setup before dev port width
     unfolding device_value
-    port_same Confadd port width = both config_address address_bare
-    port_same Reset port width = both reset_control control_bare
-    port_same Pic0 port width = ap (λ (p : Pair). port_byte p port) pair_same
-    port_same Pic1 port width = ap (λ (p : Pair). port_byte p port) pair_same
-    port_same Pit port width = ap (λ (t : PitState). (port_read port t).0) (both timer_of (timer_bare leaves setup))
-    port_same ClockChip port width = ap (λ (c : Clock). read_value c port) (both clock_of (clock_bare leaves setup))
-    port_same Elcr port width = ap (λ (t : Triggers). trigger_byte t (port == 0x4D1))
-        (both triggers_of (triggers_bare leaves setup))
-    port_same Ata port width =
-        ap (λ (d : Option Disk). option_map_or (λ disk. read_of port width disk) d (largest_of width))
-        (disk_of-same setup.disk (λ bytes. disk_with bytes final) (λ bytes. disk_with bytes before)
-        (λ bytes. both (disk_with bytes) (disk_bare leaves setup bytes)))
     port_same dev port width =
-        ap (λ (p : PlainPorts). plain_value dev p (out_of 2 (timer_of final)) width)
-        (both plain_of (plain_bare leaves setup))
-        ∙ ap (λ (t : PitState). plain_value dev (plain_of before) (out_of 2 t) width)
-        (both timer_of (timer_bare leaves setup))
+        let address = both config_address address_bare in let control = both reset_control control_bare in
+        let timer = both timer_of (timer_bare leaves setup) in let clock = both clock_of (clock_bare leaves setup) in
+        let triggers = both triggers_of (triggers_bare leaves setup) in
+        let plain = both plain_of (plain_bare leaves setup) in
+        let disk = disk_of-same setup.disk (λ bytes. disk_with bytes final) (λ bytes. disk_with bytes before)
+        (λ bytes. both (disk_with bytes) (disk_bare leaves setup bytes)) in
+        grind (arith, address, control, pair_same, timer, clock, triggers, plain, disk)
 
     dram_same : dram_byte setup final ≡ dram_byte setup before
     dram_same = λ i addr. if nat_lt addr (installed setup) then cells_same i (DramCell addr) else 0xFF

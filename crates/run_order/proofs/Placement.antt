@@ -173,17 +173,12 @@ module _ (blind : AnswersAreBlind) (setup : Setup) (whole history : List Entry) 
               let low : look.version ≤ version_of setup before = grind (arith, nat_tests) in
               let answer = f.2 before begins (omega (arith, low, late)) in let next : IsNext setup final entry =
               record { number = refl; answer = blind setup final before h.bare entry.event entry.reply answer } in
-              rw is (with_looks_hold actor items (entry ∷ final) (record {
-                looks = entry ∷ have.looks;
-                holds = record {
-                  is = ap (λ (l : List Entry). entry ∷ l) h.is;
-                  legal = (next, h.legal);
-                  bare = h.bare;
-                  places = (first low, h.places);
-                };
-                lower = (refl, omega arith, have.lower);
-              }) rest (late_by rest late)
-              (first_all _ (λ n due. own_place setup history n entry (have.looks ++ since)) items))
+              let here = first low in
+              let holds : Holds setup history before (entry ∷ have.looks ++ since) (entry ∷ final) =
+              grind (arith, h, next, here) in
+              rw is (with_looks_hold actor items (entry ∷ final)
+              (record { looks = entry ∷ have.looks; holds = holds; lower = (refl, omega arith, have.lower) }) rest
+              (late_by rest late) (first_all _ (λ n due. own_place setup history n entry (have.looks ++ since)) items))
           | inr not ↦ rw not (have, (waits, grind (arith, nat_tests)))
         ]
 
