@@ -3,7 +3,7 @@ use Rattle.std.proofs.lemmas.Bool.Decides.{nat_tests}
 use Rattle.std.proofs.Common.{ap, add-one, ◌≡◌, ℕ, ◌<◌, List, [], ◌++◌, length, refl, slice_index, Result, Ok, Err}
 use Rattle.std.proofs.Common.{IfOk, zero, suc, ◌+◌, ◌-◌, ◌*◌, ◌≤◌, take, drop, add-suc, add-zero, arith, ◌∷◌}
 use Rattle.std.proofs.Common.{append_assoc, OnOk}
-use Rattle.board_prelude.proofs.Common.{One, Entry, Setup, installed, byte_of, disk_of, Cell, space}
+use Rattle.board_prelude.proofs.Common.{Entry, Setup, installed, byte_of, disk_of, Cell, space}
 use Rattle.dram_store.specs.Dram.{IsDramOf}
 use Rattle.dram_store.proofs.DramLemmas.{read_stored}
 use Rattle.pci_bars.specs.Contents.{IsContentsOf}
@@ -66,11 +66,7 @@ cut_length size i bytes = grind (arith, nat_tests, length-take)
 
 pub cells_left : (setup : Setup) (history : List Entry) (store : Store) → IsDramOf setup history store.dram →
     IsContentsOf setup history store.contents → AreCellsAfter setup history (cells_of store)
-cells_left setup history store dram contents = record {
-  dram = λ addr. read_stored setup history store.dram addr One dram;
-  cards = contents.bytes;
-  roms = λ dev off. refl;
-}
+cells_left setup history store dram contents = grind (arith, nat_tests, read_stored)
 
 -- and of the expansion ROMs they are no other
 pub roms_are_read : RomsAreRead
