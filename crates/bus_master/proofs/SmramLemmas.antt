@@ -1,30 +1,13 @@
 -- A bus master never reaches SMRAM: it changes no byte of it, and does the same whatever stands there.
-use Rattle.std.proofs.Common.{◌≡◌, ℕ, ◌+◌, ◌*◌, ◌%◌, ◌<◌, ◌≤◌, ◌⊎◌, true, false, Option, refl, ◌∙◌, arith}
-use Rattle.board_prelude.proofs.Common.{cases_Bool, nat_tests, Width, Area, bytes_of, Medium, Setup, Bytes}
-use Rattle.board_prelude.proofs.Common.{is_smram_range, target_at, Cell, DramCell}
-use Rattle.board_base.specs.declared.access.Width.TheVariants.{Two, Four}
+use Rattle.std.proofs.Common.{◌≡◌, ℕ, ◌*◌, ◌%◌, true, false, Option, refl, arith}
+use Rattle.board_prelude.proofs.Common.{cases_Bool, nat_tests, Width, bytes_of, Medium, Setup, Bytes, is_smram_range}
+use Rattle.board_prelude.proofs.Common.{Cell, DramCell}
 use Rattle.bus_master.specs.declared.done.End.{End}
 use Rattle.bus_master.specs.declared.direction.Direction.{Direction}
-use Rattle.bus_master.specs.declared.direction.Direction.TheVariants.{ToMemory, ToDisk}
-use Rattle.bus_master.specs.Common.{Cells, put_in, Master, Moving, address_after, begun, direction_of, master_value}
-use Rattle.bus_master.specs.Common.{region_taken, transferred, word_moved, is_in_smram}
-use Rattle.board_chipset.proofs.MasterSteps.{IsOffDram, off_dram}
+use Rattle.bus_master.specs.Common.{Cells, Master, Moving, begun, direction_of, master_value, region_taken, transferred}
+use Rattle.bus_master.specs.Common.{word_moved, is_in_smram}
+use Rattle.board_chipset.proofs.MasterSteps.{off_dram}
 use Rattle.bus_master.proofs.Relations.{Keeps, with_cells, words_hold}
-
--- ---- a write leaves SMRAM
-
-off_put : (setup : Setup) (area : Area) (addr value s : ℕ) (cells : Cells) → IsOffDram area →
-    put_in setup (target_at setup area addr) addr Two value cells (DramCell s) ≡ cells (DramCell s)
-off_put setup area addr value s cells off = grind (arith, nat_tests)
-
-apart_put : (setup : Setup) (area : Area) (addr value s : ℕ) (cells : Cells) → (s < addr) ⊎ (addr + 2 ≤ s) →
-    put_in setup (target_at setup area addr) addr Two value cells (DramCell s) ≡ cells (DramCell s)
-apart_put setup area addr value s cells apart = grind (arith, nat_tests)
-
--- an even address outside lies wholly outside
-apart : (addr s : ℕ) → addr % 2 ≡ 0 → is_smram_range addr ≡ false → is_smram_range s ≡ true →
-    (s < addr) ⊎ (addr + 2 ≤ s)
-apart addr s evens outside inside = grind (arith, nat_tests)
 
 -- ---- a read does not depend on SMRAM
 
@@ -54,39 +37,11 @@ module _ (setup : Setup) (bytes : Bytes) (lba : ℕ) (start : Cells) where
 
   region_respects : Keeps (Follows start) (region_taken setup bytes)
   unfolding region_taken
-  region_respects moving cells is =
-      let table = moving.place.table in
-      let fours : address_after table 4 % 4 ≡ 0 = omega (arith, is.fours) in
-      record {
-        evens = omega arith;
-        fours = omega (arith, is.fours);
-        kept = is.kept;
-        alike = is.alike;
-        same =
-            rw (
-              value_alike setup moving.cells cells is.alike bytes table Four is.fours,
-              value_alike setup moving.cells cells is.alike bytes (address_after table 4) Four fours,
-            ) refl;
-      }
+  region_respects moving cells is = grind (arith, nat_tests, value_alike)
 
   word_respects : (direction : Direction) → Keeps (Follows start) (word_moved setup bytes direction lba)
   unfolding word_moved
-  word_respects ToMemory moving cells is = record {
-    evens = omega (arith, is.evens);
-    fours = is.fours;
-    kept = λ addr inside.
-        (grind (arith, nat_tests, cases_Bool, off_put, off_dram, apart_put, apart, is.evens))
-        ∙ is.kept addr inside;
-    alike = λ cell out. rw (is.alike cell out) refl;
-    same = refl;
-  }
-  word_respects ToDisk moving cells is = record {
-    evens = omega (arith, is.evens);
-    fours = is.fours;
-    kept = is.kept;
-    alike = is.alike;
-    same = rw (value_alike setup moving.cells cells is.alike bytes moving.place.addr Two is.evens) refl;
-  }
+  word_respects direction = grind (arith, nat_tests, off_dram, value_alike)
 
 -- ---- the whole
 
