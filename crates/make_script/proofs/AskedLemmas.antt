@@ -164,9 +164,7 @@ fine statement test = grind (arith, nat_tests, and_parts, said, ltb-true, not-tr
 
 all-fine : (statements : List Statement) → list_all is_fine statements ≡ true → All IsFine statements
 all-fine [] test = All-nil IsFine
-all-fine (statement ∷ later) test =
-    let both = and_parts (is_fine statement) (list_all is_fine later) test in
-    All-cons IsFine statement later (fine statement both.0) (all-fine later both.1)
+all-fine (statement ∷ later) test = grind (arith, nat_tests, and_parts, All-cons, fine, all-fine later)
 
 -- ---- the opening
 
