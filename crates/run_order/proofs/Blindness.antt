@@ -1,6 +1,6 @@
 -- No answer depends on the looks and the numbers before it: each definition over histories gives the same without them.
-use Rattle.std.proofs.Common.{◌≡◌, ℕ, zero, suc, ◌==◌, nat_lt, Bool, true, false, List, [], ◌∷◌, refl, sym, ◌∙◌, ap}
-use Rattle.std.proofs.Common.{arith, Some, None, if◌then◌else◌}
+use Rattle.std.proofs.Common.{◌≡◌, ℕ, zero, suc, ◌==◌, nat_lt, Bool, false, List, [], ◌∷◌, refl, sym, ◌∙◌, ap, arith}
+use Rattle.std.proofs.Common.{Some, None, if◌then◌else◌}
 use Rattle.board_prelude.proofs.Common.{Event, Memory, Wide, Port, Ack, Reply, Bus, Saw, nat_tests, Entry, map-same}
 use Rattle.board_prelude.proofs.Common.{levels-same, disk_of-same, elcr-same}
 use Rattle.board_spec.specs.Common.{Kind, Width, Reg, Target, Rom, Card, Device, Config, Abort, Dev, PitState, out_of}
@@ -20,10 +20,6 @@ use Rattle.run_order.specs.Common.{is_look, bare}
 
 abbrev IsLook : Event → Type 0
 IsLook event = (kind : Kind) × (addr : ℕ) × (smm : Bool) × (event ≡ LookAt kind addr smm)
-
-look_is : (event : Event) → is_look event ≡ true → IsLook event
-look_is (LookAt kind addr smm) is = (kind, addr, smm, refl)
-look_is _ is = absurd (cc is)
 
 look_put : (kind : Kind) (addr : ℕ) (smm : Bool) (reply : Reply) (cell : Cell)
     → entry_put (LookAt kind addr smm) reply cell ≡ None
@@ -45,10 +41,8 @@ along : {X : Type 0} (f : List Entry → X) →
     ((entry : Entry) (before : List Entry) → is_look entry.event ≡ false → f before ≡ f (bare before)
     → f (entry ∷ before) ≡ f (plain entry ∷ bare before)) → (h : List Entry) → f h ≡ f (bare h)
 unfolding bare
-along f looks steps [] = refl
-along f looks steps (entry ∷ before) =
-    let look = λ (is : is_look entry.event ≡ true). looks entry before (look_is entry.event is) in
-    grind (arith, nat_tests, look, steps entry before, along f looks steps before)
+along f looks steps [] = grind (arith, nat_tests)
+along f looks steps (entry ∷ before) = grind (arith, nat_tests, along f looks steps before)
 
 control_bare : (h : List Entry) → reset_control h ≡ reset_control (bare h)
 unfolding reset_control

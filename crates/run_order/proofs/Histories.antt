@@ -49,11 +49,11 @@ own_later actor entry before whole b own = rw b.1 (own_counts actor b.0 entry be
 same : (actor : ℕ) (more others : List Entry) (left right : Entry) (before other : List Entry) →
     more ++ left ∷ before ≡ others ++ right ∷ other → left.actor ≡ actor → right.actor ≡ actor →
     length (entries_by actor before) ≡ length (entries_by actor other) → (left ≡ right) × (before ≡ other)
-same actor [] [] left right before other e l r n = grind arith
-same actor [] (last ∷ others) left right before other e l r n = grind (arith, own_counts actor others right other r)
-same actor (last ∷ more) [] left right before other e l r n = grind (arith, own_counts actor more left before l)
-same actor (last ∷ more) (last' ∷ others) left right before other e l r n = same actor more others left right before
-    other (cc (e)) l r n
+same actor [] [] left right before other e l r n = grind (arith, nat_tests, own_counts)
+same actor [] (last ∷ others) left right before other e l r n = grind (arith, nat_tests, own_counts)
+same actor (last ∷ more) [] left right before other e l r n = grind (arith, nat_tests, own_counts)
+same actor (last ∷ more) (last' ∷ others) left right before other e l r n =
+    grind (arith, nat_tests, own_counts, same actor more others left right before other (cc (e)) l r n)
 
 pub same_place : (actor : ℕ) (whole : List Entry) (left right : Entry) (before other : List Entry) →
     Begins (left ∷ before) whole → Begins (right ∷ other) whole → left.actor ≡ actor → right.actor ≡ actor →

@@ -67,10 +67,19 @@ same_size (x ∷ xs) ys same =
 has_more : (phases : List (List Statement)) (phase xs part : List Statement) → HasPhases phases xs
     → IsWholePhase phase part → HasPhases (phases ++ phase ∷ []) (xs ++ part)
 has_more [] phase xs part none whole =
-    grind (arith, whole, take_all (length phase) part, drop_all (length phase) part)
+    grind (arith, nat_tests, take_all, drop_all, take-append-le, drop-append-le, length-take)
 has_more (p ∷ phases) phase xs part has whole =
-    let front = take-append-le (length p) xs part in let back = drop-append-le (length p) xs part in
-    grind (arith, has, length-take (length p) xs, front, back, has_more phases phase (drop (length p) xs) part)
+    grind (
+      arith,
+      nat_tests,
+      take_all,
+      drop_all,
+      take-append-le,
+      drop-append-le,
+      length-take,
+      has_more phases phase
+          (drop (length p) xs) part,
+    )
 
 -- ---- the law
 

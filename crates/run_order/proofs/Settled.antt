@@ -99,11 +99,8 @@ pub next_placed : {X : Type 0} {i : ℕ} {now : List Entry} (version : ℕ) (lat
     → next ≡ next_entry now (get_or later i d).actor (get_or later i d).event (get_or later i d).reply ∷ now
     → placed version' (drop (i + 1) later) (map f (set xs place x)) next ≡ placed version (drop i later) (map f xs) now
 unfolding placed
-next_placed {i = i} {now} version later f xs x none version' place next d so less callers place_is version_is rest_is
-    next_is =
-    let first = from_first (map f xs) (get_or later i d).actor in let cut = drop_more later i d less in
-    let one = get_or-map f xs (get_or later i d).actor none [] (callers i d less) in
-    grind (arith, settled version 0 (map f xs) now so, first, one, cut, map-set f xs place x)
+next_placed version later f xs x none version' place next d first second third fourth fifth sixth seventh =
+    grind (arith, nat_tests, from_first, drop_more, get_or-map, settled, map-set)
 
 pub placed_last : (version i : ℕ) (later : List Entry) (rests : List (List Done)) (now : List Entry)
     → IsSettled version rests → length later ≤ i → placed version (drop i later) rests now ≡ now
@@ -124,13 +121,11 @@ next_onto setup later before entry legal =
     ap (λ (n : ℕ). record { actor = entry.actor; seq = n; event = entry.event; reply = entry.reply })
     (sym (legal_front setup later (entry ∷ before) legal).0.number)
 
-none_due : (version : ℕ) (done : List Done) → looks_in done ≡ 0 → IsNotDue version done
-none_due version done none = grind arith
-
 none_settled : (version : ℕ) (rests : List (List Done)) → all_looks_in rests ≡ 0 → IsSettled version rests
-none_settled version [] none k = tt
-none_settled version (done ∷ rests) none zero = none_due version done (omega (arith, none))
-none_settled version (done ∷ rests) none (suc k) = none_settled version rests (omega (arith, none)) k
+none_settled version [] none k = grind (arith, nat_tests)
+none_settled version (done ∷ rests) none zero = grind (arith, nat_tests)
+none_settled version (done ∷ rests) none (suc k) =
+    grind (arith, nat_tests, none_settled version rests (omega (arith, none)) k)
 
 passed_fewer : (first actor : ℕ) (rests : List (List Done)) → all_looks_in (passed first actor rests) ≤ all_looks_in
     rests
