@@ -3,7 +3,7 @@ use Rattle.std.proofs.Common.{◌≡◌, ℕ, ◌+◌, ◌<◌, ◌≤◌, ◌==
 use Rattle.std.proofs.Common.{◌∙◌, ap, arith, reverse, slice_index_or, filter, Bool, true, false, set, slice_index, suc}
 use Rattle.board_prelude.proofs.Common.{Any, range_with_len, nat_tests, get_or-map, get_or_default, reverse-append}
 use Rattle.board_prelude.proofs.Common.{append-nil, take_all, drop_all, map-append, length-map, get_or-set_at}
-use Rattle.board_prelude.proofs.Common.{get_or-set_other, length-append, Event, Statement, events_by}
+use Rattle.board_prelude.proofs.Common.{get_or-set_other, length-append, Statement, events_by}
 use Rattle.std.proofs.lemmas.List.FromFn.{get_or-range_with_len, length-range_with_len, map-range_with_len_more}
 use Rattle.std.proofs.lemmas.List.Elements.{All-map}
 use Rattle.run_order.specs.declared.done.Done.{Done}
@@ -91,9 +91,6 @@ pub counted : (works old now : List Work) (count len : ℕ)
 counted works old now count len asked is count_is len_is = grind (arith, ap length asked, length-map)
 
 -- ---- how many statements each processor has in a phase
-
-abbrev event_in : Statement → Event
-event_in statement = statement.event
 
 abbrev is_by : ℕ → Statement → Bool
 is_by actor statement = statement.actor == actor

@@ -1,7 +1,7 @@
 -- A phase in which one processor acts.
-use Rattle.std.proofs.Common.{set, Result, OnOk, ◌≡◌, ◌≢◌, ℕ, ◌+◌, ◌<◌, ◌≤◌, ◌==◌, not, List, [], ◌∷◌, length, All}
-use Rattle.std.proofs.Common.{get_or, slice_index_or, refl, sym, ◌∙◌, ap, arith, map, suc, false, ◌++◌, take, reverse}
-use Rattle.std.proofs.Common.{Bool, filter, true}
+use Rattle.std.proofs.Common.{set, ◌≡◌, ◌≢◌, ℕ, ◌+◌, ◌<◌, ◌≤◌, ◌==◌, not, List, [], ◌∷◌, length, All, get_or}
+use Rattle.std.proofs.Common.{slice_index_or, refl, sym, ◌∙◌, ap, arith, map, suc, false, ◌++◌, take, reverse, Bool}
+use Rattle.std.proofs.Common.{filter, true}
 use Rattle.board_prelude.proofs.Common.{nat_tests, length-map, get_or-map, All-cons, Entry, Statement, MapChange, Setup}
 use Rattle.board_prelude.proofs.Common.{entries_by, events_by, map_writes_of, ne_eqb, eq-eqb, get_or-set_at}
 use Rattle.board_prelude.proofs.Common.{get_or-set_other, length-reverse, length-set, map-append, reverse-append}
@@ -169,10 +169,6 @@ module _ (number : ℕ) (before now : Standing) (phase : List Statement) (old : 
   pub has_acted : HasDone before.setup number before.entries phase work.done.items now.entries
       (map_writes_of now.setup now.entries) → HasActed number before now phase old (set old number work)
   has_acted done = record { grown = has_grown; done = λ d. rw (get_or-set_same old number work d within) done }
-
-pub both_ok : {T E : Type 0} {P Q R : Type 0} (result : Result T E) → (P → Q → R) → OnOk result P → OnOk result Q
-    → OnOk result R
-both_ok result more one two = grind (arith, more)
 
 -- ---- a phase of which what was done is not kept, since none of it is a look
 
