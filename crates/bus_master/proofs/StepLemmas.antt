@@ -60,11 +60,7 @@ module _ {store : Store} {place : TransferPlace} {moving : Moving} (is : StandsA
         StandsAt (descriptor_read setup bytes moving) store after None
     unfolding answered region_taken
     descriptor_stands after base count of aligned is_after first second is_base is_count =
-        let second_aligned : address_after place.table 4 % 4 ≡ 0 = omega arith in
-        let base_same = master_value_same of (cells_of store) moving.cells place.table Four aligned is.cells in
-        let count_same =
-        master_value_same of (cells_of store) moving.cells (address_after place.table 4) Four second_aligned is.cells in
-        grind (arith, nat_tests, base_same, count_same)
+        grind (arith, nat_tests, master_value_same)
 
     -- ---- the three tests one after another
 
