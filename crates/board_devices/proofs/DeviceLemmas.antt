@@ -10,9 +10,9 @@ use Rattle.board_prelude.specs.Common.{is_disk_length, Event, Port, Pulses, Wire
 use Rattle.board_prelude.specs.Common.{IsDisk, IsDiskSize, is_free_line, is_hard_reset, plain_at_reset, device_reached}
 use Rattle.board_prelude.specs.Common.{wire_set, wire_of, line_set, irq_of, triggers_after, triggers_of, plain_after}
 use Rattle.board_prelude.specs.Common.{plain_of, timer_after, timer_of, clock_after, clock_of, disk_after, disk_with}
-use Rattle.board_prelude.specs.Common.{disk_of, routes_of, pirq_levels, own_level, level_with, all_lines, levels_with}
-use Rattle.board_prelude.specs.Common.{levels_of, elcr_of, device_value, pair_after, pair_reset_or_after, pair_of}
-use Rattle.board_prelude.specs.Common.{after_bad, byte_of, config_store, list_any, is_interrupt, config_address}
+use Rattle.board_prelude.specs.Common.{disk_of, routes_of, own_level, level_with, all_lines, levels_with, levels_of}
+use Rattle.board_prelude.specs.Common.{elcr_of, device_value, pair_after, pair_reset_or_after, pair_of, after_bad}
+use Rattle.board_prelude.specs.Common.{byte_of, config_store, list_any, is_interrupt, config_address}
 use Rattle.std.proofs.Common.{◌≡◌, ℕ, ◌<◌, ◌≤◌, Bool, true, false, ◌||◌, ◌&&◌, List, [], ◌∷◌, Option, Some, None}
 use Rattle.std.proofs.Common.{length, get_or, refl, sym, ◌∙◌, ap, subst, arith, ◌*◌, ◌/◌, ◌%◌, replicate, eq-eqb}
 use Rattle.std.proofs.Common.{ne_eqb, get_or-set_same, get_or-set_other, length-set, ◌↔◌, Result, Err, ◌==◌, unwrap_or}
@@ -154,11 +154,8 @@ module _ {setup : Setup} {history : List Entry} {entry : Entry} {event : Event} 
       ((setup : Setup) (history : List Entry) → AreAfter setup history between → AreRoutesOf setup history routes →
       after.pair ≡ lined setup history between.pair) →
       AreRoutesOf setup (entry ∷ history) routes → AreDevicesOf setup (entry ∷ history) after
-  lined_as {old} {between} {after} are not room made kept seen routes =
-      let lines : AreAfter setup (entry ∷ history) between → after.pair ≡ lined setup (entry ∷ history) between.pair =
-      λ others. seen setup (entry ∷ history) others routes in
-      let whole = pair_asked setup asks not in
-      grind (arith, nat_tests, common_steps, others_asked, room, pair_after, pair_of, settled_as, whole)
+  lined_as first second third fourth fifth sixth seventh =
+      grind (arith, nat_tests, common_steps, pair_asked, others_asked, settled_as)
 
   -- no line can have moved, so that the lines do not reach the pair
   pub stood_as : pair_of setup (entry ∷ history) ≡ pair_after event entry.reply (pair_of setup history) →
@@ -371,17 +368,11 @@ at_power_on setup devices timer clock triggers plain disk wires irqs pair = grin
 
 -- ---- pulses
 
--- line 0 is the timer's alone: nothing is routed to it
-timer_line : (setup : Setup) (history : List Entry) (timer : PitState) →
-    level_with setup history timer 0 ≡ out_of 0 timer
-timer_line setup history timer =
-    grind (arith, nat_tests, common_steps, out_of, reserved-rest, routes_of, pirq_levels, or-false)
-
 -- with another state of the timer line 0 alone has another level
 pub levels_pulsed : (setup : Setup) (history : List Entry) (timer later : PitState) →
     levels_with setup history later ≡ slice_set (levels_with setup history timer) 0 (out_of 0 later)
 unfolding levels_with
-levels_pulsed setup history timer later = rw (timer_line setup history later) refl
+levels_pulsed setup history timer later = grind (arith, nat_tests, common_steps, reserved-rest, or-false)
 
 -- ---- the disk
 

@@ -1,8 +1,7 @@
 -- No access, reset or bad sector changes how many sectors a disk has.
-use Rattle.board_prelude.proofs.Common.{common_steps, nat_tests, PortAccess, Dev, Setup, Disk, IsDisk, IsDiskSize}
-use Rattle.board_prelude.proofs.Common.{disk_with, disk_of}
-use Rattle.std.proofs.Common.{◌≡◌, ℕ, ◌*◌, true, false, eqb, List, [], length, Option, Some, arith, option_map}
-use Rattle.std.proofs.Common.{length-set}
+use Rattle.board_prelude.proofs.Common.{common_steps, nat_tests, PortAccess, Dev, Setup, Disk, IsDisk, disk_with}
+use Rattle.board_prelude.proofs.Common.{disk_of}
+use Rattle.std.proofs.Common.{◌≡◌, ℕ, true, false, eqb, [], Option, Some, arith, option_map, length-set}
 use Rattle.device_spec.proofs.Common.{length-replicate, sectors_of, word_written}
 use Rattle.device_spec.specs.Ata.Steps.{after_bad}
 use Rattle.board_devices.specs.Devices.{DevicesValue, HasDisk, sectors_fitted}
@@ -38,11 +37,7 @@ write_fitted dev access devices = access_fitted (Some dev) (record access { writ
 
 -- ---- at power-on
 
-has_opened : (bytes : List ℕ) → IsDiskSize (length bytes) →
-    512 * (sectors_of (disk_with bytes []).medium) ≡ length bytes
-unfolding disk_with
-has_opened bytes is = grind (arith, nat_tests, common_steps, sectors_of, disk_with, length-replicate)
-
 pub opened_has : (setup : Setup) (devices : DevicesValue) → IsDisk setup.disk → devices.disk ≡ disk_of setup [] →
     HasDisk setup.disk devices.disk
-opened_has setup devices is opened = rw opened (grind (arith, nat_tests, has_opened))
+unfolding disk_with
+opened_has setup devices is opened = grind (arith, nat_tests, common_steps, length-replicate)

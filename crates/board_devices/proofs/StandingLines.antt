@@ -1,11 +1,10 @@
 -- Events that move no line: the lines reach the pair as it saw them, and leave it.
-use Rattle.board_prelude.proofs.Common.{common_steps, cases_Bool, and-true, and-false, nat_tests, is_bit, Levels, has}
-use Rattle.board_prelude.proofs.Common.{levels_of_byte, levels_where-same, Chip, chip_after_inputs, Pair, settled}
-use Rattle.board_prelude.proofs.Common.{master_inputs, pair_after_lines, same-levels, settled-asks, settled-quiet}
-use Rattle.board_prelude.proofs.Common.{PortAccess, Dev, System, bytes_of, PitState, out_of, set_gate2, port_read}
-use Rattle.board_prelude.proofs.Common.{Event, Port, Ack, Entry, Setup, is_hard_reset, is_config_port, timer_accessed}
-use Rattle.board_prelude.proofs.Common.{config_store, levels_of, elcr_of, pair_accessed, pair_after, pair_of}
-use Rattle.board_prelude.proofs.Common.{pair_has_seen}
+use Rattle.board_prelude.proofs.Common.{common_steps, and-true, and-false, nat_tests, Levels, has, levels_of_byte}
+use Rattle.board_prelude.proofs.Common.{levels_where-same, Chip, chip_after_inputs, Pair, settled, master_inputs}
+use Rattle.board_prelude.proofs.Common.{pair_after_lines, same-levels, settled-asks, settled-quiet, PortAccess, Dev}
+use Rattle.board_prelude.proofs.Common.{System, bytes_of, PitState, out_of, set_gate2, port_read, Event, Port, Ack}
+use Rattle.board_prelude.proofs.Common.{Entry, Setup, is_hard_reset, is_config_port, timer_accessed, config_store}
+use Rattle.board_prelude.proofs.Common.{levels_of, elcr_of, pair_accessed, pair_after, pair_of, pair_has_seen}
 use Rattle.std.proofs.Common.{◌≡◌, ℕ, ◌/◌, ◌%◌, ◌&&◌, Bool, true, false, List, ◌∷◌, Option, Some, None, length, take}
 use Rattle.std.proofs.Common.{drop, refl, sym, ap, subst, ◌∙◌, arith}
 use Rattle.device_spec.specs.Pit.{read, read_live}
@@ -68,12 +67,6 @@ module _ (levels : List Bool) (elcr : ℕ) where
         slave = grind (arith, nat_tests, sees.slave);
       })
 
--- ---- OUT of counter 0 after a read of the timer, and after its gate 2 moved
-
-gate_out : (on : Bool) (timer : PitState) → out_of 0 (set_gate2 on timer) ≡ out_of 0 timer
-unfolding set_gate2 out_of
-gate_out on timer = refl
-
 -- ---- the pair after an event that moves no line
 
 -- it is as the event itself made it
@@ -92,7 +85,8 @@ pair_stands setup history entry soft sets none stays =
 -- ---- accesses
 
 system_out : (access : PortAccess) (t : PitState) → out_of 0 (timer_accessed (Some System) access t) ≡ out_of 0 t
-system_out access t = grind (arith, nat_tests, common_steps, cases_Bool, gate_out, is_bit)
+unfolding set_gate2 out_of
+system_out access t = grind (arith, nat_tests, common_steps)
 
 triggers_none : (dev : Dev) (write : Bool) → moves_lines dev write ≡ false → (write && sets_triggers dev) ≡ false
 triggers_none dev write none = grind (arith, nat_tests, and-true, and-false)
