@@ -31,8 +31,7 @@ module _ (one_status : OneStatus) (command : Command) (files : Files) (shelf : S
 
   same : (status : Status) → OfFiles shelf.files (λ files'. AsksFor command files' status) →
       IsOrNoMemory status wanted
-  same status is =
-      inl (one_status command files status wanted (told_of (λ files'. AsksFor command files' status) is) asks)
+  same status is = grind (arith, nat_tests, one_status, at_files)
 
   left : (status : Status) → IsCaused status (Some command) shelf sink → IsOrNoMemory status wanted
   left Done is =

@@ -1,6 +1,5 @@
 -- The puts that were made, one part of a text after another.
-use Rattle.std.proofs.Common.{arith, append_assoc, ℕ, List, [], ◌∷◌, ◌++◌, Option, Some, None, refl, sym, Result, Ok}
-use Rattle.std.proofs.Common.{Err, IsErr}
+use Rattle.std.proofs.Common.{arith, append_assoc, ℕ, List, [], ◌∷◌, ◌++◌, Option, Some, Result, IsErr}
 use Rattle.std.proofs.lemmas.Bool.Decides.{nat_tests}
 use Rattle.board_prelude.proofs.Common.{result_ok}
 use Rattle.board_outside.specs.Outside.{Put, Made}
@@ -8,23 +7,18 @@ use Rattle.board_outside.specs.declared.fault.PutFault.{PutFault}
 use Rattle.command_words.specs.Words.{Command}
 use Rattle.command_files.specs.declared.status.Status.{Status}
 use Rattle.command_files.specs.Common.{status_of_put_fault, ShelfCall, IsRefused, OfCalls}
-use Rattle.command_files.proofs.CallLemmas.{none_told, calls_hold, call_more, calls_both}
+use Rattle.command_files.proofs.CallLemmas.{calls_hold, call_more, calls_both}
 use Rattle.board_commands.specs.Puts.{AllTook, LatestRefused, ArePutsOf, PutsBy}
 
 module _ (before between now : Option (List Put)) (so_far : OfCalls before between AllTook) where
   pub took_more :
       (count : ℕ) → Made between now (record { took = Some count }) → OfCalls before now AllTook
-  took_more count made =
-      call_more before between now (record { took = Some count }) AllTook AllTook
-      (λ puts took. ((λ is. absurd (none_told count (sym is))), took)) so_far made
+  took_more count made = grind (arith, nat_tests, call_more)
 
   pub then_refused :
       {E : Type 0} (result : Result ℕ E) → IsErr result → Made between now (record { took = result_ok result }) →
       OfCalls before now LatestRefused
-  then_refused (Ok count) is made = absurd cc
-  then_refused (Err error) is made =
-      call_more before between now (record { took = None }) AllTook LatestRefused (λ puts took. (refl, took)) so_far
-      made
+  then_refused result is made = grind (arith, nat_tests, call_more)
 
 pub puts_failed : {T E : Type 0} (before now : Option (List Put)) (result : Result T E) → IsErr result →
     OfCalls before now LatestRefused → OfCalls before now (PutsBy result)
