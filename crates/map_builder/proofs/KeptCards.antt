@@ -4,12 +4,11 @@ use Rattle.board_prelude.proofs.Common.{find-append, Reg, Base, IoBase, FittedCa
 use Rattle.board_prelude.proofs.Common.{is_bit, Bytes, Window, base_value, is_covered, rom_window, is_rom_on}
 use Rattle.board_prelude.proofs.Common.{vga_window, memory_windows, memory_window, is_enabled_for, memory_claim}
 use Rattle.board_prelude.proofs.Common.{card_register}
-use Rattle.std.proofs.Common.{◌≡◌, ℕ, zero, suc, ◌+◌, ◌-◌, ◌*◌, ◌/◌, ◌<◌, ◌≤◌, ◌⊎◌, inl, inr, Bool, List, [], ◌∷◌, ◌++◌}
-use Rattle.std.proofs.Common.{length, map, get_or, Option, Some, None, refl, sym, ◌∙◌, ap, arith, ◌&&◌, All, find}
-use Rattle.std.proofs.Common.{flat_map, slice_get, if◌then◌else◌, lit<, below_more}
+use Rattle.std.proofs.Common.{◌≡◌, ℕ, zero, suc, ◌+◌, ◌*◌, ◌<◌, ◌≤◌, ◌⊎◌, inl, inr, Bool, List, [], ◌∷◌, ◌++◌, length}
+use Rattle.std.proofs.Common.{map, get_or, Option, Some, None, refl, sym, ◌∙◌, ap, arith, ◌&&◌, All, find, flat_map}
+use Rattle.std.proofs.Common.{slice_get, if◌then◌else◌, lit<, below_more}
 use Rattle.std.proofs.lemmas.Option.{slice_get_within}
 use Rattle.addr_decode.specs.declared.register.CardRegister.{CardRegister}
-use Rattle.addr_decode.specs.declared.register.CardRegister.TheVariants.{Base as BaseByte}
 use Rattle.addr_decode.specs.MapRegister.{in_card, map_register}
 use Rattle.addr_decode.proofs.CardLemmas.{find_at}
 use Rattle.map_builder.specs.Common.{decoded, base_windows, card_windows, windows_of, held_by, Changed}
@@ -59,10 +58,8 @@ module _ (setup : Setup) (bytes new : Bytes) (addr : ℕ)
       windows_of setup registers (card_register card.dev (0x10 + 4 * k + j))
       ≡ held_by base (base_value registers card.dev k)
   base_governed registers card k j base is few below at =
-      let off : ℕ = 0x10 + 4 * k + j in
-      let number : (off - 0x10) / 4 ≡ k = omega arith in
-      governed registers card off (Some (BaseByte (off - 0x10))) is (grind (arith, nat_tests))
-      ∙ rw (number, one_held registers card.dev k k 0 card.bases (omega arith), at) refl
+      let held = one_held registers card.dev k k 0 card.bases in
+      grind (arith, nat_tests, governed registers card (0x10 + 4 * k + j) _ is refl, held)
 
   -- four registers keep their bytes, or the address lies outside the windows that they govern
   four_kept : (dev first : ℕ) (windows : Bytes → List Changed) → 2 ≤ dev →
@@ -109,8 +106,7 @@ module _ (setup : Setup) (bytes new : Bytes) (addr : ℕ)
   rom_outside : (registers : Bytes) (card : FittedCard) → Outside addr (map decoded (rom_window registers card)) →
       find (claims registers) (rom_part registers card) ≡ None
   rom_outside registers card out =
-      let none = none_covered addr (rom_window registers card) (λ dev. is_enabled_for 1 registers dev) out in
-      grind (arith, nat_tests)
+      grind (arith, nat_tests, none_covered addr (rom_window registers card) (λ dev. is_enabled_for 1 registers dev))
 
   rom_same : (card : FittedCard) → IsFitted setup card →
       is_enabled_for 1 new card.dev ≡ is_enabled_for 1 bytes card.dev →

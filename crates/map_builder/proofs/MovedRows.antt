@@ -63,10 +63,7 @@ row_kept : (old new : MapBytes) (setup : Setup) (bytes later : Bytes) (addr : �
     StandsFor setup later new → RowStays old.drb new.drb addr → row_of later addr ≡ row_of bytes addr
 row_kept old new setup bytes later addr stands stands' stays =
     let alike : is_below old.drb addr 7 ≡ true → (row : ℕ) → row < 8 → StaysOrHidden old.drb new.drb addr row =
-    λ below row high. elim (cases_lt row 7) [
-      | inl within ↦ stays.each below row within
-      | inr last ↦ let is : row ≡ 7 = omega arith in rw is (inl stays.top)
-    ] in
+    λ below row high. grind (arith, nat_tests, stays.each below row, stays.top) in
     let same = λ (below : is_below old.drb addr 7 ≡ true).
     same_first old.drb new.drb addr 0 8 (λ row none. absurd (omega arith)) (alike below) in
     rw (row_by bytes old.drb addr stands.rows, row_by later new.drb addr stands'.rows, stays.top)

@@ -43,9 +43,8 @@ taken_more : (ranges : List Range) (n c : ℕ) → n + c < length ranges →
     map range_of (take (suc c) (drop n ranges))
     ≡ map range_of (take c (drop n ranges)) ++ range_of (range_at ranges (n + c)) ∷ []
 taken_more ranges n c within =
-    let place : suc c ≡ c + 1 = omega arith in
-    rw (place, ← get_or-drop n ranges c no_range)
-    (map_more range_of (drop n ranges) c no_range (omega (arith, length-drop n ranges)))
+    let more = map_more range_of (drop n ranges) c no_range in
+    grind (arith, nat_tests, get_or-drop n ranges c no_range, more, length-drop n ranges)
 
 -- a map that agrees at some addresses agrees at fewer
 pub fewer_where : {regs : MapBytes} {Where Less : ℕ → Type 0} {ranges : List MapRange} →
@@ -267,11 +266,9 @@ areas_on addr on = grind (arith, nat_tests)
 taken_last : (ranges : List Range) (n end : ℕ) → n ≤ end → end + 1 ≡ length ranges →
     take (end - n) (drop n ranges) ++ range_at ranges end ∷ [] ≡ drop n ranges
 taken_last ranges n end from last =
-    let place : n + (end - n) ≡ end = omega arith in
-    let long = length-drop n ranges in
-    rw (← rw place at (get_or-drop n ranges (end - n) no_range))
-    (sym (take_more (drop n ranges) (end - n) no_range (omega (arith, long)))
-    ∙ take_all (end - n + 1) (drop n ranges) (omega (arith, long)))
+    let more = take_more (drop n ranges) (end - n) no_range in
+    let all = take_all (end - n + 1) (drop n ranges) in
+    grind (arith, nat_tests, get_or-drop n ranges (end - n) no_range, length-drop n ranges, more, all)
 
 -- ---- from the address after the one up to which they are built
 

@@ -1,6 +1,6 @@
 -- Windows in rising order hold the addresses of those that were sorted, and are no more than there are different ones.
-use Rattle.board_prelude.proofs.Common.{common_steps, AllByRecursion, list_any, cases_Bool, false≢true, nat_tests}
-use Rattle.board_prelude.proofs.Common.{Setup, Bytes, each_below}
+use Rattle.board_prelude.proofs.Common.{common_steps, AllByRecursion, list_any, false≢true, nat_tests, Setup, Bytes}
+use Rattle.board_prelude.proofs.Common.{each_below}
 use Rattle.std.proofs.Common.{◌≡◌, ℕ, ◌+◌, ◌<◌, ◌≤◌, inl, inr, Bool, true, false, List, [], ◌∷◌, ◌++◌, length, refl}
 use Rattle.std.proofs.Common.{arith, nat_lt, min, max, filter, rules, Some}
 use Rattle.addr_decode.specs.Edges.{edges_of, edges_after}
@@ -171,13 +171,11 @@ length_sorted : (windows : List Changed) → Ordered windows → length (sorted 
 unfolding sorted count_of
 length_sorted [] ordered = omega arith
 length_sorted (window ∷ later) ordered =
-    elim (cases_Bool (list_any (is_window window) later)) [
-      | inl again ↦
-          let covered = with_covered window (sorted later) ordered.0 (rise_sorted later ordered.1)
-          (covers_sorted window later (covers_one window later again)) in
-          rw (again, covered) (omega (arith, length_sorted later ordered.1))
-      | inr once ↦ rw once (omega (arith, length_with window (sorted later), length_sorted later ordered.1))
-    ]
+    let rest = length_sorted later ordered.1 in
+    let rise = rise_sorted later ordered.1 in
+    let covered = λ (again : list_any (is_window window) later ≡ true).
+    with_covered window (sorted later) ordered.0 rise (covers_sorted window later (covers_one window later again)) in
+    grind (arith, nat_tests, rest, covered, length_with window (sorted later))
 
 sorted_again : (again windows : List Changed) → Ordered again → Rise (sorted windows) →
     ((window : Changed) → Covers window again → Covers window (sorted windows)) →
