@@ -51,26 +51,20 @@ record IsTail (version : ℕ) (before : List Base) (fields : List (List ℕ)) (t
 tail_read : (version : ℕ) (before : List Base) (fields : List (List ℕ)) (tail : Tail) → length before ≤ 6
     → All IsBaseForm before → with_fields version (fresh before) fields ≡ Some tail → IsTail version before fields tail
 unfolding with_fields
-tail_read version before [] tail few each e =
-    rw (← some_is (fresh before) tail e) (record { words = refl; each = each; rom = tt; count = few })
+tail_read version before [] tail few each e = grind arith
 tail_read version before (field ∷ fields) tail few each e =
     let s = then_said (with_field version (fresh before) field) _ tail e in
     elim (field_read version before field s.0 s.1) [
       | inl rom ↦
           let end = ended version before fields rom.0 tail (rw rom.2 at s.2) in
           let read = rw rom.1 at (rom_if version field) in
-          rw (← end.1, end.0, read.0) (record { words = refl; each = each; rom = read.1; count = few })
+          grind (arith, nat_tests)
       | inr base ↦
           let read = rw base.1 at (base_if field) in
           let later = tail_read version (before ++ base.0 ∷ []) fields tail
           (omega (arith, length-append before (base.0 ∷ []), base.3))
           (All-push IsBaseForm before base.0 each read.1) (rw base.2 at s.2) in
-          record {
-            words = rw read.0 (rw (map-append, append_assoc) at later.words);
-            each = later.each;
-            rom = later.rom;
-            count = later.count;
-          }
+          grind (arith, nat_tests, map-append, append_assoc)
     ]
 
 vga_if : (field : List ℕ) → IfSome (parse_vga field) (λ vga. field ≡ kind_word vga)

@@ -1,7 +1,7 @@
 -- Each line of a form is read as what it says.
-use Rattle.std.proofs.Common.{◌≡◌, ℕ, true, false, Some, List, [], ◌∷◌, inl, inr, arith, decimal, bytes_eq}
+use Rattle.std.proofs.Common.{◌≡◌, ℕ, false, Some, List, ◌∷◌, inl, inr, arith, decimal, bytes_eq}
 use Rattle.board_prelude.proofs.Common.{nat_tests, AllDigits, cases_Bool, Stimulus}
-use Rattle.script_spec.specs.Common.{Item, Ask, AskLevel, IsDecimal, IsName, IsForm, IsLevelForm, HasForm, fields_of}
+use Rattle.script_spec.specs.Common.{Item, Ask, AskLevel, IsDecimal, IsForm, IsLevelForm, HasForm, fields_of}
 use Rattle.script_spec.specs.Common.{parse_given, parse_statement_words, parse_statement, parse_by_key, parse_item}
 use Rattle.script_spec.specs.Common.{parse_number, parse_two_numbers, is_name, parse_name, parse_phase, parse_by_verb}
 use Rattle.script_spec.specs.Common.{parse_stimulus_item}
@@ -36,21 +36,16 @@ level_back version n one number level form =
 
 -- ---- all lines
 
-name_back : (name : List ℕ) → IsName name → is_name name ≡ true
-unfolding is_name
-name_back name form = grind (arith, nat_tests)
-
 item_back : (version : ℕ) (fields : List (List ℕ)) (item : Item) → IsForm version item → AreFields fields item
     → parse_item version fields ≡ Some item
-unfolding parse_item parse_by_key parse_number parse_name parse_phase
+unfolding parse_item parse_by_key parse_number parse_name parse_phase is_name
 item_back version fields (AskLevel actor one number level) form are =
     rw are (level_back version actor one number level form)
-item_back version [] (Ask statement) form are = absurd are
 item_back version (key ∷ words) (Ask statement) form are =
     rw (number_is statement.actor key form.0 are.0)
     (number_first version statement.actor words (Ask statement) form.0
     (event_back version statement.actor statement.event words form.1 are.1))
-item_back version fields item form are = grind (arith, nat_tests, decimal_back, name_back, fitted_back)
+item_back version fields item form are = grind (arith, nat_tests, decimal_back, fitted_back)
 
 -- a line that has a form is read as the item that it says
 pub line_back : (version : ℕ) (line : List ℕ) (item : Item) → HasForm version line item

@@ -1,14 +1,14 @@
 -- What a line says is what is read from its fields, so it says at most one thing.
-use Rattle.std.proofs.Common.{ℕ, ◌≡◌, Option, Some, None, List, sym, ◌∙◌, Bool, true, [], ◌∷◌, subst, arith, IfSome}
-use Rattle.std.proofs.Common.{codes, decimal, refl}
-use Rattle.script_spec.specs.Common.{IsEventForm, Item, HasForm, parse_line, OneItem, IsDecimal, IsName, IsForm}
-use Rattle.script_spec.specs.Common.{fields_of, ask, stimulus_item, parse_given, parse_stimulus_item, parse_time_item}
-use Rattle.script_spec.specs.Common.{parse_ack, parse_by_verb, parse_statement_words, is_name, parse_name, parse_phase}
+use Rattle.std.proofs.Common.{ℕ, ◌≡◌, Option, Some, None, List, sym, ◌∙◌, Bool, true, [], ◌∷◌, arith, IfSome, codes}
+use Rattle.std.proofs.Common.{decimal, refl}
+use Rattle.script_spec.specs.Common.{Item, HasForm, parse_line, OneItem, IsDecimal, IsName, IsForm, fields_of, ask}
+use Rattle.script_spec.specs.Common.{stimulus_item, parse_given, parse_stimulus_item, parse_time_item, parse_ack}
+use Rattle.script_spec.specs.Common.{parse_by_verb, parse_statement_words, is_name, parse_name, parse_phase}
 use Rattle.script_spec.specs.Common.{parse_statement, parse_by_key, parse_item}
-use Rattle.script_spec.proofs.Chains.{some_is, then_said, Reads, same, if_some, by_word_if, word_is}
+use Rattle.script_spec.proofs.Chains.{some_is, then_said, same, if_some, by_word_if, word_is}
 use Rattle.script_spec.proofs.ItemBack.{line_back}
 use Rattle.board_prelude.proofs.Common.{nat_tests, option_map, Fetch, Read, Event, Time, Stimulus, stimulus_form}
-use Rattle.board_prelude.proofs.Common.{stimulus_of_word, applied, event_applied, word_found, space, level_text}
+use Rattle.board_prelude.proofs.Common.{stimulus_of_word, event_applied, word_found, space, level_text}
 use Rattle.std.proofs.lemmas.List.Splits.{join_with_byte-slice_split}
 use Rattle.script_spec.proofs.NumberTexts.{decimal_if}
 use Rattle.script_spec.proofs.Words.{given_words, applied_words, applied_is, zero_text, one_text}
@@ -21,31 +21,19 @@ use Rattle.script_spec.proofs.CardTexts.{card_if}
 abbrev IsSaid : (version : ℕ) → List (List ℕ) → Item → Type 0
 IsSaid version fields item = IsForm version item × AreFields fields item
 
-same_all : (texts : List (List ℕ)) → Reads texts texts
-same_all [] = tt
-same_all (text ∷ texts) = (same text, same_all texts)
-
 -- ---- statements, after the processor's number
 
 module _ (version n : ℕ) (small : IsDecimal n) where
-  ask_read : (words : List (List ℕ)) (event : Event) → IsRead version words event →
-      IsSaid version (decimal n ∷ words) (ask n event)
-  ask_read words event read = ((small, read.1), (same (decimal n), read.0))
-
   asks : {X : Type 0} (make : X → Event) (words : List (List ℕ)) (found : Option X) →
       IfSome found (λ x. IsRead version words (make x)) →
       IfSome (option_map (λ x. ask n (make x)) found) (IsSaid version (decimal n ∷ words))
-  asks make words None read = tt
-  asks make words (Some x) read = ask_read words (make x) read
+  asks make words found first = grind (arith, nat_tests, same)
 
   -- the number of a stimulus, and its level where it has one
   applied_read : (one : Stimulus) (number : ℕ) (on : Bool) (words : List (List ℕ)) →
       words ≡ given_words (stimulus_form one).has_level (decimal number) (level_text on) → IsDecimal number →
       IsSaid version (decimal n ∷ (stimulus_form one).word ∷ words) (ask n (event_applied one number on))
-  applied_read one number on words is few =
-      let all = same_all (applied_words (applied one number on)) in
-      let form : IsEventForm version (event_applied one number on) = grind (arith, nat_tests) in
-      grind (arith, applied_is one number on, same (decimal n))
+  applied_read one number on words is few = grind (arith, nat_tests, applied_words, applied_is, same)
 
   level_read : (one : Stimulus) (number level : ℕ) → (stimulus_form one).has_level ≡ true → IsDecimal number →
       IsDecimal level → IsSaid version (decimal n ∷ (stimulus_form one).word ∷ decimal number ∷ decimal level ∷ [])
@@ -60,9 +48,8 @@ module _ (version n : ℕ) (small : IsDecimal n) where
       let given = then_said (parse_given one.0 words) _ item one.2 in
       let two = two_if words in
       let number = number_if words in
-      rw (word_found verb one.0 one.1)
-      (subst (IsSaid version (decimal n ∷ (stimulus_form one.0).word ∷ words)) (some_is _ item given.2)
-      (grind (arith, nat_tests, level_read, applied_read, given.1)))
+      let verb_is = word_found verb one.0 one.1 in
+      grind (arith, nat_tests, level_read, applied_read, given.1, given.2)
 
   verb_if : (verb : List ℕ) (words : List (List ℕ)) →
       IfSome (parse_by_verb version n verb words) (IsSaid version (decimal n ∷ verb ∷ words))

@@ -20,14 +20,11 @@ use Rattle.std.proofs.Math.Nat.{div-eq_of_lt}
 
 -- ---- decimals
 
-ten : (c d : ℕ) → parse_digit 10 c ≡ Some d → (value_of_digit c < 10) × (d ≡ value_of_digit c)
-ten c d e = grind (arith, nat_tests)
-
 digits : (high n : ℕ) (ds : List ℕ) → number_after 10 high ds ≡ Some n
     → AllDigits 10 ds × (digits_value_after 10 high ds ≡ n)
 unfolding number_after
-digits high n [] e = (tt, some_is high n e)
-digits high n (c ∷ cs) e = grind (arith, nat_tests, ten, digits (high * 10 + value_of_digit c) n cs)
+digits high n [] e = grind (arith, nat_tests, some_is)
+digits high n (c ∷ cs) e = grind (arith, nat_tests, some_is, digits (high * 10 + value_of_digit c) n cs)
 
 parts : (a b c : Bool) → (a && b && not c) ≡ true → (a ≡ true) × (b ≡ true) × (c ≡ false)
 parts a b c test = grind (arith, nat_tests)

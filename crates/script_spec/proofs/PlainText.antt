@@ -11,7 +11,7 @@ use Rattle.std.proofs.lemmas.List.Folds.{list_all-append}
 use Rattle.board_base.specs.declared.target.Target.TheVariants as targets
 use Rattle.script_spec.proofs.Digits.{lacks, lacks-first, lacks-later}
 use Rattle.std.proofs.lemmas.List.Splits.{slice_split_none, slice_split_at}
-use Rattle.script_spec.specs.Common.{fields_of, StandsFor}
+use Rattle.script_spec.specs.Common.{fields_of}
 use Rattle.script_spec.proofs.Chains.{Spells, Reads}
 
 abbrev pub is_word_byte : ℕ → Bool
@@ -100,15 +100,10 @@ lacks-plain mark (c ∷ cs) outside plain = grind (arith, nat_tests, lacks-plain
 abbrev is_space : ℕ → Bool
 is_space byte = eqb byte 32
 
--- a line that spells a text has as many fields, which spell those of the text
-stands_space : (c t : ℕ) → StandsFor c t → is_space c ≡ is_space t
-stands_space c t stands = grind (arith, nat_tests)
-
 spelled_fields : (line text : List ℕ) → Spells line text → Reads (fields_of line) (fields_of text)
-spelled_fields [] [] spells = (tt, tt)
-spelled_fields (c ∷ cs) (t ∷ ts) spells =
-    let later = spelled_fields cs ts spells.1 in grind (arith, nat_tests, stands_space)
-spelled_fields _ _ spells = grind arith
+spelled_fields [] [] spells = grind (arith, nat_tests, common_steps)
+spelled_fields (c ∷ cs) (t ∷ ts) spells = grind (arith, nat_tests, common_steps, spelled_fields cs ts spells.1)
+spelled_fields _ _ spells = grind (arith, nat_tests, common_steps)
 
 -- ---- a line that is words joined
 

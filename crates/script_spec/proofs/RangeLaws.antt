@@ -102,11 +102,9 @@ has_cards items cards setup same is dev has =
     ∙ sym (list_any-IsPermutation (λ card. card.dev == dev) (cards_of items) cards same) ∙ has)
 
 all_cards : (version : ℕ) (items : List Item) → AreGood version items → All IsCard (cards_of items)
-all_cards version [] good = All-nil IsCard
-all_cards version (FitCard card ∷ before) good =
-    let rest = all_cards version before good.2 in
-    grind (arith, nat_tests, common_steps, All-nil, All-cons)
-all_cards version (_ ∷ before) good = all_cards version before good.2
+all_cards version [] good = grind (arith, nat_tests, common_steps)
+all_cards version (FitCard card ∷ before) good = grind (arith, nat_tests, common_steps, all_cards version before good.2)
+all_cards version (_ ∷ before) good = grind (arith, nat_tests, common_steps, all_cards version before good.2)
 
 -- devices that rise from 2 to 9 are few
 few_after : (first : FittedCard) (later : List FittedCard) → Rises (first ∷ later) → All IsCard (first ∷ later) →
@@ -142,14 +140,10 @@ sum_kept : (f : Item → ℕ) (items : List Item) → ((item : Item) → is_setu
 sum_kept f [] none = refl
 sum_kept f (item ∷ before) none = grind (arith, nat_tests, sum_by-cons, sum_kept f before none)
 
-sum_asks : (f : Item → ℕ) (phase : List Statement) →
-    sum_by f (map Ask phase) ≡ sum_by (λ statement. f (Ask statement)) phase
-sum_asks f phase = grind (arith, nat_tests, common_steps, sum_by-cons)
-
 sum_phases : (f : Item → ℕ) (phases : List (List Statement)) → sum_by f (phase_items phases)
     ≡ length phases * f BeginPhase + sum_by (λ statement. f (Ask statement)) (flat_map (λ phase. phase) phases)
-sum_phases f [] = omega arith
-sum_phases f (phase ∷ later) = grind (arith, nat_tests, sum_by-cons, sum_by-append, sum_asks, sum_phases f later)
+sum_phases f [] = grind (arith, nat_tests, common_steps, sum_by-cons, sum_by-append)
+sum_phases f (phase ∷ later) = grind (arith, nat_tests, common_steps, sum_by-cons, sum_by-append, sum_phases f later)
 
 -- a sum over all items is one over the phases, where setup lines count nothing
 sum_items : (f : Item → ℕ) (items : List Item) (phases : List (List Statement)) →

@@ -131,10 +131,7 @@ phases_there items (inl none) = ([], none.1)
 phases_there items (inr some) = (some.front ++ some.last ∷ [], some.is ∙ sym (phases_more some.front some.last))
 
 begin_phase : (before : List Item) → Run before → Run (BeginPhase ∷ before)
-begin_phase before old =
-    let phases = phases_there before old in
-    let more = reverse_more BeginPhase (filter (λ item. not (is_setup item)) before) in
-    inr (record { front = phases.0; last = []; is = rw (more, phases.1) refl })
+begin_phase before old = grind (arith, nat_tests, phases_there, reverse_more)
 
 ask_more : (before : List Item) (statement : Statement) → NoReason before (Ask statement) → Run before →
     Run (Ask statement ∷ before)

@@ -53,12 +53,13 @@ one_order cards left right one two rises others =
 first_phase : (phase other : List Statement) (later others : List (List Statement)) →
     map Ask phase ++ phase_items later ≡ map Ask other ++ phase_items others →
     (phase ≡ other) × (phase_items later ≡ phase_items others)
-first_phase [] [] later others e = (refl, e)
-first_phase (asked ∷ phase) (said ∷ other) later others e = grind (arith, first_phase phase other later others)
-first_phase [] (said ∷ other) [] others e = absurd cc
-first_phase [] (said ∷ other) (next ∷ later) others e = absurd cc
-first_phase (asked ∷ phase) [] later [] e = absurd cc
-first_phase (asked ∷ phase) [] later (next ∷ others) e = absurd cc
+first_phase [] [] later others e = grind (arith, nat_tests)
+first_phase (asked ∷ phase) (said ∷ other) later others e =
+    grind (arith, nat_tests, first_phase phase other later others)
+first_phase [] (said ∷ other) [] others e = grind (arith, nat_tests)
+first_phase [] (said ∷ other) (next ∷ later) others e = grind (arith, nat_tests)
+first_phase (asked ∷ phase) [] later [] e = grind (arith, nat_tests)
+first_phase (asked ∷ phase) [] later (next ∷ others) e = grind (arith, nat_tests)
 
 one_cutting : (left right : List (List Statement)) → phase_items left ≡ phase_items right → left ≡ right
 one_cutting [] [] e = refl

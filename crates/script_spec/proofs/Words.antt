@@ -5,8 +5,7 @@ use Rattle.board_prelude.proofs.Common.{join_with_byte, nat_tests, Kind, bytes_o
 use Rattle.board_prelude.proofs.Common.{Stimulus, Applied, stimulus_form, applied, event_applied, applied_by}
 use Rattle.board_prelude.proofs.Common.{option_map_or, is_write, space, hex_number, size_text, width_text, kind_text}
 use Rattle.board_prelude.proofs.Common.{level_text, moment_text, event_text, Part, Reply, Bus, Saw, parts_list}
-use Rattle.board_prelude.proofs.Common.{hex_long, area_text, target_text, denial_text, value_text, answered_text}
-use Rattle.board_prelude.proofs.Common.{reply_text}
+use Rattle.board_prelude.proofs.Common.{hex_long, area_text, target_text, denial_text, value_text, reply_text}
 use Rattle.script_spec.proofs.Digits.{own}
 use Rattle.std.proofs.lemmas.Fmt.{decimal-digits_value}
 use Rattle.board_spec.specs.declared.event.Event.TheVariants.{Look as LookAt}
@@ -118,14 +117,9 @@ words_in bytes (Bus value target denial) = value_text bytes value ∷ target_tex
 words_in bytes (InParts parts value) = value_text bytes value ∷ words_of (parts_list parts)
 words_in bytes (Saw look) = decimal look.version ∷ hex_long look.lo ∷ hex_long look.hi ∷ area_text look.area ∷ []
 
-parts_spaced : (parts : List Part)
-    → flat_map (λ part. answered_text part.target part.denial) parts ≡ spaced (words_of parts)
-parts_spaced [] = refl
-parts_spaced (part ∷ later) = grind (arith, nat_tests, append_assoc, parts_spaced later)
-
 pub reply_spaced : (bytes : ℕ) (reply : Reply) → space ∷ reply_text bytes reply ≡ spaced (words_in bytes reply)
 unfolding reply_text
-reply_spaced bytes reply = grind (arith, nat_tests, append-nil, parts_spaced, append_assoc)
+reply_spaced bytes reply = grind (arith, nat_tests, append-nil, append_assoc)
 
 parts_are : (parts : List Part) → are_words (words_of parts) ≡ true
 parts_are [] = refl
