@@ -45,4 +45,4 @@ module _ (before now later : Option (List ℕ)) (text : List ℕ) (pieces : List
 
   pub then_piece_refused : {T E : Type 0} (result : Result T E) → AppendsFront now later bytes
       → OnErr result (AppendsFront before later text)
-  then_piece_refused result h2 = grind (arith, nat_tests, next_piece, append_assoc, more_taken)
+  then_piece_refused result taken = grind (arith, nat_tests, next_piece, append_assoc, more_taken)

@@ -81,7 +81,7 @@ known_left before now held log same learnt setup opened =
 pub has_learnt : {cpu : Cpu} {held : Shared} {now : Cpu} → Finds cpu held → now.number ≡ cpu.number →
     IsSamePass cpu.pass now.pass → now.viewer.front.seen.log ≡ held.publisher.value.front.seen.log →
     seen_in now.pass ≡ reverse held.board.value.entries → AddsNone cpu now
-has_learnt h1 h2 h3 h4 h5 = grind (arith, nat_tests, reverse-reverse, known_left)
+has_learnt finds same own seen log = grind (arith, nat_tests, reverse-reverse, known_left)
 
 -- ---- passes that are joined into another, one after another
 
