@@ -12,9 +12,9 @@ use Rattle.command_files.specs.declared.status.Which.TheVariants.{Script}
 use Rattle.command_files.specs.declared.status.Status.{Status}
 use Rattle.command_files.specs.declared.status.Status.TheVariants.{ReadFault, TooLong, BadScript, BadImage, NoMemory}
 use Rattle.command_files.specs.Common.{files_of, name_in_words, limit_of, Files, Known, nothing_known, file_name}
-use Rattle.command_files.specs.Common.{Passes, AreReadAs, ComesTo, ReadsFile, FitsFile, IsNoImage, ShelfCall, OfFiles}
-use Rattle.command_files.specs.Common.{CanRead, FailsAt, IsNotTaken, IsRefused, OfCalls, FoundEnd, ReachesFile, Reads}
-use Rattle.command_files.specs.Common.{ReadEach, FetchesOf, IsPassed, IsNotPassed, ReadsNamed}
+use Rattle.command_files.specs.Common.{AreReadAs, ComesTo, ReadsFile, FitsFile, IsNoImage, ShelfCall, OfFiles, CanRead}
+use Rattle.command_files.specs.Common.{FailsAt, IsNotTaken, IsRefused, OfCalls, FoundEnd, ReachesFile, Reads, ReadEach}
+use Rattle.command_files.specs.Common.{FetchesOf, IsPassed, IsNotPassed, ReadsNamed}
 use Rattle.command_files.proofs.CallLemmas.{Both, calls_both, calls_hold}
 use Rattle.command_files.proofs.Refusals.{of_files, at_files, at_file, any_file}
 use Rattle.logs_and_maps.proofs.Lines.{reverse-take_more}
@@ -28,15 +28,10 @@ AreTaken command told (which ∷ before) known =
     (earlier : Known) × AreTaken command told before earlier
     × IsPassed told earlier which (file_name command earlier which) known
 
-passed_as : (files : Files) (before : Known) (which : Which) (name : Option (List ℕ)) (now : Known) →
-    IsPassed (Some files) before which name now → Passes files before which name now
-passed_as files before which name now is = grind (arith, nat_tests)
-
 taken_as : (command : Command) (files : Files) (whiches : List Which) (known : Known) →
     AreTaken command (Some files) whiches known → AreReadAs command files whiches known
-taken_as command files [] known is = is
-taken_as command files (which ∷ before) known is =
-    let earlier = taken_as command files before is.0 in grind (arith, nat_tests, passed_as)
+taken_as command files [] known is = grind (arith, nat_tests)
+taken_as command files (which ∷ before) known is = grind (arith, nat_tests, taken_as command files before is.0)
 
 pub are_read : (command : Command) (told : Option Files) (whiches : List Which) (known : Known) →
     AreTaken command told whiches known → OfFiles told (λ files. AreReadAs command files whiches known)
@@ -57,14 +52,9 @@ WholeBefore command told whiches made = (more : List Fetch) → ReadEach command
 -- files that were not read
 not_read : (command : Command) (told : Option Files) (others whiches : List Which) (more made : List Fetch) →
     ReadEach command told whiches more made → ReadEach command told (others ++ whiches) more made
-not_read command told [] whiches more made is = is
-not_read command told (other ∷ others) whiches more made is = (
-  [],
-  made,
-  refl,
-  inl refl,
-  rw (append-nil more) (not_read command told others whiches more made is),
-)
+not_read command told [] whiches more made is = grind (arith, nat_tests, append-nil)
+not_read command told (other ∷ others) whiches more made is =
+    grind (arith, nat_tests, append-nil, not_read command told others whiches more made is)
 
 -- a loop along the table
 module _ (command : Command) (told : Option Files) (files : List Which) (index : ℕ) (d : Which) (known : Known)
@@ -186,13 +176,7 @@ module _ (command : Command) (told : Option Files) (files : List Which) (index :
 
   -- the table from its end
   mirrored : reverse (files_of command) ≡ reverse later ++ which ∷ before
-  mirrored =
-      rw (
-        place,
-        reverse-append (reverse before) (which ∷ later),
-        reverse-append (which ∷ []) later,
-        reverse-reverse before,
-      ) (append_assoc (reverse later) (which ∷ []) before)
+  mirrored = grind (arith, nat_tests, place, reverse-append, reverse-reverse, append_assoc)
 
   last_read : {T E : Type 0} (result : Result T E) (made : List Fetch) → Both (WholeBefore command told before)
       (ReadsNamed result (file_name command known which) (limit_of which)) made → FetchesOf command told made
