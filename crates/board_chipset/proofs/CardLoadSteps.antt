@@ -94,17 +94,13 @@ pub record IsCopied (old : List (List ℕ)) (dev base off : ℕ) (bytes : List �
   pub others : (d b : ℕ) → IsBaseNumber d b → (d ≡ dev → b ≡ base → ⊥) → held new d b ≡ held old d b
 
 module _ {old new : List (List ℕ)} {dev base off : ℕ} {bytes : List ℕ} (is : IsCopied old dev base off bytes new) where
-  copied : (d b : ℕ) → IsBaseNumber d b →
-      held new d b ≡ (if dev == d && base == b then over (held old d b) bytes off else held old d b)
-  copied d b number = grind (arith, nat_tests, is.others d b number)
-
   sizes_stay : (d b : ℕ) → IsBaseNumber d b → length (held new d b) ≡ length (held old d b)
-  sizes_stay d b number = grind (arith, nat_tests, elements, copied d b number)
+  sizes_stay d b number = grind (arith, nat_tests, elements, is.others d b number)
 
   copied_byte : (d b at : ℕ) → IsBaseNumber d b →
       slice_index (held new d b) at ≡ unwrap_or (all_put (in_card dev base (CardCell d b at)) off bytes (length bytes))
       (slice_index (held old d b) at)
-  copied_byte d b at number = grind (arith, nat_tests, elements, copied d b number)
+  copied_byte d b at number = grind (arith, nat_tests, elements, is.others d b number)
 
 -- ---- the state after all of them
 

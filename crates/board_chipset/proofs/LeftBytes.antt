@@ -78,8 +78,7 @@ all_written old new bytes is size whole =
 
 -- ---- another disk was fitted, as large
 
-module _ (bytes : List ℕ) (setup : Setup) where
-  pub sound_as : (state : State) → length bytes ≡ disk_size setup → IsSound setup state →
-      IsSound (fitted_with bytes setup) state
-  unfolding reset_byte
-  sound_as state same is = grind (arith, nat_tests)
+pub sound_as : (bytes : List ℕ) (setup : Setup) (state : State) → length bytes ≡ disk_size setup →
+    IsSound setup state → IsSound (fitted_with bytes setup) state
+unfolding reset_byte
+sound_as bytes setup state same is = grind (arith, nat_tests)

@@ -35,12 +35,9 @@ module _
       AreReady rom state.stores.contents cycles
   all_ready [] each is = λ k d within. absurd (omega arith)
   all_ready (cycle ∷ later) each is =
-      let first = All-head (IsPart access) cycle.access (accesses later) each in
-      let here : cycle.answer ≡ part_in setup kept.registers.bytes cycle.access = cc in
-      let rest : answers later ≡ map (part_in setup kept.registers.bytes) (accesses later) = cc in
       All-cons (λ (it : Cycle). IsReady rom state.stores.contents it.access it.answer) cycle later
-      (ready kept image first.legal here)
-      (all_ready later (All-tail (IsPart access) cycle.access (accesses later) each) rest)
+      (ready kept image (All-head (IsPart access) cycle.access (accesses later) each).legal cc)
+      (all_ready later (All-tail (IsPart access) cycle.access (accesses later) each) cc)
 
 pub all_write : (access : WideAccess) (cycles : List Cycle) → is_write access.kind ≡ true → All (IsPart access)
     (accesses cycles) → All (λ cycle. is_write cycle.access.kind ≡ true) cycles

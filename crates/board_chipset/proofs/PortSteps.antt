@@ -115,9 +115,7 @@ Reached setup history access target =
 module _ (setup : Setup) (history : List Entry) (access : PortAccess) where
   pub target_reached : (target : Target) → target ≡ (reached setup history access).target →
       Reached setup history access target
-  target_reached target is =
-      rw is
-      (reaches setup (byte_of setup history) (config_address history) (is_some setup.disk) access.port access.width)
+  target_reached target is = rw is (reaches _ _ _ (is_some setup.disk) _ _)
 
   pub writes_beside : IsBeside setup (config_address history) access.port access.width →
       Writes setup history (Port access) None None None
@@ -139,9 +137,7 @@ pub reached_in :
     {state : State} {access : PortAccess} {target : Target} → (reaching : Reaching state access target) →
     IsReached reaching.kept.setup reaching.kept.sound.registers.bytes state.registers.address access.port access.width
     target
-reached_in {state} {access} reaching =
-    rw (reaching.target_is) (reaches reaching.kept.setup reaching.kept.sound.registers.bytes state.registers.address
-    reaching.disk access.port access.width)
+reached_in reaching = rw (reaching.target_is) (reaches _ _ _ reaching.disk _ _)
 
 pub register_within : {state : State} {access : PortAccess} {reg : Reg} → Reaching state access (Config reg) →
     reg.off + bytes_of access.width ≤ 0x100

@@ -35,6 +35,7 @@ impl Setup {
 impl Chipset {
     /// Replaces all bytes of the DRAM. Refused exactly where they are not as many as are installed; then nothing has
     /// changed. It takes no memory.
+    #[tactic(auto, using(crate::proofs::LeftBytes::all_written, std::proofs::lemmas::Bool::Decides::nat_tests))]
     pub fn put_dram(&mut self, bytes: &[u8]) -> Result<(), OtherLength>
         ensures refused { IsErr result ↔ length bytes.now ≢ installed self.old.setup }
         ensures put { OnOk result (self.new ≡ with_dram bytes.now self.old) }
