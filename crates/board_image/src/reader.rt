@@ -143,6 +143,7 @@ fn image(alloc: Global, fields: &mut Fields) -> Result<Image, Fault>
 
 /// The image that bytes are, or the offset of the first field that is not whole or out of range, or of the first byte
 /// too many. Exactly the bytes that `save` writes of some setup and history are an image.
+#[tactic(auto, using(crate::proofs::ImageFormats::image_same, crate::proofs::ImageFormats::image_never, crate::proofs::ImageFormats::image_taken, crate::proofs::ImageFormats::image_bad, std::proofs::lemmas::Bool::Decides::nat_tests))]
 pub fn read_image(alloc: Global, bytes: &[u8]) -> Result<Image, ImageFault>
     ensures image { IfOk result (λ image. IsImage image.setup image.steps
         × (bytes.now ≡ image_bytes image.setup image.steps)) }
