@@ -114,10 +114,6 @@ offsets = 0 ∷ 1 ∷ 2 ∷ 3 ∷ []
 pub offset_at : (k : ℕ) → k < 4 → get_or offsets k 0 ≡ k
 offset_at k below = each_below (λ k. get_or offsets k 0 ≡ k) 4 k (search rules) below
 
-pub covered_offset : (width : Width) (k : ℕ) → k < bytes_of width →
-    (k < length (take (bytes_of width) offsets)) × (get_or (take (bytes_of width) offsets) k 0 ≡ k)
-covered_offset width k below = grind (arith, nat_tests)
-
 pub count_names : (cards : List FittedCard) (reg : Reg) (width : Width) →
     length (names_from cards reg width) ≡ bytes_of width
 count_names cards reg width = grind arith

@@ -72,7 +72,7 @@ pub use devices.{and_from, and_left, and_mask, and_parts, and_right, append-nil,
 pub use devices.{bytes_few, cases_Bool, cases_eq, cases_lt, common_steps, cond-false, cond-true, cond_both}
 pub use devices.{div-lt_iff_lt-mul, drop-append-le, drop-append_seam, drop-cons, drop-drop, drop_all, drop_at}
 pub use devices.{drop_more, drop_of_length-le, eq-eqb, eqb-false, eqb-true, err_from_is_err_and, ext_get_or, false≢true}
-pub use devices.{filter-append, find-append, find-here, find-past, first_blocking-is, flat_map-append, flat_map-cons}
+pub use devices.{filter-append, find-append, first_blocking-is, flat_map-append, flat_map-cons}
 pub use devices.{get_or-append_right, get_or-append_seam, get_or-drop, get_or-map, get_or-map-range_with_len}
 pub use devices.{get_or-replicate, get_or-set_at, get_or-set_other, get_or-set_same, get_or-take, get_or_append_left}
 pub use devices.{get_or_default, get_or_past, has-levels_where, le-leb, le-ltb, leb-true, length-append, length-drop}
@@ -82,14 +82,14 @@ pub use devices.{map-set, merged-all, merged-none, mod-eq_of_lt, nat_tests, ne_e
 pub use devices.{not-false, not-true, or-false, or_cases, or_parts, or_right, phase, phase-self}
 pub use devices.{position_from_yields_List, pow-add, pow-le-pow_right, pow_pos, priority_order-small}
 pub use devices.{recursion_from_All, request-is, reserved-rest, reverse-append, reverse-reverse, same-levels}
-pub use devices.{scan-found, scan-past, settled-asks, settled-quiet, some_bytes, sum_by-append, sum_by-cons}
+pub use devices.{settled-asks, settled-quiet, some_bytes, sum_by-append, sum_by-cons}
 pub use devices.{take-append-drop, take-append-le, take-append_seam, take_all, take_at, take_at_read, take_more}
 pub use devices.{take_rest, true≢false, with_items_is}
 unfoldable pub use devices.{scan}
 pub use board.{Each, applied_again, begun_goes_on, begun_is_bounded, byte_by_byte, changed_byte-one_other}
 pub use board.{changed_byte-one_same, code_found, complete_is_begun, complete_is_whole, disk_of-same, each_below}
 pub use board.{each_from, elcr-same, front_is_begun, further, is_cut, levels-pulsed, levels-same, listed-before}
-pub use board.{listed-here, listed-past, map-same, map_bytes_decide, map_writes_decide, none_so_far, nothing_left}
+pub use board.{listed-past, map-same, map_bytes_decide, map_writes_decide, none_so_far, nothing_left}
 pub use board.{out-alone, pair-pulsed, pair_has_seen, statements-newest, timer-pulsed, total, triggers-pulsed}
 pub use board.{untouched, whole_front, whole_is_complete, whole_is_front, word_found}
 unfoldable pub use board.{made}

@@ -9,7 +9,7 @@ pub use Rattle.board_spec.proofs.OrderLengths.{begun_is_bounded, complete_is_who
 pub use Rattle.board_spec.proofs.PartLawProofs.{further, is_cut, total}
 unfoldable pub use Rattle.board_spec.proofs.PartLawProofs.{made}
 pub use Rattle.board_spec.proofs.StoreLemmas.{byte_by_byte, changed_byte-one_other, changed_byte-one_same}
-pub use Rattle.board_spec.proofs.TableLemmas.{Each, each_below, each_from, listed-before, listed-here, listed-past}
+pub use Rattle.board_spec.proofs.TableLemmas.{Each, each_below, each_from, listed-before, listed-past}
 pub use Rattle.device_spec.proofs.Common.{cases_Bool, common_steps, has-levels_where, inputs-again, latched}
 pub use Rattle.device_spec.proofs.Common.{levels_where-same, nat_tests, or_parts, same-levels, settled-asks}
 pub use Rattle.device_spec.proofs.Common.{settled-quiet, true≢false}

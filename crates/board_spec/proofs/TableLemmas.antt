@@ -1,5 +1,5 @@
 -- One line of a table of registers, and what holds from an offset on.
-use Rattle.std.proofs.Common.{◌≡◌, ℕ, zero, suc, ◌+◌, ◌-◌, ◌<◌, ◌≤◌, List, ◌∷◌, length, get_or, inl, inr, arith}
+use Rattle.std.proofs.Common.{◌≡◌, ℕ, zero, suc, ◌+◌, ◌<◌, ◌≤◌, List, ◌∷◌, length, inl, inr, arith}
 use Rattle.device_spec.proofs.Common.{cases_eq, nat_tests}
 use Rattle.board_spec.specs.RegisterTable.{Line, listed}
 
@@ -9,10 +9,6 @@ module _ (column : Line → List ℕ) (entry : Line) (later : List Line) (off : 
 
   pub listed-before : off < entry.first → listed column (entry ∷ later) off ≡ listed column later off
   listed-before before = grind (arith, nat_tests)
-
-  pub listed-here : entry.first ≤ off → off < entry.first + length entry.reset →
-      listed column (entry ∷ later) off ≡ get_or (column entry) (off - entry.first) 0
-  listed-here from below = grind (arith, nat_tests)
 
 -- what holds at this many offsets from a first one on
 abbrev pub Each : (P : ℕ → Type 0) (first count : ℕ) → Type 0

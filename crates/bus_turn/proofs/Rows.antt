@@ -50,9 +50,6 @@ module _ {E : Type 0} (actor : E → ℕ) where
   own_none n (x ∷ xs) h = let rest = own_none n xs (λ k d low. h (suc k) d (omega (arith, low))) in
       grind (arith, nat_tests, h 0 x (omega arith), rest)
 
-pub All-more : {X : Type 0} (P Q : X → Type 0) (xs : List X) → ((x : X) → P x → Q x) → All P xs → All Q xs
-All-more P Q xs h all k d lt = h _ (all k d lt)
-
 module _ {A : Type 0} (f : A → ℕ) where
   -- one element changes
   pub total_set : (l : List A) (i : ℕ) (a b : A) → get_elem? l i ≡ some a → total f (set l i b) + f a ≡ total f l + f b

@@ -25,8 +25,7 @@ pub use Rattle.device_spec.proofs.Levels.{has-levels_where, levels_where-has, le
 pub use Rattle.device_spec.proofs.PairLaws.{inputs-again, latched, same-levels, settled-asks, settled-quiet}
 pub use Rattle.device_spec.proofs.PitPeriods.{phase, phase-self, rate_repeats, square_repeats}
 pub use Rattle.device_spec.proofs.PitPulses.{counters_apart}
-pub use Rattle.device_spec.proofs.Priorities.{find-here, find-past, first_blocking-is, priority_order-small, request-is}
-pub use Rattle.device_spec.proofs.Priorities.{scan-found, scan-past}
+pub use Rattle.device_spec.proofs.Priorities.{first_blocking-is, priority_order-small, request-is}
 unfoldable pub use Rattle.device_spec.proofs.Priorities.{scan}
 pub use Rattle.device_spec.proofs.RoutingLaws.{reserved-rest}
 pub use Rattle.device_spec.specs.Common.{Activity, Binary, Chip, CounterState, Decimal, Disk, Drive, Failed, Four}

@@ -1,7 +1,6 @@
 -- The search for the first level that can be selected.
-use Rattle.std.proofs.Common.{◌≡◌, ℕ, ◌+◌, ◌<◌, ◌≤◌, Bool, true, false, not, cond, ltb, ◌||◌, ◌&&◌, Option, Some, None}
-use Rattle.std.proofs.Common.{List, [], ◌∷◌, ◌++◌, length, get_or, drop, refl, sym, ap, ◌∙◌, inl, inr, add-one}
-use Rattle.std.proofs.Common.{drop-cons, ltb-true, arith}
+use Rattle.std.proofs.Common.{◌≡◌, ℕ, ◌<◌, ◌≤◌, Bool, true, false, not, cond, ltb, ◌||◌, ◌&&◌, Option, Some, None, List}
+use Rattle.std.proofs.Common.{[], ◌∷◌, ◌++◌, length, get_or, drop, refl, sym, ap, ◌∙◌, inl, inr, ltb-true, arith}
 use Rattle.board_base.proofs.Common.{or-false, and-false, drop_of_length-le, cases_Bool, agree_below_at, or_from}
 use Rattle.std.proofs.Math.Bool.{or-true}
 use Rattle.std.proofs.lemmas.List.Folds.{list_any-append}
@@ -19,14 +18,6 @@ priority_order-small lowest i hl hi =
     let all_small = λ (lowest : ℕ). agree_below (is_small lowest) (λ _. true) 8 in
     let here = agree_below_at all_small (λ _. true) 8 lowest refl hl in
     ltb-true _ 8 (agree_below_at (is_small lowest) (λ _. true) 8 i here hi)
-
--- a search goes past an element that fails, and ends at one that passes
-module _ (test : ℕ → Bool) (xs : List ℕ) (i : ℕ) (h : i < length xs) where
-  pub find-past : test (get_or xs i 0) ≡ false → find test (drop i xs) ≡ find test (drop (i + 1) xs)
-  find-past fails = rw (add-one, drop-cons xs i 0) (rw fails refl)
-
-  pub find-here : test (get_or xs i 0) ≡ true → find test (drop i xs) ≡ Some (get_or xs i 0)
-  find-here passes = rw (drop-cons xs i 0) (rw passes refl)
 
 pub first_blocking-is : (chip : Chip) (order : List ℕ) → order ≡ priority_order chip.lowest →
     first_blocking chip ≡ find (is_blocking chip) order
@@ -83,24 +74,6 @@ unblocked chip higher (level ∷ lower) h =
 pub request-is : (chip : Chip) (order : List ℕ) → order ≡ priority_order chip.lowest → request chip ≡ scan chip order
 unfolding request
 request-is chip order is = unblocked chip [] (priority_order chip.lowest) refl ∙ ap (scan chip) (sym is)
-
--- ---- the search for a request, one level further
-
-module _ (chip : Chip) (xs : List ℕ) (i : ℕ) (h : i < length xs) where
-  pub scan-found : (is_requested chip (get_or xs i 0) && not (blocks_itself chip (get_or xs i 0))) ≡ true →
-      scan chip (drop i xs) ≡ Some (get_or xs i 0)
-  unfolding scan
-  scan-found found = rw (drop-cons xs i 0) (rw found refl)
-
-  pub scan-blocked : (is_requested chip (get_or xs i 0) && not (blocks_itself chip (get_or xs i 0))) ≡ false →
-      is_blocking chip (get_or xs i 0) ≡ true → scan chip (drop i xs) ≡ None
-  unfolding scan
-  scan-blocked not_here blocking = rw (drop-cons xs i 0) (rw (not_here, blocking) refl)
-
-  pub scan-past : (is_requested chip (get_or xs i 0) && not (blocks_itself chip (get_or xs i 0))) ≡ false →
-      is_blocking chip (get_or xs i 0) ≡ false → scan chip (drop i xs) ≡ scan chip (drop (i + 1) xs)
-  unfolding scan
-  scan-past not_here open_level = rw (add-one, drop-cons xs i 0) (rw (not_here, open_level) refl)
 
 -- past the end nothing is found
 pub scan-end : (chip : Chip) (xs : List ℕ) (i : ℕ) → length xs ≤ i → scan chip (drop i xs) ≡ None

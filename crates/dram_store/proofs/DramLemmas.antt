@@ -1,9 +1,7 @@
 -- The DRAM after a history, and after one entry more.
-use Rattle.std.proofs.Common.{◌≡◌, ℕ, ◌+◌, ◌<◌, List, [], ◌∷◌, length, Option, Some, None, refl, arith, slice_index}
-use Rattle.std.proofs.Common.{unwrap_or, ◌*◌, All}
-use Rattle.board_prelude.proofs.Common.{concat, option_or, length-replicate, get_or-replicate, nat_tests, Width, Dram}
-use Rattle.board_prelude.proofs.Common.{bytes_of, Entry, Setup, byte, wide, DramCell, stored_of, byte_put, entry_put}
-use Rattle.board_prelude.proofs.Common.{dram_byte}
+use Rattle.std.proofs.Common.{◌≡◌, ℕ, ◌+◌, List, [], ◌∷◌, length, arith, ◌*◌, All}
+use Rattle.board_prelude.proofs.Common.{concat, length-replicate, get_or-replicate, nat_tests, Width, Dram, bytes_of}
+use Rattle.board_prelude.proofs.Common.{Entry, Setup, byte, wide, DramCell, stored_of, byte_put, entry_put, dram_byte}
 use Rattle.std.proofs.Math.Seq.{of_parts}
 use Rattle.dram_store.proofs.ConcatLemmas.{zero_banks}
 use Rattle.dram_store.specs.Bank.{IsBank, IsZero, bank_size}
@@ -15,23 +13,6 @@ unfolding stored_of
 fresh setup banks each zeros count =
     let is = zero_banks banks each zeros in
     grind (arith, nat_tests, of_parts, length-replicate {A = ℕ} (length banks * bank_size) 0, get_or-replicate)
-
--- ---- bytes put into the DRAM
-
--- the DRAM before and after bytes were put into it: each has the byte that was put there, or its own
-pub record HasPut (put : ℕ → Option ℕ) (old new : List ℕ) : Type 0 where
-  pub size : length new ≡ length old
-  pub each : (at : ℕ) → at < length old → slice_index new at ≡ unwrap_or (put at) (slice_index old at)
-
-pub later_first :
-    (later first : Option ℕ) (old : ℕ) → unwrap_or later (unwrap_or first old) ≡ unwrap_or (option_or later first) old
-later_first None first old = refl
-later_first (Some byte) first old = refl
-
--- bytes put after others stand over them
-pub put_then : (first later : ℕ → Option ℕ) (old mid new : List ℕ) → HasPut first old mid → HasPut later mid new →
-    HasPut (λ at. option_or (later at) (first at)) old new
-put_then first later old mid new before after = grind (arith, nat_tests)
 
 -- ---- one entry more
 

@@ -2,7 +2,6 @@
 -- bounds.
 use Rattle.board_prelude.proofs.Common.{common_steps, nat_tests, AllByRecursion, bytes_of, MapChange, Store, Reset}
 use Rattle.board_prelude.proofs.Common.{Setup, Bytes, Window, reg_after, ne_eqb, pow_pos, is_covered, and-false}
-use Rattle.board_prelude.proofs.Common.{map-append}
 use Rattle.std.proofs.Common.{◌≡◌, ℕ, zero, suc, ◌≤◌, List, [], ◌∷◌, ◌++◌, map, Option, Some, None, refl, arith}
 use Rattle.std.proofs.Common.{flat_map, get_or, take, ◌<◌, ◌⊎◌, inl, inr, Bool, false, ◌&&◌, IfSome, find}
 use Rattle.std.proofs.ByRecursion.{All-append}
@@ -91,10 +90,6 @@ outside_parts addr [] ys out = (tt, out)
 outside_parts addr (x ∷ xs) ys out = let parts = outside_parts addr xs ys out.1 in ((out.0, parts.0), parts.1)
 
 -- ---- windows of cards
-
-pub outside_decoded : (addr : ℕ) (xs ys : List Window) → Outside addr (map decoded (xs ++ ys)) →
-    Outside addr (map decoded xs) × Outside addr (map decoded ys)
-outside_decoded addr xs ys out = outside_parts addr (map decoded xs) (map decoded ys) (rw map-append at out)
 
 pub not_covered : (addr : ℕ) (window : Window) → IsOutside addr (decoded window) → is_covered addr window ≡ false
 not_covered addr window out = grind (arith, nat_tests, common_steps, ne_eqb, split, pow_pos)

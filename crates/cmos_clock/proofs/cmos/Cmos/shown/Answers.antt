@@ -1,10 +1,9 @@
 -- No moment is found only where the registers say none: the numbers of one that they say are those that were found.
-use Rattle.std.proofs.Common.{◌≡◌, ℕ, Option, Some, None, SomeIff, IfSome, ap, sym, subst, arith}
+use Rattle.std.proofs.Common.{◌≡◌, ℕ, Option, Some, None, SomeIff, ap, arith}
 use Rattle.device_spec.specs.Common.{Moment, Clock, byte_at, control_of, second_at, minute_at, hour_at, day_at}
+use Rattle.device_spec.specs.Common.{month_at, year_at}
 use Rattle.device_spec.proofs.Common.{nat_tests}
-use Rattle.device_spec.specs.Common.{month_at, year_at, IsMoment, moment_of}
 use Rattle.board_base.proofs.CalendarLemmas.{days_in_month_bound}
-use Rattle.board_base.specs.Calendar.{IsDate, IsTime}
 use Rattle.cmos_clock.specs.Seconds.{AreDateBytes, AreTimeBytes, IsShown}
 use Rattle.cmos_clock.proofs.cmos.Cmos.shown.Goals as goal
 
@@ -22,25 +21,6 @@ date_said clock shown is = grind (arith, nat_tests, days_in_month_bound)
 time_said : (clock : Clock) (shown : Moment) → IsShown clock shown → AreTimeBytes (control_of clock)
     (byte_at clock hour_at) (byte_at clock minute_at) (byte_at clock second_at) shown.hour shown.minute shown.second
 time_said clock shown is = grind (arith, nat_tests)
-
-is_shown : (clock : Clock) (year month day hour minute second : ℕ) → AreDateBytes (control_of clock)
-    (byte_at clock year_at) (byte_at clock month_at) (byte_at clock day_at) year month day →
-    AreTimeBytes (control_of clock) (byte_at clock hour_at) (byte_at clock minute_at)
-    (byte_at clock second_at) hour minute second → (found : Option Moment) →
-    SomeIff found (IsDate year month day × IsTime hour minute second) (moment_of year month day hour minute second) →
-    IfSome found IsMoment → IfSome found (IsShown clock)
-is_shown clock year month day hour minute second date time None exact moment = tt
-is_shown clock year month day hour minute second date time (Some found) exact moment =
-    subst (IsShown clock) (sym exact.1) (record {
-      moment = subst IsMoment exact.1 moment;
-      last_year = date.last;
-      second = time.second_is;
-      minute = time.minute_is;
-      hour = time.hour_is;
-      day = date.day_is;
-      month = date.month_is;
-      year = date.year_is;
-    })
 
 pub returns-clause-none : goal.returns-clause-none
 returns-clause-none c = λ none shown is.
