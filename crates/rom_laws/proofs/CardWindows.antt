@@ -85,7 +85,7 @@ module _ (bytes : Bytes) where
       All-append IsEven (bases_edges card) (flat_map window_edges (rom_window bytes card)) (bases_even card.dev 0
       card.bases one.each) (rom_even card.dev card.rom one.rom)) fit))
 
--- no multiple of 4 lies inside an aligned access
+-- the bytes of an aligned access lie in one area: no edge, which is a multiple of 4, lies inside it
 pub same_area : (setup : Setup) (bytes : Bytes) (addr i : ℕ) (width : Width) (kind : Kind) (smm : Bool) →
     All IsCard setup.cards → addr % bytes_of width ≡ 0 → i < bytes_of width → addr + i < address_count →
     area_of setup bytes (addr + i) kind smm ≡ area_of setup bytes addr kind smm
