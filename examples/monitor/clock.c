@@ -10,7 +10,7 @@ enum {
     MOST_PULSES = 1000000
 };
 
-static uint64_t pulses_at(uint64_t nanoseconds) {
+uint64_t clock_pulses_at(uint64_t nanoseconds) {
     return nanoseconds / NANOSECONDS * PIT_HERTZ + nanoseconds % NANOSECONDS * PIT_HERTZ / NANOSECONDS;
 }
 
@@ -45,7 +45,7 @@ void clock_start(machine *m) {
 void clock_runs_to(machine *m, uint64_t nanoseconds) {
     if (nanoseconds < m->time) return;
     m->time = nanoseconds;
-    pulse_to(m, pulses_at(nanoseconds));
+    pulse_to(m, clock_pulses_at(nanoseconds));
     for (; m->second < nanoseconds / NANOSECONDS; m->second++) machine_second(m);
     clock_plan(m);
 }

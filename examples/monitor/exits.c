@@ -101,26 +101,27 @@ void machine_out(machine *m, uint16_t port, unsigned bytes, uint32_t value) {
     }
 }
 
-/* Whether the values of a string instruction go to the board in one call: the disk's words, where nobody looks at each. */
+/* Whether the values of a string instruction go to the board in one call: the disk's words, and two at once as Linux takes
+ * them, where nobody looks at each. */
 static bool is_one_call(const machine *m, uint16_t port, unsigned bytes) {
     const options *o = &m->options;
-    return port == DISK_DATA && bytes == DISK_WORD && !o->nothing && !o->log && !o->explain && !o->bochs_bios;
+    return port == DISK_DATA && bytes >= DISK_WORD && !o->nothing && !o->log && !o->explain && !o->bochs_bios;
 }
 
-static size_t disk_words(machine *m, uint8_t kind, uint8_t *data, size_t count) {
+static size_t disk_words(machine *m, uint8_t kind, unsigned bytes, uint8_t *data, size_t count) {
     uint32_t values[SECTOR_WORDS] = {0};
     if (count > SECTOR_WORDS) count = SECTOR_WORDS;
-    for (size_t k = 0; k < count && kind == BOARD_WRITE; k++) memcpy(&values[k], data + DISK_WORD * k, DISK_WORD);
-    size_t done = machine_steps(m, kind, DISK_DATA, DISK_WORD, values, count);
-    for (size_t k = 0; k < done && kind == BOARD_READ; k++) memcpy(data + DISK_WORD * k, &values[k], DISK_WORD);
+    for (size_t k = 0; k < count && kind == BOARD_WRITE; k++) memcpy(&values[k], data + bytes * k, bytes);
+    size_t done = machine_steps(m, kind, DISK_DATA, (uint8_t)bytes, values, count);
+    for (size_t k = 0; k < done && kind == BOARD_READ; k++) memcpy(data + bytes * k, &values[k], bytes);
     m->counts.ports++;
-    m->counts.disk_words += done;
+    m->counts.disk_words += done * bytes / DISK_WORD;
     return done;
 }
 
 size_t machine_string(machine *m, uint8_t kind, uint16_t port, unsigned bytes, uint8_t *data, size_t count) {
     uint32_t value = 0;
-    if (is_one_call(m, port, bytes)) return disk_words(m, kind, data, count);
+    if (is_one_call(m, port, bytes)) return disk_words(m, kind, bytes, data, count);
     if (kind == BOARD_WRITE) {
         memcpy(&value, data, bytes);
         machine_out(m, port, bytes, value);

@@ -172,10 +172,16 @@ static void serve_port(void) {
         done = machine_string(&m, kind, run->io.port, run->io.size, data, left);
 }
 
-/* The instruction that made the last exit ends, and no other begins. */
+static const char *serve(void);
+
+/* The instruction that made the last exit ends, and no other begins. It may make further exits, as one does that reads and
+ * writes memory outside the slots: KVM says by EINTR that it has ended. */
 static void end_instruction(void) {
     run->immediate_exit = 1;
-    ioctl(cpu, KVM_RUN, 0);
+    while (ioctl(cpu, KVM_RUN, 0) == 0) {
+        serve();
+        run->immediate_exit = 1;
+    }
 }
 
 static void save_where_asked(void) {

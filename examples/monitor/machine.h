@@ -72,6 +72,7 @@ typedef struct virtio_blk {
     uint16_t seen;     /* how many requests were done, modulo 65536 */
     uint8_t status, isr;
     bool line;         /* the level of INTA# */
+    bool broken;       /* its ring is none: nothing is done until the guest resets it */
 } virtio_blk;
 
 typedef struct machine {
@@ -175,6 +176,8 @@ uint8_t *slots_find(machine *m, uint64_t addr, bool write);
 void clock_start(machine *m);
 /* So many nanoseconds have passed since the power came: gives the 8254 its pulses and the MC146818 its date. */
 void clock_runs_to(machine *m, uint64_t nanoseconds);
+/* How many pulses the 8254 has had after so many nanoseconds. */
+uint64_t clock_pulses_at(uint64_t nanoseconds);
 /* Sets m->wake after a write to the 8254 or a reset. */
 void clock_plan(machine *m);
 

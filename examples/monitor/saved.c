@@ -10,6 +10,8 @@
 
 enum { VERSION = 1, MOST_NAME = 4096 };
 enum { MACHINE, BOARD, PROCESSOR, MEMORY, PARTS };
+#define MOST_LAG (3600 * NANOSECONDS)    /* an hour, as of a monitor that was stopped */
+#define MOST_TIME (1000000 * MOST_LAG)   /* of a guest, some hundred years */
 static const char mark[8] = "MONITOR";
 
 typedef struct head {
@@ -115,8 +117,14 @@ static saved_machine machine_of(const machine *m) {
     return s;
 }
 
+/* Pulses and seconds are those of the time until which the clocks ran, and that is not long before the guest was saved: it
+ * goes on with the pulses of the time between. */
+static bool is_sound_time(const saved_machine *s) {
+    return s->now <= MOST_TIME && s->time <= s->now && s->now - s->time <= MOST_LAG && s->pulses == clock_pulses_at(s->time) && s->second == s->time / NANOSECONDS;
+}
+
 static bool is_sound(const saved_machine *s) {
-    return s->mib >= 1 && s->mib <= MOST_MIB && s->speed >= 1 && s->keyboard.count <= sizeof s->keyboard.queue && s->fw_cfg.bytes <= sizeof s->fw_cfg.item;
+    return s->mib >= 1 && s->mib <= MOST_MIB && s->speed >= 1 && s->keyboard.count <= sizeof s->keyboard.queue && s->fw_cfg.bytes <= sizeof s->fw_cfg.item && is_sound_time(s);
 }
 
 /* The machine goes on as it was; names of files are those of the command line. */

@@ -33,6 +33,7 @@ enum { MOST_REGIONS = 2 * MOST_SLOTS + 1 };
 
 static machine m;
 static uc_engine *uc;
+static uc_context *at_power_on;
 static region regions[MOST_REGIONS];
 static uint64_t began;
 static const char *failure;
@@ -174,6 +175,10 @@ static void on_int(uc_engine *u, uint32_t number, void *x) {
     uint16_t ip = (uint16_t)get(UC_X86_REG_EIP);
     uint8_t instruction = 0;
     (void)u, (void)x;
+    if (m.reset) { /* in the block that asked for it */
+        uc_emu_stop(uc);
+        return;
+    }
     if (get(UC_X86_REG_CR0) & PROTECTED) {
         failure = "an exception in protected mode";
         uc_emu_stop(uc);
@@ -187,14 +192,14 @@ static void on_int(uc_engine *u, uint32_t number, void *x) {
 
 static uint32_t on_in(uc_engine *u, uint32_t port, int bytes, void *x) {
     (void)u, (void)x;
-    return machine_in(&m, (uint16_t)port, (unsigned)bytes);
+    return m.reset ? UINT32_MAX : machine_in(&m, (uint16_t)port, (unsigned)bytes);
 }
 
 static void on_out(uc_engine *u, uint32_t port, int bytes, uint32_t value, void *x) {
     (void)u, (void)x;
-    machine_out(&m, (uint16_t)port, (unsigned)bytes, value);
+    if (!m.reset) machine_out(&m, (uint16_t)port, (unsigned)bytes, value);
     if (m.slots_moved) move_slots();
-    if (m.reset) uc_emu_stop(uc);
+    if (m.reset) uc_emu_stop(uc); /* the engine goes on to the end of its block, and nothing of that counts */
 }
 
 /* ---- the guest */
@@ -202,8 +207,7 @@ static void on_out(uc_engine *u, uint32_t port, int bytes, uint32_t value, void 
 static void reset_processor(void) {
     machine_take_reset(&m);
     if (m.slots_moved) move_slots();
-    set(UC_X86_REG_CR0, 0);
-    set(UC_X86_REG_EFLAGS, 2);
+    check(uc_context_restore(uc, at_power_on), "reset"); /* a write to CR0 alone would leave the engine in protected mode */
     set(UC_X86_REG_CS, RESET_CS);
     set(UC_X86_REG_EIP, RESET_IP);
 }
@@ -232,6 +236,8 @@ static void watch_time(void) {
 static void open_unicorn(void) {
     static uc_hook hooks[4];
     check(uc_open(UC_ARCH_X86, UC_MODE_16, &uc), "open");
+    check(uc_context_alloc(uc, &at_power_on), "context");
+    check(uc_context_save(uc, at_power_on), "context");
     check(uc_hook_add(uc, &hooks[0], UC_HOOK_INSN, (void *)(uintptr_t)on_in, NULL, 1, 0, UC_X86_INS_IN), "hook");
     check(uc_hook_add(uc, &hooks[1], UC_HOOK_INSN, (void *)(uintptr_t)on_out, NULL, 1, 0, UC_X86_INS_OUT), "hook");
     check(uc_hook_add(uc, &hooks[2], UC_HOOK_MEM_WRITE_PROT, (void *)(uintptr_t)on_write_protected, NULL, 1, 0), "hook");

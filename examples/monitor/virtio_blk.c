@@ -126,7 +126,7 @@ static uint32_t do_chain(machine *m, const uint8_t *ring, uint16_t first) {
     uint32_t written = 0;
     uint8_t status = DONE;
     uint16_t at = first;
-    for (unsigned k = 0; k < MOST_CHAIN; k++) {
+    for (unsigned k = 0; k < MOST_CHAIN && !console_ended(); k++) {
         memcpy(&d, ring + sizeof d * (at % RING), sizeof d);
         const uint8_t *here = memory_at(m, d.addr, k == 0 ? sizeof asked : 1, false);
         if (!here || (k == 0 && d.bytes < sizeof asked)) return written;
@@ -150,19 +150,30 @@ static uint32_t do_chain(machine *m, const uint8_t *ring, uint16_t first) {
     return written;
 }
 
-/* Does what the guest has put into the available ring, and gives it back by the used ring. */
+/* How many requests wait; more than the ring holds are no ring, and the card does no more until it is reset. */
+static uint16_t waiting(virtio_blk *v, uint16_t newest) {
+    uint16_t count = (uint16_t)(newest - v->seen);
+    if (count <= RING) return count;
+    v->broken = true;
+    fprintf(stderr, "\nmonitor: virtio: %u requests in a ring of %u: the card waits for its reset\n", count, RING);
+    return 0;
+}
+
+/* Does what the guest has put into the available ring, and gives it back by the used ring. A monitor that is asked to end
+ * does so before the next request. */
 static void do_queue(machine *m) {
     virtio_blk *v = &m->virtio;
     size_t used_at = ((sizeof(descriptor) * RING + 6 + 2 * RING) + (1 << PAGE_BITS) - 1) >> PAGE_BITS << PAGE_BITS;
     uint8_t *ring = written_at(m, (uint64_t)v->page << PAGE_BITS, used_at + 6 + 8 * RING);
-    if (!ring || !v->page) return;
+    if (!ring || !v->page || v->broken) return;
     uint8_t *available = ring + sizeof(descriptor) * RING, *used = ring + used_at;
     uint16_t flags, newest, done;
     memcpy(&flags, available, 2);
     memcpy(&newest, available + 2, 2);
     memcpy(&done, used + 2, 2);
-    bool any = v->seen != newest;
-    for (; v->seen != newest; v->seen++, done++) {
+    uint16_t count = waiting(v, newest);
+    bool any = count > 0;
+    for (; count > 0 && !console_ended(); count--, v->seen++, done++) {
         uint16_t first;
         memcpy(&first, available + 4 + 2 * (v->seen % RING), 2);
         uint32_t entry[2] = {first, do_chain(m, ring, first)};

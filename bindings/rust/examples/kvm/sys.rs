@@ -108,7 +108,8 @@ impl Processor {
     /// A slot of the guest's memory; no bytes end it.
     pub fn set_slot(&self, slot: u64, lo: u32, bytes: &[u8], is_read_only: bool) -> io::Result<()> {
         let flags = if is_read_only { 2 << 32 } else { 0 };
-        let mut region = [slot | flags, lo.into(), bytes.len() as u64, bytes.as_ptr() as u64];
+        let at = if bytes.is_empty() { ptr::null() } else { bytes.as_ptr() }; // KVM wants a page's, of no bytes too
+        let mut region = [slot | flags, lo.into(), bytes.len() as u64, at as u64];
         call(self.vm, 0x4020_AE46, &mut region).map(|_| ()) // KVM_SET_USER_MEMORY_REGION
     }
 
