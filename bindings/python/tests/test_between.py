@@ -5,6 +5,8 @@ import pytest
 
 from board440fx import errors
 
+pytest_plugins = ["board440fx.pytest_plugin"]  # the fixture `board`, where the module is not installed
+
 
 def test_a_second_goes_on_from_what_the_clock_shows(board):
     board.time(datetime.datetime(1999, 12, 31, 23, 59, 59))

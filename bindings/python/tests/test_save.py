@@ -3,6 +3,11 @@ import pytest
 
 from board440fx import Board, Card, errors
 
+# The 82371SB's function 1 lets the IDE channel answer: bit 0 of PCICMD, and bit 15 of IDETIM.
+ENABLE_IDE = ((0xCF8, 4, 0x80000904), (0xCFC, 2, 0x0001), (0xCF8, 4, 0x80000940), (0xCFC, 2, 0x8000))
+# A sector by WRITE SECTORS: one of it, the second, drive 0 by LBA.
+WRITE_SECTOR_1 = ((0x1F2, 1, 1), (0x1F3, 1, 1), (0x1F6, 1, 0xE0), (0x1F7, 1, 0x30))
+
 
 def test_a_loaded_board_goes_on():
     with Board(memory=16, cards=[Card.parse("2 vga m24")], disk=bytes(1024)) as board:
@@ -32,13 +37,14 @@ def test_bytes_that_are_left_out_are_given():
     fitted = bytes(range(256)) * 4
     with Board(memory=1, disk=fitted) as board:
         board.write(0x1234, 4, 0x89ABCDEF)
-        for port, value in ((0x1F2, 1), (0x1F3, 1), (0x1F7, 0x30)):
-            board.out(port, 1, value)
+        for port, width, value in (*ENABLE_IDE, *WRITE_SECTOR_1):
+            board.out(port, width, value)
         for word in range(256):
             board.out(0x1F0, 2, word)
         whole, image = board.save(), board.save(dram=False, disk=False)
         own = {"dram": board.dram_read(0, 1 << 20), "fitted": fitted, "sectors": board.disk_read(0) + board.disk_read(1)}
-    assert own["sectors"] != fitted and len(image) < len(whole) - 2 * 512
+    written = b"".join(word.to_bytes(2, "little") for word in range(256))
+    assert own["sectors"] == fitted[:512] + written and len(image) < len(whole) - 2 * 512
     with Board.load(image, **own) as other:
         assert other.save() == whole
     with Board.load(image) as other:
