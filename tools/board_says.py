@@ -16,7 +16,9 @@ class Refused(Exception):
 
 
 def say(text: str) -> None:
-    print(f"board: {text}", file=sys.stderr, flush=True)
+    """Says a line on standard error. Where that is closed nobody hears it."""
+    if sys.stderr is not None:  # else print would take standard output
+        print(f"board: {text}", file=sys.stderr, flush=True)
 
 
 def fault_text(fault: OSError) -> str:
@@ -43,7 +45,8 @@ def end_with(main: Callable[[list[str]], int]) -> NoReturn:
     try:
         sys.exit(main(sys.argv[1:]))
     except Refused as why:
-        sys.stderr.write(why.said)
+        if sys.stderr is not None:
+            sys.stderr.write(why.said)
         say(str(why))
     except OSError as fault:
         say(fault_text(fault))

@@ -66,7 +66,7 @@ def unreadable(named: Named, which: str) -> str:
 
 def wrong_size(named: Named, which: str) -> str:
     """What is wrong with the length of an image."""
-    size = size_of(named.file)
+    size = size_of(named.file) or 0
     text = f"{named.file} has {size} bytes, and {ALLOWED[which]}"
     if size == 0:
         return f"{text}: it is empty"
@@ -83,8 +83,8 @@ def wrong_size(named: Named, which: str) -> str:
 def of_image(said: str, lines: list[str], folder: pathlib.Path) -> Optional[str]:
     """What is wrong with the ROM or the disk, where the program said so."""
     match = re.fullmatch("(read fault|bad image|too long): (rom|disk)", said)
-    named = match and Named.of(lines, match[2], folder)
-    if not named:
+    named = Named.of(lines, match[2], folder) if match else None
+    if match is None or named is None:
         return None
     head = f"line {named.line} names the {match[2].replace('rom', 'ROM')} `{named.name}`"
     if match[1] == "read fault":

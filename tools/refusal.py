@@ -1,95 +1,120 @@
-"""A line that explains what the program said when it refused files."""
+"""A line that explains what the program said when it refused its words or the files that they name."""
 import os
 import pathlib
 import re
 from typing import Optional
 
 from command_files import files_of
+from image_faults import of_board_image, of_file, of_image, other_board
 from script_lines import REASONS
+from script_reasons import cause_of, right_of
+from wrong_words import ALONE, wrong_words
 
 ROOT = pathlib.Path(__file__).resolve().parent.parent
-SIZES = {"rom": "a ROM has 65536, 131072, 262144 or 524288", "disk": "a disk has 1 to 65536 sectors of 512"}
+LONGEST_SHOWN = 200
 
 
 def explained(text: str, words: list[str]) -> Optional[str]:
     """What is behind the text that the program gave to these words, or None where no more can be said."""
-    files = files_of(words)
-    said, _, rest = text.strip().partition(": ")
-    if said == "bad script" and "script" in files:
-        return bad_script(files["script"], rest)
-    if said in ("read fault", "bad image", "too long") and rest in SIZES and "script" in files:
-        return image_text(said, rest, files["script"])
-    if rest in files:
-        return {"read fault": unreadable, "bad image": no_image, "too long": long_file}[said](files[rest])
-    if said == "other board" and "image" in files:
-        return f"memory, cards or the presence of a disk differ between {files['image']} and {files['script']}"
-    return None
+    said = text.strip()
+    files = {kind: pathlib.Path(file) for kind, file in files_of(words).items()}
+    if said.startswith("usage: "):
+        return wrong_words(words)
+    bad = re.fullmatch(r"bad script: line (\d+): reason (\d+)", said)
+    if "script" in files and bad is not None:
+        return bad_script(files["script"], int(bad[1]), int(bad[2]))
+    differs = re.fullmatch(r"differs: line (\d+)", said)
+    if "log" in files and differs is not None:
+        return bad_log(files["script"], files["log"], int(differs[1]))
+    return of_files(said, files)
 
 
-def bad_script(file: str, rest: str) -> Optional[str]:
-    where = re.fullmatch(r"line (\d+): reason (\d+)", rest)
+def of_files(said: str, files: dict[str, pathlib.Path]) -> Optional[str]:
+    """What is wrong with a file of the words, or with one that their script names."""
+    if said == "bad image: image" and "image" in files:
+        return of_board_image(files["image"])
+    script = files.get("script")
+    if said == "other board" and "image" in files and script is not None:
+        more = other_board(files["image"], lines_of(script) or [])
+        return f"{files['image']} is the image of another board than that of {script}: {more}"
+    file = files.get(said.rpartition(": ")[2])
+    if file is not None:
+        text = of_file(said, file)
+        alone = f"; `{file}` stands alone: board {file}" if str(file) in ALONE else ""
+        return text and text + alone
+    named = of_image(said, lines_of(script) or [], pathlib.Path.cwd()) if script is not None else None
+    return f"{script}: {named}" if named else None
+
+
+def bad_script(file: pathlib.Path, number: int, reason: int) -> Optional[str]:
+    """Which line of a script is refused, why, and what a right one looks like."""
     lines = lines_of(file)
-    if where is None or lines is None or int(where[2]) not in REASONS:
+    if lines is None or number > len(lines) + 1 or reason not in REASONS:
         return None
-    number, reason = int(where[1]), REASONS[int(where[2])]
-    is_end = number > len(lines) or number == len(lines) and lines[-1] == ""
-    line = "the end of the file" if is_end else f'"{printable(lines[number - 1])}"'
-    return f"line {number} of {file} is {line}, and {reason}; {explain_tool()} {file} says more"
+    line = "" if is_end(lines, number) else lines[number - 1]
+    version = 2 if lines[0] == "board 2" else 1
+    cause = cause_of(reason, line, lines[: number - 1], os.path.getsize(file)) or REASONS[reason]
+    more = more_of(right_of(reason, line, version), file)
+    return f"line {number} of {file} is {shown(lines, number)}: {cause}{more}"
+
+
+def bad_log(script: pathlib.Path, log: pathlib.Path, number: int) -> Optional[str]:
+    """Which line of a log is none of a legal and complete history, and who tells the right one."""
+    lines = lines_of(log)
+    if lines is None:
+        return None
+    return (f"line {number} of {log} is {shown(lines, number)}, which no legal and complete history of {script} has "
+            f"there; {explain_tool()} {script} {log} tells the wanted line")
+
+
+def is_end(lines: list[str], number: int) -> bool:
+    """Whether a line of this number is the end of a file, which has these lines."""
+    return number > len(lines) or number == len(lines) and lines[-1] == ""
+
+
+def shown(lines: list[str], number: int) -> str:
+    return "the end of the file" if is_end(lines, number) else f'"{printable(lines[number - 1])}"'
+
+
+def more_of(right: list[str], file: pathlib.Path) -> str:
+    """What is said of right lines: the one that is meant, or who tells all of them."""
+    if len(right) > 1:
+        return f"; {explain_tool()} {file} lists the right ones"
+    return f"; a right line: {right[0]}" if right else ""
 
 
 def explain_tool() -> str:
     """How tools/explain is called from here."""
+    if not (ROOT / "crates.txt").exists():  # where ./board --install put it
+        return "board-explain"
     tool = ROOT / "tools/explain"
     near = os.path.relpath(tool)
     return near if near.count("..") < 3 else str(tool)
 
 
-def image_text(said: str, kind: str, script: str) -> Optional[str]:
-    """What is wrong with the ROM or the disk that a script names."""
-    named = next(((number, line.split(" ", 1)[1]) for number, line in enumerate(lines_of(script) or [], 1)
-                  if line.startswith(f"{kind} ")), None)
-    if named is None:
-        return None
-    what = f"line {named[0]} of {script} names the file {printable(named[1])}"
-    if said == "read fault":
-        return f"{what}, which {why_unread(named[1], os.getcwd())}: run board where the images lie"
-    return f"{what}, of {os.path.getsize(named[1])} bytes: {SIZES[kind]}" if os.path.isfile(named[1]) else None
-
-
-def unreadable(file: str) -> str:
-    return f"the file {file} {why_unread(file)}"
-
-
-def no_image(file: str) -> str:
-    return f"the file {file} is not what board save writes"
-
-
-def long_file(file: str) -> Optional[str]:
-    return f"the file {file} has {os.path.getsize(file)} bytes" if os.path.isfile(file) else None
-
-
-def why_unread(file: str, folder: str = "") -> str:
-    """Why a file cannot be read, which was looked for in a folder."""
-    where = f" in {folder}" if folder else ""
-    try:
-        with open(file, "rb") as it:
-            it.read(1)
-    except FileNotFoundError:
-        return f"is not{where or ' there'}"
-    except OSError as fault:
-        return f"cannot be read{where}: {fault.strerror}"
-    return f"could not be read{where}"
-
-
-def lines_of(file: str) -> Optional[list[str]]:
+def lines_of(file: pathlib.Path) -> Optional[list[str]]:
     """The lines of a file, or None where it is none that can be read again, as a pipe."""
-    if not os.path.isfile(file):
+    if not file.is_file():
         return None
     try:
-        return pathlib.Path(file).read_bytes().decode("latin-1").split("\n")
+        return file.read_bytes().decode("latin-1").split("\n")
     except OSError:
         return None
 
 
 def printable(line: str) -> str:
-    return line.encode("unicode_escape").decode()[:200]
+    return line.encode("unicode_escape").decode()[:LONGEST_SHOWN]
+
+
+def why_unread(file: str) -> str:
+    """Why a file cannot be read."""
+    try:
+        with open(file, "rb") as it:
+            it.read(1)
+    except FileNotFoundError:
+        return "is not there"
+    except IsADirectoryError:
+        return "is a folder"
+    except OSError as fault:
+        return f"cannot be read: {fault.strerror}"
+    return "could not be read"

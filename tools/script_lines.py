@@ -45,7 +45,9 @@ def hexadecimal(what: str, field: str, digits: int) -> Optional[str]:
         mark = re.search("[^0-9A-Fa-f]", field)
         return f"{what} is no hexadecimal number: `{mark[0]}` stands in it" if mark else f"{what} is missing"
     if len(field) != digits:
-        return f"{what} has {len(field)} digits and not {digits}, as {field.lstrip('0').rjust(digits, '0')[-digits:]}"
+        shorter = field.lstrip("0").rjust(digits, "0")
+        same = f", as {shorter}" if len(shorter) == digits else ""  # where no digit is lost
+        return f"{what} has {len(field)} digits and not {digits}{same}"
     return None
 
 
@@ -89,7 +91,13 @@ def port(field: str, fields: list[str], version: int) -> Optional[str]:
 
 
 def value(field: str, fields: list[str], version: int) -> Optional[str]:
-    return hexadecimal("the value", field, DIGITS[fields[0]])
+    digits = DIGITS[fields[0]]
+    wrong = hexadecimal("the value", field, digits)
+    is_number = re.fullmatch("[0-9A-Fa-f]+", field) is not None
+    other = next((width for width, count in DIGITS.items() if count == len(field)), None)
+    if is_number and other and len(field.lstrip("0")) > digits:
+        return f"{wrong}: the width is {fields[0]}, and {len(field)} digits are of {other}"
+    return wrong
 
 
 def kind(field: str, fields: list[str], version: int) -> Optional[str]:
@@ -195,8 +203,9 @@ MEANT = {
     "outb": "out b", "outw": "out w", "outl": "out d", "ind": "in d", "outd": "out d", "rb": "r b", "wb": "w b",
     "rw": "r w", "ww": "w w", "cpu": "cpus", "mem": "memory", "ram": "memory", "bios": "rom", "hda": "disk",
     "phases": "phase", "tick": "pulse", "pulses": "pulse", "time": "moment", "date": "moment", "int": "irq",
-    "inta": "ack",
+    "inta": "ack", "load": "r", "peek": "r", "store": "w", "poke": "w", "mov": "w",
 }
+TO_REGISTER = re.compile(r"mov +%?(e?[abcd]x|[abcd][lh]|e?[sd]i|e?[sb]p)\b", re.I)  # which reads what stands after it
 
 
 def word_of(line: str) -> str:
@@ -277,7 +286,7 @@ def of_word(line: str, version: int) -> Optional[str]:
             return "words are written in lower-case letters"
     wrong = of_first(words)
     if wrong or not re.fullmatch("[0-9]+", words[0]):
-        return wrong or unknown(words[0])
+        return wrong or unknown(words[0], line)
     if len(words) == 1:
         return "a statement is missing after the number of the processor"
     if words[1] in SETUP:
@@ -286,12 +295,19 @@ def of_word(line: str, version: int) -> Optional[str]:
         return of_fields(words[1], words[2:], version)
     if words[1].lower() in FORMS:
         return "words are written in lower-case letters"
-    return unknown(words[1])
+    return unknown(words[1], line)
 
 
-def unknown(word: str) -> str:
-    meant = MEANT.get(word.lower()) or next(iter(difflib.get_close_matches(word.lower(), FORMS, 1, 0.75)), None)
+def unknown(word: str, line: str) -> str:
+    meant = meant_by(word, line)
     return f"`{word[:40]}` is no word of a script" + (f": `{meant}`" if meant else "")
+
+
+def meant_by(word: str, line: str) -> Optional[str]:
+    """The word of a script, also with its width, that another stands for, as far as that can be seen."""
+    if TO_REGISTER.search(line):
+        return "r"
+    return MEANT.get(word.lower()) or next(iter(difflib.get_close_matches(word.lower(), FORMS, 1, 0.75)), None)
 
 
 # ---- the spaces and characters of a line
@@ -328,8 +344,30 @@ def cause(line: str, version: int) -> Optional[str]:
     return next((text for find in CHARACTERS if (text := find(line))), None) or of_word(line, version)
 
 
-def right_lines(line: str) -> list[str]:
-    """What right lines of its kind look like, or of all kinds where it is of none."""
+def right_lines(line: str, version: int) -> list[str]:
+    """What right lines of its kind look like: the line itself with the word that is meant, where that alone was wrong;
+    else the form of its kind, or of all kinds where it is of none."""
     word = word_of(line)
-    words = [word] if word in FORMS else list(FORMS)
-    return [f"{FORMS[word].text}, as: {FORMS[word].example}" for word in words]
+    meant = word if word in FORMS else meant_by(word, line)
+    if meant is None:
+        return [f"{form.text}, as: {form.example}" for form in FORMS.values()]
+    own = with_word(line, word, meant)
+    if meant != word and cause(own, version) is None:
+        return [own]
+    return [form_with_width(*meant.split(" "))]
+
+
+def with_word(line: str, word: str, meant: str) -> str:
+    """A line with the word that is meant in the place of its own."""
+    own = re.sub(rf"(?<!\S){re.escape(word)}(?!\S)", meant, line, count=1, flags=re.I)
+    return own if own[:1].isdecimal() or meant in SETUP else f"0 {own}"
+
+
+def form_with_width(word: str, width: str = "") -> str:
+    """The form of a word with an example of it, both with a width where one is known."""
+    form = FORMS[word]
+    if not width:
+        return f"{form.text}, as: {form.example}"
+    place = "0CF8" if word in ("in", "out") else "000A0000"
+    number = " " + "58".rjust(DIGITS[width], "0") if word in ("out", "w") else ""
+    return f"{form.text.replace(' W ', f' {width} ')}, as: 0 {word} {width} {place}{number}"

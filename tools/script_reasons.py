@@ -5,7 +5,7 @@ from dataclasses import dataclass, field
 from typing import Optional
 
 from board_texts import WIDTHS
-from script_lines import CHARACTERS, cause
+from script_lines import CHARACTERS, cause, right_lines
 
 MOST_STATEMENTS, MOST_PHASES, MOST_PULSES, MOST_BASES = 250_000, 1_000, 100_000_000, 64 << 20
 MOST_BYTES = 120
@@ -83,9 +83,9 @@ def first_line(line: str, size: int) -> str:
         return "an empty line stands before `board 1`"
     if line.startswith("#"):
         return "a comment stands before `board 1`: it comes after the first line"
-    for find in CHARACTERS:
-        if text := find(line):
-            return text
+    wrong = next((said for find in CHARACTERS if (said := find(line))), None)
+    if wrong:
+        return wrong
     words = line.split(" ")
     if re.fullmatch("board ?[0-9.]*", line.lower()) and line != line.lower():
         return "words are written in lower-case letters"
@@ -243,3 +243,10 @@ def cause_of(reason: int, line: str, lines_before: list[str], size: int) -> Opti
     if reason == 1:
         return first_line(line, size)
     return OF_REASON[reason](line, Before.of(lines_before))
+
+
+def right_of(reason: int, line: str, version: int) -> list[str]:
+    """What right lines look like in the place of a refused one, where its form or its numbers are wrong."""
+    if reason == 1:
+        return ["board 1"]
+    return right_lines(line, version) if reason in (3, 7, 8) else []
