@@ -1,0 +1,123 @@
+"""What another monitor answers otherwise than the board: each byte of each value, with the row of tools/differences.py that
+tells it, and the place that tells two of one row apart."""
+from dataclasses import dataclass
+from typing import Callable, Iterator, Optional, Sequence
+
+from board_texts import Entry
+from difference_state import Byte, State, differing
+from differences import reason_of
+
+from .protocol import CANNOT, DONE, Adapter, is_dead
+from .reference import answers_of, image_of
+from .scripts import Script, reads
+
+MIB = 1 << 20
+NO_ROW, NO_ANSWER = "no-row", "no-answer"
+TOLD_BY_BITS = (NO_ROW, "date")  # rows that say little: there the bits that differ tell causes apart
+CLOCK_DATA = 0x71
+AREAS = (
+    (0x80000, 0x9FFFF, "80000"), (0xA0000, 0xBFFFF, "A0000"), (0xC0000, 0xDFFFF, "C0000"), (0xE0000, 0xEFFFF, "E0000"),
+    (0xF0000, 0xFFFFF, "F0000"), (0xF00000, 0xFFFFFF, "F00000"), (0xFFF80000, 0xFFFDFFFF, "FFF80000"),
+    (0xFFFE0000, 0xFFFEFFFF, "FFFE0000"), (0xFFFF0000, 0xFFFFFFFF, "FFFF0000"),
+)
+MOST_DRAM = 64 * MIB
+
+
+@dataclass(frozen=True)
+class Difference:
+    """A byte that reads otherwise, or the statement at which the monitor ended."""
+
+    index: int  # of its statement in the script
+    entry: Entry  # the board's
+    given: str  # the monitor's whole value
+    row: str
+    kind: str
+    by: str
+    place: str
+    bits: int  # that differ
+
+    @property
+    def key(self) -> tuple[str, str, int]:
+        """What makes it the same one while a script becomes shorter."""
+        return self.row, self.place, self.bits if self.row in TOLD_BY_BITS else 0
+
+
+@dataclass(frozen=True)
+class Asked:
+    """A script that both answered. Statements that the monitor cannot do are left out for both, and counted."""
+
+    script: Script
+    entries: list[Entry]
+    answers: list[str]
+    left_out: int = 0
+
+    @property
+    def values(self) -> int:
+        """How many values were compared."""
+        return sum(reads(statement) for statement in self.script.statements)
+
+    def differences(self) -> list[Difference]:
+        return list(differences_of(self))
+
+
+def area_of(address: int) -> str:
+    """The part of the address space that an address is in, as a place of a difference."""
+    for first, last, name in AREAS:
+        if first <= address <= last:
+            return f"mem {name}"
+    return "mem dram" if address < MOST_DRAM else "mem high"
+
+
+def place_of(byte: Byte) -> str:
+    word = byte.entry.words[0]
+    if word not in ("r", "f", "in"):
+        return word
+    if byte.function:
+        return f"{byte.function}.{byte.offset:02X}"
+    if byte.is_memory:
+        return area_of(byte.place)
+    if byte.place == CLOCK_DATA:
+        return f"71[{byte.state.clock_index:02X}]"
+    return f"port {byte.place:04X}"
+
+
+def differences_of(asked: Asked) -> Iterator[Difference]:
+    """Each byte that reads otherwise, in the order of the script."""
+    state = State(asked.script.setup.memory * MIB, image_of(asked.script.setup.rom))
+    for index, (entry, given) in enumerate(zip(asked.entries, asked.answers)):
+        if is_dead(given):
+            why = given[1:].strip() or "it ended or hangs"
+            place = asked.script.statements[index].partition(" ")[0]
+            yield Difference(index, entry, given, NO_ANSWER, "the monitor ended or hangs", why, place, 0)
+            return
+        if given not in (DONE, CANNOT, entry.value) and entry.value != DONE:
+            for byte in differing(state, entry, given):
+                reason = reason_of(byte)
+                by = f"{reason.by}: {reason.what}" if reason.by else reason.what
+                yield Difference(index, entry, given, reason.name, reason.kind, by, place_of(byte), byte.differing)
+        state.note(entry)
+
+
+def ask_again(adapter: Adapter, script: Script, answers: list[str]) -> Asked:
+    """What the board answers to a script that the monitor answered. Where the monitor cannot do a statement, both are asked
+    without it."""
+    cannot = {statement for statement, answer in zip(script.statements, answers) if answer == CANNOT}
+    if not cannot:
+        return Asked(script, answers_of(script), answers)
+    less = script.without(cannot)
+    again = adapter.ask([less])[0] if less.statements else []
+    return Asked(less, answers_of(less), again, len(script.statements) - len(less.statements))
+
+
+def ask_both(adapter: Adapter, script: Script) -> Asked:
+    """What the monitor and the board answer to a script."""
+    return ask_again(adapter, script, adapter.ask([script])[0])
+
+
+def first_difference(asked: Asked, wanted: Callable[[Difference], bool]) -> Optional[Difference]:
+    return next((it for it in differences_of(asked) if wanted(it)), None)
+
+
+def keys_of(differences: Sequence[Difference]) -> list[tuple[str, str, int]]:
+    """The keys of differences, each once, in their order."""
+    return list(dict.fromkeys(it.key for it in differences))

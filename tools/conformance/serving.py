@@ -1,0 +1,51 @@
+"""An adapter's own side: scripts on standard input, an answer to each statement on standard output.
+
+    def answers_of(setup, statements):      yields one for each statement, and raises MonitorEnded where it ends
+        ...
+    serve(answers_of)
+"""
+import pathlib
+import sys
+from typing import Callable, Iterable, Sequence
+
+from .protocol import ENDED
+from .scripts import BEGIN, END, PHASE, Setup
+
+Answers = Callable[[Setup, Sequence[str]], Iterable[str]]
+
+
+class MonitorEnded(Exception):
+    """The monitor ended or hangs, at the statement whose answer is awaited."""
+
+
+def setup_of(lines: Iterable[str]) -> Setup:
+    """The machine of the lines between `board 2` and `phase`."""
+    fields: dict[str, list[str]] = {}
+    for line in lines:
+        word, _, rest = line.partition(" ")
+        fields.setdefault(word, []).append(rest)
+    disk = pathlib.Path(fields["disk"][0]) if "disk" in fields else None
+    return Setup(pathlib.Path(fields["rom"][0]), int(fields["memory"][0]), disk, tuple(fields.get("card", ())))
+
+
+def serve(answers_of: Answers) -> None:
+    """Answers scripts until standard input ends."""
+    setup: list[str] = []
+    statements: list[str] = []
+    into = setup
+    for line in sys.stdin:
+        text = line.rstrip("\n")
+        if text == BEGIN:
+            setup, statements = [], []
+            into = setup
+        elif text == PHASE:
+            into = statements
+        elif text == END:
+            try:
+                for answer in answers_of(setup_of(setup), statements):
+                    print(answer)
+            except MonitorEnded as why:
+                print(f"{ENDED} {why}")
+            print(END, flush=True)
+        else:
+            into.append(text)
