@@ -7,7 +7,7 @@ from typing import Iterator, Optional
 
 from board_texts import Entry, reply_texts, stop, text_of
 from difference_state import State, differing
-from differences import ABSENT, KINDS, Reason, reasons_of
+from differences import ABSENT, ALWAYS_COUNTED_UP, KINDS, Reason, reasons_of
 
 VALUE = re.compile(r"([1-9]\d*) ([0-9A-Fa-f]{2,16})(?: @(\d+))?(?: \? (\S+))?")
 GROUPED = "another-disk"  # all its words are one difference
@@ -118,8 +118,8 @@ def ranges(numbers: list[int]) -> str:
 class Comparison:
     """Takes the entries of a log in their order, each with what the monitor gave there."""
 
-    def __init__(self, installed: int, excepted: list[str], rom: bytes = b""):
-        self.state = State(installed, rom)
+    def __init__(self, installed: int, excepted: list[str], rom: bytes = b"", view: str = ""):
+        self.state = State(installed, rom, view)
         self.excepted = tuple(excepted)
         self.counts: dict[str, collections.Counter] = collections.defaultdict(collections.Counter)
         self.not_compared: collections.Counter = collections.Counter()
@@ -163,7 +163,7 @@ class Comparison:
         if reasons[0].name != GROUPED:
             self.kinds[it.kind] += 1
             return it
-        it.words = words_of(self.state.disk_words, entry.value, given.value)
+        it.words = words_of(self.state.disk.words, entry.value, given.value)
         if self.group:
             self.group.words += it.words
             return None
@@ -178,7 +178,8 @@ class Comparison:
             yield f"{name:14} {count['agree']:5} {count['differ']:6} {count['not']:12}"
         if self.not_compared:
             yield "not compared: " + ", ".join(f"{why} {count}" for why, count in self.not_compared.most_common())
-        yield "differences: " + ", ".join(f"{count} {kind}" for kind, count in self.kinds.items())
+        counts = {kind: count for kind, count in self.kinds.items() if count or kind in ALWAYS_COUNTED_UP}
+        yield "differences: " + ", ".join(f"{count} {kind}" for kind, count in counts.items())
 
     def count_item(self) -> dict:
         return {

@@ -1,21 +1,35 @@
 """What has to be known of the accesses before a difference, so that its cause can be told: who wrote memory and
-registers, which byte of the clock was chosen, and what the disk was asked."""
+registers, and what the log tells of each device."""
+import re
 from dataclasses import dataclass, field
-from typing import Iterator, Optional
+from typing import Iterable, Iterator, Optional
 
 from board_texts import WIDTHS, Entry, Writers
+from causes.clock import ClockBytes
+from causes.disk import DATA as DISK_DATA
+from causes.disk import Disk
+from causes.interrupts import CLOCK_LINE, COM1_LINE, DISK_LINE, Interrupts
+from causes.serial import COM1, Com1
+from causes.timer import Timer
 
-TIMES = (0, 2, 4, 6, 7, 8, 9, 0x0C, 0x32)
-COMMANDS = (0x20, 0x30, 0x40, 0x90, 0x91, 0xE7, 0xEC, 0xEF)
-IDENTIFY, WORDS_OF_A_SECTOR = 0xEC, 256
-OWN_REGISTERS = {
-    "00.0": (*range(0x59, 0x69), 0x72),
-    "01.0": (0x4E, 0x4F, *range(0x60, 0x64)),
-    "01.1": (0x40, 0x41),
-}
 LOCK, LOCK_BYTE = 0x10, 0x72
-DRIVE, HELD_RESET = 0x10, 0x04
-ICW1, OCW3, POLL = 0x10, 0x08, 4
+MAP_REGISTERS = {"00.0": (*range(0x59, 0x69), 0x72), "01.0": (0x4E,)}
+FIRST_WINDOW, FIRST_PAM, BIOS_WINDOW, END_OF_WINDOWS = 0xC0000, 0x5A, 0xF0000, 0x100000
+WINDOW, READ_OPEN = 0x4000, 0x01
+CONFADD, NMISC, GATE_2 = 0xCF8, 0x61, 0x01
+RESET_ENABLE, HARD = 0x04, 0x02
+DRAM = ("dram", "shadow", "smram")
+DEVICES: list[tuple[Iterable[int], tuple[str, ...]]] = [  # ports of a device, and what answers as it is written
+    ((0x20, 0x21), ("pic0", "vec0", "spur0")),
+    ((0xA0, 0xA1), ("pic1", "vec1", "spur1")),
+    (range(0x40, 0x44), ("pit", "pic0", "sys")),
+    ((0x61,), ("sys", "pit")),
+    ((0x70, 0x71), ("clock",)),
+    (range(0x1F1, 0x1F8), ("ata",)),
+    (range(0x3F8, 0x400), ("uart",)),
+    ((0x4D0, 0x4D1), ("elcr",)),
+]
+TARGETS_OF_PORT = {port: targets for ports, targets in DEVICES for port in ports}
 
 
 @dataclass
@@ -38,38 +52,36 @@ class Byte:
         return self.given ^ self.ours
 
     @property
+    def width(self) -> int:
+        """The bytes of the access."""
+        return WIDTHS[self.entry.words[1]] if self.entry.words[0] in ("r", "f", "in") else 1
+
+    @property
     def is_memory(self) -> bool:
         return self.entry.words[0] in ("r", "f")
 
     @property
     def is_dram(self) -> bool:
-        """Whether what was given is what was written there last, whoever took it, and what it did not give before; or
-        what memory begins with. Zeros that nobody wrote tell nothing where nobody answers."""
-        if self.place in self.state.written:
-            return self.state.written[self.place] == self.given and self.state.seen.get(self.place) != self.given
-        return self.given == 0 and self.target == "rom"
+        """Whether what was given is what the DRAM has there, or what was written there last, whoever took it, and what was
+        not given before. Zeros that nobody wrote tell nothing where nobody answers."""
+        state, at = self.state, self.place
+        if state.seen.get(at) != self.given and self.given in (state.written.get(at), state.landed.get(at)):
+            return True
+        return self.given == state.landed.get(at, 0) == 0 and self.target == "rom"
 
-    @property
-    def is_unselected_rom(self) -> bool:
-        """Whether the ROM's byte was given at an address where XBCS has to select the ROM. A zero tells nothing."""
-        rom, at = self.state.rom, self.place
-        is_range = 0xE0000 <= at < 0xF0000 or 0xFFF8_0000 <= at < 0xFFFF_0000
-        return bool(is_range and rom and self.given and rom[at % len(rom)] == self.given)
-
-    @property
-    def is_own_register(self) -> bool:
-        return self.offset in OWN_REGISTERS.get(self.function, ())
-
-    @property
-    def is_disk_status(self) -> bool:
-        return self.place in (0x1F7, 0x3F6)
+    def lost_by(self, denial: str) -> bool:
+        """Whether what was given is what was written there last, where a register of this pattern kept it out."""
+        lost = self.state.lost.get(self.place)
+        return self.is_memory and lost is not None and lost.value == self.given and bool(re.fullmatch(denial, lost.denial))
 
 
-@dataclass
-class Pic:
-    is_masked: bool = False  # its mask was set, and the next read of its odd port gives it
-    awaits_base: bool = False
-    base: Optional[int] = None
+@dataclass(frozen=True)
+class Lost:
+    """A byte that was written to memory, and did not come to it."""
+
+    value: int
+    denial: str
+    is_read_open: bool  # the window that it came to was open for reads
 
 
 @dataclass
@@ -78,95 +90,154 @@ class State:
 
     installed: int  # bytes of memory
     rom: bytes = b""
+    view: str = ""  # how the other was asked, where that shows
     writers: Writers = field(default_factory=Writers)
     written: dict[int, int] = field(default_factory=dict)  # of memory, whoever took it
+    landed: dict[int, int] = field(default_factory=dict)  # of memory, in the DRAM
+    lost: dict[int, Lost] = field(default_factory=dict)
     seen: dict[int, int] = field(default_factory=dict)  # what the other gave before, where nobody had written
     is_locked: bool = False
     has_windows: bool = False  # a PAM register was written
+    map_written: int = 0  # the statement that wrote a register of the map last
     confadd_written: int = 0
-    clock_index: int = 0
-    clock_written: set[int] = field(default_factory=set)
-    pics: tuple[Pic, Pic] = field(default_factory=lambda: (Pic(), Pic()))
-    pit_tells_status: bool = False
-    disk_command: Optional[int] = None
-    disk_words: int = 0
-    drive_1: bool = False  # is chosen, which is not there
-    disk_is_cut: bool = False  # a command came in the middle of a sector
+    is_confadd_written_narrow: bool = False  # by an access that is none to it, since a doubleword was
+    hard_reset: int = 0
+    soft_reset: int = 0
+    reset_control: int = 0
+    port_written: dict[int, int] = field(default_factory=dict)  # the statement that wrote each last
+    pic_written: int = 0
+    disk_written: int = 0
+    com1_written: int = 0
+    written_wide: set[str] = field(default_factory=set)  # targets to which a wide access came, that is not split
+    interrupts: Interrupts = field(default_factory=Interrupts)
+    timer: Timer = field(default_factory=Timer)
+    clock: ClockBytes = field(default_factory=ClockBytes)
+    disk: Disk = field(default_factory=Disk)
+    com1: Com1 = field(default_factory=Com1)
 
     def note(self, entry: Entry) -> None:
-        words, kind = entry.words, entry.target.partition(":")[0]
-        reset = self.writers.reset
+        words = entry.words
         self.writers.note(entry)
-        if self.writers.reset is not reset:
-            self.note_reset()
         if words[0] == "w":
-            self.note_memory(int(words[2], 16), WIDTHS[words[1]], int(words[3], 16))
+            self.note_memory(entry, int(words[2], 16), WIDTHS[words[1]], int(words[3], 16))
         elif words[0] == "out":
-            self.note_out(entry, kind, int(words[2], 16), int(words[3], 16))
-        elif words[0] == "in" and entry.target == "ata" and words[2] == "01F0":
-            self.disk_words += WIDTHS[words[1]] // 2
-        elif words[0] == "in" and kind == "pit":
-            self.pit_tells_status = False
+            self.note_out(entry, int(words[2], 16), int(words[3], 16))
+        elif words[0] == "in":
+            self.note_in(entry, int(words[2], 16))
+        elif words[0] == "irq":
+            self.interrupts.set_line(int(words[1]), words[2] == "1")
+        elif words[0] == "ack" and re.fullmatch("(vec|spur)[01]", entry.target):
+            self.interrupts.acknowledge(entry.target, int(entry.value, 16))
+        elif words[0] in ("moment", "second"):
+            self.interrupts.raise_line(CLOCK_LINE)
+        elif words[0] == "receive":
+            self.com1.receive()
 
-    def note_memory(self, address: int, size: int, value: int) -> None:
-        for k in range(size):
-            self.written[address + k] = value >> 8 * k & 255
+    def note_memory(self, entry: Entry, address: int, size: int, value: int) -> None:
+        for k, (place, target, denial) in enumerate(parts_of(entry)):
+            byte = value >> 8 * k & 0xFF
+            self.written[place] = byte
+            if target.partition(":")[0] in DRAM:
+                self.landed[place] = byte
+                self.lost.pop(place, None)
+            elif target.partition(":")[0] != "card":
+                self.lost[place] = Lost(byte, denial, self.is_read_open(place))
 
-    def note_out(self, entry: Entry, kind: str, port: int, value: int) -> None:
+    def note_in(self, entry: Entry, port: int) -> None:
+        kind = entry.target.partition(":")[0]
+        if kind == "ata" and port == DISK_DATA:
+            self.disk.move(WIDTHS[entry.words[1]] // 2, is_write=False)
+        elif kind == "pit":
+            self.timer.read(port)
+        elif kind in ("pic0", "pic1"):
+            self.interrupts.chips[kind == "pic1"].read(int(entry.value, 16))
+        elif kind == "clock" and port == 0x71:
+            self.clock.read()
+        elif kind == "uart":
+            self.com1.read(port)
+
+    def note_out(self, entry: Entry, port: int, value: int) -> None:
+        kind = entry.target.partition(":")[0]
+        self.port_written[port] = entry.number
         if kind == "config":
             self.note_config(entry, value)
         elif kind == "confadd":
-            self.confadd_written = entry.number
-        elif kind == "clock":
-            self.note_clock(port, value)
+            self.confadd_written, self.is_confadd_written_narrow = entry.number, False
+        elif kind == "reset":
+            self.note_reset_control(entry.number, value)
+        elif kind == "abort":
+            self.note_abort(port, WIDTHS[entry.words[1]])
+        else:
+            self.note_device(entry, kind, port, value)
+
+    def note_abort(self, port: int, width: int) -> None:
+        """Notes a write that nobody took."""
+        if port & ~3 == CONFADD and width < 4:
+            self.is_confadd_written_narrow = True
+        if width > 1:
+            self.written_wide.update(name for at in range(port, port + width) for name in TARGETS_OF_PORT.get(at, ()))
+
+    def note_device(self, entry: Entry, kind: str, port: int, value: int) -> None:
+        if kind == "clock":
+            self.clock.write(port, value, entry.number)
         elif kind in ("pic0", "pic1"):
-            self.note_pic(self.pics[kind == "pic1"], port, value)
-        elif kind == "pit" and port == 0x43:
-            self.pit_tells_status = value >> 6 == 3 and not value & 0x10
+            self.pic_written = entry.number
+            self.interrupts.write(int(kind == "pic1"), bool(port & 1), value)
+        elif kind == "elcr":
+            self.interrupts.write_elcr(port & 1, value)
+        elif kind == "pit":
+            self.timer.write(port, value)
+        elif kind == "sys":
+            self.timer.write_gate_2(bool(value & GATE_2))
         elif kind == "ata":
             self.note_disk(entry, port, value)
+        elif kind == "uart":
+            self.com1_written = entry.number
+            self.com1.write(port, value)
+            self.interrupts.raise_line(COM1_LINE)
 
     def note_disk(self, entry: Entry, port: int, value: int) -> None:
-        if port == 0x1F0:
-            self.disk_words += WIDTHS[entry.words[1]] // 2
-        elif port == 0x1F7:
-            self.disk_is_cut = self.disk_is_cut or self.disk_words % WORDS_OF_A_SECTOR != 0
-            self.disk_command, self.disk_words = value, 0
-        elif port == 0x1F6:
-            self.drive_1 = bool(value & DRIVE)
-        elif port == 0x3F6 and value & HELD_RESET:
-            self.disk_is_cut, self.disk_command, self.disk_words = False, None, 0
+        self.disk_written = entry.number
+        if port == DISK_DATA:
+            self.disk.move(WIDTHS[entry.words[1]] // 2, is_write=True)
+        else:
+            self.disk.write(port, value, entry.number)
+        self.interrupts.raise_line(DISK_LINE)
 
     def note_config(self, entry: Entry, value: int) -> None:
-        offset, size = int(entry.target[12:], 16), WIDTHS[entry.words[1]]
-        if entry.target[7:11] != "00.0":
+        function, offset, size = entry.target[7:11], int(entry.target[12:], 16), WIDTHS[entry.words[1]]
+        if any(it in MAP_REGISTERS.get(function, ()) for it in range(offset, offset + size)):
+            self.map_written = entry.number
+        if function != "00.0":
             return
         if offset <= LOCK_BYTE < offset + size and value >> 8 * (LOCK_BYTE - offset) & LOCK:
             self.is_locked = True
         self.has_windows = self.has_windows or offset + size > 0x59 and offset < 0x60
 
-    def note_clock(self, port: int, value: int) -> None:
-        if port == 0x70:
-            self.clock_index = value & 0x7F
-        else:
-            self.clock_written.add(self.clock_index)
+    def note_reset_control(self, number: int, value: int) -> None:
+        before, self.reset_control = self.reset_control, value
+        if value & RESET_ENABLE and not before & RESET_ENABLE:
+            if value & HARD:
+                self.note_hard_reset(number)
+            else:
+                self.soft_reset = number
 
-    @staticmethod
-    def note_pic(pic: Pic, port: int, value: int) -> None:
-        if port & 1:
-            if pic.awaits_base:
-                pic.awaits_base, pic.base = False, value & 0xF8
-        elif value & ICW1:
-            pic.is_masked = pic.awaits_base = True
-        elif value & OCW3 and value & POLL:
-            pic.is_masked = False  # the next read is a poll
-
-    def note_reset(self) -> None:
-        self.is_locked, self.clock_index, self.confadd_written = False, 0, 0
-        self.pics = (Pic(), Pic())
-        self.disk_command, self.disk_words, self.drive_1, self.disk_is_cut = None, 0, False, False
+    def note_hard_reset(self, number: int) -> None:
+        self.hard_reset, self.soft_reset, self.reset_control = number, 0, 0
+        self.is_locked, self.confadd_written, self.is_confadd_written_narrow = False, 0, False
+        self.written_wide.clear()
+        self.clock.index = 0
+        levels = self.interrupts.levels
+        self.interrupts = Interrupts(levels=levels, rose=levels)
+        self.timer, self.com1 = Timer(), Com1()
+        self.pic_written = self.disk_written = self.com1_written = 0
+        self.disk = Disk(written=self.disk.written)
 
     # ---- what a row asks
+
+    @property
+    def clock_index(self) -> int:
+        return self.clock.index
 
     def is_as_reset(self, byte: Byte) -> bool:
         """Whether a hard reset wrote this register last."""
@@ -174,38 +245,34 @@ class State:
             return False
         return byte.offset not in self.writers.last.get(byte.function, {})
 
+    def written_register(self, function: str, offset: int) -> Optional[Entry]:
+        """The last write of a register of configuration space."""
+        return self.writers.last.get(function, {}).get(offset)
+
+    def written_byte(self, function: str, offset: int) -> Optional[int]:
+        """What was written to a register of configuration space last."""
+        entry = self.written_register(function, offset)
+        if entry is None:
+            return None
+        return int(entry.words[3], 16) >> 8 * (offset - int(entry.target[12:], 16)) & 0xFF
+
+    def is_read_open(self, address: int) -> bool:
+        """Whether the shadow window there was opened for reads."""
+        if not FIRST_WINDOW <= address < END_OF_WINDOWS:
+            return False
+        window = (address - FIRST_WINDOW) // WINDOW
+        offset, shift = (0x59, 4) if address >= BIOS_WINDOW else (FIRST_PAM + window // 2, 4 * (window % 2))
+        return bool((self.written_byte("00.0", offset) or 0) >> shift & READ_OPEN)
+
     @property
     def is_confadd_as_reset(self) -> bool:
         return self.writers.reset is not None and not self.confadd_written
 
-    @property
-    def clock_is_date(self) -> bool:
-        return self.clock_index in TIMES
-
-    @property
-    def clock_is_written(self) -> bool:
-        return self.clock_index in self.clock_written
-
-    def pic_is_masked(self, byte: Byte) -> bool:
-        return self.pics[byte.target == "pic1"].is_masked
-
-    @property
-    def vector_bases(self) -> list[Optional[int]]:
-        return [pic.base for pic in self.pics]
-
-    def is_identify(self, byte: Byte) -> bool:
-        return byte.place == 0x1F0 and self.disk_command == IDENTIFY and self.disk_words < WORDS_OF_A_SECTOR
-
-    @property
-    def disk_takes(self) -> bool:
-        """Whether this board takes the last command."""
-        return self.disk_command is None or self.disk_command in COMMANDS
-
 
 def parts_of(entry: Entry) -> Iterator[tuple[int, str, str]]:
-    """Of each byte of a value its place, and the target and the denial of its part."""
+    """Of each byte of an access its place, and the target and the denial of its part."""
     words = entry.words
-    if words[0] not in ("r", "f", "in"):
+    if words[0] not in ("r", "f", "in", "w"):
         yield 0, entry.target, entry.replies[0][1]
         return
     place, size = int(words[2], 16), WIDTHS[words[1]]
@@ -234,6 +301,6 @@ def differing(state: State, entry: Entry, given: str) -> list[Byte]:
         if kind == "config":
             byte.function, byte.offset = rest[:4], int(rest[5:], 16) + at
         elif entry.words[1:] and entry.words[-1] == "01F0":
-            byte.place = 0x1F0
+            byte.place = DISK_DATA
         found.append(byte)
     return found
