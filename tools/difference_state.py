@@ -130,6 +130,7 @@ class State:
             self.interrupts.acknowledge(entry.target, int(entry.value, 16))
         elif words[0] in ("moment", "second"):
             self.interrupts.raise_line(CLOCK_LINE)
+            self.clock.go_on()
         elif words[0] == "receive":
             self.com1.receive()
 

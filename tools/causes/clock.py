@@ -23,18 +23,20 @@ class ClockBytes:
     written: dict[int, int] = field(default_factory=dict)
     numbers: dict[int, int] = field(default_factory=dict)  # the statement that wrote each last
     is_told: bool = False  # its seconds pass by statements alone
-    was_held: bool = False  # SET was 1 since register C was read
+    was_held: bool = False  # a second passed while SET was 1, since register C was read
 
     def write(self, port: int, value: int, number: int) -> None:
         if port == INDEX:
             self.index = value & 0x7F
             return
         self.written[self.index], self.numbers[self.index] = value, number
-        self.was_held = self.was_held or self.index == REGISTER_B and bool(value & SET)
 
     def read(self) -> None:
-        if self.index == REGISTER_C:
-            self.was_held = bool(self.written.get(REGISTER_B, 0) & SET)
+        self.was_held = self.was_held and self.index != REGISTER_C
+
+    def go_on(self) -> None:
+        """Notes that a second passed."""
+        self.was_held = self.was_held or bool(self.written.get(REGISTER_B, 0) & SET)
 
 
 def is_data(byte: "Byte") -> bool:
@@ -78,7 +80,7 @@ ROWS = [
         when=lambda it: not is_data(it)),
     Row("clock-reset", DATASHEET, "MC146818, RESET", "a reset clears the enables PIE, AIE and UIE, and SQWE", "clock",
         bits=ENABLES | 0x08, when=is_after_hard_reset),
-    Row("clock-held", CHOICE, "Clock", "while SET holds the time no flag is set", "clock",
+    Row("clock-held", CHOICE, "Clock", "while SET holds the time a second sets no flag", "clock",
         when=lambda it: is_at(REGISTER_C)(it) and it.state.clock.was_held),
     Row("clock-flags", DATASHEET, "MC146818, Register C",
         "AF, UF and PF are set by what they tell of, whether enabled or not, and a read clears them", "clock",
