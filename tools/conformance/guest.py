@@ -1,0 +1,138 @@
+"""A monitor that has booted the agent's BIOS, which makes the accesses by the guest's processor and is asked over COM1."""
+import os
+import shlex
+import signal
+import socket
+import subprocess
+import time
+from typing import Optional
+
+from .scripts import WIDTHS, Setup
+from .serving import MonitorEnded
+
+HELLO = 0x4E47_4121
+IN, OUT, READ, WRITE, SMM, SMM_READ, SMM_WRITE = 1, 4, 7, 10, 13, 14, 17  # what is asked, of a byte; then words, doublewords
+WIDTH_NUMBERS = {"b": 0, "w": 1, "d": 2}
+ANSWER_BYTES = 4
+COM1 = range(0x3F8, 0x400)
+RESET_CONTROL, RESETS = 0xCF9, 0x04
+SECONDS_TO_START, SECONDS_TO_ANSWER, SECONDS_TO_RESET, TICK = 60.0, 30.0, 0.5, 0.5
+
+
+def question(operation: int, place: int = 0, value: int = 0) -> bytes:
+    return bytes([operation]) + place.to_bytes(4, "little") + value.to_bytes(4, "little")
+
+
+def question_of(statement: str) -> Optional[bytes]:
+    """What the agent is asked for a statement, or None where it cannot do it. A fetch cannot: what would be fetched runs."""
+    word, *fields = statement.split(" ")
+    if word not in ("in", "out", "r", "w") or fields[0] not in WIDTH_NUMBERS:
+        return None
+    place, is_smm = int(fields[1], 16), fields[-1] == "smm"
+    if word in ("in", "out") and any(at in COM1 for at in range(place, place + WIDTHS[fields[0]])):
+        return None
+    of_memory = {"r": SMM_READ, "w": SMM_WRITE} if is_smm else {"r": READ, "w": WRITE}
+    value = int(fields[2], 16) if word in ("out", "w") else 0
+    return question({"in": IN, "out": OUT, **of_memory}[word] + WIDTH_NUMBERS[fields[0]], place, value)
+
+
+def is_reset(asked: bytes) -> bool:
+    """Whether a question may reset the machine: the agent then begins anew."""
+    return asked[0] == OUT and int.from_bytes(asked[1:5], "little") == RESET_CONTROL and bool(asked[5] & RESETS)
+
+
+class Guest:
+    """A monitor that was started by its command line, with {memory}, {rom}, {disk}, and the {port} on 127.0.0.1 that its COM1
+    calls."""
+
+    def __init__(self, command: str, setup: Setup) -> None:
+        self.link: Optional[socket.socket] = None
+        self.has_smm: Optional[bool] = None
+        with socket.create_server(("127.0.0.1", 0)) as server:
+            server.settimeout(TICK)
+            words = {"rom": setup.rom, "memory": setup.memory, "disk": setup.disk or "", "port": server.getsockname()[1]}
+            try:
+                self.process = subprocess.Popen(
+                    [it.format(**words) for it in shlex.split(command)], stdin=subprocess.DEVNULL,
+                    stdout=subprocess.DEVNULL, stderr=subprocess.DEVNULL, start_new_session=True)
+            except (OSError, KeyError, IndexError, ValueError) as fault:
+                raise MonitorEnded(f"{command} does not start: {fault}") from None
+            self.link = self.called(server)
+        if self.link is None:
+            status = self.process.poll()
+            self.close()
+            raise MonitorEnded(f"COM1 does not call, status {status}")
+        self.link.setsockopt(socket.IPPROTO_TCP, socket.TCP_NODELAY, 1)
+        self.link.settimeout(SECONDS_TO_ANSWER)
+        if self.answer() != HELLO:
+            raise MonitorEnded("the agent does not begin")
+
+    def called(self, server: socket.socket) -> Optional[socket.socket]:
+        """The connection of COM1, or None where the monitor ended or does not call."""
+        end = time.monotonic() + SECONDS_TO_START
+        while time.monotonic() < end:
+            try:
+                return server.accept()[0]
+            except TimeoutError:
+                if self.process.poll() is not None:
+                    break
+        return None
+
+    def close(self) -> None:
+        try:
+            os.killpg(self.process.pid, signal.SIGKILL)  # the group that was started here
+        except ProcessLookupError:
+            pass
+        self.process.wait()
+        if self.link:
+            self.link.close()
+
+    def answer(self) -> int:
+        assert self.link
+        data = b""
+        while len(data) < ANSWER_BYTES:
+            try:
+                more = self.link.recv(ANSWER_BYTES - len(data))
+            except TimeoutError:
+                raise MonitorEnded(f"the guest does not answer for {SECONDS_TO_ANSWER:g} seconds") from None
+            except OSError as fault:
+                raise MonitorEnded(str(fault)) from None
+            if not more:
+                raise MonitorEnded(self.end_told())
+            data += more
+        return int.from_bytes(data, "little")
+
+    def end_told(self) -> str:
+        """How the process ended, where it did."""
+        try:
+            return f"it ended with status {self.process.wait(TICK)}"
+        except subprocess.TimeoutExpired:
+            return "it closed COM1"
+
+    def ask(self, asked: bytes) -> int:
+        assert self.link
+        try:
+            self.link.sendall(asked)
+        except OSError as fault:
+            raise MonitorEnded(str(fault)) from None
+        return self.answer()
+
+    def reset_by(self, asked: bytes) -> None:
+        """A write that resets some monitors at once, some after its answer, and some not."""
+        assert self.link
+        if self.ask(asked) == HELLO:
+            return
+        self.link.settimeout(SECONDS_TO_RESET)
+        try:
+            if self.link.recv(1):
+                self.link.settimeout(SECONDS_TO_ANSWER)
+                for _ in range(ANSWER_BYTES - 1):
+                    self.link.recv(1)
+        except TimeoutError:
+            pass
+        self.link.settimeout(SECONDS_TO_ANSWER)
+
+    def can_enter_smm(self) -> bool:
+        if self.has_smm is None:
+            self.has_smm = self.ask(question(SMM)) == 1
+        return self.has_smm
