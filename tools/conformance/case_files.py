@@ -72,7 +72,7 @@ def expanded(lines: Iterable[str]) -> Iterator[str]:
         elif line == "done" and body is not None:
             for row in rows:
                 values = dict(zip(names, row))
-                yield from (re.sub(r"\{(\w+)\}", lambda found: values[found[1]], it) for it in body)
+                yield from (re.sub(r"\{(\w+)\}", lambda found: values[str(found[1])], it) for it in body)
             body = None
         elif body is not None:
             body.append(line)

@@ -81,13 +81,21 @@ def place_of(byte: Byte) -> str:
     return f"port {byte.place:04X}"
 
 
+def place_of_entry(entry: Entry) -> str:
+    """Where a statement goes, for one at which the monitor ended."""
+    kind, _, register = entry.target.partition(":")
+    if kind == "config":
+        return register
+    return f"port {entry.words[2]}" if entry.words[0] in ("in", "out") else kind
+
+
 def differences_of(asked: Asked) -> Iterator[Difference]:
     """Each byte that reads otherwise, in the order of the script."""
     state = State(asked.script.setup.memory * MIB, image_of(asked.script.setup.rom))
     for index, (entry, given) in enumerate(zip(asked.entries, asked.answers)):
         if is_dead(given):
             why = given[1:].strip() or "it ended or hangs"
-            place = asked.script.statements[index].partition(" ")[0]
+            place = f"{entry.words[0]} {place_of_entry(entry)}"
             yield Difference(index, entry, given, NO_ANSWER, "the monitor ended or hangs", why, place, 0)
             return
         if given not in (DONE, CANNOT, entry.value) and entry.value != DONE:

@@ -16,7 +16,7 @@ WIDTH_NUMBERS = {"b": 0, "w": 1, "d": 2}
 ANSWER_BYTES = 4
 COM1 = range(0x3F8, 0x400)
 RESET_CONTROL, RESETS = 0xCF9, 0x04
-SECONDS_TO_START, SECONDS_TO_ANSWER, SECONDS_TO_RESET, TICK = 60.0, 30.0, 0.5, 0.5
+SECONDS_TO_START, SECONDS_TO_ANSWER, SECONDS_TO_RESET, SECONDS_TO_END, TICK = 60.0, 30.0, 0.5, 2.0, 0.5
 
 
 def question(operation: int, place: int = 0, value: int = 0) -> bytes:
@@ -79,11 +79,16 @@ class Guest:
         return None
 
     def close(self) -> None:
-        try:
-            os.killpg(self.process.pid, signal.SIGKILL)  # the group that was started here
-        except ProcessLookupError:
-            pass
-        self.process.wait()
+        for number in (signal.SIGTERM, signal.SIGKILL):
+            try:
+                os.killpg(self.process.pid, number)  # the group that was started here
+                self.process.wait(SECONDS_TO_END)
+                break
+            except ProcessLookupError:
+                self.process.wait()
+                break
+            except subprocess.TimeoutExpired:
+                continue
         if self.link:
             self.link.close()
 

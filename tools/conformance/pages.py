@@ -35,7 +35,8 @@ def shown_page(found: Found, folder: pathlib.Path, number: int) -> str:
     for image in filter(None, (setup.rom, setup.disk)):
         if not (folder / image.name).exists():
             shutil.copy(image, folder)
-    words = [sys.executable, ROOT / "tools/show", script, *(["--beside", values] if texts[1] else [])]
+    beside = ["--beside", str(values)] if texts[1] else []
+    words = [sys.executable, str(ROOT / "tools/show"), str(script), *beside]
     made = subprocess.run(words, capture_output=True, text=True)
     if made.returncode:
         raise PageFault(f"{script}: tools/show ended with {made.returncode}: {made.stderr.strip()}")

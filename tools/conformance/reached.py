@@ -63,7 +63,7 @@ def registers_of(entry: Entry) -> Iterable[tuple[str, int]]:
 
 def marks_of(entry: Entry) -> set[tuple[str, str]]:
     """What an entry reaches, as kind and name."""
-    found = set()
+    found: set[tuple[str, str]] = set()
     for function, at in registers_of(entry):
         found.update(("register", f"{function}.{first:02X}") for first, last in REGISTERS.get(function, ()) if first <= at <= last)
     for target, denial in entry.replies:

@@ -5,8 +5,8 @@ from dataclasses import dataclass, field
 from typing import Iterable, Iterator, Optional, Sequence
 
 from .case_files import Case
-from .causes import Cause, cause_of
-from .compare import Asked, Difference, ask_again
+from .causes import BOARD, Cause, cause_of
+from .compare import NO_ANSWER, Asked, Difference, ask_again
 from .protocol import Adapter
 from .shrink import Shown, same_as, shrink
 
@@ -81,6 +81,7 @@ def causes_of(adapter: Adapter, results: Sequence[Result]) -> list[Found]:
             shown = shrink(adapter, result.asked, same_as(difference))
             if shown is None:
                 continue
-            cause = by_key[key] = cause_of(shown)
+            ended = Cause(f"the monitor ends at {difference.place}", BOARD, "")
+            cause = by_key[key] = ended if difference.row == NO_ANSWER else cause_of(shown)
             found.setdefault(cause, Found(cause, shown)).note(shown, result.case.name)
     return list(found.values())
