@@ -5,15 +5,14 @@ from typing import Callable, Iterator, Optional, Sequence
 
 from board_texts import Entry
 from difference_state import Byte, State, differing
-from differences import reason_of
+from differences import DATASHEET, Reason, reason_of
 
 from .protocol import CANNOT, DONE, Adapter, is_dead
 from .reference import answers_of, image_of
 from .scripts import Script, reads
 
 MIB = 1 << 20
-NO_ROW, NO_ANSWER = "no-row", "no-answer"
-TOLD_BY_BITS = (NO_ROW, "date")  # rows that say little: there the bits that differ tell causes apart
+NO_ANSWER = "no-answer"
 CLOCK_DATA = 0x71
 AREAS = (
     (0x80000, 0x9FFFF, "80000"), (0xA0000, 0xBFFFF, "A0000"), (0xC0000, 0xDFFFF, "C0000"), (0xE0000, 0xEFFFF, "E0000"),
@@ -30,16 +29,14 @@ class Difference:
     index: int  # of its statement in the script
     entry: Entry  # the board's
     given: str  # the monitor's whole value
-    row: str
-    kind: str
-    by: str
+    cause: Reason
     place: str
     bits: int  # that differ
 
     @property
-    def key(self) -> tuple[str, str, int]:
-        """What makes it the same one while a script becomes shorter."""
-        return self.row, self.place, self.bits if self.row in TOLD_BY_BITS else 0
+    def key(self) -> tuple[Reason, str]:
+        """What makes it the same one, at the same place."""
+        return self.cause, self.place
 
 
 @dataclass(frozen=True)
@@ -50,6 +47,7 @@ class Asked:
     entries: list[Entry]
     answers: list[str]
     left_out: int = 0
+    view: str = ""  # how the monitor was asked, where that is not as a processor asks: `qtest`
 
     @property
     def values(self) -> int:
@@ -91,41 +89,39 @@ def place_of_entry(entry: Entry) -> str:
 
 def differences_of(asked: Asked) -> Iterator[Difference]:
     """Each byte that reads otherwise, in the order of the script."""
-    state = State(asked.script.setup.memory * MIB, image_of(asked.script.setup.rom))
+    state = State(asked.script.setup.memory * MIB, image_of(asked.script.setup.rom), asked.view)
     for index, (entry, given) in enumerate(zip(asked.entries, asked.answers)):
         if is_dead(given):
-            why = given[1:].strip() or "it ended or hangs"
             place = f"{entry.words[0]} {place_of_entry(entry)}"
-            yield Difference(index, entry, given, NO_ANSWER, "the monitor ended or hangs", why, place, 0)
+            cause = Reason(NO_ANSWER, DATASHEET, "", f"the monitor ends at {place}")
+            yield Difference(index, entry, given, cause, place, 0)
             return
         if given not in (DONE, CANNOT, entry.value) and entry.value != DONE:
             for byte in differing(state, entry, given):
-                reason = reason_of(byte)
-                by = f"{reason.by}: {reason.what}" if reason.by else reason.what
-                yield Difference(index, entry, given, reason.name, reason.kind, by, place_of(byte), byte.differing)
+                yield Difference(index, entry, given, reason_of(byte), place_of(byte), byte.differing)
         state.note(entry)
 
 
-def ask_again(adapter: Adapter, script: Script, answers: list[str]) -> Asked:
+def ask_again(adapter: Adapter, script: Script, answers: list[str], view: str = "") -> Asked:
     """What the board answers to a script that the monitor answered. Where the monitor cannot do a statement, both are asked
     without it."""
     cannot = {statement for statement, answer in zip(script.statements, answers) if answer == CANNOT}
     if not cannot:
-        return Asked(script, answers_of(script), answers)
+        return Asked(script, answers_of(script), answers, view=view)
     less = script.without(cannot)
     again = adapter.ask([less])[0] if less.statements else []
-    return Asked(less, answers_of(less), again, len(script.statements) - len(less.statements))
+    return Asked(less, answers_of(less), again, len(script.statements) - len(less.statements), view)
 
 
-def ask_both(adapter: Adapter, script: Script) -> Asked:
+def ask_both(adapter: Adapter, script: Script, view: str = "") -> Asked:
     """What the monitor and the board answer to a script."""
-    return ask_again(adapter, script, adapter.ask([script])[0])
+    return ask_again(adapter, script, adapter.ask([script])[0], view)
 
 
 def first_difference(asked: Asked, wanted: Callable[[Difference], bool]) -> Optional[Difference]:
     return next((it for it in differences_of(asked) if wanted(it)), None)
 
 
-def keys_of(differences: Sequence[Difference]) -> list[tuple[str, str, int]]:
+def keys_of(differences: Sequence[Difference]) -> list[tuple[Reason, str]]:
     """The keys of differences, each once, in their order."""
     return list(dict.fromkeys(it.key for it in differences))

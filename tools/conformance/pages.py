@@ -49,7 +49,7 @@ def cause_row(found: Found, report: Report, name: str) -> str:
     lines = "\n".join([*found.shown.script.statements[:-1], f"{found.shown.script.statements[-1]} = "
                        f"{found.shown.difference.given}, board {found.shown.difference.entry.value}"])
     known = " (known)" if found.cause.name in report.known else ""
-    return (f'<tr><td><a href="{name}">{html.escape(found.cause.name)}</a>{known}</td><td>{html.escape(right_by(found.cause))}</td>'
+    return (f'<tr><td><a href="{name}">{html.escape(found.cause.name)}</a>{known}<br>{html.escape(found.cause.what)}</td><td>{html.escape(right_by(found.cause))}</td>'
             f"<td><pre>{html.escape(lines)}</pre></td><td>{html.escape(cases_named(found))}</td></tr>\n")
 
 

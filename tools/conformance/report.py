@@ -3,14 +3,14 @@ import re
 from dataclasses import dataclass
 from typing import Iterator, Optional, Sequence
 
-from .causes import ASKED, BOARD, LEFT_OUT, MONITOR, OPEN, Cause
+from differences import ABSENT, CHOICE, DATASHEET, DATE, EITHER, KINDS, OTHER, VIEW, Reason
+
 from .run import Found, Result
 from .shrink import Shown
 
-ORDER = (BOARD, MONITOR, OPEN, LEFT_OUT, ASKED)
 WHO_IS_RIGHT = {
-    BOARD: "the board is right", MONITOR: "the monitor is right", OPEN: "no document decides", LEFT_OUT: "the board does not have it",
-    ASKED: "it comes of how the monitor was asked",
+    DATASHEET: "the board is right", CHOICE: "a choice of the board", OTHER: "the monitor is right", EITHER: "both may be",
+    ABSENT: "not modelled by the board", VIEW: "it comes of how the monitor was asked", DATE: "a date",
 }
 MOST_CASES_NAMED = 4
 
@@ -41,7 +41,7 @@ class Report:
 
     def in_order(self) -> list[Found]:
         """The causes by who is right, each kind by its first case."""
-        return sorted(self.found, key=lambda it: ORDER.index(it.cause.verdict))
+        return sorted(self.found, key=lambda it: KINDS.index(it.cause.kind))
 
 
 def case_line(result: Result) -> str:
@@ -50,9 +50,9 @@ def case_line(result: Result) -> str:
     return f"{result.case.name:30} {result.case.device:16} {result.said:18} {result.case.rule}{left}"
 
 
-def right_by(cause: Cause) -> str:
+def right_by(cause: Reason) -> str:
     """Who is right, and by which section."""
-    return f"{WHO_IS_RIGHT[cause.verdict]}{f', by {cause.section}' if cause.section else ''}"
+    return f"{WHO_IS_RIGHT[cause.kind]}{f', by {cause.source}' if cause.by else ''}"
 
 
 def cases_named(found: Found) -> str:
@@ -72,7 +72,7 @@ def cause_lines(found: Found, known: frozenset[str]) -> Iterator[str]:
     """A cause with its shortest script."""
     mark = " (known)" if found.cause.name in known else ""
     again = {True: "", False: " (not again on a fresh machine)", None: ""}[found.again]
-    yield f"{found.cause.name}{mark}{again}"
+    yield f"{found.cause.name}{mark}{again}: {found.cause.what}"
     yield f"  {right_by(found.cause)}; in {cases_named(found)}"
     for statement in found.shown.script.statements[:-1]:
         yield f"    {statement}"
@@ -98,7 +98,7 @@ def script_texts(shown: Shown) -> tuple[str, str]:
 
 
 def result_item(result: Result) -> dict[str, object]:
-    differs = [{"statement": it.index + 1, "monitor": it.given, "board": it.entry.value, "row": it.row, "place": it.place}
+    differs = [{"statement": it.index + 1, "monitor": it.given, "board": it.entry.value, "cause": it.cause.name, "place": it.place}
                for it in result.wrong]
     return {"case": result.case.name, "device": result.case.device, "rule": result.case.rule, "said": result.said,
             "values": result.asked.values, "left_out": result.asked.left_out,
@@ -108,11 +108,10 @@ def result_item(result: Result) -> dict[str, object]:
 def cause_item(found: Found, known: frozenset[str]) -> dict[str, object]:
     shown = found.shown
     setup = shown.script.setup.lines()[1:-1]
-    return {"cause": found.cause.name, "right": found.cause.verdict, "section": found.cause.section,
-            "known": found.cause.name in known, "again": found.again, "cases": found.cases, "machine": setup,
+    return {"cause": found.cause.name, "kind": found.cause.kind, "by": found.cause.by,
+            "what": found.cause.what, "known": found.cause.name in known, "again": found.again, "cases": found.cases, "machine": setup,
             "script": shown.script.statements, "monitor": shown.difference.given, "board": shown.difference.entry.value,
-            "answered": [list(it) for it in shown.difference.entry.replies], "row": shown.difference.row,
-            "place": shown.difference.place}
+            "answered": [list(it) for it in shown.difference.entry.replies], "place": shown.difference.place}
 
 
 def json_item(report: Report, about: Optional[dict[str, object]] = None) -> dict[str, object]:

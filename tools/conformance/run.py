@@ -1,14 +1,16 @@
 """The cases asked of a monitor: what agrees, what differs, and the causes, each with its shortest script."""
+import collections
 import itertools
 import pathlib
-from dataclasses import dataclass, field
+from dataclasses import dataclass
 from typing import Iterable, Iterator, Optional, Sequence
 
+from differences import Reason
+
 from .case_files import Case
-from .causes import BOARD, Cause, cause_of
-from .compare import NO_ANSWER, Asked, Difference, ask_again
+from .compare import Asked, Difference, ask_again
 from .protocol import Adapter
-from .shrink import Shown, same_as, shrink
+from .shrink import Shown, of_cause, shrink
 
 AT_ONCE = 16  # cases that are asked before the first is told
 
@@ -44,44 +46,34 @@ class Result:
 class Found:
     """A cause, with its shortest script and the cases that show it."""
 
-    cause: Cause
+    cause: Reason
     shown: Shown
-    cases: list[str] = field(default_factory=list)
+    cases: list[str]
     again: Optional[bool] = None  # whether it was there on a fresh machine too, where that was tried
 
-    def note(self, shown: Shown, case: str) -> None:
-        if case not in self.cases:
-            self.cases.append(case)
-        if len(shown.script.statements) < len(self.shown.script.statements):
-            self.shown = shown
 
-
-def results_of(adapter: Adapter, cases: Iterable[Case], images: pathlib.Path,
-               rom: Optional[pathlib.Path]) -> Iterator[Result]:
+def results_of(adapter: Adapter, cases: Iterable[Case], images: pathlib.Path, rom: Optional[pathlib.Path] = None,
+               view: str = "") -> Iterator[Result]:
     """The results of cases, in their order."""
     left = iter(cases)
     while some := list(itertools.islice(left, AT_ONCE)):
         scripts = [case.script(images, rom) for case in some]
         for case, script, answers in zip(some, scripts, adapter.ask(scripts)):
-            asked = ask_again(adapter, script, answers)
+            asked = ask_again(adapter, script, answers, view)
             yield Result(case, asked, asked.differences())
 
 
 def causes_of(adapter: Adapter, results: Sequence[Result]) -> list[Found]:
-    """The causes behind the differences, in the order in which they were found. Each difference that has another row or
-    another place than those before it is made small."""
-    found: dict[Cause, Found] = {}
-    by_key: dict[tuple[str, str, int], Cause] = {}
+    """The causes behind the differences, in the order in which they were found, each made small from the case that shows it
+    after the fewest statements."""
+    shown_by: dict[Reason, dict[str, tuple[int, Asked]]] = collections.defaultdict(dict)
     for result in results:
-        for difference in result.differences:
-            key = difference.key
-            if key in by_key:
-                found[by_key[key]].note(found[by_key[key]].shown, result.case.name)
-                continue
-            shown = shrink(adapter, result.asked, same_as(difference))
-            if shown is None:
-                continue
-            ended = Cause(f"the monitor ends at {difference.place}", BOARD, "")
-            cause = by_key[key] = ended if difference.row == NO_ANSWER else cause_of(shown)
-            found.setdefault(cause, Found(cause, shown)).note(shown, result.case.name)
-    return list(found.values())
+        for it in result.differences:
+            shown_by[it.cause].setdefault(result.case.name, (it.index, result.asked))
+    found = []
+    for cause, cases in shown_by.items():
+        _, asked = min(cases.values(), key=lambda it: it[0])
+        shown = shrink(adapter, asked, of_cause(cause))
+        if shown:
+            found.append(Found(cause, shown, list(cases)))
+    return found

@@ -4,8 +4,10 @@ It becomes shorter by whole steps, since single statements would leave devices h
 the first step, the prologue, goes last and only where nothing of it matters.
 """
 import re
-from dataclasses import dataclass
+from dataclasses import dataclass, replace
 from typing import Callable, Optional
+
+from differences import Reason
 
 from .compare import Asked, Difference, ask_both, first_difference
 from .protocol import Adapter
@@ -26,14 +28,18 @@ class Shown:
 
 
 def same_as(difference: Difference) -> Wanted:
-    """Whether another difference is the same one."""
+    """Whether another difference is the same one, at the same place."""
     return lambda it: it.key == difference.key
 
 
-def shows(adapter: Adapter, script: Script, wanted: Wanted) -> Optional[Shown]:
+def of_cause(cause: Reason) -> Wanted:
+    """Whether a difference has this cause, wherever it is."""
+    return lambda it: it.cause == cause
+
+
+def shows(adapter: Adapter, script: Script, wanted: Wanted, view: str = "") -> Optional[Shown]:
     """The script up to the first difference that is wanted, or None where none is."""
-    asked = ask_both(adapter, script)
-    return up_to_difference(asked, wanted)
+    return up_to_difference(ask_both(adapter, script, view), wanted)
 
 
 def up_to_difference(asked: Asked, wanted: Wanted) -> Optional[Shown]:
@@ -48,7 +54,7 @@ def up_to_difference(asked: Asked, wanted: Wanted) -> Optional[Shown]:
         if not left:
             break
     script, end = Script.of(asked.script.setup, steps), found.index + 1
-    return Shown(script, Asked(script, asked.entries[:end], asked.answers[:end], asked.left_out), found)
+    return Shown(script, replace(asked, script=script, entries=asked.entries[:end], answers=asked.answers[:end]), found)
 
 
 class Shrinking:
@@ -65,7 +71,7 @@ class Shrinking:
     def becomes(self, script: Script) -> bool:
         """Whether another script shows it too, with fewer steps: then it is the best one."""
         self.left -= 1
-        found = shows(self.adapter, script, self.wanted)
+        found = shows(self.adapter, script, self.wanted, self.best.asked.view)
         if found is None or len(found.script.statements) >= len(self.best.script.statements):
             return False
         self.best = found
