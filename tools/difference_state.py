@@ -72,7 +72,9 @@ class Byte:
     def lost_by(self, denial: str) -> bool:
         """Whether what was given is what was written there last, where a register of this pattern kept it out."""
         lost = self.state.lost.get(self.place)
-        return self.is_memory and lost is not None and lost.value == self.given and bool(re.fullmatch(denial, lost.denial))
+        return (
+            self.is_memory and lost is not None and lost.value == self.given and bool(re.fullmatch(denial, lost.denial))
+        )
 
 
 @dataclass(frozen=True)

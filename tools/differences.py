@@ -12,15 +12,41 @@ from causes import clock, disk, interrupts, memory, ports, registers, serial, ti
 from causes.row import ABSENT, ALWAYS_COUNTED_UP, CHOICE, COUNTED, DATASHEET, DATE, EITHER, KINDS, OTHER, VIEW, Row
 from difference_state import Byte
 
-__all__ = ["ABSENT", "ALWAYS_COUNTED_UP", "CHIPS", "CHOICE", "COUNTED", "DATASHEET", "DATE", "EITHER", "KINDS", "OTHER", "TABLE",
-           "VIEW", "Reason", "Row", "reason_of", "reasons_of"]
+__all__ = [
+    "ABSENT",
+    "ALWAYS_COUNTED_UP",
+    "CHIPS",
+    "CHOICE",
+    "COUNTED",
+    "DATASHEET",
+    "DATE",
+    "EITHER",
+    "KINDS",
+    "OTHER",
+    "TABLE",
+    "VIEW",
+    "Reason",
+    "Row",
+    "reason_of",
+    "reasons_of",
+]
 CHIPS = {"00.0": "82441FX", "01.0": "82371SB, function 0", "01.1": "82371SB, function 1"}
-LAST = Row("no-row", CHOICE, "Registers", "no other row of tools/differences.py tells it: it is this board's own reading", ".*")
+LAST = Row(
+    "no-row", CHOICE, "Registers", "no other row of tools/differences.py tells it: it is this board's own reading", ".*"
+)
 # A wide access that is not split hides what a device would give, so its row comes before those of the devices.
 WIDE_WRITTEN = [row for row in ports.ROWS if row.name == "wide-written"]
 TABLE = [
-    *registers.ROWS, *memory.ROWS, *WIDE_WRITTEN, *(row for row in ports.ROWS if row not in WIDE_WRITTEN), *interrupts.ROWS,
-    *timer.ROWS, *clock.ROWS, *disk.ROWS, *serial.ROWS, LAST,
+    *registers.ROWS,
+    *memory.ROWS,
+    *WIDE_WRITTEN,
+    *(row for row in ports.ROWS if row not in WIDE_WRITTEN),
+    *interrupts.ROWS,
+    *timer.ROWS,
+    *clock.ROWS,
+    *disk.ROWS,
+    *serial.ROWS,
+    LAST,
 ]
 
 

@@ -13,7 +13,10 @@ TIME, CENTURY = (0, 2, 4, 6, 7, 8, 9), 0x32
 MEMORY_BEGIN = 0x0E
 SET, UPDATE_IN_PROGRESS, ENABLES = 0x80, 0x80, 0x70
 LAST_OF_0, LAST_OF_1 = (59, 0x59, 23, 0x23, 99, 0x99), (7, 12, 0x12, *range(28, 32), *range(0x28, 0x32))
-TURNS = {*((0, last) for last in LAST_OF_0), *((1, last) for last in LAST_OF_1)}  # what follows the last one is the first
+TURNS = {
+    *((0, last) for last in LAST_OF_0),
+    *((1, last) for last in LAST_OF_1),
+}  # what follows the last one is the first
 TIME_SECTION = "MC146818, Time, Calendar, and Alarm Locations"
 
 
@@ -76,29 +79,99 @@ if TYPE_CHECKING:
     When = Callable[[Byte], bool]
 
 ROWS = [
-    Row("clock-index", CHOICE, "Clock", "a read of port 70h gives FF: the index can be written alone", "clock",
-        when=lambda it: not is_data(it)),
-    Row("clock-reset", DATASHEET, "MC146818, RESET", "a reset clears the enables PIE, AIE and UIE, and SQWE", "clock",
-        bits=ENABLES | 0x08, when=is_after_hard_reset),
-    Row("clock-held", CHOICE, "Clock", "while SET holds the time a second sets no flag", "clock",
-        when=lambda it: is_at(REGISTER_C)(it) and it.state.clock.was_held),
-    Row("clock-flags", DATASHEET, "MC146818, Register C",
-        "AF, UF and PF are set by what they tell of, whether enabled or not, and a read clears them", "clock",
-        when=lambda it: is_at(REGISTER_C)(it) and it.state.clock.is_told),
-    Row("clock-date", DATASHEET, TIME_SECTION,
+    Row(
+        "clock-index",
+        CHOICE,
+        "Clock",
+        "a read of port 70h gives FF: the index can be written alone",
+        "clock",
+        when=lambda it: not is_data(it),
+    ),
+    Row(
+        "clock-reset",
+        DATASHEET,
+        "MC146818, RESET",
+        "a reset clears the enables PIE, AIE and UIE, and SQWE",
+        "clock",
+        bits=ENABLES | 0x08,
+        when=is_after_hard_reset,
+    ),
+    Row(
+        "clock-held",
+        CHOICE,
+        "Clock",
+        "while SET holds the time a second sets no flag",
+        "clock",
+        when=lambda it: is_at(REGISTER_C)(it) and it.state.clock.was_held,
+    ),
+    Row(
+        "clock-flags",
+        DATASHEET,
+        "MC146818, Register C",
+        "AF, UF and PF are set by what they tell of, whether enabled or not, and a read clears them",
+        "clock",
+        when=lambda it: is_at(REGISTER_C)(it) and it.state.clock.is_told,
+    ),
+    Row(
+        "clock-date",
+        DATASHEET,
+        TIME_SECTION,
         "the time and the date are in the form, binary or decimal and of 12 or 24 hours, that register B says, and keep what "
-        "is written", "clock", when=is_date_asked),
-    Row("date", DATE, "", "the date, or the flags that hang on it", "clock",
-        when=lambda it: is_at(*TIME, REGISTER_C, CENTURY)(it) and (it.state.clock.index != CENTURY or not is_written(it))),
-    Row("clock-d", DATASHEET, "MC146818, Register D", "bit 7 is set, and the others read 0", "clock",
-        when=is_at(REGISTER_D)),
-    Row("clock-update", DATE, "", "bit 7 of register A, the update in progress", "clock", bits=UPDATE_IN_PROGRESS,
-        when=lambda it: is_at(REGISTER_A)(it) and it.differing == UPDATE_IN_PROGRESS),
-    Row("clock-a", DATASHEET, "MC146818, Register A", "bits 6 to 0 keep what is written", "clock", bits=0x7F,
-        when=lambda it: is_at(REGISTER_A)(it) and is_written(it)),
-    Row("clock-b", DATASHEET, "MC146818, Register B", "it keeps what is written, but that SET clears UIE", "clock", bits=0xFE,
-        when=lambda it: is_at(REGISTER_B)(it) and is_written(it)),
-    Row("clock-memory", DATASHEET, "MC146818, Address Map", "a byte of its memory keeps what is written", "clock",
-        when=lambda it: it.state.clock.index < 0x40 and is_written(it)),
+        "is written",
+        "clock",
+        when=is_date_asked,
+    ),
+    Row(
+        "date",
+        DATE,
+        "",
+        "the date, or the flags that hang on it",
+        "clock",
+        when=lambda it: is_at(*TIME, REGISTER_C, CENTURY)(it)
+        and (it.state.clock.index != CENTURY or not is_written(it)),
+    ),
+    Row(
+        "clock-d",
+        DATASHEET,
+        "MC146818, Register D",
+        "bit 7 is set, and the others read 0",
+        "clock",
+        when=is_at(REGISTER_D),
+    ),
+    Row(
+        "clock-update",
+        DATE,
+        "",
+        "bit 7 of register A, the update in progress",
+        "clock",
+        bits=UPDATE_IN_PROGRESS,
+        when=lambda it: is_at(REGISTER_A)(it) and it.differing == UPDATE_IN_PROGRESS,
+    ),
+    Row(
+        "clock-a",
+        DATASHEET,
+        "MC146818, Register A",
+        "bits 6 to 0 keep what is written",
+        "clock",
+        bits=0x7F,
+        when=lambda it: is_at(REGISTER_A)(it) and is_written(it),
+    ),
+    Row(
+        "clock-b",
+        DATASHEET,
+        "MC146818, Register B",
+        "it keeps what is written, but that SET clears UIE",
+        "clock",
+        bits=0xFE,
+        when=lambda it: is_at(REGISTER_B)(it) and is_written(it),
+    ),
+    Row(
+        "clock-memory",
+        DATASHEET,
+        "MC146818, Address Map",
+        "a byte of its memory keeps what is written",
+        "clock",
+        when=lambda it: it.state.clock.index < 0x40 and is_written(it),
+    ),
     Row("clock-first", CHOICE, "Clock", "what the clock holds at power-on, and its 128 bytes", "clock"),
 ]
