@@ -443,7 +443,8 @@ enum board_end {
 /* What comes next. A part whose target is BOARD_DRAM or BOARD_SHADOW is of memory, at the addresses
  * themselves, and none of its bytes lies at A0000h to BFFFFh; none is SMRAM. One of BOARD_CARD or
  * BOARD_ROM has the offset of the first byte; past the end of the ROM it is the ROM's first again,
- * and a write to the ROM is lost. Past the installed memory a read gives FFh, and a write is lost. */
+ * and a write to the ROM is lost. Past the installed memory a read gives FFh, and a write is lost.
+ * At A0000h to BFFFFh each word is a piece of its own: bytes is 2 there. */
 typedef struct board_piece {
     uint64_t disk;     /* BOARD_WORDS: their first byte on the disk, counted from sector 0 on */
     uint32_t addr;     /* of the descriptor; of the first word in memory; at BOARD_ABORTED */
@@ -457,8 +458,10 @@ typedef struct board_piece {
 } board_piece;
 
 /* Begins a transfer of 1 to 256 sectors from lba on, below 2^28, by the table of descriptors at an
- * address that is a multiple of 4. readable is how many of the sectors, from the first on, are there
- * and can be read: then one comes that is not, or the last. No handle.
+ * address that is a multiple of 4. Only lba itself is below 2^28: the sectors may go on past it.
+ * readable is how many of the sectors, from the first on, are there and can be read: then one comes
+ * that is not, or the last. It may be any number: with 0 the first sector is BOARD_MISSING, and with
+ * as many as the sectors, or more, none is. No handle.
  * NO_TRANSFER of other numbers. */
 uint32_t board_transfer_begin(board_transfer *transfer, uint32_t table, uint32_t lba,
                               uint32_t sectors, uint32_t readable, bool to_memory);

@@ -98,7 +98,7 @@ head_format =
 
 record IsFitted (head : Head) (setup : Setup) : Type 0 where
   pub mib : setup.mib ≡ head.mib
-  pub cards : AreCardsOf head.cards most_card_memory setup.cards
+  pub cards : AreCardsOf false head.cards most_card_memory setup.cards
   pub rom : length setup.rom ≡ head.rom_size
   pub disk : is_some setup.disk ≡ head.has_disk
   pub disk_size : length (disk_bytes setup) ≡ head.disk_size
@@ -113,7 +113,7 @@ setup_format head is =
     let disk : head.disk_size ≤ 0x200_0000 = grind (arith, nat_tests, is.disk) in
     let cards = is.cards.1 in
     wider 34_078_800 (fields_format
-    (cards_format head.cards most_card_memory then λ cards good.
+    (cards_format false head.cards most_card_memory then λ cards good.
     plain_format head.rom_size then λ rom long.
     last_field (λ disk. record { mib = head.mib; cards = cards; rom = rom; disk = disk_where head.has_disk disk })
     (plain_format head.disk_size))

@@ -1,11 +1,11 @@
 -- The fields of an image, each with the values that it can have after those before it, and the first that is bad.
-use Rattle.std.specs.Prelude.{ℕ, zero, suc, ◌≡◌, ◌+◌, ◌-◌, ◌==◌, Bool, true, false, nat_le, ◌&&◌, if◌then◌else◌, List}
+use Rattle.std.specs.Prelude.{ℕ, zero, suc, ◌≡◌, ◌+◌, ◌-◌, ◌==◌, Bool, true, false, nat_le, ◌&&◌, ◌||◌, if◌then◌else◌, List}
 use Rattle.std.specs.Prelude.{[], ◌∷◌, length, Option, Some, None, Err}
 use Rattle.board_prelude.specs.Common.{w8, w16, w32, Statement, Base, MemoryBase, IoBase, OutsideBase, FittedCard}
 use Rattle.board_prelude.specs.Common.{Setup, is_base_in_range, is_rom_in_range, is_rom_size, is_disk_length}
 use Rattle.board_prelude.specs.Common.{memory_of_cards, memory_size, most_statements, most_card_memory}
 use Rattle.board_image.specs.declared.head.Head.{Head}
-use Rattle.image_writer.specs.ImageBytes.{Saved, magic, image_version, io_base, outside_base}
+use Rattle.image_writer.specs.ImageBytes.{Saved, magic, image_version, io_base, keeps_bytes, outside_base}
 use Rattle.byte_fields.specs.Fields.{Reading, gives, ◌>>=◌, number, number_where, within, where_true, plain, exactly}
 use Rattle.byte_fields.specs.Fields.{ended, flag_field}
 use Rattle.board_image.specs.EventFields.{step_fields}
@@ -44,19 +44,23 @@ base_of_byte byte =
     if nat_le io_base byte then IoBase (byte - io_base) else
     if nat_le outside_base byte then OutsideBase (byte - outside_base) else MemoryBase byte
 
--- a base that a card can have, whose memory is no more than is left for it
-abbrev pub has_room : (room : ℕ) → Base → Bool
-has_room room base = is_base_in_range base && nat_le (memory_size base) room
+-- whether a base can stand there: one of which the board keeps no bytes is of a running board, and of no image
+abbrev pub can_stand : (outside : Bool) → Base → Bool
+can_stand outside base = outside || keeps_bytes base
+
+-- a base that a card can have there, whose memory is no more than is left for it
+abbrev pub has_room : (outside : Bool) (room : ℕ) → Base → Bool
+has_room outside room base = is_base_in_range base && nat_le (memory_size base) room && can_stand outside base
 
 -- a base where so many bytes are left for memory
-abbrev pub base_in : (room : ℕ) → ℕ → Option Base
-base_in room byte = where_true (has_room room (base_of_byte byte)) (base_of_byte byte)
+abbrev pub base_in : (outside : Bool) (room : ℕ) → ℕ → Option Base
+base_in outside room byte = where_true (has_room outside room (base_of_byte byte)) (base_of_byte byte)
 
-unfoldable pub bases_fields : (count room : ℕ) → Reading (List Base)
-bases_fields zero room = gives []
-bases_fields (suc count) room = do
-  base ← number w8 (base_in room)
-  later ← bases_fields count (room - memory_size base)
+unfoldable pub bases_fields : (outside : Bool) (count room : ℕ) → Reading (List Base)
+bases_fields outside zero room = gives []
+bases_fields outside (suc count) room = do
+  base ← number w8 (base_in outside room)
+  later ← bases_fields outside count (room - memory_size base)
   gives (base ∷ later)
 
 -- 0, or an expansion ROM that a card can have
@@ -64,20 +68,20 @@ abbrev pub rom_of : ℕ → Option (Option ℕ)
 rom_of bits = if bits == 0 then Some None else where_true (is_rom_in_range (Some bits)) (Some bits)
 
 -- a card whose device number lies above that of the card before
-unfoldable pub card_fields : (above room : ℕ) → Reading FittedCard
-card_fields above room = do
+unfoldable pub card_fields : (outside : Bool) (above room : ℕ) → Reading FittedCard
+card_fields outside above room = do
   dev ← within w8 (above + 1) 9
   vga ← flag_field
   rom ← number w8 rom_of
   count ← within w8 0 6
-  bases ← bases_fields count room
+  bases ← bases_fields outside count room
   gives (record { dev = dev; vga = vga; bases = bases; rom = rom })
 
-unfoldable pub cards_fields : (count above room : ℕ) → Reading (List FittedCard)
-cards_fields zero above room = gives []
-cards_fields (suc count) above room = do
-  card ← card_fields above room
-  later ← cards_fields count card.dev (room - memory_of_cards (card ∷ []))
+unfoldable pub cards_fields : (outside : Bool) (count above room : ℕ) → Reading (List FittedCard)
+cards_fields outside zero above room = gives []
+cards_fields outside (suc count) above room = do
+  card ← card_fields outside above room
+  later ← cards_fields outside count card.dev (room - memory_of_cards (card ∷ []))
   gives (card ∷ later)
 
 -- ---- the whole
@@ -86,10 +90,10 @@ abbrev pub disk_where : (has_disk : Bool) → List ℕ → Option (List ℕ)
 disk_where false bytes = None
 disk_where true bytes = Some bytes
 
--- the first device number is 2
+-- the first device number is 2, and the board keeps the bytes of all bases
 unfoldable pub setup_fields : Head → Reading Setup
 setup_fields head = do
-  cards ← cards_fields head.cards 1 most_card_memory
+  cards ← cards_fields false head.cards 1 most_card_memory
   rom ← plain head.rom_size
   disk ← plain head.disk_size
   gives (record { mib = head.mib; cards = cards; rom = rom; disk = disk_where head.has_disk disk })

@@ -4,6 +4,7 @@ ghost use Rattle.std.specs.Prelude.{◌≡◌, ◌≤◌, ◌-◌, ◌<◌, ◌�
 ghost use Rattle.board_prelude.specs.Common.{w8, most_card_memory, IsBase, memory_of_cards, memory_size};
 ghost use Rattle.pci_bars.specs.Bases.{base_of};
 ghost use Rattle.byte_fields.specs.Fields.{Took, Filled, number};
+ghost use Rattle.image_writer.specs.ImageBytes.{keeps_bytes};
 ghost use Rattle.board_image.specs.ImageFields.{base_in, base_of_byte, rom_of, bases_fields, card_fields, cards_fields};
 
 use arrayvec::ArrayVec;
@@ -20,13 +21,24 @@ const LAST_DEVICE: u8 = 9;
 /// The most bytes behind the memory bases of all cards.
 const MOST_CARD_MEMORY: u32 = 0x400_0000;
 
-/// The base that a byte stands for. None where it stands for none, or for one that wants more memory than `room`.
-fn base_in(room: u32, byte: u8) -> Option<BaseSpec>
-    ensures said { option_map base_of result ≡ base_in room byte }
+/// Whether the board keeps the bytes behind a base.
+fn keeps_bytes(base: BaseSpec) -> bool
+    ensures said { result ≡ keeps_bytes (base_of base) }
+{
+    match base {
+        BaseSpec::Outside(_) => false,
+        _ => true,
+    }
+}
+
+/// The base that a byte stands for. None where it stands for none, or for one that wants more memory than `room`, or
+/// for one of which the board keeps no bytes, unless such a base may stand there too (`outside`).
+fn base_in(outside: bool, room: u32, byte: u8) -> Option<BaseSpec>
+    ensures said { option_map base_of result ≡ base_in outside room byte }
     ensures base { IfSome result (λ base. IsBase (base_of base)) }
 {
     let base = base_of_byte(byte);
-    if is_base(base) && base.memory_size() <= room {
+    if is_base(base) && base.memory_size() <= room && (outside || keeps_bytes(base)) {
         Some(base)
     } else {
         None
@@ -47,12 +59,12 @@ fn base_of_byte(byte: u8) -> BaseSpec
 }
 
 /// Reads a base, and takes the memory that it wants from the room.
-fn base(fields: &mut Fields, room: &mut u32) -> Result<BaseSpec, Bad>
-    ensures took { Took base_of result fields.new (number w8 (base_in room.old) fields.old) }
+fn base(fields: &mut Fields, outside: bool, room: &mut u32) -> Result<BaseSpec, Bad>
+    ensures took { Took base_of result fields.new (number w8 (base_in outside room.old) fields.old) }
     ensures room { IfOk result (λ base. room.new ≡ room.old - memory_size (base_of base)) }
 {
     let byte = u8::from_le_bytes(fields.front()?);
-    let said = base_in(*room, byte);
+    let said = base_in(outside, *room, byte);
     fields.past(1, said.is_some())?;
     let base = said.unwrap();
     *room -= base.memory_size();
@@ -62,18 +74,19 @@ fn base(fields: &mut Fields, room: &mut u32) -> Result<BaseSpec, Bad>
 /// Reads some bases, and takes the memory that they want from the room.
 fn bases(
     fields: &mut Fields,
+    outside: bool,
     count: u8,
     room: &mut u32,
 ) -> Result<ArrayVec<BaseSpec, BASE_COUNT>, Bad>
     requires few { count ≤ 6 }
     ensures took { Took (λ bases. map base_of bases.items) result fields.new
-        (bases_fields count room.old fields.old) }
+        (bases_fields outside count room.old fields.old) }
     ensures room { IfOk result (λ bases. room.new
         ≡ room.old - sum_by memory_size (map base_of bases.items)) }
 {
     let mut bases = ArrayVec::new();
     for _ in 0..count {
-        bases.push(base(fields, room)?);
+        bases.push(base(fields, outside, room)?);
     }
     Ok(bases)
 }
@@ -101,9 +114,14 @@ fn rom(fields: &mut Fields) -> Result<Option<u8>, Bad>
 
 /// Reads a card whose device number lies above that of the card before. It takes its memory from the room.
 #[tactic(auto, unfolding(crate::specs::ImageFields::card_fields))]
-fn card(fields: &mut Fields, above: u8, room: &mut u32) -> Result<CardSpec, Bad>
+fn card(
+    fields: &mut Fields,
+    outside: bool,
+    above: u8,
+    room: &mut u32,
+) -> Result<CardSpec, Bad>
     requires above { above ≤ 9 }
-    ensures took { Took (λ card. card) result fields.new (card_fields above room.old fields.old) }
+    ensures took { Took (λ card. card) result fields.new (card_fields outside above room.old fields.old) }
     ensures room { IfOk result (λ card. room.new ≡ room.old - memory_of_cards (card ∷ [])) }
     ensures last { IfOk result (λ card. card.dev ≤ 9) }
 {
@@ -111,7 +129,7 @@ fn card(fields: &mut Fields, above: u8, room: &mut u32) -> Result<CardSpec, Bad>
     let vga = fields.flag()?;
     let rom = rom(fields)?;
     let count = fields.byte(0, BASE_COUNT as u8)?;
-    let bases = bases(fields, count, room)?;
+    let bases = bases(fields, outside, count, room)?;
     Ok(CardSpec {
         dev,
         vga,
@@ -121,16 +139,22 @@ fn card(fields: &mut Fields, above: u8, room: &mut u32) -> Result<CardSpec, Bad>
 }
 
 /// Reads some cards, in rising order of device, of which all memory bases together have at most 64 MiB. Refused where a
-/// field is not whole, or none that a card can have after those before it: the bytes left then begin with it.
-pub fn cards(alloc: Global, fields: &mut Fields, count: u8) -> Result<Vec<CardSpec>, Fault>
+/// field is not whole, or none that a card can have after those before it: the bytes left then begin with it. A base of
+/// which the board keeps no bytes is refused too, unless `outside` says that one may stand there.
+pub fn cards(
+    alloc: Global,
+    fields: &mut Fields,
+    outside: bool,
+    count: u8,
+) -> Result<Vec<CardSpec>, Fault>
     ensures filled { Filled (λ cards. cards.items) result fields.new
-        (cards_fields count 1 most_card_memory fields.old) }
+        (cards_fields outside count 1 most_card_memory fields.old) }
 {
     let mut cards = Vec::with_capacity(alloc, usize::from(count))?;
     let mut above = FIRST_DEVICE - 1;
     let mut room = MOST_CARD_MEMORY;
     for _ in 0..count {
-        let card = card(fields, above, &mut room)?;
+        let card = card(fields, outside, above, &mut room)?;
         above = card.dev;
         cards.push(card)?;
     }

@@ -92,7 +92,7 @@ fn copied(alloc: Global, fields: &mut Fields, size: u32) -> Result<Vec<u8>, Faul
 fn setup(alloc: Global, fields: &mut Fields, head: &Head) -> Result<Setup, Fault>
     ensures filled { Filled (λ setup. setup) result fields.new (setup_fields head.now fields.old) }
 {
-    let cards = cards(alloc, fields, head.cards)?;
+    let cards = cards(alloc, fields, false, head.cards)?;
     let rom = copied(alloc, fields, head.rom_size)?;
     let disk = copied(alloc, fields, head.disk_size)?;
     Ok(Setup {

@@ -10,7 +10,7 @@ use Rattle.byte_fields.proofs.Numbers.{wide32, byte_within, within_format, where
 use Rattle.byte_fields.proofs.Numbers.{Ranges}
 use Rattle.byte_fields.proofs.PageFormats.{memory_format}
 use Rattle.board_image.proofs.EventFormats.{wider}
-use Rattle.board_image.proofs.CardFormats.{cards_format}
+use Rattle.board_image.proofs.CardFormats.{cards_format, stand_anywhere}
 use Rattle.board_image.proofs.ImageFormats.{rom_size_to, rom_size_from, rom_most, length_from}
 use Rattle.fitted_bytes.specs.Setups.{bytes_on, counted_bytes, disk_fields, disk_where, is_fitted_size, rom_fields}
 use Rattle.fitted_bytes.specs.Setups.{setup_bytes, setup_fields}
@@ -75,13 +75,13 @@ setup_format =
     wider 70_000_000 (fields_format
     (within_format wide32 1 most_mib (omega arith) then λ mib good.
     byte_within 0 8 (omega arith) then λ count few.
-    wider 80 (cards_format count most_card_memory) (omega (arith, few.1)) then λ cards are.
+    wider 80 (cards_format true count most_card_memory) (omega (arith, few.1)) then λ cards are.
     rom_format then λ rom is.
     last_field (λ disk. record { mib = mib; cards = cards; rom = rom; disk = disk }) disk_format)
     (λ setup is.
     let cards = is.cards in (
       (setup.mib, (is.some_memory, is.most_memory)) & (length setup.cards, (omega arith, cards.count))
-          & (setup.cards, (refl, cards.each, cards.rises, is.windows)) & (setup.rom, is.rom) & (setup.disk, is.disk),
+          & (setup.cards, (refl, cards.each, cards.rises, is.windows, stand_anywhere setup.cards)) & (setup.rom, is.rom) & (setup.disk, is.disk),
       refl,
     ))
     (λ t.

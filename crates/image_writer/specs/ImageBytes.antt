@@ -1,6 +1,6 @@
 -- A board image: what a board is fitted with, and then who asked what of it, in order. The replies follow from these.
 -- Numbers have their low byte first.
-use Rattle.std.specs.Prelude.{ℕ, ◌≤◌, ◌<◌, ◌+◌, ◌^◌, ◌++◌, Bool, List, [], ◌∷◌, length, map, flat_map, All, is_some}
+use Rattle.std.specs.Prelude.{ℕ, ◌≡◌, ◌≤◌, ◌<◌, ◌+◌, ◌^◌, ◌++◌, Bool, List, [], ◌∷◌, length, map, flat_map, All, is_some}
 use Rattle.std.specs.Prelude.{unwrap_or, codes, true, false, if◌then◌else◌, IfSome}
 use Rattle.board_prelude.specs.Common.{w8, w16, w32, w64, to_le_bytes, Kind, Fetch, Read, Write, PortAccess}
 use Rattle.board_prelude.specs.Common.{WideAccess, Moment, bytes_of, Event, Memory, Wide, Port, Ack, Time, Applied}
@@ -37,6 +37,15 @@ abbrev pub base_byte : Base → ℕ
 base_byte (MemoryBase bits) = bits
 base_byte (IoBase bits) = io_base + bits
 base_byte (OutsideBase bits) = outside_base + bits
+
+-- whether the board keeps the bytes behind a base. Those of a script keep them all: one that does not is of a running
+-- board alone
+abbrev pub keeps_bytes : Base → Bool
+keeps_bytes (OutsideBase bits) = false
+keeps_bytes base = true
+
+abbrev pub IsScriptCard : FittedCard → Type 0
+IsScriptCard card = All (λ base. keeps_bytes base ≡ true) card.bases
 
 -- 0 stands where a card has no expansion ROM
 unfoldable pub card_bytes : FittedCard → List ℕ
@@ -150,9 +159,11 @@ pub record IsImageStep (setup : Setup) (step : Statement) : Type 0 where
   pub event : IsInRange setup step.event
   pub sector : IsScriptSector step.event
 
--- what an image can say: a board that can be opened, with 64 MiB at most as a script has, and steps that it can do
+-- what an image can say: a board that can be opened, with 64 MiB at most and cards as a script has, and steps that it
+-- can do
 pub record IsImage (setup : Setup) (steps : List Statement) : Type 0 where
   pub fitted : IsSetup setup
   pub few_mib : setup.mib ≤ 64
+  pub cards : All IsScriptCard setup.cards
   pub count : length steps ≤ most_statements
   pub each : All (IsImageStep setup) steps

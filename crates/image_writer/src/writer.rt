@@ -128,8 +128,8 @@ fn disk_piece(alloc: Global, setup: &Setup) -> Result<Vec<u8>, NoMemory>
 }
 
 /// The image of a board: its setup, and the processor and the event of each entry of its history. The replies are not
-/// kept: `load` gives them again. It can be read again where the history has at most 250,000 entries, of processors 0
-/// to 7 and each in range.
+/// kept: `load` gives them again. It can be read again where the board keeps the bytes of all its bases, and the
+/// history has at most 250,000 entries, of processors 0 to 7 and each in range.
 pub fn save(alloc: Global, setup: &Setup, history: &History) -> Result<ImageBytes, NoMemory>
     requires fitted { IsSetup setup.now }
     requires few_mib { setup.now.mib ≤ 64 }

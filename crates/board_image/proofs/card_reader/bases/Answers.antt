@@ -10,7 +10,7 @@ use Rattle.board_image.proofs.card_reader.bases.Goals as goal
 pub returns-in_err-base-clause-took : goal.returns-in_err-base-clause-took
 returns-in_err-base-clause-took c =
     let p = err_from_is_err_and c.from_residual.result c.from_residual.ensures.1 in
-    rw p.1 (stops _ _ _ bases_loop _ _ _ _ _ _ _ c.loop-test.true c.in_err-base.ensures.took c.loop.invariant.read)
+    rw p.1 (stops _ _ _ (bases_loop c.args.outside) _ _ _ _ _ _ _ c.loop-test.true c.in_err-base.ensures.took c.loop.invariant.read)
 
 pub push-requires : goal.push-requires
 push-requires c = (omega arith, omega arith)
@@ -21,7 +21,7 @@ loop-preserved c =
     let pushed : map base_of c.push.new.self.items ≡ map base_of c.loop.bases.items ++ base_of base ∷ [] =
     rw c.push.ensures.items (map_push base_of c.loop.bases.items base) in
     record {
-      read = rw (pushed, c.in_ok-base.ensures.room) (goes_on _ _ _ bases_loop _ _ _ _ _ _ (base_of base) _
+      read = rw (pushed, c.in_ok-base.ensures.room) (goes_on _ _ _ (bases_loop c.args.outside) _ _ _ _ _ _ (base_of base) _
           c.loop-test.true c.in_ok-base.ensures.took c.loop.invariant.read);
       room = rw (c.push.ensures.items, c.in_ok-base.ensures.room)
           (rw (
@@ -34,4 +34,4 @@ loop-preserved c =
     }
 
 pub returns-clause-took : goal.returns-clause-took
-returns-clause-took c = is_done _ _ _ bases_loop _ _ _ _ _ _ c.loop-test.false c.loop.invariant.read
+returns-clause-took c = is_done _ _ _ (bases_loop c.args.outside) _ _ _ _ _ _ c.loop-test.false c.loop.invariant.read

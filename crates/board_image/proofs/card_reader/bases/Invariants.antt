@@ -9,7 +9,7 @@ use Rattle.board_image.proofs.card_reader.bases.Given as goal
 abbrev pub invariant-loop : goal.invariant-loop
 invariant-loop l = record {
   read : with_front (map base_of l.bases.items)
-      (bases_fields (l.count - l.counter) l.room l.fields) ≡ bases_fields l.count l.fn.room l.fn.fields;
+      (bases_fields l.outside (l.count - l.counter) l.room l.fields) ≡ bases_fields l.outside l.count l.fn.room l.fn.fields;
   count : length l.bases.items ≡ l.counter;
   room : l.room ≡ l.fn.room - sum_by memory_size (map base_of l.bases.items);
 }

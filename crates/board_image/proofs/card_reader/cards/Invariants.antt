@@ -8,7 +8,7 @@ use Rattle.board_image.proofs.card_reader.cards.Given as goal
 abbrev pub invariant-loop : goal.invariant-loop
 invariant-loop l = record {
   read :
-      with_front l.cards.items (cards_fields (l.count - l.counter) l.above l.room l.fields)
-      ≡ cards_fields l.count 1 most_card_memory l.fn.fields;
+      with_front l.cards.items (cards_fields l.outside (l.count - l.counter) l.above l.room l.fields)
+      ≡ cards_fields l.outside l.count 1 most_card_memory l.fn.fields;
   above : l.above ≤ 9;
 }

@@ -1,0 +1,263 @@
+/* The bytes of a running board: a board that was brought there by events is saved as the bytes of kept.fields, field by
+ * field, and these bytes are loaded as that board. All fields there that may be taken for one another differ, so that a
+ * writer and a reader that agree on another order of fields are found. The fields stand in the order of docs/FORMATS.md,
+ * "A running board", with values by hand from it and from the datasheets.
+ *
+ *   kept <kept.fields      exit status 1 where a field differs, which is told
+ *
+ * A line is a name, a colon and bytes in hexadecimal digits; `00*FD` are so many equal ones. `then NAME: BYTES` is a field
+ * after the next of the changes below, each of which begins where the one before ended. */
+#include "board.h"
+#include <stdio.h>
+#include <stdlib.h>
+#include <string.h>
+
+enum { MOST_FIELDS = 800, MOST_BYTES = 1 << 15, LINE = 512, ROM = 0x10000, DISK = 1024, MIB = 1, FRAME = 28 };
+enum { HOST = 0, ISA = 0x800, IDE = 0x900, CARD_3 = 0x1800, CARD_5 = 0x2800 };
+
+typedef struct field {
+    char name[64];
+    size_t at, bytes;
+} field;
+
+static field fields[MOST_FIELDS];
+static size_t field_count;
+static uint8_t wanted[MOST_BYTES];
+static size_t wanted_count;
+static board b;
+static board_reply reply;
+
+static void fail(const char *what) {
+    printf("kept: %s\n", what);
+    exit(1);
+}
+
+static void must(const char *what, uint32_t status) {
+    if (status != BOARD_OK) {
+        printf("kept: %s: %s\n", what, board_status_text(status));
+        exit(1);
+    }
+}
+
+/* ---- the fields of the file */
+
+static size_t put_bytes(uint8_t *at, const char *text) {
+    size_t count = 0;
+    char *end;
+    while (*text && *text != '\n') {
+        if (*text == ' ') {
+            text++;
+            continue;
+        }
+        char digits[3] = {text[0], text[1], 0};
+        uint8_t byte = (uint8_t)strtoul(digits, NULL, 16);
+        size_t times = text[2] == '*' ? strtoul(text + 3, &end, 16) : 1;
+        text = text[2] == '*' ? end : text + 2;
+        memset(at + count, byte, times);
+        count += times;
+    }
+    return count;
+}
+
+static field *named(const char *name) {
+    for (size_t k = 0; k < field_count; k++)
+        if (strcmp(fields[k].name, name) == 0) return &fields[k];
+    printf("kept: no field %s\n", name);
+    exit(1);
+}
+
+static void add_field(char *line) {
+    char *colon = strchr(line, ':');
+    if (!colon || field_count == MOST_FIELDS) fail("a line is no field, or there are too many");
+    *colon = 0;
+    field *it = &fields[field_count++];
+    if (strlen(line) >= sizeof it->name) fail("a name is too long");
+    strcpy(it->name, line);
+    it->at = wanted_count;
+    it->bytes = put_bytes(wanted + wanted_count, colon + 1);
+    wanted_count += it->bytes;
+}
+
+/* another value of a field, of as many bytes */
+static void change_field(char *line) {
+    char *colon = strchr(line, ':');
+    if (!colon) fail("a line changes no field");
+    *colon = 0;
+    field *it = named(line);
+    if (put_bytes(wanted + it->at, colon + 1) != it->bytes) fail("a change has another length");
+}
+
+/* ---- events */
+
+static void out(uint16_t port, uint32_t value) { must("out", board_out(&b, port, 1, value, &reply)); }
+
+static uint8_t in(uint16_t port) {
+    must("in", board_in(&b, port, 1, &reply));
+    return (uint8_t)reply.value;
+}
+
+static void set(uint32_t function, uint8_t off, uint8_t bytes, uint32_t value) {
+    must("the address", board_out(&b, 0xCF8, 4, 0x80000000u | function | (off & 0xFC), &reply));
+    must("the register", board_out(&b, (uint16_t)(0xCFC + off % 4), bytes, value, &reply));
+}
+
+static void happen(uint8_t what, uint32_t addr, uint64_t value) {
+    board_event event = {.what = what, .addr = addr, .value = value};
+    must("an event", board_step(&b, &event, &reply));
+}
+
+static void open_board(void) {
+    static uint8_t rom[ROM], disk[DISK];
+    board_card cards[2] = {
+        {.device = 3, .rom = 11, .bases = 2, .base = {{BOARD_MEMORY_BASE, 4}, {BOARD_IO_BASE, 3}}, .vendor_id = 0x1AF4,
+            .device_id = 0x1001, .revision_id = 0x5C, .class_code = 0x018002, .subsystem_vendor_id = 0x1BF5, .subsystem_id = 0x0203,
+            .interrupt_pin = 4},
+        {.device = 5, .vga = 1, .bases = 1, .base = {{BOARD_OUTSIDE, FRAME}}},
+    };
+    rom[0x1007] = 0xC7;
+    memset(disk, 0xD0, 512);
+    memset(disk + 512, 0xD1, 512);
+    must("open", board_open(&b, MIB, cards, 2, rom, ROM, disk, DISK));
+}
+
+/* 24 writes of the map's registers, PAM1 last */
+static void set_registers(void) {
+    for (uint8_t row = 0; row < 8; row++) set(HOST, 0x60 + row, 1, row + 1u);
+    set(HOST, 0x68, 1, 0x80);
+    static const uint8_t pam[] = {0x10, 0, 0x12, 0x13, 0x21, 0x22, 0x23};
+    for (uint8_t k = 0; k < 7; k++)
+        if (k != 1) set(HOST, 0x59 + k, 1, pam[k]);
+    set(HOST, 0x72, 1, 0x48);
+    set(ISA, 0x4E, 1, 0xC5);
+    set(CARD_3, 0x04, 1, 0x03);
+    set(CARD_3, 0x10, 4, 0xE0000010);
+    set(CARD_3, 0x14, 4, 0x00006108);
+    set(CARD_3, 0x30, 4, 0xD0000801);
+    set(CARD_5, 0x04, 1, 0x06);
+    set(CARD_5, 0x10, 4, 0x70000000);
+    set(HOST, 0x5A, 1, 0x11);
+    set(CARD_3, 0x3C, 1, 0xA5);
+    set(CARD_5, 0x3C, 1, 0x5A);
+    set(IDE, 0x04, 1, 0x05);
+    set(IDE, 0x40, 2, 0xA377);
+    static const uint8_t route[] = {0x8B, 0x8A, 0x89, 0x85};
+    for (uint8_t k = 0; k < 4; k++) set(ISA, 0x60 + k, 1, route[k]);
+}
+
+static void set_memory(void) {
+    must("memory", board_write(&b, 0x2003, 1, false, 0xE1, &reply));
+    must("the card's memory", board_write(&b, 0xE0000012, 1, false, 0xC1, &reply));
+    out(0x610B, 0xC2);
+}
+
+static void set_timer(void) {
+    out(0x61, 0x01);
+    in(0x61);
+    out(0x43, 0x36), out(0x40, 0x34), out(0x40, 0x12);  /* counter 0: mode 3, 1234h */
+    out(0x43, 0x54), out(0x41, 0x12);                   /* counter 1: mode 2, the low byte alone, 0012h */
+    happen(BOARD_PULSE, 0, 3);
+    out(0x43, 0xB1), out(0x42, 0x56);                   /* counter 2: mode 0, decimal, and the first byte of a count */
+    out(0x43, 0x00);                                    /* the count of counter 0 is latched */
+    out(0x43, 0xE4);                                    /* and the status of counter 1 */
+}
+
+static void set_controllers(void) {
+    out(0x4D0, 0x28), out(0x4D1, 0x44);
+    out(0x20, 0x11), out(0x21, 0x08), out(0x21, 0x04), out(0x21, 0x11);
+    out(0x21, 0x91);
+    happen(BOARD_IRQ, 3, 1);
+    happen(BOARD_IRQ, 6, 1);
+    must("an acknowledge", board_ask(&b, BOARD_ACK, 0, 0, 0, false, 0, &reply));
+    out(0x20, 0xC4);
+    out(0x20, 0x6B);
+    happen(BOARD_IRQ, 9, 1);
+    out(0xA0, 0x11), out(0xA1, 0x70);
+    happen(BOARD_IRQ, 12, 1);
+    happen(BOARD_WIRE, 3, 1);
+}
+
+static void set_clock(void) {
+    out(0x70, 0x0B), out(0x71, 0x06);
+    out(0x70, 0x01), out(0x71, 0x2A), out(0x70, 0x03), out(0x71, 0x2B), out(0x70, 0x05), out(0x71, 0x16);
+    out(0x70, 0x10), out(0x71, 0xA1), out(0x70, 0x7F), out(0x71, 0xA2);
+    happen(BOARD_TIME, 0, 20261201134530);
+    out(0x70, 0x25);
+}
+
+static void set_disk(void) {
+    out(0x3F6, 0x02);
+    static const uint8_t registers[] = {0xF1, 0x02, 0x03, 0x04, 0x05, 0xE6};
+    for (uint16_t k = 0; k < 6; k++) out(0x1F1 + k, registers[k]);
+    out(0x1F7, 0x20);
+    happen(BOARD_BAD_SECTOR, 1, 0);
+}
+
+static void set_serial(void) {
+    happen(BOARD_IRQ, 4, 1);
+    out(0x3FB, 0x80), out(0x3F8, 0x21), out(0x3F9, 0x43), out(0x3FB, 0x1B);
+    out(0x3F9, 0x02);
+    out(0x3FF, 0x5D);
+    out(0x3FC, 0x10), in(0x3FE), out(0x3FC, 0x12);
+    out(0x3F8, 0x48), out(0x3F8, 0x69);
+    in(0x3FA);
+}
+
+static void first(void) {
+    open_board();
+    set_registers();
+    set_memory();
+    set_timer();
+    set_controllers();
+    set_clock();
+    set_disk();
+    set_serial();
+    out(0xCF9, 0x02);
+    must("the configuration address", board_out(&b, 0xCF8, 4, 0x80A5C3D8, &reply));
+}
+
+/* ---- comparing */
+
+static void compare(const char *which) {
+    static uint8_t saved[MOST_BYTES], again[MOST_BYTES];
+    size_t bytes = 0, other = 0;
+    int differs = 0;
+    must("save", board_save(&b, saved, sizeof saved, &bytes));
+    for (size_t k = 0; k < field_count; k++) {
+        field *it = &fields[k];
+        if (it->at + it->bytes <= bytes && memcmp(saved + it->at, wanted + it->at, it->bytes) == 0) continue;
+        printf("kept: %s: %s, at %zXh:", which, it->name, it->at);
+        for (size_t j = 0; j < it->bytes && j < 16; j++) printf(" %02X", saved[it->at + j]);
+        printf(", and not");
+        for (size_t j = 0; j < it->bytes && j < 16; j++) printf(" %02X", wanted[it->at + j]);
+        printf("\n");
+        differs = 1;
+    }
+    if (bytes != wanted_count) printf("kept: %s: %zu bytes, and not %zu\n", which, bytes, wanted_count), differs = 1;
+    if (differs) exit(1);
+    board loaded = {0};
+    must("load", board_load(&loaded, wanted, wanted_count));
+    must("save again", board_save(&loaded, again, sizeof again, &other));
+    if (other != bytes || memcmp(saved, again, bytes) != 0) fail("what was loaded is saved as other bytes");
+    board_close(&b);
+    b = loaded;
+}
+
+int main(void) {
+    char line[LINE];
+    size_t changes = 0;
+    first();
+    while (fgets(line, sizeof line, stdin)) {
+        if (line[0] == '#' || line[0] == '\n') continue;
+        if (strncmp(line, "then ", 5) == 0) {
+            change_field(line + 5);
+            changes++;
+        } else {
+            add_field(line);
+        }
+    }
+    compare("the first board");
+    (void)changes;
+    board_close(&b);
+    printf("kept: as expected\n");
+    return 0;
+}
