@@ -1,0 +1,10 @@
+pub mod LookPlaces
+pub mod Headlines
+pub mod HeadlineLaws
+pub mod Totals
+pub mod Programs
+pub mod CallerPlaces
+pub mod Saved
+pub mod PieceLaws
+pub mod DecodedMaps
+pub mod Cycles

@@ -1,0 +1,145 @@
+-- How the program ends follows from how its command does.
+use Rattle.std.proofs.Common.{◌≡◌, ◌≢◌, ◌⊎◌, inl, inr, ◌∷◌, ◌++◌, [], ℕ, List, Option, Some, None, Result, Ok, Err, refl}
+use Rattle.std.proofs.Common.{All, IsUtf8, arith, sym, ap, ◌∙◌}
+use Rattle.std.proofs.lemmas.List.{append-nil}
+use Rattle.board_prelude.proofs.Common.{nat_tests}
+use Rattle.std.specs.Io.KnownBytes.{Appends, Keeps}
+use Rattle.board_spec.specs.Text.{line_feed}
+use Rattle.command_words.specs.Words.{Command, IsCommand, AreWordsOf, command_of, WordsDecide}
+use Rattle.command_files.specs.declared.status.Status.{Status}
+use Rattle.command_files.specs.declared.status.Status.TheVariants.{Done, Usage, NoMemory}
+use Rattle.command_files.specs.Common.{code_of, ShelfCall}
+use Rattle.command_files.specs.FaultText.{text_of}
+use Rattle.board_commands.specs.Outcomes.{SinkCall, IsCaused}
+use Rattle.board_commands.specs.Output.{AppendsFront}
+use Rattle.board_main.specs.declared.line.WordFault.{WordFault}
+use Rattle.board_main.specs.declared.line.WordFault.TheVariants.{NoText, NoRoom}
+use Rattle.board_main.specs.Given.{AreRead, status_of_words}
+use Rattle.board_main.specs.Ends.{EndsAfter, EndsProgram}
+use Rattle.board_main.specs.Outputs.{IsIdle, TookAll, TookFront, IsTold}
+use Rattle.board_main.specs.Own.{own_of}
+use Rattle.promises.specs.Accepted.{PutsText}
+use Rattle.promises.specs.Totality.{AreNoCommand, Told, IsCause, Leaves, WritesFront}
+use Rattle.promises.proofs.Headlines.{puts_text}
+use Rattle.promises.proofs.Totals.{ends_so, no_command, found}
+
+is_done : (status : Status) → 0 ≡ code_of status → status ≡ Done
+is_done status e = grind (arith, nat_tests)
+
+is_usage : (status : Status) → 1 ≡ code_of status → status ≡ Usage
+is_usage status e = grind (arith, nat_tests)
+
+was_read : (fault : WordFault) (status : Status) → 0 ≡ code_of status → status ≡ status_of_words fault → ⊥
+was_read fault status e is = grind (arith, nat_tests)
+
+-- a command is none of the program's own words
+not_own : (words : List (List ℕ)) (command : Command) → AreWordsOf words command → own_of words ≡ None
+not_own words command are = grind (arith, nat_tests)
+
+module _ (shelf : ShelfCall) (sink errors : SinkCall) (given : Option (List (List ℕ))) (code : ℕ)
+    (is : EndsProgram given code shelf sink errors) (words : List (List ℕ)) (given_is : given ≡ Some words) where
+  -- ---- a command
+
+  module _ (command : Command) (there : IsCommand command) (are : AreWordsOf words command) where
+    done_by : (read : Result (List (List ℕ)) WordFault) → 0 ≡ code_of is.status → AreRead (Some words) read →
+        EndsAfter read is.status shelf sink → IsCaused is.status (command_of words) shelf sink
+    done_by (Ok others) zero same ends =
+        let of_words = rw same at ends in (of_words.command (not_own words command are)).caused
+    done_by (Err fault) zero same ends = absurd (was_read fault is.status zero ends.0)
+
+    pub done_text : (files : List ℕ → List ℕ) (before now : List ℕ) → code ≡ 0 → shelf.files ≡ Some files →
+        sink.taken_before ≡ Some before → sink.taken_now ≡ Some now → PutsText files command before now
+    done_text files before now zero told took takes =
+        let coded : 0 ≡ code_of is.status = sym zero ∙ is.coded in
+        let read = is.ends.read in
+        let caused = done_by is.ends.words coded (rw given_is at read) is.ends.ends in
+        puts_text files before now shelf sink told took takes words command is.status there are caused
+        (is_done is.status coded)
+
+    module _ (told : Told) (files_told : shelf.files ≡ Some told.files)
+        (failed_told : shelf.failed_name ≡ told.failed_name)
+        (read_before : shelf.faults_before ≡ told.read_faults_before)
+        (read_now : shelf.faults_now ≡ told.read_faults_now)
+        (put_before : sink.faults_before ≡ told.put_faults_before) (put_now : sink.faults_now ≡ told.put_faults_now)
+        (took : sink.taken_before ≡ Some told.before) (takes : sink.taken_now ≡ Some told.now)
+        (texts : All IsUtf8 words) where
+      nothing : (status : Status) → status ≡ NoMemory → Keeps sink.taken_before sink.taken_now →
+          IsCause command told status × Leaves command told status
+      nothing status is_memory keeps =
+          let kept = rw (took, takes) at keeps in rw is_memory (tt, inl kept)
+
+      cause_by : (read : Result (List (List ℕ)) WordFault) → AreRead (Some words) read →
+          EndsAfter read is.status shelf sink → IsCause command told is.status × Leaves command told is.status
+      cause_by (Ok others) same ends =
+          let of_words = rw same at ends in
+          ends_so told shelf sink files_told failed_told read_before read_now put_before put_now took takes words command
+          is.status there are (of_words.command (not_own words command are)).caused
+      cause_by (Err NoText) bad ends = absurd (bad texts)
+      cause_by (Err NoRoom) bad ends = nothing is.status ends.0 ends.2.kept
+
+      pub caused_so : (status : Status) × (code ≡ code_of status) × IsCause command told status
+          × Leaves command told status
+      caused_so =
+          let read = is.ends.read in
+          (is.status, is.coded, cause_by is.ends.words (rw given_is at read) is.ends.ends)
+
+  -- ---- no command
+
+  usage_by : (read : Result (List (List ℕ)) WordFault) → is.status ≡ Usage → AreRead (Some words) read →
+      EndsAfter read is.status shelf sink → ¬ All IsUtf8 words ⊎ ((own_of words ≡ None) × AreNoCommand words)
+  usage_by (Ok others) usage same ends =
+      let of_words = rw same at ends in
+      let none = of_words.usage.0 usage in inr (none.0, no_command words none.1)
+  usage_by (Err NoText) usage bad ends = inl bad
+  usage_by (Err NoRoom) usage bad ends = grind (arith, usage, ends.0)
+
+  pub usage_so : code ≡ 1 → ¬ All IsUtf8 words ⊎ ((own_of words ≡ None) × AreNoCommand words)
+  usage_so one =
+      let read = is.ends.read in
+      usage_by is.ends.words (is_usage is.status (sym one ∙ is.coded)) (rw given_is at read) is.ends.ends
+
+  no_command_by : (read : Result (List (List ℕ)) WordFault) → own_of words ≡ None → AreNoCommand words →
+      AreRead (Some words) read → EndsAfter read is.status shelf sink → (is.status ≡ Usage) ⊎ (is.status ≡ NoMemory)
+  no_command_by (Ok others) own no same ends =
+      let of_words = rw same at ends in inl (of_words.usage.1 (own, found words (command_of words) refl no))
+  no_command_by (Err NoText) own no bad ends = inl ends.0
+  no_command_by (Err NoRoom) own no bad ends = inr ends.0
+
+  coded_so : (is.status ≡ Usage) ⊎ (is.status ≡ NoMemory) → (code ≡ 1) ⊎ (code ≡ 8)
+  coded_so (inl usage) = inl (is.coded ∙ ap code_of usage)
+  coded_so (inr memory) = inr (is.coded ∙ ap code_of memory)
+
+  pub no_command_so : own_of words ≡ None → AreNoCommand words → (code ≡ 1) ⊎ (code ≡ 8)
+  no_command_so own no =
+      let read = is.ends.read in coded_so (no_command_by is.ends.words own no (rw given_is at read) is.ends.ends)
+
+-- ---- standard error
+
+module _ (shelf : ShelfCall) (sink errors : SinkCall) (given : Option (List (List ℕ))) (code : ℕ)
+    (is : EndsProgram given code shelf sink errors) (before now : List ℕ) (took : errors.taken_before ≡ Some before)
+    (takes : errors.taken_now ≡ Some now) where
+  pub silent_so : code ≡ 0 → now ≡ before
+  silent_so zero =
+      let idle = is.ends.told.done (is_done is.status (sym zero ∙ is.coded)) in
+      let keeps = idle.kept in rw (took, takes) at keeps
+
+  fronts : (text : List ℕ) → IsIdle errors ⊎ (TookAll errors text ⊎ TookFront errors text) →
+      WritesFront text before now
+  fronts text (inl idle) =
+      let keeps = idle.kept in
+      let kept = rw (took, takes) at keeps in ([], text, refl, kept ∙ sym (append-nil before))
+  fronts text (inr (inl all)) =
+      let taken = all.taken in
+      let put = rw (took, takes) at taken in (text, [], sym (append-nil text), put)
+  fronts text (inr (inr part)) =
+      let sent = part.taken.sent in
+      let taken = sent.taken in
+      let put = rw (took, takes) at taken in (sent.front, part.taken.rest, sent.whole, put)
+
+  not_done : code ≢ 0 → is.status ≢ Done
+  not_done other done = other (is.coded ∙ ap code_of done)
+
+  pub told_so : code ≢ 0 →
+      (status : Status) × (code ≡ code_of status) × WritesFront (text_of status ++ line_feed ∷ []) before now
+  told_so other =
+      (is.status, is.coded, fronts (text_of is.status ++ line_feed ∷ []) (is.ends.told.refused (not_done other)))

@@ -1,0 +1,49 @@
+-- Images and bus masters. A board that was saved and loaded goes on as it would have unsaved, and no bus master reaches
+-- SMRAM. Histories have the newest entry first.
+use Rattle.std.specs.Prelude.{ℕ, ◌≡◌, ◌≢◌, ◌+◌, ◌*◌, ◌%◌, ◌<◌, ◌⊎◌, ◌++◌, List, Option, Some, false, true}
+use Rattle.std.specs.Prelude.{Result, Ok, Err, IfOk, IfErr}
+use Rattle.board_spec.specs.declared.event.Entry.{Entry}
+use Rattle.board_spec.specs.declared.event.Statement.{Statement}
+use Rattle.board_spec.specs.Common.{Setup, IsLegal, statements_of, first_cell, DramCell, is_smram_range}
+use Rattle.device_spec.specs.Common.{Target, Smram, Area}
+use Rattle.board_base.specs.declared.target.Area.TheVariants.{Dram as DramArea, Shadow as ShadowArea}
+use Rattle.board_core.specs.Kept.{Standing}
+use Rattle.bus_master.specs.declared.piece.Piece.{Piece}
+use Rattle.bus_master.specs.declared.piece.Piece.TheVariants.{Move}
+use Rattle.bus_master.specs.declared.piece.Stretch.{Stretch}
+
+-- ---- images
+
+-- whatever statements two histories of one board go on with, their replies to these are the same
+abbrev pub GoOnAlike : Setup → (history other : List Entry) → Type 0
+GoOnAlike setup history other =
+    (more later : List Entry) → IsLegal setup (more ++ history) → IsLegal setup (later ++ other) →
+    statements_of more ≡ statements_of later → more ≡ later
+
+-- a board has the history of the one that was saved, and so goes on as that one would
+pub record IsAsSaved (setup : Setup) (history : List Entry) (board : Standing) : Type 0 where
+  pub setup : board.setup ≡ setup
+  pub same : board.entries ≡ history
+  pub alike : GoOnAlike setup history board.entries
+
+-- bytes that were saved are taken for what was saved, and refused for want of memory alone
+abbrev pub IsTakenFor : {T E : Type 0} → (saved : T) → (no_memory : E) → Result T E → Type 0
+IsTakenFor saved no_memory result = (result ≡ Ok saved) ⊎ (result ≡ Err no_memory)
+
+-- ---- bus masters
+
+-- an access with this target reaches neither SMRAM nor a byte of DRAM at A0000h to BFFFFh
+pub record MissesSmram (target : Target) (addr : ℕ) : Type 0 where
+  pub other : target ≢ Smram
+  pub beside : (at : ℕ) → first_cell target addr ≡ Some (DramCell at) → is_smram_range at ≡ false
+
+abbrev pub IsDram : Area → Type 0
+IsDram (DramArea row) = Unit {0}
+IsDram (ShadowArea row) = Unit {0}
+IsDram _ = ⊥
+
+-- the words of a piece that lie in DRAM lie beside A0000h to BFFFFh
+abbrev pub PieceMissesSmram : Piece → Type 0
+PieceMissesSmram piece =
+    (stretch : Stretch) → piece ≡ Move stretch → IsDram stretch.area → (i : ℕ) → i < 2 * stretch.words →
+    is_smram_range ((stretch.addr + i) % 0x1_0000_0000) ≡ false
