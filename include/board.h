@@ -621,6 +621,220 @@ static inline uint32_t board_wire(board *handle, uint8_t device, bool level, boa
     return board_ask(handle, BOARD_WIRE, 0, device, 0, 0, level, reply);
 }
 
+/* ---- what stands when the processor starts */
+
+/* Writes a byte of configuration data. bus, device and function are as bits 23 to 8 of CONFADD have them. */
+static inline uint32_t board_config_write(board *handle, uint32_t function, uint8_t offset, uint8_t value,
+                                          board_reply *reply) {
+    uint32_t status = board_out(handle, 0xCF8, 4, 0x80000000u | function << 8 | (offset & 0xFCu), reply);
+    if (status != BOARD_OK) return status;
+    return board_out(handle, (uint16_t)(0xCFC + (offset & 3)), 1, value, reply);
+}
+
+/* Sets what the maker of a board sets, and firmware takes for given, so that it finds the whole ROM, all
+ * the memory and the disk. It is called before the first instruction, and again after each hard reset,
+ * which takes the registers back:
+ *
+ *   XBCS, 4Eh of 01.0     C3h: the ROM answers from E0000h and from FFF80000h on, as do the ports of the
+ *                         clock and the keyboard controller
+ *   DRB0 to DRB7, 60h on  rows of 8 MiB, of which the last ends where all the memory does
+ *   clock, 15h and 16h    640 KiB of base memory
+ *   17h, 18h; 30h, 31h    the KiB from 1 MiB on, at most FFFFh
+ *   34h, 35h              the memory from 16 MiB on, in 64 KiB
+ *   38h, 3Dh              SeaBIOS boots from the disk
+ *
+ * Afterwards CONFADD is 0, as it was, and reply is that of the last step.
+ * CLOSED. */
+static inline uint32_t board_prepare(board *handle, board_reply *reply) {
+    board_map map;
+    board_range no_range;
+    board_window no_window;
+    uint32_t status = board_ranges(handle, &map, &no_range, 0, &no_window, 0);
+    if (status != BOARD_OK) return status;
+    uint32_t kib = map.mib > 64 ? 0xFFFFu : (map.mib - 1) * 1024, rest = map.mib > 16 ? (map.mib - 16) * 16 : 0;
+    const uint8_t clock[10][2] = {
+        {0x15, 0x80}, {0x16, 0x02}, {0x17, (uint8_t)kib}, {0x18, (uint8_t)(kib >> 8)},
+        {0x30, (uint8_t)kib}, {0x31, (uint8_t)(kib >> 8)}, {0x34, (uint8_t)rest}, {0x35, (uint8_t)(rest >> 8)},
+        {0x38, 0x01}, {0x3D, 0x02},
+    };
+    for (uint32_t k = 0; k < 10 && status == BOARD_OK; k++)
+        status = board_cmos_write(handle, clock[k][0], clock[k][1]);
+    if (status == BOARD_OK) status = board_config_write(handle, 0x08, 0x4E, 0xC3, reply);
+    uint32_t end = (map.mib + 7) / 8;
+    for (uint32_t row = 0; row < 8 && status == BOARD_OK; row++) {
+        uint8_t boundary = (uint8_t)(row < 7 && row + 1 < end ? row + 1 : end);
+        status = board_config_write(handle, 0x00, (uint8_t)(0x60 + row), boundary, reply);
+    }
+    return status == BOARD_OK ? board_out(handle, 0xCF8, 4, 0, reply) : status;
+}
+
+/* ---- the map as slots of a processor's memory, as KVM has them */
+
+enum { BOARD_PAGE = 4096, BOARD_MOST_SLOTS = 480, BOARD_MOST_CHANGES = 2 * BOARD_MOST_SLOTS };
+
+/* Whole pages behind which the monitor's own bytes lie: the processor fetches and reads them there without
+ * an exit, and writes them unless is_read_only. Each access outside all slots exits. */
+typedef struct board_slot {
+    uint32_t lo; /* the first and the last address */
+    uint32_t hi;
+    uint32_t offset; /* of the byte at lo in the guest's memory, or in the ROM */
+    uint8_t is_rom;
+    uint8_t is_read_only;
+    uint8_t is_used; /* 0 where there is no slot */
+    uint8_t reserved;
+} board_slot;
+
+/* The slots that a processor has, by their numbers. Zeros are a processor without any. */
+typedef struct board_slots {
+    board_slot slot[BOARD_MOST_SLOTS];
+} board_slots;
+
+/* A slot that is added at a free number, or taken away from its number. */
+typedef struct board_slot_change {
+    board_slot slot;
+    uint32_t number;
+    uint32_t is_added;
+} board_slot_change;
+
+static inline bool board_is_memory(uint8_t target) { return target == BOARD_DRAM || target == BOARD_SHADOW; }
+
+/* What a range is from one of its addresses on, as far as the bytes stand one after the other. It is no slot
+ * where a fetch and a read find different things, nor of SMRAM, a card or nobody, nor past the memory; where
+ * writes alone land elsewhere it is read-only. */
+static inline board_slot board_slot_of(const board_range *range, uint64_t addr, uint32_t mib, uint32_t rom_bytes) {
+    uint8_t fetch = board_area_of(range, BOARD_FETCH, false).target;
+    uint8_t read = board_area_of(range, BOARD_READ, false).target;
+    board_slot slot = {(uint32_t)addr, range->hi, (uint32_t)addr, 0, 0, 0, 0};
+    uint64_t end = (uint64_t)range->hi + 1, memory_end = (uint64_t)mib << 20;
+    if (fetch == BOARD_ROM && read == BOARD_ROM) {
+        slot.is_rom = slot.is_read_only = slot.is_used = 1;
+        slot.offset = (uint32_t)(addr % rom_bytes);
+        if (end > addr + (rom_bytes - slot.offset)) end = addr + (rom_bytes - slot.offset);
+    } else if (board_is_memory(fetch) && board_is_memory(read) && addr < memory_end) {
+        slot.is_read_only = !board_is_memory(board_area_of(range, BOARD_WRITE, false).target);
+        slot.is_used = 1;
+        if (end > memory_end) end = memory_end;
+    }
+    slot.hi = (uint32_t)(end - 1);
+    return slot;
+}
+
+/* Whether bytes of one kind stand where those of another would if it went on: behind the same addresses. */
+static inline bool board_slot_is_of(const board_slot *one, const board_slot *other) {
+    return one->is_rom == other->is_rom && one->is_read_only == other->is_read_only &&
+           one->offset - one->lo == other->offset - other->lo;
+}
+
+/* The pages that are wholly of a slot: no slot where there is none. */
+static inline board_slot board_slot_pages(board_slot slot) {
+    uint64_t first = ((uint64_t)slot.lo + BOARD_PAGE - 1) / BOARD_PAGE * BOARD_PAGE;
+    uint64_t end = ((uint64_t)slot.hi + 1) / BOARD_PAGE * BOARD_PAGE;
+    slot.is_used = slot.is_used && first < end;
+    if (!slot.is_used) return slot;
+    slot.offset += (uint32_t)(first - slot.lo);
+    slot.lo = (uint32_t)first;
+    slot.hi = (uint32_t)(end - 1);
+    return slot;
+}
+
+/* Puts the slots of a map into an array of BOARD_MOST_SLOTS, in rising order, each as long as can be: how many
+ * they are. Slots past the array's end, which no map of a board has, are left out, so that they exit. */
+static inline uint32_t board_slots_of(const board_range *ranges, size_t count, uint32_t mib, uint32_t rom_bytes,
+                                      board_slot *into) {
+    uint32_t made = 0, used = 0;
+    for (size_t k = 0; k < count; k++) {
+        for (uint64_t addr = ranges[k].lo; addr <= ranges[k].hi;) {
+            board_slot next = board_slot_of(&ranges[k], addr, mib, rom_bytes);
+            board_slot *last = made > 0 ? &into[made - 1] : NULL;
+            addr = (uint64_t)next.hi + 1;
+            if (!next.is_used) continue;
+            if (last && (uint64_t)last->hi + 1 == next.lo && board_slot_is_of(last, &next)) last->hi = next.hi;
+            else if (made < BOARD_MOST_SLOTS) into[made++] = next;
+        }
+    }
+    for (uint32_t k = 0; k < made; k++) {
+        into[used] = board_slot_pages(into[k]);
+        used += into[used].is_used;
+    }
+    return used;
+}
+
+/* The first slot that begins in a stretch, or NULL. */
+static inline board_slot *board_slots_first(board_slots *slots, uint64_t lo, uint64_t hi) {
+    board_slot *first = NULL;
+    for (uint32_t k = 0; k < BOARD_MOST_SLOTS; k++) {
+        board_slot *slot = &slots->slot[k];
+        if (!slot->is_used || slot->lo < lo || slot->lo > hi) continue;
+        if (!first || slot->lo < first->lo) first = slot;
+    }
+    return first;
+}
+
+/* Whether a slot lies in one of those that are wanted, and has its bytes. */
+static inline bool board_slot_stays(const board_slot *slot, const board_slot *wanted, uint32_t count) {
+    for (uint32_t k = 0; k < count; k++)
+        if (wanted[k].lo <= slot->lo && slot->hi <= wanted[k].hi) return board_slot_is_of(slot, &wanted[k]);
+    return false;
+}
+
+/* Takes away the slots that are not right any more, or all: how many they are, and by `kept` how many stay. */
+static inline uint32_t board_slots_take(board_slots *slots, const board_slot *wanted, uint32_t count,
+                                        board_slot_change *changes, uint32_t *kept) {
+    uint32_t made = 0;
+    *kept = 0;
+    for (uint32_t k = 0; k < BOARD_MOST_SLOTS; k++) {
+        board_slot *slot = &slots->slot[k];
+        if (!slot->is_used) continue;
+        if (board_slot_stays(slot, wanted, count)) {
+            ++*kept;
+            continue;
+        }
+        board_slot_change change = {*slot, k, 0};
+        changes[made++] = change;
+        slot->is_used = 0;
+    }
+    return made;
+}
+
+/* Adds slots where a wanted one has none yet, at free numbers: how many. */
+static inline uint32_t board_slots_fill(board_slots *slots, const board_slot *wanted, board_slot_change *changes) {
+    uint32_t made = 0, number = 0;
+    for (uint64_t at = wanted->lo; at <= wanted->hi;) {
+        const board_slot *next = board_slots_first(slots, at, wanted->hi);
+        uint64_t end = next ? next->lo : (uint64_t)wanted->hi + 1, after = next ? (uint64_t)next->hi + 1 : end;
+        if (at < end) {
+            board_slot gap = *wanted;
+            gap.lo = (uint32_t)at;
+            gap.hi = (uint32_t)(end - 1);
+            gap.offset += (uint32_t)at - wanted->lo;
+            while (slots->slot[number].is_used) number++;
+            board_slot_change change = {gap, number, 1};
+            changes[made++] = change;
+            slots->slot[number] = gap;
+        }
+        at = after;
+    }
+    return made;
+}
+
+/* Makes the slots those of a map, ranges and mib as board_ranges tells them, and tells what a processor has to
+ * change for it, in this order: how many changes, of at most BOARD_MOST_CHANGES. No two slots overlap at any
+ * moment. A slot that is still right stays untouched, also where more memory comes to stand beside it, which
+ * then is a slot of its own; there is no way with fewer changes. Where so many small ones stay that the
+ * numbers could run out all are taken away first, and come again as few.
+ *
+ * rom_bytes is how many bytes the monitor's copy of the ROM has, in whole pages. With copies of the ROM one
+ * after the other, 512 KiB in all, each range of it is one slot. */
+static inline uint32_t board_slots_follow(board_slots *slots, const board_range *ranges, size_t count, uint32_t mib,
+                                          uint32_t rom_bytes, board_slot_change *changes) {
+    board_slot wanted[BOARD_MOST_SLOTS];
+    uint32_t wants = board_slots_of(ranges, count, mib, rom_bytes, wanted), kept, none;
+    uint32_t made = board_slots_take(slots, wanted, wants, changes, &kept);
+    if (2 * kept + wants > BOARD_MOST_SLOTS) made += board_slots_take(slots, wanted, 0, changes + made, &none);
+    for (uint32_t k = 0; k < wants; k++) made += board_slots_fill(slots, &wanted[k], changes + made);
+    return made;
+}
+
 /* ---- texts */
 
 /* Room that is enough for every line of a log. */
