@@ -668,6 +668,87 @@ static inline uint32_t board_prepare(board *handle, board_reply *reply) {
     return status == BOARD_OK ? board_out(handle, 0xCF8, 4, 0, reply) : status;
 }
 
+/* ---- a processor's accesses and the time, for a monitor that keeps the guest's memory itself */
+
+static inline bool board_is_memory(uint8_t target) { return target == BOARD_DRAM || target == BOARD_SHADOW; }
+
+/* One bus cycle of board_access: the bytes at data, of which those of memory are the guest's. */
+static inline uint32_t board_access_cycle(board *handle, const board_event *event, uint8_t *data, uint8_t *guest,
+                                          uint32_t mib, board_reply *reply) {
+    uint32_t status = board_step(handle, event, reply);
+    if (status != BOARD_OK) return status;
+    bool is_guest = event->what == BOARD_MEMORY && board_is_memory(reply->part[0].target) &&
+                    board_is_installed(mib, event->addr, event->bytes);
+    for (uint32_t k = 0; k < event->bytes; k++) {
+        uint8_t *at = is_guest ? guest + event->addr + k : NULL;
+        if (event->kind == BOARD_READ) data[k] = at ? *at : (uint8_t)(reply->value >> (8 * k));
+        else if (at) *at = data[k];
+    }
+    return BOARD_OK;
+}
+
+/* Does an access as a processor's exit tells it: what is BOARD_PORT or BOARD_MEMORY, kind BOARD_READ or
+ * BOARD_WRITE, from any address on and of any count of bytes at data, which a read fills. The bus cuts it.
+ * Bytes of memory are those of guest, which has mib MiB as at board_open. Past port FFFFh and from 4 GiB on
+ * nobody answers: a read gives ones. reply is the last cycle's, with the strongest reset of all and with the
+ * last byte that one sent; where no cycle was made it is as before.
+ * CLOSED, NO_EVENT. */
+static inline uint32_t board_access(board *handle, uint8_t what, uint8_t kind, uint64_t addr, uint8_t *data,
+                                    uint64_t bytes, uint8_t *guest, uint32_t mib, board_reply *reply) {
+    uint64_t end = what == BOARD_PORT ? 0x10000 : 0x100000000ull;
+    uint32_t status = BOARD_OK, reset = BOARD_NO_RESET;
+    uint8_t has_sent = 0, sent = 0;
+    while (status == BOARD_OK && bytes > 0 && addr < end) {
+        uint8_t cycle = board_cycle((uint32_t)addr, bytes);
+        board_event event = {0, (uint32_t)addr, what, kind, cycle, 0, 0};
+        for (uint32_t k = 0; k < cycle && kind == BOARD_WRITE; k++) event.value |= (uint64_t)data[k] << (8 * k);
+        status = board_access_cycle(handle, &event, data, guest, mib, reply);
+        if (status != BOARD_OK) return status;
+        if (reply->reset > reset) reset = reply->reset;
+        if (reply->has_sent) {
+            has_sent = 1;
+            sent = reply->sent;
+        }
+        reply->reset = reset;
+        reply->has_sent = has_sent;
+        reply->sent = sent;
+        addr += cycle;
+        data += cycle;
+        bytes -= cycle;
+    }
+    for (; bytes > 0 && kind == BOARD_READ; bytes--) *data++ = 0xFF;
+    return status;
+}
+
+/* How far a board's clocks have come: the pulses and the seconds that they were given. Zeros at power-on. */
+typedef struct board_clocks {
+    uint64_t pulses;
+    uint64_t seconds;
+} board_clocks;
+
+/* Lets time go by until so many nanoseconds after the power came: the 8254's pulses, 1,193,182 a second, and
+ * the seconds of the MC146818, but for those in which it stands. Where line 0 rises on the way the pulses end
+ * there, so that no tick is lost: the guest takes that interrupt, and the next call goes on. reply is as before
+ * where there was nothing to do.
+ * CLOSED. */
+static inline uint32_t board_run_until(board *handle, board_clocks *clocks, uint64_t nanoseconds, board_reply *reply) {
+    uint64_t second = 1000000000, hertz = 1193182, whole = nanoseconds / second;
+    uint64_t due = whole * hertz + nanoseconds % second * hertz / second;
+    uint32_t to_rise, status = board_pulses_to_rise(handle, &to_rise);
+    board_event event;
+    if (status == BOARD_OK && to_rise > 0 && clocks->pulses + to_rise < due) due = clocks->pulses + to_rise;
+    while (status == BOARD_OK && clocks->pulses < due) {
+        uint64_t count = due - clocks->pulses < 1000000 ? due - clocks->pulses : 1000000;
+        status = board_pulse(handle, (uint32_t)count, reply);
+        clocks->pulses += count;
+    }
+    for (; status == BOARD_OK && clocks->seconds < whole; clocks->seconds++) {
+        status = board_second(handle, &event, reply);
+        if (status == BOARD_NO_TIME) status = BOARD_OK;
+    }
+    return status;
+}
+
 /* ---- the map as slots of a processor's memory, as KVM has them */
 
 enum { BOARD_PAGE = 4096, BOARD_MOST_SLOTS = 480, BOARD_MOST_CHANGES = 2 * BOARD_MOST_SLOTS };
@@ -695,8 +776,6 @@ typedef struct board_slot_change {
     uint32_t number;
     uint32_t is_added;
 } board_slot_change;
-
-static inline bool board_is_memory(uint8_t target) { return target == BOARD_DRAM || target == BOARD_SHADOW; }
 
 /* What a range is from one of its addresses on, as far as the bytes stand one after the other. It is no slot
  * where a fetch and a read find different things, nor of SMRAM, a card or nobody, nor past the memory; where

@@ -67,7 +67,10 @@ add:
     call two
     mov si, line
     call print
+    sti
+rest:
     hlt
+    jmp rest
 
 %include "com1.asm"
 
