@@ -20,8 +20,7 @@ function answerLine(entry, part, denial) {
   line.append(kindOf(target) === "abort" ? "" : `${wordsOfTarget(entry, target)}; `);
   line.append(element("b", "denial", `⊘ ${denial.text.words}. `));
   if (denial.text.hint) line.append(element("span", "hint", `${denial.text.hint}. `));
-  const isRegister = denial.text.place !== "none";
-  if (isRegister) line.append(denial.writer ? "Last written by " : "As after ", leadTo(denial.writer));
+  if (isOfRegister(denial)) line.append(denial.writer ? "Last written by " : "As after ", leadTo(denial.writer));
   return line;
 }
 

@@ -67,6 +67,11 @@ function denialsOf(number) {
   return found;
 }
 
+// Whether it is a register that denied, which leads to its last write; else there is none.
+function isOfRegister(denial) {
+  return denial.text.place !== "none";
+}
+
 // The values of another monitor by statement, where there are such.
 const given = new Map();
 if (data.beside) {

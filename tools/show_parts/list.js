@@ -1,11 +1,11 @@
 // The statements with their replies. Rows are made when they are seen.
 
-const ROW_HEIGHT = 22; // as in the style
 const SPARE_ROWS = 6;
 const list = byId("list");
 const listWindow = byId("window");
 let drawn = new Map(); // the rows that are there, by their numbers
 let shown = null; // the numbers of the matches where these alone are shown, else null
+let rowHeight = 0; // as the style has it: it depends on the width
 
 function rowCount() {
   return shown ? shown.length : count;
@@ -35,9 +35,10 @@ function markOf(number) {
   const denials = denialsOf(number);
   if (!denials.length) return cell("mark", "");
   const { text, writer } = denials[0];
-  const more = denials.length > 1 ? ` (${denials.length} parts)` : "";
+  const words = `⊘ ${text.mark}${denials.length > 1 ? ` (${denials.length} parts)` : ""}`;
+  if (!isOfRegister(denials[0])) return cell("mark", words);
   const title = writer ? `to the last write of it, statement ${writer}` : "it is as after the reset";
-  const lead = leadTo(writer, `⊘ ${text.mark}${more}`, title);
+  const lead = leadTo(writer, words, title);
   lead.tabIndex = -1;
   return element("span", "mark", lead);
 }
@@ -49,33 +50,35 @@ function answeredBy(entry) {
 
 function rowFor(number) {
   const entry = entryOf(number);
+  const value = entry.look ? `version ${entry.value}` : entry.value.replace("-", "");
   const row = element("div", `row f-${familyOf(targetOf(entry))}`, [
     cell("number", String(number)),
     cell("turn", entry.turn),
     cell("statement", entry.words.join(" ")),
-    cell("value", entry.look ? `version ${entry.value}` : entry.value === "-" ? "" : entry.value),
+    ...(value ? [cell("value", value)] : []),
     ...(data.beside ? [otherCell(number)] : []),
-    cell("target", answeredBy(entry)),
-    ...(entry.look ? [] : [markOf(number)]),
+    element("span", "answered", [cell("target", answeredBy(entry)), ...(entry.look ? [] : [markOf(number)])]),
   ]);
   row.id = `s${number}`;
   row.dataset.number = number;
   row.setAttribute("role", "option");
   row.classList.toggle("match", isMatch(number));
   row.classList.toggle("look", Boolean(entry.look));
-  row.classList.toggle("denied", row.querySelector(".mark .lead") !== null);
+  row.classList.toggle("wrote", value === "");
+  row.classList.toggle("denied", denialsOf(number).length > 0);
   return row;
 }
 
 // Draws the rows that are seen. Those that are there already stay.
 function drawList() {
-  const first = Math.max(0, Math.floor(list.scrollTop / ROW_HEIGHT) - SPARE_ROWS);
-  const last = Math.min(rowCount(), Math.ceil((list.scrollTop + list.clientHeight) / ROW_HEIGHT) + SPARE_ROWS);
+  const first = Math.max(0, Math.floor(list.scrollTop / rowHeight) - SPARE_ROWS);
+  const last = Math.min(rowCount(), Math.ceil((list.scrollTop + list.clientHeight) / rowHeight) + SPARE_ROWS);
   const rows = new Map();
   for (let row = first; row < last; row++) {
     const number = numberAt(row);
     rows.set(number, drawn.get(number) || rowFor(number));
   }
+  const added = [...rows.values()].filter((row) => !row.isConnected);
   for (const [number, row] of drawn) if (!rows.has(number)) row.remove();
   let here = listWindow.firstChild;
   for (const row of rows.values()) {
@@ -83,8 +86,16 @@ function drawList() {
     else listWindow.insertBefore(row, here);
   }
   drawn = rows;
-  listWindow.style.transform = `translateY(${first * ROW_HEIGHT}px)`;
+  listWindow.style.transform = `translateY(${first * rowHeight}px)`;
+  tighten(added);
   markChosen();
+}
+
+// Rows with a text that is cut give up their columns, so that the texts have all the room of the row.
+function tighten(rows) {
+  const isCut = (it) => it.scrollWidth > it.clientWidth;
+  const cut = rows.filter((row) => [...row.querySelectorAll("span")].some(isCut));
+  for (const row of cut) row.classList.add("tight");
 }
 
 function markChosen() {
@@ -106,24 +117,37 @@ function renewList() {
 }
 
 function sizeList() {
-  byId("space").style.height = `${rowCount() * ROW_HEIGHT}px`;
+  rowHeight = Number.parseFloat(getComputedStyle(list).getPropertyValue("--row-height"));
+  byId("space").style.height = `${rowCount() * rowHeight}px`;
 }
 
 // Scrolls so far that the chosen statement is seen.
 function seeChosen() {
-  const top = Math.max(rowOf(place.at), 0) * ROW_HEIGHT;
+  const top = Math.max(rowOf(place.at), 0) * rowHeight;
   const room = list.clientHeight;
-  if (top < list.scrollTop || top + ROW_HEIGHT > list.scrollTop + room) {
-    const isNear = top > list.scrollTop - 2 * ROW_HEIGHT && top < list.scrollTop + room + ROW_HEIGHT;
-    list.scrollTop = isNear ? (top < list.scrollTop ? top : top + ROW_HEIGHT - room) : top - room / 2;
+  if (top < list.scrollTop || top + rowHeight > list.scrollTop + room) {
+    const isNear = top > list.scrollTop - 2 * rowHeight && top < list.scrollTop + room + rowHeight;
+    list.scrollTop = isNear ? (top < list.scrollTop ? top : top + rowHeight - room) : top - room / 2;
   }
 }
 
 function headList() {
   const other = data.beside ? { other: data.beside.name } : {};
-  const before = { number: "no.", turn: "who", statement: "statement", value: "read" };
-  const names = { ...before, ...other, target: "answered by", mark: "kept out by" };
-  byId("heads").replaceChildren(...Object.entries(names).map(([name, text]) => cell(name, text)));
+  const names = { number: "no.", turn: "who", statement: "statement", value: "read", ...other };
+  const cells = Object.entries(names).map(([name, text]) => cell(name, text));
+  const answered = element("span", "answered", [cell("target", "answered by"), cell("mark", "kept out by")]);
+  byId("heads").replaceChildren(...cells, answered);
+}
+
+let fittedWidth = 0;
+
+// Rows depend on the width; how many are seen on the height too.
+function fitList() {
+  const isOther = list.clientWidth !== fittedWidth;
+  fittedWidth = list.clientWidth;
+  sizeList();
+  if (isOther) renewList();
+  else drawSoon();
 }
 
 let drawing = 0;
@@ -140,7 +164,7 @@ function startList() {
   headList();
   sizeList();
   list.addEventListener("scroll", drawSoon, { passive: true });
-  new ResizeObserver(drawSoon).observe(list);
+  new ResizeObserver(fitList).observe(list);
   listWindow.addEventListener("click", (event) => {
     const row = event.target.closest(".row");
     if (row && !event.target.closest("button")) choose(Number(row.dataset.number));

@@ -16,7 +16,7 @@ const KEYS = [
 ];
 
 function rowsOnPage() {
-  return Math.max(Math.floor(list.clientHeight / ROW_HEIGHT) - 1, 1);
+  return Math.max(Math.floor(list.clientHeight / rowHeight) - 1, 1);
 }
 
 // So many rows on: of the statements that are shown.
@@ -29,8 +29,8 @@ function step(rows) {
 }
 
 function toWriter() {
-  const denials = denialsOf(place.at);
-  if (denials.length) follow(denials[0].writer);
+  const denial = denialsOf(place.at).find(isOfRegister);
+  if (denial) follow(denial.writer);
 }
 
 function turnTheme() {

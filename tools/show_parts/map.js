@@ -58,12 +58,24 @@ function joinedColumns(range, before, access) {
   return columns;
 }
 
+// A cell also where the row of a narrow map is a grid of twelve columns, two for each kind of access.
+function spanned(cell) {
+  cell.style.setProperty("--columns", `span ${2 * cell.colSpan}`);
+  return cell;
+}
+
+// An area, which a narrow cell may break after its colon.
+function breakable(area) {
+  return area.split(/(?<=:)/).flatMap((text, k) => (k ? [element("wbr"), text] : [text]));
+}
+
 function areaCell(column) {
   const area = data.maps.areas[column.area];
   const marks = (column.isHit ? "▸ " : "") + (column.isChanged ? "● " : "");
   const cellName = `area f-${familyOf(area)}${column.isChanged ? " changed" : ""}${column.isHit ? " hit" : ""}`;
   const title = [column.isHit && "the chosen access", column.isChanged && `before: ${column.was}`];
-  return element("td", cellName, marks + area, { colSpan: column.span, title: title.filter(Boolean).join("; ") });
+  const more = { colSpan: column.span, title: title.filter(Boolean).join("; ") };
+  return spanned(element("td", cellName, [marks, ...breakable(area)], more));
 }
 
 function rangeRow(range, before, access) {
@@ -81,13 +93,14 @@ function rangeRow(range, before, access) {
 
 function mapHead() {
   const top = element("tr", "", [
-    element("th", "", "addresses", { rowSpan: 2 }),
-    element("th", "", "", { rowSpan: 2 }),
-    element("th", "", "outside SMM", { colSpan: 3 }),
-    element("th", "", "in SMM", { colSpan: 3 }),
-    element("th", "", "so since", { rowSpan: 2 }),
+    element("th", "aside", "addresses", { rowSpan: 2 }),
+    element("th", "aside", "", { rowSpan: 2 }),
+    spanned(element("th", "", "outside SMM", { colSpan: 3 })),
+    spanned(element("th", "", "in SMM", { colSpan: 3 })),
+    element("th", "aside", "so since", { rowSpan: 2 }),
   ]);
-  return element("thead", "", [top, element("tr", "", KIND_NAMES.map((name) => element("th", "", name)))]);
+  const kinds = KIND_NAMES.map((name) => spanned(element("th", "", name)));
+  return element("thead", "", [top, element("tr", "", kinds)]);
 }
 
 function showMap() {

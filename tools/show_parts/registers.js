@@ -33,10 +33,20 @@ function drawRegister(row) {
   return isChanged;
 }
 
+// Scrolls the registers so far that one is seen, below their heading; the page stays where it is.
+function seeRegister(row) {
+  const box = byId("below");
+  const seen = box.getBoundingClientRect();
+  const here = row.getBoundingClientRect();
+  const top = seen.top + box.querySelector("h2").offsetHeight;
+  if (here.top < top) box.scrollTop -= top - here.top;
+  else if (here.bottom > seen.bottom) box.scrollTop += here.bottom - seen.bottom;
+}
+
 function showRegisters() {
   const changed = registerRows.filter(drawRegister);
   byId("changes").textContent = changed.length ? `changed: ${changed.map((row) => row.register.name).join(", ")}` : "";
-  if (changed.length) changed[0].element.scrollIntoView({ block: "nearest" });
+  if (changed.length) seeRegister(changed[0].element);
 }
 
 function startRegisters() {
