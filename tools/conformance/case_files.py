@@ -21,7 +21,7 @@ import re
 from dataclasses import dataclass, field, replace
 from typing import Iterable, Iterator
 
-from .case_words import CaseFault, statements_of
+from .case_words import CaseFault, steps_of
 from .scripts import Script, Setup
 
 FOLDER = pathlib.Path(__file__).resolve().parent / "cases"
@@ -98,7 +98,7 @@ def cases_of(file: pathlib.Path) -> list[Case]:
             found[-1].rule = rest
         else:
             try:
-                found[-1].steps.append(tuple(statements_of(line)))
+                found[-1].steps.extend(tuple(step) for step in steps_of(line))
             except CaseFault as fault:
                 raise CaseFault(f"{file.name}: case {found[-1].name}: {fault}") from None
     return found

@@ -1,6 +1,6 @@
 """The words of a case: what a line of a file in cases/ stands for, as statements. A line is one step.
 
-A line is a statement, or begins with one of these words; `N * LINE` is the line N times, and `LINE; LINE` both.
+A line is a statement, or begins with one of these words; `N * LINE` is N steps of the line, and `LINE; LINE` both in one step.
 
     get 00.0.59 [b|w|d]        reads a register of configuration space: device, function and offset
     put 00.0.59 33             writes one, of as many bytes as there are digits
@@ -21,7 +21,7 @@ A line is a statement, or begins with one of these words; `N * LINE` is the line
     ide                        enables the channel of the disk
     ata COMMAND LBA [COUNT] [FEATURE] [DEVICE]   the task file, and the command
     task                       reads 1F1h to 1F7h
-    words N                    reads N words of the disk
+    words N                    reads N words of the disk, a step each
     reset                      a hard reset by port CF9h
 """
 import re
@@ -37,6 +37,9 @@ WIDTH_OF_DIGITS = {2: "b", 4: "w", 8: "d"}
 READ_IRR, READ_ISR, POLL = 0x0A, 0x0B, 0x0C
 STATUS_OF, LBA_MODE = 0xE0, 0xE0
 Statements = list[str]
+
+
+REPEATED = re.compile(r"(\d+) \* (.+)")
 
 
 class CaseFault(Exception):
@@ -168,13 +171,19 @@ WORDS: dict[str, Callable[..., Statements]] = {
 }
 
 
+def steps_of(line: str) -> list[Statements]:
+    """The steps that a line of a case stands for."""
+    repeated = REPEATED.fullmatch(line)
+    if repeated:
+        return steps_of(repeated[2]) * int(repeated[1])
+    found = statements_of(line)
+    return [[it] for it in found] if line.startswith("words ") else [found]
+
+
 def statements_of(line: str) -> Statements:
     """What a line of a case stands for."""
     if ";" in line:
         return [it for part in line.split(";") for it in statements_of(part.strip())]
-    repeated = re.fullmatch(r"(\d+) \* (.+)", line)
-    if repeated:
-        return statements_of(repeated[2]) * int(repeated[1])
     word, *fields = line.split()
     try:
         found = WORDS[word](*fields) if word in WORDS else [line]

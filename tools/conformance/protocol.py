@@ -9,14 +9,16 @@ at the statement where the monitor ended or hung, which is the last answer of it
 What is none of these, or does not come in time, is an AdapterFault: it says what was asked and what came.
 """
 import collections
+import concurrent.futures
 import os
+import queue
 import re
 import selectors
 import shlex
 import subprocess
 import time
 from types import TracebackType
-from typing import Iterable, Iterator, Optional
+from typing import Callable, Iterable, Iterator, Optional, TypeVar
 
 from .scripts import END, Script, digits_of
 
@@ -26,6 +28,8 @@ SECONDS_TO_END = 5.0
 BLOCK = 1 << 16
 DONE, CANNOT, ENDED = "-", "?", "!"
 LONGEST_SHOWN = 100
+Item = TypeVar("Item")
+Got = TypeVar("Got")
 
 
 class AdapterFault(Exception):
@@ -220,6 +224,43 @@ class Adapter:
             process.wait()
         process.stdout.close()
         return status
+
+
+class Adapters:
+    """Several processes of one adapter, each asked by a thread of its own."""
+
+    def __init__(self, command: str, seconds: float = SECONDS, at_once: int = 1) -> None:
+        self.all = [Adapter(command, seconds) for _ in range(at_once)]
+        self.idle = queue.SimpleQueue[Adapter]()
+        for adapter in self.all:
+            self.idle.put(adapter)
+        self.pool = concurrent.futures.ThreadPoolExecutor(at_once)
+
+    def __enter__(self) -> "Adapters":
+        return self
+
+    def __exit__(
+        self, kind: type[BaseException] | None, fault: BaseException | None, trace: TracebackType | None
+    ) -> None:
+        self.pool.shutdown(cancel_futures=True)
+        for adapter in self.all:
+            adapter.close()
+
+    def map(self, ask: Callable[[Adapter, Item], Got], items: Iterable[Item]) -> Iterator[Got]:
+        """What comes of each item with an adapter, in the order of the items."""
+        return self.pool.map(lambda item: self.with_one(ask, item), items)
+
+    def with_one(self, ask: Callable[[Adapter, Item], Got], item: Item) -> Got:
+        adapter = self.idle.get()
+        try:
+            return ask(adapter, item)
+        finally:
+            self.idle.put(adapter)
+
+    def finish(self) -> None:
+        """Lets all end, where a line more than was asked for is a fault."""
+        for adapter in self.all:
+            adapter.finish()
 
 
 def shown(line: str) -> str:

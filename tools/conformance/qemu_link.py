@@ -1,12 +1,16 @@
 """A process of QEMU: its test protocol (qtest) on its standard input and output, QMP on a socket, COM1 on another. It goes
 back to its start by `loadvm` within milliseconds, where a new process takes a tenth of a second."""
+import fcntl
 import json
 import os
 import pathlib
 import select
 import socket
 import subprocess
+import sys
 import tempfile
+import termios
+import time
 from dataclasses import dataclass
 from typing import Any, Callable, Optional, Sequence
 
@@ -14,6 +18,7 @@ from .scripts import Setup
 from .serving import MonitorEnded
 
 SECONDS = 20
+SECONDS_TO_TAKE, POLL_SECONDS = 0.5, 0.0005
 BLOCK = 1 << 16
 CYLINDER_BYTES, HEADS, SECTORS = 516096, 16, 63
 CLOCK_BEGINS = "2024-02-28T22:59:49"
@@ -106,6 +111,17 @@ class Link:
                 pass
         except BlockingIOError:
             pass
+
+    def send_to_com1(self, data: bytes) -> None:
+        """Sends bytes to COM1, and waits until they were taken: COM1 takes none while it has no room."""
+        self.com1.send(data)
+        end = time.monotonic() + SECONDS_TO_TAKE
+        while self.unread() and time.monotonic() < end:
+            time.sleep(POLL_SECONDS)
+
+    def unread(self) -> int:
+        """How many bytes QEMU did not take yet."""
+        return int.from_bytes(fcntl.ioctl(self.com1, termios.TIOCOUTQ, bytes(4)), sys.byteorder)
 
     def close(self) -> None:
         self.process.kill()

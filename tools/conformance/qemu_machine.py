@@ -16,7 +16,6 @@ LETTERS = {"b": "b", "w": "w", "d": "l", "q": "q"}  # of the test protocol
 SECOND = 10**9  # nanoseconds
 PIT_HERTZ = 1193182
 MOST_AHEAD = 100 * SECOND  # QEMU's timers make up for each second of it
-RESET_SECONDS = BYTE_SECONDS = 0.003  # that its main loop takes
 PICS = (0x20, 0xA0)
 ICW1, POLL, REQUEST, CASCADE, VECTOR_BASE = 0x10, 0x0C, 0x80, 2, 0xF8
 DISK, ALTERNATE_STATUS, DATA, ATA_COMMAND = (*range(0x1F0, 0x1F8), 0x3F6), 0x3F6, 0x1F0, 0x1F7
@@ -95,8 +94,7 @@ class Machine:
         elif port & 1 and port - 1 in PICS and self.awaits[chip]:
             self.base[chip], self.awaits[chip] = value & VECTOR_BASE, False
         elif port == RESET_CONTROL and size == 1 and value & RESETS:
-            self.link.flush()
-            time.sleep(RESET_SECONDS)
+            self.link.flush()  # it resets before its main loop takes another command
             self.base, self.is_held = [0, 0], False
         elif port == ALTERNATE_STATUS:
             self.is_held = bool(value & HELD_RESET)
@@ -183,8 +181,7 @@ class Machine:
 
     def receive(self, statement: str, fields: Sequence[str], say: Say) -> None:
         self.link.flush()
-        self.link.com1.send(bytes([int(fields[0], 16)]))
-        time.sleep(BYTE_SECONDS)
+        self.link.send_to_com1(bytes([int(fields[0], 16)]))
         say(DONE)
 
     def bus_master(self, statement: str, fields: Sequence[str], say: Say) -> None:

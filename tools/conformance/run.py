@@ -9,10 +9,10 @@ from differences import Reason
 
 from .case_files import Case
 from .compare import Asked, Difference, ask_again
-from .protocol import Adapter
+from .protocol import Adapter, Adapters
 from .shrink import Shown, of_cause, shrink
 
-AT_ONCE = 16  # cases that are asked before the first is told
+AT_ONCE = 16  # cases that an adapter has at once
 
 
 @dataclass(frozen=True)
@@ -52,28 +52,31 @@ class Found:
     again: Optional[bool] = None  # whether it was there on a fresh machine too, where that was tried
 
 
-def results_of(adapter: Adapter, cases: Iterable[Case], images: pathlib.Path, rom: Optional[pathlib.Path] = None,
+def results_of(adapters: Adapters, cases: Iterable[Case], images: pathlib.Path, rom: Optional[pathlib.Path] = None,
                view: str = "") -> Iterator[Result]:
     """The results of cases, in their order."""
     left = iter(cases)
-    while some := list(itertools.islice(left, AT_ONCE)):
+    some = iter(lambda: list(itertools.islice(left, AT_ONCE)), [])
+
+    def ask(adapter: Adapter, some: list[Case]) -> list[Result]:
         scripts = [case.script(images, rom) for case in some]
-        for case, script, answers in zip(some, scripts, adapter.ask(scripts)):
-            asked = ask_again(adapter, script, answers, view)
-            yield Result(case, asked, asked.differences())
+        asked = [ask_again(adapter, *it, view) for it in zip(scripts, adapter.ask(scripts))]
+        return [Result(case, it, it.differences()) for case, it in zip(some, asked)]
+
+    return itertools.chain.from_iterable(adapters.map(ask, some))
 
 
-def causes_of(adapter: Adapter, results: Sequence[Result]) -> list[Found]:
+def causes_of(adapters: Adapters, results: Sequence[Result]) -> list[Found]:
     """The causes behind the differences, in the order in which they were found, each made small from the case that shows it
     after the fewest statements."""
     shown_by: dict[Reason, dict[str, tuple[int, Asked]]] = collections.defaultdict(dict)
     for result in results:
         for it in result.differences:
             shown_by[it.cause].setdefault(result.case.name, (it.index, result.asked))
-    found = []
-    for cause, cases in shown_by.items():
-        _, asked = min(cases.values(), key=lambda it: it[0])
-        shown = shrink(adapter, asked, of_cause(cause))
-        if shown:
-            found.append(Found(cause, shown, list(cases)))
-    return found
+
+    def small(adapter: Adapter, cause: Reason) -> Optional[Shown]:
+        _, asked = min(shown_by[cause].values(), key=lambda it: it[0])
+        return shrink(adapter, asked, of_cause(cause))
+
+    shown = adapters.map(small, shown_by)
+    return [Found(cause, it, list(shown_by[cause])) for cause, it in zip(shown_by, shown) if it]

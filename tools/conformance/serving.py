@@ -4,20 +4,14 @@
         ...
     serve(answers_of)
 """
-import concurrent.futures
-import os
 import pathlib
-import queue
 import sys
-import threading
-import traceback
 from typing import Callable, Iterable, Iterator, Sequence
 
 from .protocol import ENDED
 from .scripts import BEGIN, END, PHASE, Setup
 
 Answers = Callable[[Setup, Sequence[str]], Iterable[str]]
-Texts = queue.Queue["concurrent.futures.Future[str] | None"]
 
 
 class MonitorEnded(Exception):
@@ -51,35 +45,12 @@ def scripts_given() -> Iterator[tuple[Setup, Sequence[str]]]:
             into.append(text)
 
 
-def text_of(answers_of: Answers, setup: Setup, statements: Sequence[str]) -> str:
-    """The lines that answer a script."""
-    lines = []
-    try:
-        for answer in answers_of(setup, statements):
-            lines.append(answer)
-    except MonitorEnded as why:
-        lines.append(f"{ENDED} {why}")
-    return "".join(f"{line}\n" for line in [*lines, END])
-
-
-def write_all(texts: Texts) -> None:
-    """Writes the answers in the order of the scripts. Where a script raised, the adapter ends with 1."""
-    while (future := texts.get()) is not None:
+def serve(answers_of: Answers) -> None:
+    """Answers scripts until standard input ends."""
+    for setup, statements in scripts_given():
         try:
-            sys.stdout.write(future.result())
-            sys.stdout.flush()
-        except Exception:
-            traceback.print_exc()
-            os._exit(1)
-
-
-def serve(answers_of: Answers, at_once: int = 1) -> None:
-    """Answers scripts until standard input ends, so many at once."""
-    texts: Texts = queue.Queue()
-    writer = threading.Thread(target=write_all, args=(texts,))
-    writer.start()
-    with concurrent.futures.ThreadPoolExecutor(at_once) as pool:
-        for setup, statements in scripts_given():
-            texts.put(pool.submit(text_of, answers_of, setup, statements))
-    texts.put(None)
-    writer.join()
+            for answer in answers_of(setup, statements):
+                print(answer)
+        except MonitorEnded as why:
+            print(f"{ENDED} {why}")
+        print(END, flush=True)
