@@ -643,8 +643,8 @@ for line in sys.stdin:
         script = self.file("it.script", SETUP.replace("phase", "disk d\nphase") + "\n".join(lines) + "\n")
         run = self.run_tool("ask-qemu", script, "trace", "--qemu", fake)
         self.assertEqual((run.returncode, run.stdout), (0, "6 statements\n"), run.stderr)
-        asked = ["inb 0x3f6", "outb 0x01F7 0xEC", *["inb 0x3f6"] * 3, "inw 0x01F0", "inb 0x3f6", "inb 0x01F7",
-                 "inb 0x3f6", "outb 0x03F6 0x04", "inb 0x01F7", "inb 0x0021"]
+        asked = ["outb 0x01F7 0xEC", *["inb 0x3f6"] * 3, "inw 0x01F0", "inb 0x01F7", "outb 0x03F6 0x04", "inb 0x01F7",
+                 "inb 0x0021"]
         self.assertEqual((self.folder / "asked").read_text().splitlines(), asked)
         self.assertIn("0 in w 01F0 = 1258\n", (self.folder / "trace").read_text())
 
