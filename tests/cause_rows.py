@@ -1,5 +1,5 @@
-"""A script that each row of the table of causes must tell, and one that it must not. Of each the statements, and what another
-monitor gave at the last one, made wrong by hand as the row says."""
+"""A script that each row of the table of causes must tell, and one that it must not. Of each the statements, and what
+another monitor gave at the last one, made wrong by hand as the row says."""
 from typing import NamedTuple
 
 DISK_WORDS = 256
@@ -440,6 +440,14 @@ PICS = [
     Case("fallen-edge", [*chips(), "irq 5 1", "irq 5 0", *requests()], "20", [*chips(), *requests()], "20"),
     Case("spurious", [*chips(), "irq 5 1", "irq 5 0", "ack"], "25", [*chips(), "irq 5 1", "ack"], "24"),
     Case(
+        "pirq",
+        [*put("01.0", 0x60, 8), *chips(), "wire 3 1", *requests(1)],
+        "01",
+        [*put("01.0", 0x60, 8), *chips(), *requests(1)],
+        "01",
+        "slot",
+    ),
+    Case(
         "clock-line",
         [*chips(), *DATE, *clock(0x0B, 0x16), "second", *requests(1)],
         "00",
@@ -567,7 +575,25 @@ CLOCKS = [
     Case("clock-first", clock(0x20), "26", [*clock(0x20, 0x2F), *clock(0x20)], "00"),
 ]
 SECTOR = [*IDE, *ata(0x30, 3), *["out w 01F0 A55A"] * DISK_WORDS]
+# a table at 2000h with one region of a sector, at 3000h
+TABLE_2000 = ["w d 00002000 00003000", "w d 00002004 80000200"]
 DISKS = [
+    Case(
+        "bus-master-status",
+        [*IDE, *TABLE_2000, "bus_master in 00002000 5 1"],
+        "05",
+        [*IDE, *ata(0xE7), *read(0x1F7)],
+        "51",
+        "disk",
+    ),
+    Case(
+        "bus-master-moves",
+        [*IDE, *TABLE_2000, "bus_master in 00002000 5 1", "r b 00003000"],
+        "77",
+        ["r b 00003000"],
+        "77",
+        "disk",
+    ),
     Case(
         "soft-reset",
         [*IDE, *out(0x1F2, 7), *SOFT, *read(0x1F2)],

@@ -62,8 +62,8 @@ class Byte:
 
     @property
     def is_dram(self) -> bool:
-        """Whether what was given is what the DRAM has there, or what was written there last, whoever took it, and what was
-        not given before. Zeros that nobody wrote tell nothing where nobody answers."""
+        """Whether what was given is what the DRAM has there, or what was written there last, whoever took it, and what
+        was not given before. Zeros that nobody wrote tell nothing where nobody answers."""
         state, at = self.state, self.place
         if state.seen.get(at) != self.given and self.given in (state.written.get(at), state.landed.get(at)):
             return True
@@ -98,6 +98,7 @@ class State:
     landed: dict[int, int] = field(default_factory=dict)  # of memory, in the DRAM
     lost: dict[int, Lost] = field(default_factory=dict)
     seen: dict[int, int] = field(default_factory=dict)  # what the other gave before, where nobody had written
+    has_mastered: bool = False  # a bus master moved words
     is_locked: bool = False
     has_windows: bool = False  # a PAM register was written
     map_written: int = 0  # the statement that wrote a register of the map last
@@ -135,6 +136,12 @@ class State:
             self.clock.go_on()
         elif words[0] == "receive":
             self.com1.receive()
+        elif words[0] == "pulse":
+            self.timer.pulse()
+        elif words[0] == "wire":
+            self.interrupts.has_wires = True
+        elif words[0] == "bus_master":
+            self.has_mastered = True
 
     def note_memory(self, entry: Entry, address: int, size: int, value: int) -> None:
         for k, (place, target, denial) in enumerate(parts_of(entry)):
@@ -231,7 +238,7 @@ class State:
         self.written_wide.clear()
         self.clock.index = 0
         levels = self.interrupts.levels
-        self.interrupts = Interrupts(levels=levels, rose=levels)
+        self.interrupts = Interrupts(levels=levels, rose=levels, has_wires=self.interrupts.has_wires)
         self.timer, self.com1 = Timer(), Com1()
         self.pic_written = self.disk_written = self.com1_written = 0
         self.disk = Disk(written=self.disk.written)

@@ -1,6 +1,6 @@
 #!/usr/bin/env python3
-"""Why another monitor gave a value that this board does not give: each cause is a row of one table, which compare, watch,
-show, conform, hunt and explain say and docs/QEMU.md and docs/BOCHS.md cite. `tools/differences.py` prints the table.
+"""Why another monitor gave a value that this board does not give: each cause is a row of one table, which compare,
+watch, show, conform, hunt and explain say and docs/QEMU.md and docs/BOCHS.md cite. `tools/differences.py` prints it.
 
 A row is found byte by byte, for the bits that differ: the first row that fits each differing byte, in the order of the
 table. Of these the first kind is that of the difference. The rows stand in tools/causes."""

@@ -116,7 +116,7 @@ ROWS = [
         "clock-date",
         DATASHEET,
         TIME_SECTION,
-        "the time and the date are in the form, binary or decimal and of 12 or 24 hours, that register B says, and keep what "
+        "the time and the date are in the form that register B says, binary or decimal and of 12 or 24 hours, and keep what "
         "is written",
         "clock",
         when=is_date_asked,

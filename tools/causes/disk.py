@@ -127,6 +127,14 @@ VERIFY_SECTION = "ATA/ATAPI-4, READ VERIFY SECTOR(S)"
 STATUS_SECTION = "ATA/ATAPI-4, Status register"
 ROWS = [
     Row(
+        "bus-master-status",
+        DATASHEET,
+        "82371SB, BMISX: Bus Master IDE Status Register",
+        "bit 2 is 1 after the transfer, bit 1 where it went wrong, and bit 0 while its regions have room left",
+        "ata",
+        when=lambda it: it.entry.words[0] == "bus_master",
+    ),
+    Row(
         "soft-reset",
         DATASHEET,
         "82371SB, RC: Reset Control Register",

@@ -119,6 +119,7 @@ class Interrupts:
     elcr_changed: int = 0  # lines whose sense was changed after they moved
     rose_as_levels: int = 0
     is_cascade_fallen: bool = False  # a line of the slave fell after it rose
+    has_wires: bool = False  # a card has asked
     is_begun_under_request: bool = False  # ICW1 came to the master while the slave's lines were high
 
     def set_line(self, line: int, level: bool) -> None:
@@ -196,7 +197,7 @@ def lines_differing(byte: "Byte") -> int:
 
 
 def is_fallen(byte: "Byte") -> bool:
-    """Whether the other's request is of a line that fell before it was acknowledged, or of the slave that asks for one."""
+    """Whether the other's request is of a line that fell before it was acknowledged, or of the slave for such a one."""
     interrupts = byte.state.interrupts
     fallen = interrupts.fell & ~interrupts.elcr
     if chip_number(byte) == 0 and lines_more(byte) & 1 << CASCADE:
@@ -205,7 +206,7 @@ def is_fallen(byte: "Byte") -> bool:
 
 
 def is_fallen_at_acknowledge(byte: "Byte") -> bool:
-    """Whether this board gave the spurious level, or another one, where the other gave the vector of a line that fell."""
+    """Whether the other gave the vector of a line that fell before it was acknowledged."""
     interrupts = byte.state.interrupts
     fallen = interrupts.fell & ~interrupts.elcr
     for number, chip in enumerate(interrupts.chips):
@@ -217,6 +218,12 @@ def is_fallen_at_acknowledge(byte: "Byte") -> bool:
 def is_line(line: int) -> Callable[["Byte"], bool]:
     """Whether the request of a line differs: that of a device of the board."""
     return lambda byte: is_request(byte) and bool(lines_differing(byte) & 1 << line)
+
+
+def is_routed(byte: "Byte") -> bool:
+    """Whether a card asks, and the request of a line differs that nothing else raised."""
+    interrupts = byte.state.interrupts
+    return is_request(byte) and interrupts.has_wires and bool(lines_differing(byte) & ~interrupts.rose)
 
 
 def is_changed_sense(byte: "Byte") -> bool:
@@ -311,7 +318,7 @@ ROWS = [
         "icw1-under-request",
         OTHER,
         "8259A, Initialization Command Words 1 and 2 (ICW1, ICW2)",
-        "ICW1 resets the edge sense circuit, so that an input has to rise anew; this board latches the slave's request at once",
+        "ICW1 resets the edge sense circuit: an input has to rise anew; this board latches the slave's request at once",
         f"pic0|{ACKNOWLEDGES}",
         when=is_renewed,
     ),
@@ -359,8 +366,8 @@ ROWS = [
         "rotation-at-end",
         CHOICE,
         "Interrupt controllers",
-        "a rotating specific end of interrupt makes its level the lowest also where it was not in service; a non-specific one "
-        "that finds none does nothing",
+        "a rotating specific end of interrupt makes its level the lowest also where it was not in service; a "
+        "non-specific one that finds none does nothing",
         BOTH,
         when=any_chip(lambda it: it.is_rotated_openly),
     ),
@@ -379,6 +386,14 @@ ROWS = [
         "a rise sets the latch also while the line is level triggered, and shows when it is made edge triggered",
         REGISTERS,
         when=is_level_latched,
+    ),
+    Row(
+        "pirq",
+        DATASHEET,
+        "82371SB, PIRQRC: PIRQx Route Control Registers",
+        "a card's request goes to the line of bits 3 to 0 while bit 7 is 0, and nowhere by a reserved value",
+        REGISTERS,
+        when=is_routed,
     ),
     Row(
         "timer-line",

@@ -45,15 +45,15 @@ def is_dram_behind_rom(byte: "Byte") -> bool:
 
 
 def is_map_lost(byte: "Byte") -> bool:
-    """Whether a soft reset came after the map's registers were written, and what was given is what the ROM has, or what is
-    read where nobody answers."""
+    """Whether a soft reset came after the map's registers were written, and what was given is what the ROM has, or
+    what is read where nobody answers."""
     state = byte.state
     rom = state.rom[byte.place % len(state.rom)] if state.rom else 0
     return byte.is_memory and 0 < state.map_written < state.soft_reset and byte.given in (0, 0xFF, rom)
 
 
 def is_map_kept(byte: "Byte") -> bool:
-    """Whether a hard reset came after the map's registers were written, and what was given is what was written there."""
+    """Whether a hard reset came after the map's registers were written, and the DRAM behind them was given."""
     state = byte.state
     return byte.is_memory and 0 < state.map_written < state.hard_reset and byte.is_dram
 
@@ -144,8 +144,8 @@ ROWS = [
         "nobody",
         DATASHEET,
         "PCI Local Bus 2.1, 3.3.3.1: Master Initiated Termination",
-        "a read that nobody answers gives all ones: PCI says so of a master abort, and behind the ISA bridge, below 16 MiB, "
-        "this board does the same",
+        "a read that nobody answers gives all ones: PCI says so of a master abort, and behind the ISA bridge, below "
+        "16 MiB, this board does the same",
         "abort",
         when=lambda it: it.is_memory and it.given == 0,
     ),
@@ -161,8 +161,8 @@ ROWS = [
         "rom-repeats",
         DATASHEET,
         XBCS,
-        "bits 6 and 7 select the ROM in their whole ranges: a smaller one, which sees the low lines of the address alone, "
-        "repeats there",
+        "bits 6 and 7 select the ROM in their whole ranges: a smaller one, which sees the low lines of the address "
+        "alone, repeats there",
         "rom",
         when=is_repeated_rom,
     ),
@@ -174,6 +174,14 @@ ROWS = [
         "DRAM reads FF past the installed memory",
         "dram",
         when=lambda it: it.place >= it.state.installed,
+    ),
+    Row(
+        "bus-master-moves",
+        DATASHEET,
+        "82371SB, Bus Master IDE: Physical Region Descriptor Table",
+        "a transfer moves as many words as the regions of its table have, or the sectors",
+        TAKEN,
+        when=lambda it: it.is_memory and it.state.has_mastered and it.place not in it.state.written,
     ),
     Row(
         "zeros",

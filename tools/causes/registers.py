@@ -60,8 +60,8 @@ def is_base_type(byte: "Byte") -> bool:
 
 
 def is_base_of_another_size(byte: "Byte") -> bool:
-    """Whether what was given can be what was written, above the size of another base, or of none. Before a base is written
-    its address tells nothing."""
+    """Whether what was given can be what was written, above the size of another base, or of none. Before a base is
+    written its address tells nothing."""
     written = byte.state.written_byte(byte.function, byte.offset)
     low = MEMORY_TYPE if byte.offset in BASES and not byte.offset % 4 else 0
     return written is None or any((written & 0xFF << size & 0xFF & ~low) == byte.given & ~low for size in range(9))
@@ -309,7 +309,7 @@ ROWS = [
         "card-base-kind",
         EITHER,
         "PCI Local Bus 2.1, 6.2.5.1: Address Maps",
-        "the low bits of a base tell whether it is of ports, how wide it is and whether it can be prefetched, as the card is",
+        "the low bits of a base tell whether it is of ports, how wide it is and whether it can be prefetched",
         "config",
         CARD,
         when=is_base_type,

@@ -31,6 +31,7 @@ class Counter:
     was_counting: bool = False  # a count had been written before this one
     gives_status: bool = False  # the next read does
     reads_left: int = 0  # of a latched count
+    is_latch_old: bool = False  # a pulse came since it was latched
     is_status_between: bool = False  # a status was latched while half of a count was to be read
     triggered_early: bool = False  # its gate rose before the count was written
 
@@ -45,7 +46,7 @@ class Counter:
     def latch(self) -> None:
         if not self.reads_left:
             self.reads_left = 2 if self.access == BOTH else 1
-            self.is_status_between = False
+            self.is_status_between = self.is_latch_old = False
 
     def latch_status(self) -> None:
         self.gives_status = True
@@ -92,6 +93,10 @@ class Timer:
     def read(self, port: int) -> None:
         if port != CONTROL:
             self.counters[port - FIRST_COUNTER].read()
+
+    def pulse(self) -> None:
+        for counter in self.counters:
+            counter.is_latch_old = counter.reads_left > 0
 
     def write_gate_2(self, level: bool) -> None:
         rises, self.gate_2 = level and not self.gate_2, level
@@ -189,6 +194,14 @@ ROWS = [
         when=gives_status,
     ),
     Row(
+        "timer-latch",
+        DATASHEET,
+        "8254, Counter Latch Command",
+        "a latched count is held until it is read",
+        "pit",
+        when=lambda it: counter_of(it).reads_left > 0 and counter_of(it).is_latch_old,
+    ),
+    Row(
         "timer-one-shot",
         DATASHEET,
         f"{MODES}: Mode 1 and Mode 5",
@@ -227,14 +240,6 @@ ROWS = [
         "a new count is taken at the next pulse in modes 0 and 4, and at the end of the period in mode 2",
         "pit",
         when=lambda it: counter_of(it).was_counting,
-    ),
-    Row(
-        "timer-latch",
-        DATASHEET,
-        "8254, Counter Latch Command",
-        "a latched count is held until it is read",
-        "pit",
-        when=lambda it: counter_of(it).reads_left > 0,
     ),
     Row("timer-count", DATASHEET, f"{MODES}: Modes 0, 2 and 4", "each pulse takes one off the count", "pit"),
 ]
