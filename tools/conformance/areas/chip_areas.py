@@ -1,0 +1,136 @@
+"""Areas of the two 8259A, the 8254 and the clock."""
+import random
+
+from ..case_words import cmos, date, outb, pic
+from .words import EVEN_PORTS, READ_REQUESTS, READ_SERVICE, Steps, requests, several
+
+LINES = (1, 3, 4, 5, 6, 7, 9, 10, 11, 12, 15)
+ICW4, MODES = ("01", "01", "01", "03", "11", "1D"), (0, 2, 3, 0, 2, 3, 1, 4, 5)
+ENDS, ROTATIONS, SPECIAL_MASKS, POLL = (0x20, 0x60), (0xA0, 0xE0, 0xC0, 0x80, 0, 0x40), (0x68, 0x48), 0x0C
+ELCR_BITS = (0xF8, 0xDE)
+COUNTS = (0, 1, 2, 3, 5, 0x100)
+LATCH, STATUS = 0x00, 0xE0
+DECIMAL = 0.1
+FORMS = ("02", "06", "00", "04")  # of register B: 24 hours and binary
+ALARM_FIELDS, ANY_TIME = ("01", "03", "05"), ("C0", "FF")
+
+
+def interrupts(rng: random.Random) -> Steps:
+    """Initializations, priorities, special modes, polls, ELCR, lines and acknowledges."""
+    levels = dict.fromkeys(range(16), 0)
+
+    def line() -> Steps:
+        number = rng.choice(LINES)
+        levels[number] ^= 1
+        return [[f"irq {number} {levels[number]}"]]
+
+    def even(*values: int) -> Steps:
+        return [outb(rng.choice(EVEN_PORTS), *values)]
+
+    def command() -> Steps:
+        return even(rng.choice((*ENDS * 3, *ROTATIONS)) | rng.randrange(8))
+
+    def mask() -> Steps:
+        port = rng.choice(EVEN_PORTS) + 1
+        return [outb(port, rng.choice((0, 0, rng.getrandbits(8)))), [f"in b {port:04X}"]]
+
+    def poll() -> Steps:
+        port = rng.choice(EVEN_PORTS)
+        return [[*outb(port, POLL), f"in b {port + rng.randrange(2):04X}"]]
+
+    def again() -> Steps:
+        chip = rng.randrange(2)
+        port = EVEN_PORTS[chip]
+        return [outb(port, 0x11) + outb(port + 1, rng.randrange(32) << 3, (4, 2)[chip], 1)]
+
+    def sense() -> Steps:
+        chip = rng.randrange(2)
+        return [outb(0x4D0 + chip, rng.getrandbits(8)), [f"in b {0x4D0 + chip:04X}"]]
+
+    def look() -> Steps:
+        return [requests(rng.randrange(2), rng.choice((READ_REQUESTS, READ_SERVICE)))]
+
+    elcr = [it for chip, bits in enumerate(ELCR_BITS) for it in outb(0x4D0 + chip, rng.choice((0, 0, rng.getrandbits(8) & bits)))]
+    doings = [(6, line), (4, lambda: [["ack"]]), (3, command), (1, mask), (1, lambda: even(rng.choice(SPECIAL_MASKS))), (1, poll),
+              (0.3, again), (0.3, sense), (4, look)]
+    return [[*elcr, *pic(rng.choice(ICW4))], *several(rng, 12, 40, doings)]
+
+
+def timer(rng: random.Random) -> Steps:
+    """A counter: modes, counts, latches, read-back, the gate of counter 2, and line 0."""
+    number = rng.randrange(3)
+    access = [3]  # which bytes of the count are read and written
+
+    def set_up() -> list[str]:
+        access[0] = rng.choice((1, 2, 3, 3, 3))
+        count = rng.choice((rng.randrange(2, 20), rng.randrange(0x10000), *COUNTS))
+        half = {1: [count & 0xFF], 2: [count >> 8], 3: [count & 0xFF, count >> 8]}[access[0]]
+        word = number << 6 | access[0] << 4 | rng.choice(MODES) << 1 | (rng.random() < DECIMAL)
+        return [*outb(0x43, word), *outb(0x40 + number, *half), "pulse 1"]
+
+    def reads() -> list[str]:
+        return [f"in b {0x40 + number:04X}"] * (2 if access[0] == 3 else 1)
+
+    def pulses() -> Steps:
+        return [[f"pulse {rng.choice((1, 1, 2, 3, rng.randrange(1, 20), rng.randrange(1, 70000)))}"]]
+
+    def read() -> Steps:
+        return rng.choice(([outb(0x43, number << 6 | LATCH) + reads()], [outb(0x43, STATUS | 2 << number) + reads()[:1]],
+                           [reads()]))
+
+    def beside() -> Steps:
+        if number == 2:
+            return [outb(0x61, rng.randrange(4)), ["in b 0061"]]
+        return [requests(0)] if number == 0 else read()
+
+    prologue = pic() if number == 0 else outb(0x61, 1) if number == 2 else []
+    first = set_up()
+    return [prologue + first, *several(rng, 6, 16, [(2, lambda: [set_up()]), (5, pulses), (5, read), (2, beside)])]
+
+
+def shown(value: int, form: str) -> str:
+    """A field of the clock in a form of register B."""
+    return f"{value:02X}" if form in ("06", "04") else f"{value // 10 * 16 + value % 10:02X}"
+
+
+def hour_shown(hour: int, form: str) -> str:
+    if form in ("02", "06"):
+        return shown(hour, form)
+    return f"{int(shown((hour + 11) % 12 + 1, form), 16) | (0x80 if hour > 11 else 0):02X}"
+
+
+def clock(rng: random.Random) -> Steps:
+    """Forms, seconds that pass, alarms, SET, flags, and the clock's memory."""
+    form = [rng.choice(FORMS)]
+
+    def field(first: int, last: int, *others: int) -> str:
+        return shown(rng.choice((*others, rng.randint(first, last))), form[0])
+
+    def whole() -> list[str]:
+        form[0] = rng.choice(FORMS)
+        hour = hour_shown(rng.choice((0, 11, 12, 13, 23, rng.randrange(24))), form[0])
+        enables = rng.choice((0, 0, 0x10, 0x20, 0x30))
+        fields = (field(0, 59, 58, 59), field(0, 59, 59), hour, "01", field(1, 28), field(1, 12), field(0, 99))
+        return date(form[0], *fields) + cmos("0B", f"{int(form[0], 16) | enables:02X}")
+
+    def alarm() -> Steps:
+        values = (field(0, 59), field(0, 59), hour_shown(rng.randrange(24), form[0]))
+        return [[it for at, value in zip(ALARM_FIELDS, values) for it in cmos(at, rng.choice((*ANY_TIME, value)))]]
+
+    def seconds() -> Steps:
+        return [["second"] * rng.choice((1, 1, 1, 2, 3, 60)), *(cmos(at) for at in ("00", "02", "04"))]
+
+    def registers() -> Steps:
+        at = rng.choice(("0A", "0B", "0D"))
+        value = {"0A": rng.choice((0x26, 0x20, 0x06, 0x2F)), "0D": rng.getrandbits(8)}.get(at)
+        value = int(form[0], 16) | rng.choice((0, 0x10, 0x20, 0x40, 0x80)) if value is None else value
+        return [cmos(at, f"{value:02X}"), cmos(at)]
+
+    def memory() -> Steps:
+        at = f"{rng.randrange(0x0E, 0x32):02X}"
+        return [cmos(at, f"{rng.getrandbits(8):02X}"), cmos(at)]
+
+    doings = [(4, lambda: [whole()]), (3, alarm), (5, seconds), (3, lambda: [cmos("0C")]), (2, registers), (2, memory),
+              (1, lambda: [requests(1)])]
+    still = outb(0x43, 0x30) + outb(0x40, 0xFF, 0xFF)  # line 0 stays as it is
+    return [[*still, *whole(), *cmos("0C")], *several(rng, 6, 14, doings), *(cmos(at) for at in ("00", "02", "04", "07", "08", "09"))]
