@@ -5,11 +5,12 @@ import time
 from dataclasses import dataclass, field
 from typing import Iterator, Optional, Sequence
 
+from differences import Reason
+
 from .areas import Area
-from .causes import Cause, cause_of
-from .compare import Asked, ask_again
+from .compare import Asked, Difference, ask_again
 from .protocol import Adapter
-from .shrink import Shown, same_as, shows, shrink
+from .shrink import Shown, of_cause, same_as, shows, shrink
 
 AT_ONCE = 16  # scripts that are asked before the first is compared
 
@@ -32,12 +33,12 @@ class Budget:
 class Caught:
     """A cause, with its shortest script, and the seed that showed it first."""
 
-    cause: Cause
+    cause: Reason
     shown: Shown
     area: str
     seed: int
-    scripts: int = 1  # that showed it
-    places: dict[str, None] = field(default_factory=dict)
+    scripts: int = 0  # that showed it
+    places: dict[str, None] = field(default_factory=dict)  # in the order in which they were found
     again: bool = True  # on a fresh machine too
 
 
@@ -49,8 +50,9 @@ class Hunt:
     images: pathlib.Path
     rom: Optional[pathlib.Path]
     areas: Sequence[Area]
-    caught: dict[Cause, Caught] = field(default_factory=dict)
-    by_key: dict[tuple[str, str, int], Optional[Cause]] = field(default_factory=dict)  # None where it was not there again
+    view: str = ""  # how the monitor is asked, where that is not as a processor asks
+    caught: dict[Reason, Caught] = field(default_factory=dict)
+    made_small: set[tuple[Reason, str]] = field(default_factory=set)
     cases: int = 0
     values: int = 0
     wrong: int = 0
@@ -63,7 +65,7 @@ class Hunt:
             some = [(seed, self.areas[seed % len(self.areas)]) for seed in itertools.islice(seeds, count)]
             scripts = [area.script(seed, self.images, self.rom) for seed, area in some]
             for (seed, area), script, answers in zip(some, scripts, self.adapter.ask(scripts)):
-                yield from self.compared(ask_again(self.adapter, script, answers), area, seed)
+                yield from self.compared(ask_again(self.adapter, script, answers, self.view), area, seed)
                 if is_first_enough and self.caught:
                     return
 
@@ -73,25 +75,26 @@ class Hunt:
         self.cases, self.values = self.cases + 1, self.values + asked.values
         self.wrong += len({it.index for it in differences})
         self.left_out += asked.left_out
-        seen: set[Cause] = set()
         for difference in differences:
-            if difference.key not in self.by_key:
-                shown = shrink(self.adapter, asked, same_as(difference))
-                cause = cause_of(shown) if shown else None
-                self.by_key[difference.key] = cause
-                if shown and cause and cause not in self.caught:
-                    self.caught[cause] = Caught(cause, shown, area.name, seed, 0)
-                    yield self.caught[cause]
-                elif shown and cause and len(shown.script.statements) < len(self.caught[cause].shown.script.statements):
-                    self.caught[cause].shown = shown
-            known = self.by_key[difference.key]
-            if known is not None:
-                self.caught[known].places[difference.place] = None
-                self.caught[known].scripts += known not in seen
-                seen.add(known)
+            yield from self.made_shorter(asked, difference, area, seed)
+        for cause in {it.cause for it in differences if it.cause in self.caught}:
+            self.caught[cause].scripts += 1
+            self.caught[cause].places.update((it.place, None) for it in differences if it.cause == cause)
+
+    def made_shorter(self, asked: Asked, difference: Difference, area: Area, seed: int) -> Iterator[Caught]:
+        """The cause of a difference, if it is new. One that is known is made small once at each place."""
+        if difference.key in self.made_small:
+            return
+        self.made_small.add(difference.key)
+        shown, caught = shrink(self.adapter, asked, same_as(difference)), self.caught.get(difference.cause)
+        if shown and caught is None:
+            self.caught[difference.cause] = Caught(difference.cause, shown, area.name, seed)
+            yield self.caught[difference.cause]
+        elif shown and caught and len(shown.script.statements) < len(caught.shown.script.statements):
+            caught.shown = shown
 
     def try_again(self, command: str, seconds: float) -> None:
         """Asks each shortest script of a fresh machine."""
         for caught in self.caught.values():
             with Adapter(command, seconds) as fresh:
-                caught.again = shows(fresh, caught.shown.script, same_as(caught.shown.difference)) is not None
+                caught.again = shows(fresh, caught.shown.script, of_cause(caught.cause), self.view) is not None

@@ -1,4 +1,5 @@
 """What conform says: a line a case, each cause once with its shortest script, and the same as JSON."""
+import pathlib
 import re
 from dataclasses import dataclass
 from typing import Iterator, Optional, Sequence
@@ -42,6 +43,14 @@ class Report:
     def in_order(self) -> list[Found]:
         """The causes by who is right, each kind by its first case."""
         return sorted(self.found, key=lambda it: KINDS.index(it.cause.kind))
+
+
+def known_causes(file: Optional[pathlib.Path]) -> frozenset[str]:
+    """The names of causes in a file, one a line; a line that begins with # says nothing."""
+    if file is None:
+        return frozenset()
+    lines = [line.strip() for line in file.read_text(encoding="utf-8").splitlines()]
+    return frozenset(line for line in lines if line and not line.startswith("#"))
 
 
 def case_line(result: Result) -> str:
