@@ -5,8 +5,8 @@
  *
  *   kept <kept.fields      exit status 1 where a field differs, which is told
  *
- * A line is a name, a colon and bytes in hexadecimal digits; `00*FD` are so many equal ones. `then NAME: BYTES` is a field
- * after the next of the changes below, each of which begins where the one before ended. */
+ * A line is a name, a colon and bytes in hexadecimal digits; `00*FD` are so many equal ones. `next` stands before the
+ * fields that the next events of `later` change; they happen to the board that was loaded. */
 #include "board.h"
 #include <stdio.h>
 #include <stdlib.h>
@@ -189,7 +189,7 @@ static void set_disk(void) {
     static const uint8_t registers[] = {0xF1, 0x02, 0x03, 0x04, 0x05, 0xE6};
     for (uint16_t k = 0; k < 6; k++) out(0x1F1 + k, registers[k]);
     out(0x1F7, 0x20);
-    happen(BOARD_BAD_SECTOR, 1, 0);
+    happen(BOARD_BAD_SECTOR, 0, 0);
 }
 
 static void set_serial(void) {
@@ -213,6 +213,118 @@ static void first(void) {
     set_serial();
     out(0xCF9, 0x02);
     must("the configuration address", board_out(&b, 0xCF8, 4, 0x80A5C3D8, &reply));
+}
+
+/* The modes of the 8259As in turn, so that no two of their flags are the same each time, and each word that they await;
+ * and a read of the disk under way. */
+static void second(void) {
+    out(0x20, 0x11), out(0x21, 0x10), out(0x21, 0x04), out(0x21, 0x03);
+    out(0x20, 0x80), out(0x20, 0x0C);
+    out(0xA1, 0x04);
+    static const uint8_t registers[] = {0x01, 0x01, 0x00, 0x00, 0xE0};
+    for (uint16_t k = 0; k < 5; k++) out(0x1F2 + k, registers[k]);
+    out(0x1F7, 0x20);
+    for (int word = 0; word < 2; word++) must("a word of the disk", board_in(&b, 0x1F0, 2, &reply));
+}
+
+static void third(void) {
+    out(0x20, 0x11), out(0x21, 0x10), out(0x21, 0x04), out(0x21, 0x13);
+    out(0x20, 0x68);
+    out(0xA0, 0x10);
+}
+
+static void fourth(void) {
+    out(0x20, 0x48), out(0x20, 0x80);
+    out(0xA1, 0x28), out(0xA1, 0x02);
+}
+
+static void (*const later[])(void) = {second, third, fourth};
+
+/* ---- read back */
+
+static void is(const char *what, unsigned long told, unsigned long value) {
+    if (told == value) return;
+    printf("kept: %s: %lX, and not %lX\n", what, told, value);
+    exit(1);
+}
+
+static uint32_t get(uint32_t function, uint8_t off, uint8_t bytes) {
+    must("the address", board_out(&b, 0xCF8, 4, 0x80000000u | function | (off & 0xFC), &reply));
+    must("the register", board_in(&b, (uint16_t)(0xCFC + off % 4), bytes, &reply));
+    return (uint32_t)reply.value;
+}
+
+static void read_configuration(void) {
+    must("the address", board_in(&b, 0xCF8, 4, &reply));
+    is("CONFADD", reply.value, 0x80A5C3D8);
+    for (uint8_t row = 0; row < 8; row++) is("DRB", get(HOST, 0x60 + row, 1), row + 1u);
+    is("PAM0 to PAM2", get(HOST, 0x58, 4) >> 8, 0x121110);
+    is("PAM3 to PAM6", get(HOST, 0x5C, 4), 0x23222113);
+    is("FDHC", get(HOST, 0x68, 1), 0x80);
+    is("SMRAM", get(HOST, 0x72, 1), 0x4A);
+    is("XBCS", get(ISA, 0x4E, 1), 0xC5);
+    is("PIRQRC", get(ISA, 0x60, 4), 0x85898A8B);
+    is("IDETIM", get(IDE, 0x40, 2), 0xA377);
+    is("the command of device 3", get(CARD_3, 0x04, 1), 0x03);
+    is("its interrupt line", get(CARD_3, 0x3C, 1), 0xA5);
+    is("its pin", get(CARD_3, 0x3D, 1), 4);
+    is("its vendor and device", get(CARD_3, 0x00, 4), 0x10011AF4);
+    is("its class and revision", get(CARD_3, 0x08, 4), 0x0180025C);
+    is("its subsystem", get(CARD_3, 0x2C, 4), 0x02031BF5);
+    is("its bases", get(CARD_3, 0x10, 4) ^ get(CARD_3, 0x14, 4), 0xE0000010 ^ 0x6109);
+    is("its ROM", get(CARD_3, 0x30, 4), 0xD0000801);
+    is("the base of device 5", get(CARD_5, 0x10, 4), 0x70000000);
+}
+
+static void read_ports(void) {
+    is("OCW1", in(0x21), 0x91);
+    is("the ISR", in(0x20), 0x08);
+    is("4D0h", in(0x4D0), 0x28);
+    is("4D1h", in(0x4D1), 0x44);
+    is("the low byte of counter 0", in(0x40), 0x30);
+    is("its high byte", in(0x40), 0x12);
+    is("the status of counter 1", in(0x41), 0x94);
+    is("port 61h", in(0x61), 0x11);
+    static const uint8_t disk[] = {0x10, 0x02, 0x03, 0x04, 0x05, 0xE6};
+    for (uint16_t k = 0; k < 6; k++) is("a register of the disk", in(0x1F1 + k), disk[k]);
+    is("IER", in(0x3F9), 0x02);
+    is("LCR", in(0x3FB), 0x1B);
+    is("MCR", in(0x3FC), 0x12);
+    is("SCR", in(0x3FF), 0x5D);
+    is("LSR", in(0x3FD), 0x63);
+    is("RBR", in(0x3F8), 0x48);
+    out(0x3FB, 0x80);
+    is("DLL", in(0x3F8), 0x21);
+    is("DLM", in(0x3F9), 0x43);
+}
+
+static void read_memory(void) {
+    static const uint8_t clock[] = {0x1E, 0x2A, 0x2D, 0x2B, 0x0D, 0x16, 0x03, 0x01, 0x0C, 0x1A, 0x26, 0x06, 0x10, 0x80};
+    uint8_t byte = 0, sector[512];
+    for (uint8_t k = 0; k < sizeof clock; k++) {
+        must("a byte of the clock", board_cmos_read(&b, k, &byte));
+        is("a byte of the clock", byte, clock[k]);
+    }
+    must("DRAM", board_dram_read(&b, 0x2003, &byte, 1));
+    is("DRAM", byte, 0xE1);
+    must("a card", board_card_read(&b, 3, 0, 2, &byte, 1));
+    is("base 0 of device 3", byte, 0xC1);
+    must("a card", board_card_read(&b, 3, 1, 3, &byte, 1));
+    is("base 1 of device 3", byte, 0xC2);
+    must("a sector", board_disk_read(&b, 1, sector, sizeof sector));
+    is("sector 1", sector[511], 0xD1);
+}
+
+/* What the image says, as a guest and a monitor read it of the board that is loaded, which is another one then. */
+static void read_back(void) {
+    board kept = b;
+    b = (board){0};
+    must("load", board_load(&b, wanted, wanted_count));
+    read_memory();
+    read_configuration();
+    read_ports();
+    board_close(&b);
+    b = kept;
 }
 
 /* ---- comparing */
@@ -244,19 +356,22 @@ static void compare(const char *which) {
 
 int main(void) {
     char line[LINE];
-    size_t changes = 0;
+    size_t step = 0;
     first();
     while (fgets(line, sizeof line, stdin)) {
         if (line[0] == '#' || line[0] == '\n') continue;
-        if (strncmp(line, "then ", 5) == 0) {
-            change_field(line + 5);
-            changes++;
+        if (strcmp(line, "next\n") == 0) {
+            compare(step ? "a later board" : "the first board");
+            if (step == 0) read_back();
+            if (step == sizeof later / sizeof *later) fail("there are more changes than events");
+            later[step++]();
+        } else if (step) {
+            change_field(line);
         } else {
             add_field(line);
         }
     }
-    compare("the first board");
-    (void)changes;
+    compare("the last board");
     board_close(&b);
     printf("kept: as expected\n");
     return 0;

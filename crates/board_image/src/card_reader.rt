@@ -114,12 +114,7 @@ fn rom(fields: &mut Fields) -> Result<Option<u8>, Bad>
 
 /// Reads a card whose device number lies above that of the card before. It takes its memory from the room.
 #[tactic(auto, unfolding(crate::specs::ImageFields::card_fields))]
-fn card(
-    fields: &mut Fields,
-    outside: bool,
-    above: u8,
-    room: &mut u32,
-) -> Result<CardSpec, Bad>
+fn card(fields: &mut Fields, outside: bool, above: u8, room: &mut u32) -> Result<CardSpec, Bad>
     requires above { above ≤ 9 }
     ensures took { Took (λ card. card) result fields.new (card_fields outside above room.old fields.old) }
     ensures room { IfOk result (λ card. room.new ≡ room.old - memory_of_cards (card ∷ [])) }
