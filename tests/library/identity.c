@@ -69,6 +69,11 @@ static void headers(void) {
     expect("a revision, and the class", 8, config(&b, CARD, 8, 4), 0xFF00005C);
     expect("a pin, and the line", 0x3C, config(&b, CARD, 0x3C, 2), 0x0400);
     board_close(&b);
+    board_card pin = {.device = CARD, .interrupt_pin = 3};
+    open_with(&b, pin);
+    expect("a pin alone", 0x3C, config(&b, CARD, 0x3C, 2), 0x0300);
+    expect("vendor and device beside a pin", 0, config(&b, CARD, 0, 4), 0x01000000u | CARD << 16 | 0xA55A);
+    board_close(&b);
 }
 
 static void refused(void) {
