@@ -3,6 +3,7 @@ the values that the monitor gave."""
 import argparse
 import collections
 import pathlib
+import sys
 from dataclasses import dataclass
 from typing import Optional
 
@@ -67,8 +68,9 @@ class Full(Exception):
 class Converter:
     """Takes the events of a trace in their order, and keeps the statements and the values."""
 
-    def __init__(self, words: argparse.Namespace, trace: list[Event], is_live: bool = False):
+    def __init__(self, words: argparse.Namespace, trace: list[Event], is_live: bool = False, is_whole: bool = False):
         self.words, self.is_live = words, is_live
+        self.most = sys.maxsize if is_whole else MOST_STATEMENTS - MOST_IN_FRONT
         self.statements: list[str] = []
         self.values: list[Value] = []
         self.left_out: collections.Counter = collections.Counter()
@@ -245,7 +247,7 @@ class Converter:
         why: Optional[str] = None,
     ) -> None:
         """Adds a statement, and where the monitor gave a value for it that too."""
-        if len(self.statements) == MOST_STATEMENTS - MOST_IN_FRONT:
+        if len(self.statements) == self.most:
             raise Full(f"a script holds {MOST_STATEMENTS:,} statements")
         self.cpus = max(self.cpus, cpu + 1)
         self.statements.append(f"{cpu} {text}")
