@@ -35,7 +35,9 @@ PROGRAM = program_given()
 def load(name):
     """A tool as a module."""
     loader = importlib.machinery.SourceFileLoader(name.replace("-", "_"), str(TOOLS / name))
-    module = importlib.util.module_from_spec(importlib.util.spec_from_loader(loader.name, loader))
+    spec = importlib.util.spec_from_loader(loader.name, loader)
+    assert spec is not None
+    module = importlib.util.module_from_spec(spec)
     sys.modules[loader.name] = module
     loader.exec_module(module)
     return module
@@ -48,11 +50,11 @@ Ran = collections.namedtuple("Ran", "returncode stdout stderr")
 def ran(name, *words):
     """What a tool says, run in this process."""
     out, err, before = io.StringIO(), io.StringIO(), sys.argv
+    status: int | str = 0
     sys.argv = [name, *map(str, words)]
     try:
         with contextlib.redirect_stdout(out), contextlib.redirect_stderr(err):
             LOADED[name].main()
-        status = 0
     except SystemExit as end:
         status = end.code or 0
     finally:
@@ -79,9 +81,9 @@ class Case(unittest.TestCase):
         return self.folder / name
 
     def run_tool(self, name, *words):
-        words = [*words, "--program", PROGRAM] if name != "from-trace" else words
+        more = ["--program", PROGRAM] if name != "from-trace" else []
         with contextlib.chdir(self.folder):
-            return ran(name, *words)
+            return ran(name, *words, *more)
 
     def convert(self, form, text, *words):
         """The statements after `phase` and the values that from-trace writes, and what it says."""

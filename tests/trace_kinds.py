@@ -11,6 +11,7 @@ import subprocess
 import sys
 import threading
 import time
+from typing import Callable
 
 from trace_case import EXAMPLES, LOADED, PROGRAM, ROOT, SETUP, TOOLS, TRACES, Case
 import differences
@@ -308,7 +309,7 @@ class Files(Case):
         self.assertEqual((run.returncode, run.stderr), (4, wrong))
         self.assertFalse((self.folder / "v").exists())
         self.file("long", self.TRACE * 3000)
-        words = [sys.executable, TOOLS / "from-trace", "plain", "long", "s", "v"]
+        words = [sys.executable, str(TOOLS / "from-trace"), "plain", "long", "s", "v"]
         least = resource.RLIMIT_FSIZE
         run = subprocess.run(words, cwd=self.folder, capture_output=True, text=True,
                              preexec_fn=lambda: resource.setrlimit(least, (4096, 4096)))
@@ -389,14 +390,16 @@ class Watch(Case):
 
     def started(self, *words):
         """A watch of its own. It is killed where it takes too long, so that no read or write of a test waits for it."""
-        words = [sys.executable, TOOLS / "watch", *words, "--rom", "r64", "--program", PROGRAM]
+        call = [sys.executable, TOOLS / "watch", *words, "--rom", "r64", "--program", PROGRAM]
         said = (self.folder / "said").open("w")
         heeds = lambda: signal.signal(signal.SIGINT, signal.SIG_DFL)  # which a shell's background job does not
-        watch = subprocess.Popen(words, cwd=self.folder, stdout=subprocess.PIPE, stderr=said, text=True,
+        watch = subprocess.Popen(call, cwd=self.folder, stdout=subprocess.PIPE, stderr=said, text=True,
                                  preexec_fn=heeds)
         alarm = threading.Timer(self.SECONDS, watch.kill)
         alarm.start()
-        for step in (said.close, watch.stdout.close, watch.wait, watch.kill, alarm.cancel):  # the last one first
+        assert watch.stdout is not None
+        steps: list[Callable[[], object]] = [said.close, watch.stdout.close, watch.wait, watch.kill, alarm.cancel]
+        for step in steps:  # the last one first
             self.addCleanup(step)
         return watch
 
@@ -486,7 +489,7 @@ class Statuses(Case):
         """A ROM or a disk that is missing or has a wrong size: its name, its folder, the size and those allowed."""
         disk = SETUP.replace("phase", "disk d\nphase")
         absent = SETUP.replace("r64", "R64")
-        rows = [
+        rows: list[tuple[str, dict[str, bytes], str]] = [
             (absent, {},
              f"line 4 names the ROM `R64`: the folder {self.folder} has no file R64, but r64: capital letters"),
             (SETUP.replace("r64", "bios"), {},
@@ -612,7 +615,8 @@ class Statuses(Case):
 
 class DrawMap(Case):
     def test_help(self):
-        for words, status in ((["--help"], 0), ([], 2), (["absent"], 1)):
+        rows: list[tuple[list[str], int]] = [(["--help"], 0), ([], 2), (["absent"], 1)]
+        for words, status in rows:
             run = subprocess.run([sys.executable, ROOT / "docs/draw-map", *words], capture_output=True, text=True)
             self.assertEqual(run.returncode, status, run.stderr)
         script = self.file("it.script", SETUP)

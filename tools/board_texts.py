@@ -182,7 +182,7 @@ class Writers:
     """The last write of each register of configuration space, as entries of a log are noted one after another. A hard
     reset writes all. A command of the program that tells who made a register so could stand for this."""
 
-    def __init__(self):
+    def __init__(self) -> None:
         self.last: dict[str, dict[int, Entry]] = {}  # by function and offset
         self.reset: Optional[Entry] = None
         self.reset_control = 0
@@ -240,7 +240,7 @@ class Board:
         about.add_argument("--images", type=pathlib.Path, metavar="FOLDER", help=images)
         about.add_argument("--program", type=pathlib.Path, default=default, help=program)
 
-    def run(self, command: str, *files: pathlib.Path, stderr=subprocess.PIPE) -> subprocess.CompletedProcess:
+    def run(self, command: str, *files: pathlib.Path, stderr: Optional[int] = subprocess.PIPE) -> subprocess.CompletedProcess:
         words = [self.program, command, *(file.resolve() for file in files)]
         try:
             run = subprocess.run(words, cwd=self.folder, stdin=subprocess.DEVNULL, stdout=subprocess.PIPE,

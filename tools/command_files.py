@@ -1,6 +1,6 @@
 """Which words of a command name files, as the usage text of the program has them."""
 # By the command, what each of its words is, but for those that name no file.
-FILES = {
+FILES: dict[str, list[str]] = {
     "replay": ["script"],
     "run": ["script"],
     "map": ["script"],

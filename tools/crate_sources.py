@@ -12,7 +12,7 @@ CRATES = "crates.txt"
 PROGRAM, LIBRARY = "board_app", "board_c"
 PARTS = ("src", "specs", "proofs")
 # What is beside the crates in what is made of them.
-BESIDE = {PROGRAM: [], LIBRARY: ["include/board.h", "include/board.pc.in"]}
+BESIDE: dict[str, list[str]] = {PROGRAM: [], LIBRARY: ["include/board.h", "include/board.pc.in"]}
 
 
 class Crates:

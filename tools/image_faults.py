@@ -75,9 +75,9 @@ def wrong_size(named: Named, which: str) -> str:
     form = next((what for magic, what in OTHER_FORMS.items() if first.startswith(magic)), None)
     if form:
         return f"{text}: {form}"
-    if which == "disk" and size % SECTOR:
-        return f"{text}: {size // SECTOR} sectors and {size % SECTOR} bytes more"
-    return f"{text}: {size // SECTOR} sectors" if which == "disk" else text
+    if which != "disk" or size is None:
+        return text
+    return f"{text}: {size // SECTOR} sectors" + (f" and {size % SECTOR} bytes more" if size % SECTOR else "")
 
 
 def of_image(said: str, lines: list[str], folder: pathlib.Path) -> Optional[str]:

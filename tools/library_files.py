@@ -17,7 +17,7 @@ HEADER, STATIC, LINK, PC = "include/board.h", "lib/libboard.a", "lib/libboard.so
 
 def interface(root: pathlib.Path) -> str:
     """The version of the interface, by board.h."""
-    return re.search(r"#define BOARD_INTERFACE (\d+)", (root / HEADER).read_text())[1]
+    return str(re.findall(r"#define BOARD_INTERFACE (\d+)", (root / HEADER).read_text())[0])
 
 
 def shared(root: pathlib.Path) -> str:

@@ -5,7 +5,7 @@ import pathlib
 import signal
 import time
 from dataclasses import dataclass
-from typing import Iterator
+from typing import IO, Iterator
 
 from board_says import Refused, die_by, say
 from board_state import Note, State, time_here
@@ -79,7 +79,7 @@ def build(crates: Crates, top: str) -> Built:
             progress.end()
 
 
-def wait_for(lock, progress: Progress) -> None:
+def wait_for(lock: IO[str], progress: Progress) -> None:
     """Waits while another call builds."""
     while True:
         try:
@@ -119,7 +119,7 @@ def link(crates: Crates, top: str, log: pathlib.Path, progress: Progress) -> Non
 @contextlib.contextmanager
 def signals() -> Iterator[None]:
     """Lets each signal that ends a program stop the build in an orderly way."""
-    def stop(number: int, _) -> None:
+    def stop(number: int, _: object) -> None:
         for it in (signal.SIGHUP, signal.SIGINT, signal.SIGTERM):
             signal.signal(it, signal.SIG_IGN)
         raise Stopped(number)

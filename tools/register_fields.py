@@ -2,7 +2,7 @@
 register say whose place board_texts has."""
 import re
 from dataclasses import dataclass
-from typing import Callable, Iterator, Optional
+from typing import Callable, Iterator, Optional, Sequence
 
 from board_texts import ANY_FUNCTION, OF_FUNCTION
 
@@ -190,7 +190,7 @@ IDENTITY = (
 ABSENT = {"BMIBA"}  # the board has no such register; a monitor may
 
 
-def names_of(function: str, bases: list[str]) -> Iterator[tuple[str, int, int]]:
+def names_of(function: str, bases: Sequence[str]) -> Iterator[tuple[str, int, int]]:
     """The registers that say something of a function: name, first offset and bytes. A card has these bases."""
     for name, first, count in sorted(ANY_FUNCTION + OF_FUNCTION.get(function, []), key=lambda it: it[1]):
         is_card = function not in CHIPS
@@ -203,7 +203,7 @@ def names_of(function: str, bases: list[str]) -> Iterator[tuple[str, int, int]]:
             yield name, first, count
 
 
-def fields_of(function: str, name: str, bases: list[str]) -> list[Field]:
+def fields_of(function: str, name: str, bases: Sequence[str]) -> list[Field]:
     if name == "command":
         return COMMANDS.get(function, CARD_COMMAND)
     if name.startswith("base "):
@@ -213,7 +213,7 @@ def fields_of(function: str, name: str, bases: list[str]) -> list[Field]:
     return FIELDS[name]
 
 
-def registers_of(function: str, bases: list[str] = ()) -> list[Register]:
+def registers_of(function: str, bases: Sequence[str] = ()) -> list[Register]:
     """The registers of a function that the page shows, and those of its chip that stand at ports."""
     return [
         *PORTS.get(function, []),

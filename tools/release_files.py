@@ -6,7 +6,7 @@ import pathlib
 import tarfile
 import zlib
 from dataclasses import dataclass
-from typing import Optional
+from typing import IO, Optional, cast
 
 from board_says import Refused
 from crate_sources import LIBRARY, PROGRAM, Crates, Sources, sum_of
@@ -47,7 +47,8 @@ def packed_sources(crates: Crates, top: str) -> Optional[Sources]:
         return None
     needed, files = set(crates.needed(top)), set(crates.files(top))
     said = [line[2:] for line in lines if line.startswith("# ")]
-    sums = dict(reversed(line.split("  ", 1)) for line in lines if not line.startswith("#"))
+    pairs = (line.split("  ", 1) for line in lines if not line.startswith("#"))
+    sums = {name: it for it, name in pairs}
     is_of = lambda name: name in files or name.split("/")[0] == "crates" and name.split("/")[1] in needed
     return Sources([line for line in said if line.split(":")[0].split()[0] in needed],
                    {name: it for name, it in sums.items() if is_of(name)})
@@ -77,10 +78,10 @@ def members(root: pathlib.Path) -> dict[str, Member]:
     found: dict[str, Member] = {}
     try:
         with tarfile.open(root / ARCHIVE) as tar:
-            for it in tar:
-                data = tar.extractfile(it)
-                found[it.name.removeprefix(NAME + "/")] = Member(
-                    data.read() if data else b"", bool(it.mode & 0o100), it.linkname)
+            for entry in tar:
+                data = tar.extractfile(entry)
+                found[entry.name.removeprefix(NAME + "/")] = Member(
+                    data.read() if data else b"", bool(entry.mode & 0o100), entry.linkname)
     except (tarfile.TarError, EOFError, zlib.error, gzip.BadGzipFile) as fault:
         raise Refused(f"{ARCHIVE} is damaged: git checkout -- release brings it back") from fault
     for name, it in noted_sums(root).items():
@@ -93,7 +94,8 @@ def write_archive(root: pathlib.Path, files: dict[str, Member], kit: str) -> Non
     """Packs files, so that the same files make the same archive, and notes their sums and the kit."""
     (root / "release").mkdir(exist_ok=True)
     packed = io.BytesIO()
-    with gzip.GzipFile("", "wb", 9, packed, mtime=0) as pressed, tarfile.open(fileobj=pressed, mode="w") as tar:
+    with (gzip.GzipFile("", "wb", 9, packed, mtime=0) as pressed,
+          tarfile.open(fileobj=cast(IO[bytes], pressed), mode="w") as tar):
         for name, it in sorted(files.items()):
             about = tarfile.TarInfo(f"{NAME}/{name}")
             about.mode = 0o755 if it.is_run or it.link else 0o644

@@ -35,7 +35,7 @@ def text_of(file: str) -> str:
 class Children:
     """The rt that run, each with all that it starts in a session of its own, so that all end together."""
 
-    def __init__(self):
+    def __init__(self) -> None:
         self.running: set[subprocess.Popen] = set()
         self.lock = threading.Lock()
         self.is_over = False

@@ -9,7 +9,7 @@ WIDTH, SECONDS = 72, 10
 
 
 class Progress:
-    def __init__(self):
+    def __init__(self) -> None:
         self.last, self.next = "", 0.0
 
     def tell(self, text: str) -> None:

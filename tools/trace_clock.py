@@ -22,7 +22,7 @@ def at(second: int) -> datetime.datetime:
 class TraceClock:
     """Bounds of how far the clock stands from the times of the trace, and its format."""
 
-    def __init__(self):
+    def __init__(self) -> None:
         self.least, self.most = LEAST, MOST
         self.format = IN_HALVES
         self.alarm: dict[int, int] = {}

@@ -142,7 +142,7 @@ class Converter:
                 self.put_memory(event, place, size, value)
 
     def take_line(self, event: Event) -> None:
-        line, level = event.place, event.value
+        line, level = event.place, event.value or 0
         is_change = level != self.levels[line]
         self.levels[line] = level
         if not is_change or line in (CASCADE, CLOCK_LINE, DISK_LINE):
@@ -177,7 +177,7 @@ class Converter:
         if line == CLOCK_LINE and self.clock.is_periodic:
             self.leave_out("acknowledges of the clock's periodic interrupt, which the board has not", CLOCK_DATA)
             return
-        if line == CLOCK_LINE and self.has_time(event):
+        if line == CLOCK_LINE and event.second is not None and self.has_time(event):
             self.tell_moment(event, self.clock.alarmed(self.moment, event.second))
         if not self.is_told(line):
             self.leave_out(f"acknowledges of line {line}, whose rise the trace does not tell", 0x20)
@@ -271,13 +271,13 @@ class Converter:
     def put_port(self, event: Event, port: int, size: int, value: Optional[int]) -> None:
         if event.word == "out":
             self.put(event.cpu, f"out {LETTERS[size]} {port:04X} {value:0{2 * size}X}")
-            self.note_write(port, size, value)
+            self.note_write(port, size, value or 0)
             return
         if port == CLOCK_DATA:
             self.prepare_clock(event, value)
         for turn in range(event.count):
             told = value if turn == 0 else None
-            why = self.why_not(event, port, value) if told is not None else None
+            why = self.why_not(event, port, told) if told is not None else None
             self.put(event.cpu, f"in {LETTERS[size]} {port:04X}", event, size, told, why)
 
     def note_write(self, port: int, size: int, value: int) -> None:
@@ -318,7 +318,7 @@ class Converter:
         if self.is_live and self.index not in self.clock_known:
             self.clock_before[self.index] = value or 0
             self.put(event.cpu, f"out b {CLOCK_DATA:04X} {value or 0:02X}")
-        if not self.has_time(event):
+        if event.second is None or not self.has_time(event):
             return
         first = max(self.before, event.second - LONGEST_DELAY)
         second = None

@@ -104,7 +104,7 @@ class Kvm:
     """Reads lines of the kernel's tracepoints. A processor is that of `CPU N/KVM`, or else each task that is seen has
     the next number."""
 
-    def __init__(self):
+    def __init__(self) -> None:
         self.tasks: dict[str, int] = {}
 
     def __call__(self, number: int, line: str) -> Optional[Event]:
@@ -125,7 +125,7 @@ class Kvm:
         named = re.search(r"CPU (\d+)/KVM", line)
         if named:
             return int(named[1])
-        task = re.match(r"\s*(\S+)", line)[1]
+        task = line.split(None, 1)[0]
         return self.tasks.setdefault(task, len(self.tasks))
 
     @staticmethod
@@ -180,11 +180,11 @@ def plain_other(number: int, word: str, line: str) -> Event:
         cpu, vector = fields(rf"(\d) ack(?: = {HEX})?", line, "ack")
         return Event(number, "ack", int(cpu), value=int(vector, 16) if vector else None)
     if word == "irq":
-        cpu, place, level = map(int, fields(r"(\d) irq (\d{1,4}) ([01])", line, "irq"))
-        return Event(number, "line", cpu, place, value=level)
+        processor, place, level = map(int, fields(r"(\d) irq (\d{1,4}) ([01])", line, "irq"))
+        return Event(number, "line", processor, place, value=level)
     if word == "pulse":
-        cpu, count = map(int, fields(r"(\d) pulse (\d{1,7})", line, "pulse"))
-        return Event(number, "pulse", cpu, count)
+        processor, count = map(int, fields(r"(\d) pulse (\d{1,7})", line, "pulse"))
+        return Event(number, "pulse", processor, count)
     if word == "moment":
         cpu, moment = fields(r"(\d) moment (\d{4}-\d\d-\d\dT\d\d:\d\d:\d\d)", line, "moment")
         check_moment(moment)

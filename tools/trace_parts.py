@@ -72,8 +72,12 @@ class Counter:
     """Counter 0 of the 8254 as the trace writes it: how many pulses its output needs to rise. Pulses come only in such
     numbers, so between them it has just risen, or was just written."""
 
-    def __init__(self):
-        self.mode, self.halves, self.is_bcd = 3, 3, False
+    def __init__(self) -> None:
+        self.begin(3, 3, False)
+
+    def begin(self, mode: int, halves: int, is_bcd: bool) -> None:
+        """What a control word leaves: no count yet."""
+        self.mode, self.halves, self.is_bcd = mode, halves, is_bcd
         self.first_byte: Optional[int] = None
         self.written: Optional[int] = None  # the count written last
         self.in_use: Optional[int] = None  # the count that was loaded last
@@ -81,8 +85,7 @@ class Counter:
     def control(self, byte: int) -> None:
         if byte >> 6 == 0 and byte >> 4 & 3:
             mode = byte >> 1 & 7
-            self.__init__()
-            self.mode, self.halves, self.is_bcd = mode - 4 if mode > 5 else mode, byte >> 4 & 3, bool(byte & 1)
+            self.begin(mode - 4 if mode > 5 else mode, byte >> 4 & 3, bool(byte & 1))
 
     def count(self, byte: int) -> None:
         if self.halves == 3 and self.first_byte is None:
@@ -117,7 +120,7 @@ class Counter:
 class Vectors:
     """Which interrupt line has a vector, by the initialisation words that the trace writes to the two 8259A."""
 
-    def __init__(self):
+    def __init__(self) -> None:
         self.base: dict[int, int] = {}
         self.is_awaited = {0: False, 8: False}
 

@@ -28,9 +28,8 @@ NOT_GIVEN = {"BYTES", "ALIGNED", "DATE"}
 def structs(text):
     """The records of a source: name, and the name and type of each field."""
     for name, body in re.findall(r"#\[repr\(C\)\]\n(?:#\[[^\n]*\]\n)*pub struct (\w+) \{\n(.*?)\n\}", text, re.S):
-        fields = [re.match(r"\s*(?:pub(?:\(crate\))? )?(\w+): (.*),$", line) for line in body.split("\n")
-                  if line.strip() and not line.strip().startswith(("//", "ghost"))]
-        yield name, [(field[1], field[2]) for field in fields]
+        yield name, [re.findall(r"^\s*(?:pub(?:\(crate\))? )?(\w+): (.*),$", line)[0] for line in body.split("\n")
+                     if line.strip() and not line.strip().startswith(("//", "ghost"))]
 
 
 class Layout:
