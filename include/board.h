@@ -3,7 +3,7 @@
  *
  * A board is a handle of two words, which the caller keeps; every call takes a pointer to it. A
  * call that is refused leaves the board and the reply as they were. Nothing prints, traps or ends
- * the process.
+ * the process. examples/kvm.c is a whole monitor of 200 lines over it.
  *
  * The caller owes: each pointer is good for what it points to, and for as many as the count beside
  * it says, and is not NULL, also where that count is 0; no two of a call overlap; one call at a

@@ -8,6 +8,8 @@ COUNT equ 1F2h             ; sectors 1 to 60, by LBA
 FIRST equ 1F3h
 COMMAND equ 1F7h           ; its bit 7 when read: busy; bit 3: a sector waits
 READ equ 20h
+CONTROL equ 3F6h           ; its bit 1: the disk makes no interrupts, of which one that waits would end each call
+NO_INTERRUPTS equ 2
 SECTORS equ 60
 BUFFER equ 8000h
 
@@ -18,7 +20,10 @@ start:
     mov ss, ax
     mov sp, 7C00h
     cld
-    cli
+    sti
+    mov dx, CONTROL
+    mov al, NO_INTERRUPTS
+    out dx, al
     mov dx, COUNT
     mov al, SECTORS
     out dx, al
@@ -67,7 +72,6 @@ add:
     call two
     mov si, line
     call print
-    sti
 rest:
     hlt
     jmp rest
