@@ -101,8 +101,8 @@ void machine_out(machine *m, uint16_t port, unsigned bytes, uint32_t value) {
     }
 }
 
-/* Whether the values of a string instruction go to the board in one call: the disk's words, and two at once as Linux takes
- * them, where nobody looks at each. */
+/* Whether the values of a string instruction go to the board in one call: the disk's words, and two at once as Linux
+ * takes them, where nobody looks at each. */
 static bool is_one_call(const machine *m, uint16_t port, unsigned bytes) {
     const options *o = &m->options;
     return port == DISK_DATA && bytes >= DISK_WORD && !o->nothing && !o->log && !o->explain && !o->bochs_bios;

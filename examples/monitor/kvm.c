@@ -174,8 +174,8 @@ static void serve_port(void) {
 
 static const char *serve(void);
 
-/* The instruction that made the last exit ends, and no other begins. It may make further exits, as one does that reads and
- * writes memory outside the slots: KVM says by EINTR that it has ended. */
+/* The instruction that made the last exit ends, and no other begins. It may make further exits, as one does that reads
+ * and writes memory outside the slots: KVM says by EINTR that it has ended. */
 static void end_instruction(void) {
     run->immediate_exit = 1;
     while (ioctl(cpu, KVM_RUN, 0) == 0) {

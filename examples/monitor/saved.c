@@ -117,14 +117,16 @@ static saved_machine machine_of(const machine *m) {
     return s;
 }
 
-/* Pulses and seconds are those of the time until which the clocks ran, and that is not long before the guest was saved: it
- * goes on with the pulses of the time between. */
+/* Pulses and seconds are those of the time until which the clocks ran, and that is not long before the guest was saved:
+ * it goes on with the pulses of the time between. */
 static bool is_sound_time(const saved_machine *s) {
-    return s->now <= MOST_TIME && s->time <= s->now && s->now - s->time <= MOST_LAG && s->pulses == clock_pulses_at(s->time) && s->second == s->time / NANOSECONDS;
+    if (s->now > MOST_TIME || s->time > s->now || s->now - s->time > MOST_LAG) return false;
+    return s->pulses == clock_pulses_at(s->time) && s->second == s->time / NANOSECONDS;
 }
 
 static bool is_sound(const saved_machine *s) {
-    return s->mib >= 1 && s->mib <= MOST_MIB && s->speed >= 1 && s->keyboard.count <= sizeof s->keyboard.queue && s->fw_cfg.bytes <= sizeof s->fw_cfg.item && is_sound_time(s);
+    if (s->mib < 1 || s->mib > MOST_MIB || s->speed < 1 || !is_sound_time(s)) return false;
+    return s->keyboard.count <= sizeof s->keyboard.queue && s->fw_cfg.bytes <= sizeof s->fw_cfg.item;
 }
 
 /* The machine goes on as it was; names of files are those of the command line. */

@@ -207,7 +207,7 @@ static void on_out(uc_engine *u, uint32_t port, int bytes, uint32_t value, void 
 static void reset_processor(void) {
     machine_take_reset(&m);
     if (m.slots_moved) move_slots();
-    check(uc_context_restore(uc, at_power_on), "reset"); /* a write to CR0 alone would leave the engine in protected mode */
+    check(uc_context_restore(uc, at_power_on), "reset"); /* a write to CR0 alone leaves the engine in protected mode */
     set(UC_X86_REG_CS, RESET_CS);
     set(UC_X86_REG_EIP, RESET_IP);
 }

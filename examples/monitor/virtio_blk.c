@@ -159,8 +159,8 @@ static uint16_t waiting(virtio_blk *v, uint16_t newest) {
     return 0;
 }
 
-/* Does what the guest has put into the available ring, and gives it back by the used ring. A monitor that is asked to end
- * does so before the next request. */
+/* Does what the guest has put into the available ring, and gives it back by the used ring. A monitor that is asked to
+ * end does so before the next request. */
 static void do_queue(machine *m) {
     virtio_blk *v = &m->virtio;
     size_t used_at = ((sizeof(descriptor) * RING + 6 + 2 * RING) + (1 << PAGE_BITS) - 1) >> PAGE_BITS << PAGE_BITS;

@@ -81,6 +81,32 @@ impl FromStr for Width {
     }
 }
 
+/// The cycles that the bus makes of an access of any count of bytes, to ports or to memory, in rising order: the address
+/// of each, and the widest of 4, 2 and 1 bytes that is aligned there and does not pass the access's end. From 4 GiB on there
+/// are none.
+///
+/// ```
+/// use board_440fx::{cycles, Width};
+///
+/// let seven: Vec<_> = cycles(0xCC005, 7).collect();
+/// assert_eq!(seven, [(0xCC005, Width::Byte), (0xCC006, Width::Word), (0xCC008, Width::Dword)]);
+/// assert_eq!(cycles(0xFFFF_FFFF, 3).count(), 1);
+/// ```
+pub fn cycles(addr: u64, bytes: u64) -> impl Iterator<Item = (u32, Width)> {
+    let mut done = 0;
+    std::iter::from_fn(move || {
+        let at = u32::try_from(addr.checked_add(done)?).ok()?;
+        let width = match bytes.checked_sub(done)? {
+            0 => return None,
+            left if left >= 4 && at % 4 == 0 => Width::Dword,
+            left if left >= 2 && at % 2 == 0 => Width::Word,
+            _ => Width::Byte,
+        };
+        done += u64::from(width.bytes());
+        Some((at, width))
+    })
+}
+
 /// A value with its width.
 ///
 /// ```

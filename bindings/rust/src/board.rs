@@ -3,8 +3,8 @@
 use crate::error::check;
 use crate::raw;
 use crate::{
-    Answer, Builder, Card, Com1, Error, Event, Kind, Look, Map, Moment, Part, Piece, Ranges, Reply, Transfer, Value,
-    Width,
+    cycles, Answer, Builder, Card, Com1, Error, Event, Kind, Look, Map, Moment, Part, Piece, Ranges, Reply, Transfer,
+    Value, Width,
 };
 use std::cell::UnsafeCell;
 use std::fmt;
@@ -234,34 +234,13 @@ memory_calls! {
     Qword u64 fetch_u64 read_u64 write_u64 "eight bytes"
 }
 
-/// A cycle that the bus makes of an access to a port.
-struct Cycle {
-    port: u16,
-    width: Width,
-    /// How many bits of the access come before it.
-    shift: u32,
-}
-
-/// The cycles of an access, in rising order: each the widest of 4, 2 or 1 bytes that is aligned and does not pass its
-/// end.
-fn cycles(port: u16, width: Width) -> Result<impl Iterator<Item = Cycle>, Error> {
-    let bytes = u32::from(width.bytes());
-    if width == Width::Qword || u32::from(port) + bytes > PORTS {
+/// The cycles of an access to ports, each with how many bits of the access come before it.
+fn port_cycles(port: u16, width: Width) -> Result<impl Iterator<Item = (u16, Width, u32)>, Error> {
+    if width == Width::Qword || u32::from(port) + u32::from(width.bytes()) > PORTS {
         return Err(Error::NoEvent);
     }
-    let mut done = 0;
-    Ok(std::iter::from_fn(move || {
-        let at = u32::from(port) + done;
-        let width = match bytes - done {
-            0 => return None,
-            4 if at % 4 == 0 => Width::Dword,
-            left if left >= 2 && at % 2 == 0 => Width::Word,
-            _ => Width::Byte,
-        };
-        let cycle = Cycle { port: at as u16, width, shift: 8 * done };
-        done += u32::from(width.bytes());
-        Some(cycle)
-    }))
+    let cut = cycles(port.into(), width.bytes().into());
+    Ok(cut.map(move |(at, width)| (at as u16, width, 8 * (at - u32::from(port)))))
 }
 
 /// Ports. One that is not aligned is cut into cycles, as the bus cuts it.
@@ -270,7 +249,7 @@ impl Board {
     /// for the value, which is the whole.
     pub fn input(&mut self, port: u16, width: Width) -> Result<u32, Error> {
         let mut bits = 0;
-        for Cycle { port, width, shift } in cycles(port, width)? {
+        for (port, width, shift) in port_cycles(port, width)? {
             bits |= self.value(&Event::In { port, width })? << shift;
         }
         if let Some(Answer { reply: Reply::Bus { value, .. }, .. }) = &mut self.last {
@@ -282,12 +261,12 @@ impl Board {
     /// Writes a port of one, two or four bytes. Where it was cut the answer is the last cycle's but for the reset,
     /// which is the strongest.
     pub fn out(&mut self, port: u16, width: Width, value: u32) -> Result<Answer, Error> {
-        let cycles = cycles(port, width)?;
+        let cycles = port_cycles(port, width)?;
         if u64::from(value) > width.mask() {
             return Err(Error::Value);
         }
         let mut reset = None;
-        for Cycle { port, width, shift } in cycles {
+        for (port, width, shift) in cycles {
             let value = (u64::from(value) >> shift & width.mask()) as u32;
             reset = reset.max(self.step(&Event::Out { port, width, value })?.reset);
         }
@@ -421,9 +400,7 @@ impl Board {
         }
         let (mut image, handle) = (vec![0; bytes], self.handle.get());
         // SAFETY: as of `decode`; the pointer is good for as many bytes.
-        check(unsafe {
-            raw::board_save_without(handle, dram, disk, image.as_mut_ptr(), image.len(), &mut bytes)
-        })?;
+        check(unsafe { raw::board_save_without(handle, dram, disk, image.as_mut_ptr(), image.len(), &mut bytes) })?;
         Ok(image)
     }
 
@@ -500,9 +477,7 @@ impl Board {
     /// of a VGA adapter.
     pub fn card_read(&self, device: u8, base: u8, offset: u32, into: &mut [u8]) -> Result<(), Error> {
         // SAFETY: as of `decode`; the pointer is good for as many bytes.
-        check(unsafe {
-            raw::board_card_read(self.handle.get(), device, base, offset, into.as_mut_ptr(), into.len())
-        })
+        check(unsafe { raw::board_card_read(self.handle.get(), device, base, offset, into.as_mut_ptr(), into.len()) })
     }
 
     /// Puts bytes into the memory that the board keeps, whatever the map says.
@@ -521,8 +496,6 @@ impl Board {
     /// [`Board::card_read`]. What an expansion ROM was given is not in the bytes of a saved board.
     pub fn card_write(&mut self, device: u8, base: u8, offset: u32, from: &[u8]) -> Result<(), Error> {
         // SAFETY: as of `step`; the pointer is good for as many bytes.
-        check(unsafe {
-            raw::board_card_write(self.handle.get(), device, base, offset, from.as_ptr(), from.len())
-        })
+        check(unsafe { raw::board_card_write(self.handle.get(), device, base, offset, from.as_ptr(), from.len()) })
     }
 }

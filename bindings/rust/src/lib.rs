@@ -37,7 +37,7 @@ mod reply;
 mod target;
 mod transfer;
 
-pub use access::{Kind, Moment, Value, Width};
+pub use access::{cycles, Kind, Moment, Value, Width};
 pub use board::Board;
 pub use builder::Builder;
 pub use card::{Base, Card, Identity};
@@ -45,7 +45,7 @@ pub use com1::Com1;
 pub use error::Error;
 pub use event::Event;
 pub use log::Line;
-pub use map::{Area, Map, Range, Ranges, Window};
+pub use map::{is_installed, Area, Map, Range, Ranges, Window};
 pub use reply::{Answer, Look, Parts, Reply, Reset};
 pub use target::{Denial, Device, Part, Register, Target};
 pub use transfer::{End, Piece, Transfer};

@@ -105,6 +105,17 @@ impl fmt::Display for Areas {
     }
 }
 
+/// Whether bytes of memory are all there, of a board that has so many MiB.
+///
+/// ```
+/// assert!(board_440fx::is_installed(8, 0x7F_FFFC, 4));
+/// assert!(!board_440fx::is_installed(8, 0x7F_FFFE, 4));
+/// ```
+pub fn is_installed(mib: u32, addr: u64, bytes: u64) -> bool {
+    let end = u64::from(mib) << 20;
+    addr <= end && bytes <= end - addr
+}
+
 /// A range of addresses in which each kind of access has one area.
 ///
 /// ```
@@ -130,6 +141,24 @@ impl Range {
     fn of(record: &raw::Range) -> Option<Range> {
         let (outside, in_smm) = record.area.split_at(3);
         Some(Range { lo: record.lo, hi: record.hi, outside: Areas::of(outside)?, in_smm: Areas::of(in_smm)? })
+    }
+
+    /// The range as far as there is memory, of which a board has so many MiB ([`Map::mib`]): a row may be decoded further,
+    /// where reads give ones and writes are lost. None where all of it lies past that.
+    ///
+    /// ```
+    /// let mut board = board_440fx::Board::builder().memory_mib(4).rom(&[0; 65536]).open()?;
+    /// board.out_u32(0xCF8, 0x8000_0064)?;
+    /// board.out_u8(0xCFF, 1)?; // the last row ends at 8 MiB
+    /// let map = board.map()?;
+    /// let row = map.ranges.iter().find(|range| range.lo == 0x10_0000).expect("from 1 MiB on");
+    /// assert_eq!(row.hi, 0x7F_FFFF);
+    /// assert_eq!(row.clip(map.mib).map(|range| range.hi), Some(0x3F_FFFF));
+    /// # Ok::<(), board_440fx::Error>(())
+    /// ```
+    pub fn clip(&self, mib: u32) -> Option<Range> {
+        let end = u64::from(mib) << 20;
+        (u64::from(self.lo) < end).then(|| Range { hi: u64::from(self.hi).min(end - 1) as u32, ..*self })
     }
 
     /// What a kind of access reaches here, outside system management mode or in it.

@@ -232,6 +232,11 @@ pub enum Target {
 }
 
 impl Target {
+    /// Whether it is main memory at its own address, whose bytes a monitor may keep itself.
+    pub fn is_memory(self) -> bool {
+        matches!(self, Target::Dram { .. } | Target::Shadow { .. })
+    }
+
     fn of(part: &raw::Part) -> Option<Target> {
         let raw::Part { offset, target, unit, base, .. } = *part;
         Some(match target {

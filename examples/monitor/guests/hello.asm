@@ -1,5 +1,6 @@
-; A boot sector, for `nasm -f bin`, for the monitors of one file: it says on COM1 that it runs, adds one to a byte of the disk
-; and says it, counts half seconds by the timer's interrupt, and says a byte that COM1 received, by its interrupt, twice.
+; A boot sector, for `nasm -f bin`, for the monitors of one file: it says on COM1 that it runs, adds one to a byte of the
+; disk and says it, counts half seconds by the timer's interrupt, and says a byte that COM1 received, by its interrupt,
+; twice.
 bits 16
 org 7C00h
 

@@ -1,5 +1,5 @@
-; A boot sector, for `nasm -f bin`, that resets the board by the reset control register, CF9h. Behind that OUT stands one to
-; COM1, which the processor does not execute any more.
+; A boot sector, for `nasm -f bin`, that resets the board by the reset control register, CF9h. Behind that OUT stands one
+; to COM1, which the processor does not execute any more.
 bits 16
 org 7C00h
 

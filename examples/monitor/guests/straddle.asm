@@ -1,6 +1,6 @@
-; A boot sector, for `nasm -f bin`, of instructions that make two exits each: CC000h to CFFFFh are opened for writes alone, so
-; that an XOR of memory there reads FFFFh from nobody and writes to main memory. Then they are opened for reads, and the word
-; is compared: '.' where it is there, '!' where the write was lost.
+; A boot sector, for `nasm -f bin`, of instructions that make two exits each: CC000h to CFFFFh are opened for writes alone,
+; so that an XOR of memory there reads FFFFh from nobody and writes to main memory. Then they are opened for reads, and the
+; word is compared: '.' where it is there, '!' where the write was lost.
 bits 16
 org 7C00h
 

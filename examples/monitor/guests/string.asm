@@ -1,5 +1,5 @@
-; A boot sector, for `nasm -f bin`, that reads sectors 1 to 60 by string instructions of 32 bits at the disk's data port, and
-; says the sum of their bytes.
+; A boot sector, for `nasm -f bin`, that reads sectors 1 to 60 by string instructions of 32 bits at the disk's data port,
+; and says the sum of their bytes.
 bits 16
 org 7C00h
 

@@ -1,6 +1,6 @@
-; A boot sector, for `nasm -f bin`, that drives the one queue of a legacy virtio block card. It tells of an available index
-; that lies past the ring, and then, after a reset of the card, of a read of sector 0: the used index and the status of each,
-; FFh where none was written.
+; A boot sector, for `nasm -f bin`, that drives the one queue of a legacy virtio block card. It tells of an available
+; index that lies past the ring, and then, after a reset of the card, of a read of sector 0: the used index and the status
+; of each, FFh where none was written.
 bits 16
 org 7C00h
 

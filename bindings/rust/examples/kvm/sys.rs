@@ -1,11 +1,10 @@
 //! What the monitor needs of KVM: a virtual machine with one processor. Debian 12 has no kvm-ioctls.
 
-use board_440fx::Width;
 use std::fs::OpenOptions;
 use std::io;
 use std::os::raw::{c_int, c_long, c_ulong, c_void};
 use std::os::unix::io::{AsRawFd, RawFd};
-use std::{ptr, slice};
+use std::ptr;
 
 extern "C" {
     fn ioctl(fd: RawFd, request: c_ulong, argument: *mut c_void) -> c_int;
@@ -29,34 +28,78 @@ fn call<T>(fd: RawFd, request: c_ulong, argument: *mut T) -> io::Result<c_int> {
     }
 }
 
-/// Pages that stay until the end, of a file or, where fd is -1, of none.
-pub fn pages(bytes: usize, fd: RawFd) -> io::Result<&'static mut [u8]> {
-    // SAFETY: new pages for reading and writing, shared with the file or nobody's else.
-    let at = unsafe { mmap(ptr::null_mut(), bytes, 3, if fd < 0 { 0x22 } else { 0x01 }, fd, 0) };
-    if at as isize == -1 {
-        return Err(io::Error::last_os_error());
-    }
-    Ok(unsafe { slice::from_raw_parts_mut(at.cast(), bytes) })
+/// Pages that stay until the end, and that others change too: the guest, or KVM. Their bytes are moved one by one, and
+/// nothing borrows them.
+#[derive(Clone, Copy)]
+pub struct Memory {
+    at: *mut u8,
+    bytes: usize,
 }
 
-/// Why the processor stopped; `at` is where in `data` the bytes of an access begin.
+impl Memory {
+    /// New pages, or those of a file, shared with it.
+    pub fn open(bytes: usize, file: Option<RawFd>) -> io::Result<Memory> {
+        // SAFETY: new pages for reading and writing.
+        let at =
+            unsafe { mmap(ptr::null_mut(), bytes, 3, if file.is_some() { 0x01 } else { 0x22 }, file.unwrap_or(-1), 0) };
+        if at as isize == -1 {
+            return Err(io::Error::last_os_error());
+        }
+        Ok(Memory { at: at.cast(), bytes })
+    }
+
+    /// The host's address of a stretch; none where it does not lie in them.
+    pub fn place(&self, at: u64, bytes: u64) -> Option<u64> {
+        (at.checked_add(bytes)? <= self.bytes as u64).then(|| self.at as u64 + at)
+    }
+
+    /// What lies past the end is left as it is.
+    pub fn read(&self, at: usize, into: &mut [u8]) {
+        // SAFETY: the byte lies in the pages.
+        into.iter_mut().zip(at..self.bytes).for_each(|(byte, at)| *byte = unsafe { self.at.add(at).read_volatile() });
+    }
+
+    /// What lies past the end is lost.
+    pub fn write(&self, at: usize, from: &[u8]) {
+        // SAFETY: the byte lies in the pages.
+        from.iter().zip(at..self.bytes).for_each(|(&byte, at)| unsafe { self.at.add(at).write_volatile(byte) });
+    }
+
+    pub fn number(&self, at: usize, bytes: usize) -> u64 {
+        let mut number = [0; 8];
+        self.read(at, &mut number[..bytes]);
+        u64::from_le_bytes(number)
+    }
+}
+
+/// Addresses behind which pages of the monitor lie; without bytes it ends the slot of its number.
+#[derive(Clone, Copy, PartialEq, Eq)]
+pub struct Slot {
+    pub lo: u64,
+    pub bytes: u64,
+    pub host: u64,
+    pub is_read_only: bool,
+}
+
+/// Why the processor stopped; `place` is where in its page the bytes of an access begin.
 pub enum Exit {
-    Port { is_out: bool, port: u16, width: Width, count: usize, at: usize },
-    Memory { is_write: bool, addr: u32, width: Width },
+    Port { is_out: bool, port: u16, bytes: usize, count: usize, place: usize },
+    Memory { is_write: bool, addr: u64, bytes: usize },
     Halt,
+    TripleFault,
     Signal,
     Other(u64),
 }
+
+pub const MEMORY_DATA: usize = 40; // in the page
 
 pub struct Processor {
     vm: RawFd,
     cpu: RawFd,
     at_start: [u8; 312],
-    /// The page that KVM shares.
-    pub data: &'static mut [u8],
+    /// That KVM shares.
+    pub page: Memory,
 }
-
-pub const MEMORY_DATA: usize = 40;
 
 impl Processor {
     /// With the host's processor, whose runs end after so many microseconds at the latest.
@@ -69,7 +112,7 @@ impl Processor {
         call(vm, 0x4008_AE48, &mut 0xFEFF_C000u64)?; // KVM_SET_IDENTITY_MAP_ADDR
         call(vm, 0xAE47, 0xFEFF_D000 as *mut u8)?; // KVM_SET_TSS_ADDR
         let cpu = call::<u8>(vm, 0xAE41, ptr::null_mut())?; // KVM_CREATE_VCPU
-        let data = pages(call::<u8>(kvm, 0xAE04, ptr::null_mut())? as usize, cpu)?; // KVM_GET_VCPU_MMAP_SIZE
+        let page = Memory::open(call::<u8>(kvm, 0xAE04, ptr::null_mut())? as usize, Some(cpu))?; // KVM_GET_VCPU_MMAP_SIZE
         let mut id = vec![0; 2 + MOST_LEAVES as usize * CPUID_WORDS];
         id[0] = MOST_LEAVES;
         call(kvm, 0xC008_AE05, id.as_mut_ptr())?; // KVM_GET_SUPPORTED_CPUID
@@ -86,14 +129,19 @@ impl Processor {
             signal(SIGALRM, wake);
             setitimer(0, &every, ptr::null_mut());
         }
-        Ok(Processor { vm, cpu, at_start, data })
+        Ok(Processor { vm, cpu, at_start, page })
     }
 
-    /// At the reset vector. An instruction that asked for it ends first.
+    /// The instruction that made the last exit ends, and none begins: a further exit of it, or none where it has ended.
+    pub fn end_instruction(&mut self) -> io::Result<Option<Exit>> {
+        self.page.write(1, &[1]); // immediate_exit
+        let exit = self.run(false);
+        self.page.write(1, &[0]);
+        Ok(Some(exit?).filter(|exit| !matches!(exit, Exit::Signal)))
+    }
+
+    /// At the reset vector.
     pub fn reset(&mut self) -> io::Result<()> {
-        self.data[1] = 1; // immediate_exit
-        let _ends = call::<u8>(self.cpu, 0xAE80, ptr::null_mut());
-        self.data[1] = 0;
         let mut system = self.at_start;
         system[..8].copy_from_slice(&0xFFFF_0000u64.to_le_bytes()); // the base of CS
         system[12..14].copy_from_slice(&0xF000u16.to_le_bytes()); // and its selector
@@ -105,40 +153,40 @@ impl Processor {
         call(self.cpu, 0x4090_AE82, &mut registers).map(|_| ()) // KVM_SET_REGS
     }
 
-    /// A slot of the guest's memory; no bytes end it.
-    pub fn set_slot(&self, slot: u64, lo: u32, bytes: &[u8], is_read_only: bool) -> io::Result<()> {
-        let flags = if is_read_only { 2 << 32 } else { 0 };
-        let at = if bytes.is_empty() { ptr::null() } else { bytes.as_ptr() }; // KVM wants a page's, of no bytes too
-        let mut region = [slot | flags, lo.into(), bytes.len() as u64, at as u64];
+    pub fn set_slot(&self, number: usize, slot: Slot) -> io::Result<()> {
+        let flags = if slot.is_read_only { 2 << 32 } else { 0 };
+        let mut region = [number as u64 | flags, slot.lo, slot.bytes, slot.host];
         call(self.vm, 0x4020_AE46, &mut region).map(|_| ()) // KVM_SET_USER_MEMORY_REGION
     }
 
     pub fn takes_interrupts(&self) -> bool {
-        self.data[12] != 0 && self.data[13] != 0 // ready_for_interrupt_injection, if_flag
+        self.page.number(12, 1) != 0 && self.page.number(13, 1) != 0 // ready_for_interrupt_injection, if_flag
     }
 
     pub fn interrupt(&self, vector: u8) -> io::Result<()> {
         call(self.cpu, 0x4004_AE86, &mut u32::from(vector)).map(|_| ()) // KVM_INTERRUPT
     }
 
-    fn number(&self, at: usize, bytes: usize) -> u64 {
-        self.data[at..at + bytes].iter().rev().fold(0, |number, &byte| number << 8 | u64::from(byte))
-    }
-
     /// Runs until an exit; asks for one where an interrupt could be taken.
     pub fn run(&mut self, wants_interrupt: bool) -> io::Result<Exit> {
-        self.data[0] = wants_interrupt.into(); // request_interrupt_window
+        self.page.write(0, &[wants_interrupt.into()]); // request_interrupt_window
         match call::<u8>(self.cpu, 0xAE80, ptr::null_mut()) {
             Err(fault) if fault.kind() == io::ErrorKind::Interrupted => return Ok(Exit::Signal),
             done => done?, // KVM_RUN
         };
-        let width = |at: usize| Width::of_bytes(self.data[at]).ok_or(io::ErrorKind::Unsupported);
-        let (port, count, at) = (self.number(34, 2) as u16, self.number(36, 4) as usize, self.number(40, 8) as usize);
-        Ok(match self.number(8, 4) {
-            2 => Exit::Port { is_out: self.data[32] == 1, port, width: width(33)?, count, at },
+        let field = |at: usize, bytes: usize| self.page.number(at, bytes);
+        Ok(match field(8, 4) {
+            2 => Exit::Port {
+                is_out: field(32, 1) == 1,
+                port: field(34, 2) as u16,
+                bytes: field(33, 1) as usize,
+                count: field(36, 4) as usize,
+                place: field(40, 8) as usize,
+            },
             5 => Exit::Halt,
-            6 => Exit::Memory { is_write: self.data[52] == 1, addr: self.number(32, 4) as u32, width: width(48)? },
+            6 => Exit::Memory { is_write: field(52, 1) == 1, addr: field(32, 8), bytes: field(48, 4) as usize },
             7 | 10 => Exit::Signal, // KVM_EXIT_IRQ_WINDOW_OPEN, KVM_EXIT_INTR
+            8 => Exit::TripleFault,
             other => Exit::Other(other),
         })
     }
