@@ -8,7 +8,7 @@ from typing import Any, Callable, Iterable, Iterator, NoReturn
 from . import records
 from .cards import Card
 from .errors import BadSize, BadValue, NoByte, NoCycle, NoEvent, NoMemory, NoReply, NoRoom, NoSector, PastEnd, check
-from .events import Event, Kind
+from .events import Event, Kind, why_none
 from .library import library
 from .maps import Map, Window, range_of
 from .replies import Answer, Denial, Look, Part, Reset, Value, answer_of, part_of
@@ -16,14 +16,15 @@ from .transfers import Transfer
 
 PORTS = 0x10000
 U32 = 1 << 32
-DEFAULT_ROM = bytes(PORTS)
+DEFAULT_ROM_BYTES = 65536
 
 
 def _cycles(port: int, count: int) -> Iterator[tuple[int, int, int]]:
     """The cycles that the bus makes of an access to a port, in rising order: each the widest of 4, 2 or 1 bytes that is
     aligned and does not pass the end. Of each the port, the bytes, and how many bytes come before it."""
     if count not in (1, 2, 4) or not 0 <= port <= PORTS - count:
-        raise NoEvent(f"{count} bytes at port {port:#x}")
+        why = "an access to a port has 1, 2 or 4 bytes, the last of them at FFFF or below"
+        raise NoEvent(f"{count} bytes at port {port:#x}", why)
     done = 0
     while done < count:
         cycle = next(size for size in (4, 2, 1) if size <= count - done and (port + done) % size == 0)
@@ -39,16 +40,17 @@ class Board:
     """
 
     def __init__(
-        self, memory: int = 8, cards: Iterable[Card | str] = (), rom: bytes = DEFAULT_ROM, disk: bytes = b""
+        self, memory: int = 8, cards: Iterable[Card | str] = (), rom: bytes | None = None, disk: bytes = b""
     ) -> None:
-        """A board of so many MiB of memory, 1 to 512, with copies of a ROM and a disk; no bytes are no disk."""
+        """A board of so many MiB of memory, 1 to 512, with copies of a ROM and a disk. Where no ROM is given it is one of
+        64 KiB of zeros; no bytes are no disk."""
         self._begin()
         if not 0 <= memory < U32:
             raise BadSize(memory)
         fitted = [Card.parse(card) if isinstance(card, str) else card for card in cards]
         cards_said = [card.record() for card in sorted(fitted, key=lambda card: card.device)]
         array = (records.CardRecord * (len(cards_said) + 1))(*cards_said)  # good for one also where there is none
-        rom, disk = bytes(rom), bytes(disk)
+        rom, disk = bytes(DEFAULT_ROM_BYTES) if rom is None else bytes(rom), bytes(disk)
         check(self._library.board_open(self._handle, memory, array, len(cards_said), rom, len(rom), disk, len(disk)))
 
     def _begin(self) -> None:
@@ -104,6 +106,8 @@ class Board:
         record = event.record()
         with self._lock:
             status = self._library.board_step(self._handle, record, self._reply)
+            if status == NoEvent.status:
+                raise NoEvent(event, why_none(event))
             check(status, event)
             answer = answer_of(event, self._reply)
             self.last = answer
@@ -165,7 +169,7 @@ class Board:
 
     def _many(self, call: str, event: Event, values: Any, count: int) -> int:
         """How many accesses were made; the last answer is the last one's."""
-        record, done = event.record(), records.c.c_size_t()
+        record, done = event.record(), records.SIZE()
         with self._lock:
             check(getattr(self._library, call)(self._handle, record.addr, record.bytes, values, count, done, self._reply))
             if done.value:
@@ -291,7 +295,7 @@ class Board:
     def save(self, *, dram: bool = True, disk: bool = True) -> bytes:
         """The running board as bytes: what it was opened with, and all that it holds; without dram or disk all but the
         bytes of the DRAM, or those of the disk, as it was fitted and as its sectors stand, which load is then given."""
-        count = records.c.c_size_t()
+        count = records.SIZE()
         save = self._library.board_save_without
         with self._lock:
             status = save(self._handle, not dram, not disk, (records.U8 * 1)(), 0, count)
@@ -323,7 +327,7 @@ class Board:
         caller keeps; the first `readable` of the sectors are there and can be read, all where nothing is said."""
         return Transfer(self._ask, self._library, (table, lba, sectors, sectors if readable is None else readable), to_memory)
 
-    # ---- bytes that the guest did not write; no reply, and nothing else changes
+    # ---- bytes that the guest did not write; no reply
 
     def dram_write(self, addr: int, data: bytes) -> None:
         """Puts bytes into the memory that the board keeps, whatever the map says."""
@@ -332,8 +336,18 @@ class Board:
         self._ask("board_dram_write", addr, bytes(data), len(data))
 
     def cmos_write(self, address: int, byte: int) -> None:
-        """Writes a byte of the clock, 0 to 127, as writes of ports 70h and 71h would."""
-        self._ask("board_cmos_write", _byte(address, NoByte), _byte(byte, BadValue))
+        """Writes a byte of the clock, 0 to 127, as writes of ports 70h and 71h would. That of register B may raise INT:
+        what stands after the step of `last` is asked again."""
+        with self._lock:
+            self._ask("board_cmos_write", _byte(address, NoByte), _byte(byte, BadValue))
+            if self.last:
+                self.last = self.last.as_of(self._now())
+
+    def _now(self) -> Answer:
+        """What stands now, by a look, which changes nothing."""
+        event = Event.look("r", 0)
+        check(self._library.board_step(self._handle, event.record(), self._reply))
+        return answer_of(event, self._reply)
 
     def card_write(self, device: int, base: int, offset: int, data: bytes) -> None:
         """Puts bytes into a card from an offset in one of its bases on, wherever the base lies, or into its expansion ROM, base

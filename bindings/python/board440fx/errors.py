@@ -44,6 +44,13 @@ class BadDisk(BoardError, status=6):
 class NoEvent(BoardError, status=7):
     """that is no event"""
 
+    def __init__(self, about: object = None, why: str | None = None) -> None:
+        super().__init__(about)
+        self.why = why
+
+    def __str__(self) -> str:
+        return f"{super().__str__()}: {self.why}" if self.why else super().__str__()
+
 
 class Alignment(BoardError, status=8):
     """a port is no multiple of the width"""

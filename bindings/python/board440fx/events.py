@@ -15,6 +15,7 @@ WIDTHS = {"b": 1, "w": 2, "d": 4, "q": 8}
 WIDTH_LETTERS = {width: letter for letter, width in WIDTHS.items()}
 
 _FIELDS = {"value": 64, "addr": 32, "bytes": 8}  # and how many bits a record has for each
+LAST_PORT = 0xFFFF
 
 
 @dataclass(frozen=True)
@@ -51,7 +52,7 @@ class Event:
     @staticmethod
     def look(kind: str, addr: int, *, smm: bool = False) -> "Event":
         if kind not in KINDS:
-            raise NoEvent(kind)
+            raise NoEvent(f"a look of kind {kind!r}", "a kind is f, r or w")
         return Event(What.LOOK, KINDS[kind], addr, smm=smm)
 
     @staticmethod
@@ -86,18 +87,14 @@ class Event:
 
     @staticmethod
     def parse(statement: str) -> "Event":
-        """Of a statement of a script, without its processor."""
-        for form, make in _FORMS:
-            found = form.fullmatch(statement)
-            if found:
-                return make(*found.groups())
-        raise NoEvent(statement)
+        """Of a statement of a script, without its processor: NoEvent says why it is none."""
+        return _parsed(statement)
 
     def record(self) -> EventRecord:
         """As board.h has it. What does not fit there is refused, since ctypes would cut it."""
         for name, bits in _FIELDS.items():
             if not 0 <= getattr(self, name) < 1 << bits:
-                raise NoEvent(f"{name} {getattr(self, name)}")
+                raise NoEvent(self, f"{name} {getattr(self, name)} does not fit {bits} bits")
         return EventRecord(self.value, self.addr, self.what, self.kind or 0, self.bytes, self.smm, 0)
 
     def digits(self) -> int:
@@ -155,42 +152,123 @@ _TEXTS: dict[What, Callable[[Event], str]] = {
 }
 
 
-def _value(letter: str, digits: str) -> int:
-    if len(digits) != 2 * WIDTHS[letter]:
-        raise NoEvent(digits)
-    return int(digits, 16)
+# ---- the statements of scripts
 
 
-def _memory(kind: str, letter: str, addr: str, mode: str | None) -> Event:
-    return Event(What.MEMORY, KINDS[kind], int(addr, 16), WIDTHS[letter], bool(mode))
+@dataclass(frozen=True)
+class _Field:
+    """A field of a statement: what it is called, how it is written, in a form and in words, and what it says."""
+
+    name: str
+    form: str
+    in_words: str
+    says: Callable[[str], int] = int
 
 
-def _memory_write(letter: str, addr: str, value: str, mode: str | None) -> Event:
-    return Event.write(int(addr, 16), WIDTHS[letter], _value(letter, value), smm=bool(mode))
+_WIDTH = _Field("width", "[bwdq]", "b, w, d or q", WIDTHS.__getitem__)
+_PORT_WIDTH = _Field("width", "[bwd]", "b, w or d", WIDTHS.__getitem__)
+_ADDRESS = _Field("address", "[0-9A-Fa-f]{8}", "8 hexadecimal digits", lambda text: int(text, 16))
+_PORT = _Field("port", "[0-9A-Fa-f]{4}", "4 hexadecimal digits", lambda text: int(text, 16))
+_VALUE = _Field("value", "[0-9A-Fa-f]+", "hexadecimal digits, two for each byte", lambda text: int(text, 16))
+_BYTE = _Field("byte", "[0-9A-Fa-f]{2}", "2 hexadecimal digits", lambda text: int(text, 16))
+_KIND = _Field("kind", "[frw]", "f, r or w", KINDS.__getitem__)
+_LEVEL = _Field("level", "[01]", "0 or 1")
+_DATE = "[0-9]{4}-[0-9]{2}-[0-9]{2}T[0-9]{2}:[0-9]{2}:[0-9]{2}"
+_MOMENT = _Field("moment", _DATE, "YYYY-MM-DDTHH:MM:SS", lambda text: int(re.sub("[-T:]", "", text)))
 
 
-def _moment(*fields: str) -> Event:
-    return Event(What.TIME, value=int("".join(fields)))
+def _number(name: str) -> _Field:
+    return _Field(name, "0|[1-9][0-9]{0,8}", "a decimal number of at most nine digits, without a leading zero")
 
 
-_HEX = "[0-9A-Fa-f]"
-_DATE = r"([0-9]{4})-([0-9]{2})-([0-9]{2})T([0-9]{2}):([0-9]{2}):([0-9]{2})"
-_NUMBER = "(0|[1-9][0-9]{0,8})"
+@dataclass(frozen=True)
+class _Form:
+    """The form of a statement: the fields behind its first word, whether `smm` may follow, and the event that it is."""
 
-# The forms of a statement, and what each makes of its fields.
-_FORM_TEXTS: list[tuple[str, Callable[..., Event]]] = [
-    (rf"([fr]) ([bwdq]) ({_HEX}{{8}})( smm)?", _memory),
-    (rf"w ([bwdq]) ({_HEX}{{8}}) ({_HEX}+)( smm)?", _memory_write),
-    (rf"in ([bwd]) ({_HEX}{{4}})", lambda letter, port: Event.in_(int(port, 16), WIDTHS[letter])),
-    (rf"out ([bwd]) ({_HEX}{{4}}) ({_HEX}+)",
-     lambda letter, port, value: Event.out(int(port, 16), WIDTHS[letter], _value(letter, value))),
-    (rf"look ([frw]) ({_HEX}{{8}})( smm)?", lambda kind, addr, mode: Event.look(kind, int(addr, 16), smm=bool(mode))),
-    (r"ack", Event.acknowledge),
-    (rf"pulse {_NUMBER}", lambda count: Event.pulse(int(count))),
-    (rf"moment {_DATE}", _moment),
-    (rf"wire {_NUMBER} ([01])", lambda device, level: Event.wire(int(device), level == "1")),
-    (rf"irq {_NUMBER} ([01])", lambda line, level: Event.irq(int(line), level == "1")),
-    (rf"bad {_NUMBER}", lambda sector: Event.bad_sector(int(sector))),
-    (rf"receive ({_HEX}{{2}})", lambda byte: Event.receive(int(byte, 16))),
-]
-_FORMS = [(re.compile(form), make) for form, make in _FORM_TEXTS]
+    fields: tuple[_Field, ...]
+    make: Callable[..., Event]
+    has_mode: bool = False
+
+
+# Each by its first word.
+_FORMS = {
+    "f": _Form((_WIDTH, _ADDRESS), lambda width, addr, smm: Event.fetch(addr, width, smm=smm), True),
+    "r": _Form((_WIDTH, _ADDRESS), lambda width, addr, smm: Event.read(addr, width, smm=smm), True),
+    "w": _Form((_WIDTH, _ADDRESS, _VALUE), lambda width, addr, value, smm: Event.write(addr, width, value, smm=smm),
+               True),
+    "in": _Form((_PORT_WIDTH, _PORT), lambda width, port: Event.in_(port, width)),
+    "out": _Form((_PORT_WIDTH, _PORT, _VALUE), lambda width, port, value: Event.out(port, width, value)),
+    "look": _Form((_KIND, _ADDRESS), lambda kind, addr, smm: Event(What.LOOK, kind, addr, smm=smm), True),
+    "ack": _Form((), Event.acknowledge),
+    "pulse": _Form((_number("count"),), Event.pulse),
+    "moment": _Form((_MOMENT,), lambda digits: Event(What.TIME, value=digits)),
+    "wire": _Form((_number("device"), _LEVEL), lambda device, level: Event.wire(device, bool(level))),
+    "irq": _Form((_number("line"), _LEVEL), lambda line, level: Event.irq(line, bool(level))),
+    "bad": _Form((_number("sector"),), Event.bad_sector),
+    "receive": _Form((_BYTE,), Event.receive),
+}
+
+
+def _none_why(form: _Form, fields: list[str]) -> str | None:
+    """What is wrong with the fields of a statement."""
+    for field, text in zip(form.fields, fields):
+        if not re.fullmatch(field.form, text):
+            return f"the {field.name} is {field.in_words}, not {text!r}"
+    if len(fields) < len(form.fields):
+        return f"the {form.fields[len(fields)].name} is missing"
+    if len(fields) > len(form.fields):
+        return f"the word {fields[len(form.fields)]!r} is too many"
+    if _VALUE in form.fields and len(fields[2]) != 2 * WIDTHS[fields[0]]:
+        return f"a value of width {fields[0]} has {2 * WIDTHS[fields[0]]} hexadecimal digits, not {len(fields[2])}"
+    return None
+
+
+def _parsed(statement: str) -> Event:
+    """The event of a statement, or why it is none."""
+    first, *fields = statement.split(" ")
+    form = _FORMS.get(first)
+    if form is None:
+        raise NoEvent(repr(statement), f"a statement begins with {', '.join(_FORMS)}, not {first!r}")
+    smm = form.has_mode and fields[-1:] == ["smm"]
+    fields = fields[:-1] if smm else fields
+    why = _none_why(form, fields)
+    if why:
+        raise NoEvent(repr(statement), why)
+    said = [field.says(text) for field, text in zip(form.fields, fields)]
+    return form.make(*said, smm=smm) if form.has_mode else form.make(*said)
+
+
+# ---- why the board takes none
+
+
+def _memory_why(event: Event) -> str:
+    if event.bytes not in WIDTHS.values():
+        return f"an access to memory has 1, 2, 4 or 8 bytes, not {event.bytes}"
+    return "a value of more than 32 bits does not fit 4 bytes"
+
+
+def _port_why(event: Event) -> str:
+    if event.kind == KindNumber.FETCH:
+        return "no code is fetched from ports"
+    if event.bytes not in (1, 2, 4):
+        return f"an access to a port has 1, 2 or 4 bytes, not {event.bytes}"
+    if event.addr > LAST_PORT:
+        return f"the last port is FFFF, not {event.addr:X}"
+    return "a value of more than 32 bits does not fit a port"
+
+
+_WHY: dict[What, Callable[[Event], str]] = {
+    What.MEMORY: _memory_why,
+    What.PORT: _port_why,
+    What.LOOK: lambda event: "the kind is none of f, r and w",
+    What.TIME: lambda event: "the calendar from 1980 to 2099 has no such moment",
+    What.WIRE: lambda event: f"a device is 2 to 9, and a level 0 or 1, not {event.addr} and {event.value}",
+    What.IRQ: lambda event: f"a line is 0 to 15, and a level 0 or 1, not {event.addr} and {event.value}",
+    What.BAD_SECTOR: lambda event: f"a sector is 0 to 65535, not {event.addr}",
+    What.SERIAL: lambda event: f"a byte is 0 to 255, not {event.value}",
+}
+
+
+def why_none(event: Event) -> str | None:
+    """Why a board says that an event is none."""
+    return _WHY[event.what](event) if event.what in _WHY else None

@@ -1,7 +1,7 @@
 """Finds libboard.so, and refuses a library whose interface is another than this module's.
 
-It is looked for in the folder BOARD_DIR, then where pkg-config has it, then in the archives of the repository's
-release folder.
+It is looked for in the folder BOARD_DIR, then beside this module, where a wheel has it, then where pkg-config has it,
+then in the archives of the repository's release folder.
 """
 import ctypes
 import functools
@@ -56,37 +56,40 @@ def load(path: pathlib.Path, headers: list[pathlib.Path]) -> ctypes.CDLL:
     return library
 
 
-def _by_variable() -> ctypes.CDLL | None:
+def _by_variable() -> pathlib.Path | None:
     folder = os.environ.get("BOARD_DIR")
     if folder is None:
         return None
     path = pathlib.Path(folder).resolve() / LIBRARY
     if not path.is_file():
         raise LibraryError(f"BOARD_DIR: {folder} has no {LIBRARY}")
-    return load(path, [path.with_name(HEADER)])
+    return path
 
 
-def _pkg_config(word: str, option: str) -> list[pathlib.Path]:
-    """The folders that pkg-config answers, none where it knows no board."""
+def _in_package() -> pathlib.Path | None:
+    path = pathlib.Path(__file__).resolve().with_name(LIBRARY)
+    return path if path.is_file() else None
+
+
+def _by_pkg_config() -> pathlib.Path | None:
     try:
-        answer = subprocess.run(["pkg-config", word, "board"], capture_output=True, text=True)
+        answer = subprocess.run(["pkg-config", "--libs-only-L", "board"], capture_output=True, text=True)
     except OSError:
-        return []
+        return None
     words = answer.stdout.split() if answer.returncode == 0 else []
-    return [pathlib.Path(word.removeprefix(option)) for word in words if word.startswith(option)]
+    paths = (pathlib.Path(word.removeprefix("-L"), LIBRARY) for word in words if word.startswith("-L"))
+    return next((path for path in paths if path.is_file()), None)
 
 
-def _by_pkg_config() -> ctypes.CDLL | None:
-    headers = [folder / HEADER for folder in _pkg_config("--cflags-only-I", "-I")]
-    for folder in _pkg_config("--libs-only-L", "-L"):
-        if (folder / LIBRARY).is_file():
-            return load(folder / LIBRARY, headers)
-    return None
+@functools.cache
+def _unpacked() -> tempfile.TemporaryDirectory[str]:
+    """A folder for what a release has, which goes with the process."""
+    return tempfile.TemporaryDirectory()
 
 
-def _by_release() -> ctypes.CDLL | None:
+def _by_release() -> pathlib.Path | None:
     for archive in sorted(RELEASE.glob("*.tar.gz")):
-        with tarfile.open(archive) as packed, tempfile.TemporaryDirectory() as folder:
+        with tarfile.open(archive) as packed:
             members = {pathlib.PurePath(name).name: name for name in packed.getnames()}
             if LIBRARY not in members or HEADER not in members:
                 continue
@@ -94,17 +97,22 @@ def _by_release() -> ctypes.CDLL | None:
                 member = packed.extractfile(members[name])
                 if member is None:
                     raise LibraryError(f"{archive}: {name} is no file")
-                (pathlib.Path(folder) / name).write_bytes(member.read())
-            path = pathlib.Path(folder) / LIBRARY
-            return load(path, [path.with_name(HEADER)])  # what is loaded stays when the file goes
+                pathlib.Path(_unpacked().name, name).write_bytes(member.read())
+            return pathlib.Path(_unpacked().name, LIBRARY)
     return None
+
+
+def found() -> pathlib.Path:
+    """Where the library is."""
+    for search in (_by_variable, _in_package, _by_pkg_config, _by_release):
+        path = search()
+        if path is not None:
+            return path
+    raise LibraryError(f"no {LIBRARY} was found: `./board --library DIR` makes it, and BOARD_DIR=DIR says where it is")
 
 
 @functools.cache
 def library() -> ctypes.CDLL:
     """The library, found once."""
-    for search in (_by_variable, _by_pkg_config, _by_release):
-        found = search()
-        if found is not None:
-            return found
-    raise LibraryError(f"no {LIBRARY} was found: `./board --library DIR` makes it, and BOARD_DIR=DIR says where it is")
+    path = found()
+    return load(path, [path.with_name(HEADER)])

@@ -20,7 +20,7 @@ _DENIED = pytest.StashKey[deque[str]]()
 
 def _in_words(answer: Answer) -> list[str]:
     """An answer as a line of a log, and what denied it."""
-    line = f"{answer.event} = {answer}"
+    line = f"{answer.event} = {answer.reply}"
     return [line] + ([f"denied by {answer.denied_by.in_words}"] if answer.denied_by else [])
 
 
@@ -38,7 +38,7 @@ def board(request: pytest.FixtureRequest) -> Iterator[Board]:
 
     def note(answer: Answer) -> None:
         if answer.denied_by:
-            denied.append(f"{answer.event} = {answer}: denied by {answer.denied_by.in_words}")
+            denied.append(f"{answer.event} = {answer.reply}: denied by {answer.denied_by.in_words}")
 
     with Board(**(marker.kwargs if marker else {})) as opened:
         opened.watch = note

@@ -2,7 +2,7 @@
 import ctypes as c
 from enum import IntEnum
 
-U8, U16, U32, U64 = c.c_uint8, c.c_uint16, c.c_uint32, c.c_uint64
+U8, U16, U32, U64, SIZE = c.c_uint8, c.c_uint16, c.c_uint32, c.c_uint64, c.c_size_t
 
 MOST_RANGES = 142
 MOST_WINDOWS = 64

@@ -1,5 +1,5 @@
 """Replies: what answered, what denied it, and what stands after the step."""
-from dataclasses import dataclass
+from dataclasses import dataclass, replace
 from enum import IntEnum
 from typing import NamedTuple
 
@@ -168,7 +168,8 @@ def part_of(part: PartRecord) -> Part:
 
 @dataclass(frozen=True)
 class Answer:
-    """A reply, and what stands after its step. Its text is what stands behind the ` = ` of a log's line."""
+    """A reply, and what stands after its step. Its text is that of a log's line, and what denied it, by name: `r b 000CC000 =
+    FF abort 00.0.5B, denied by 00.0.5B (PAM2)`."""
 
     event: Event
     value: int | None
@@ -191,14 +192,25 @@ class Answer:
         """What denied it, or the first part of it that was denied."""
         return next((part.denied_by for part in self.parts if part.denied_by), None)
 
-    def __str__(self) -> str:
+    @property
+    def reply(self) -> str:
+        """What stands behind the ` = ` of a log's line."""
         if self.look:
             return str(self.look)
         value = "-" if self.value is None else f"{self.value:0{self.event.digits()}X}"
         return " ".join([value, *map(str, self.parts)])
 
+    def as_of(self, now: "Answer") -> "Answer":
+        """The same reply with what stands now, as the answer of a later step has it."""
+        stands = {name: getattr(now, name) for name in ("version", "interrupt", "irq4", "serial_room")}
+        return replace(self, **stands)
+
+    def __str__(self) -> str:
+        denied = f", denied by {self.denied_by.in_words}" if self.denied_by else ""
+        return f"{self.event} = {self.reply}{denied}"
+
     def __repr__(self) -> str:
-        return f"<{self.event} = {self}>"
+        return f"<{self.event} = {self.reply}>"
 
 
 class Value(int):

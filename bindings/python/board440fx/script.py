@@ -25,7 +25,7 @@ class Line:
     answer: Answer
 
     def __str__(self) -> str:
-        return f"{self.number} {self.processor}.{self.statement} {self.event} = {self.answer}"
+        return f"{self.number} {self.processor}.{self.statement} {self.event} = {self.answer.reply}"
 
     def __repr__(self) -> str:
         return f"<{self}>"

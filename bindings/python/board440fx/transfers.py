@@ -70,7 +70,7 @@ class Transfer:
     @property
     def table(self) -> int:
         """The address of the next descriptor: at the end, what the table pointer reads."""
-        return self._record.table
+        return int(self._record.table)
 
     def next(self) -> Piece:
         """The next piece. Words are taken as moved."""

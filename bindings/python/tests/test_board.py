@@ -49,7 +49,7 @@ def test_a_fetch_reaches_the_rom():
 
 
 def test_memory_keeps_what_is_written(board):
-    assert str(board.write(0x1003, 8, 0x8877665544332211)) == "- dram:0 - dram:0 - dram:0 - dram:0 -"
+    assert board.write(0x1003, 8, 0x8877665544332211).reply == "- dram:0 - dram:0 - dram:0 - dram:0 -"
     assert [board.read(0x1003), board.read(0x1004, 2), board.read(0x1007, 4)] == [0x11, 0x3322, 0x88776655]
     assert board.read(0x1003, 8) == 0x8877665544332211
 
@@ -145,6 +145,30 @@ def test_the_clock_shows_a_moment(board):
     board.cmos_write(0x40, 0x5A)
     board.out(0x70, 1, 0x40)
     assert board.in_(0x71) == 0x5A
+
+
+def test_an_answer_prints_with_its_event_and_what_denied_it(board):
+    denied = board.step(Event.read(0xCC000, 2))
+    assert str(denied) == "r w 000CC000 = FFFF abort 00.0.5B, denied by 00.0.5B (PAM2)"
+    assert (repr(denied), denied.reply) == ("<r w 000CC000 = FFFF abort 00.0.5B>", "FFFF abort 00.0.5B")
+    assert str(board.write(0x1000, 1, 0x5A)) == "w b 00001000 5A = - dram:0 -"
+    assert str(board.read(0xE0000000).answer) == "r b E0000000 = FF abort none, denied by none"
+
+
+def test_a_byte_of_the_clock_may_raise_the_interrupt(board):
+    set_up_interrupts(board)
+    board.time(datetime.datetime(2024, 2, 29, 12, 34, 56))  # the update sets UF
+    before = board.write(0x1000, 1, 0x5A)
+    board.cmos_write(0x0B, 0x12)  # UIE and 24 hours: IRQF is 1, so that line 8 rises
+    assert (before.interrupt, board.last.interrupt) == (False, True)
+    assert (board.last.event, board.last.reply) == (before.event, before.reply)
+    assert board.acknowledge() == 0x70
+
+
+def test_a_byte_of_the_clock_is_no_answer():
+    with Board() as board:
+        board.cmos_write(0x40, 0x5A)
+        assert board.last is None
 
 
 def test_a_sector_is_read():

@@ -65,6 +65,20 @@ def test_events_that_cannot_be(board, event, fault):
     assert board.read(0x1000) == 0x5A
 
 
+@pytest.mark.parametrize("event, why", [
+    (Event.read(0x1000, 3), "r 3 00001000: that is no event: an access to memory has 1, 2, 4 or 8 bytes, not 3"),
+    (Event.in_(0x1000, 8), "an access to a port has 1, 2 or 4 bytes, not 8"),
+    (Event.in_(0x10000), "the last port is FFFF, not 10000"),
+    (Event.write(0x1000, 4, 1 << 32), "a value of more than 32 bits does not fit 4 bytes"),
+    (Event.read(1 << 32), "addr 4294967296 does not fit 32 bits"),
+    (Event.parse("moment 2023-02-29T12:00:00"), "the calendar from 1980 to 2099 has no such moment"),
+    (Event.receive(256), "a byte is 0 to 255, not 256"),
+])
+def test_an_event_that_cannot_be_says_why(board, event, why):
+    with pytest.raises(errors.NoEvent, match=why):
+        board.step(event)
+
+
 @pytest.mark.parametrize("call, fault", [
     (lambda board: board.in_(0xFFFE, 4), errors.NoEvent),
     (lambda board: board.out(0x10000, 1, 0), errors.NoEvent),

@@ -38,6 +38,30 @@ def test_what_is_no_statement_is_refused(statement):
         Event.parse(statement)
 
 
+@pytest.mark.parametrize("statement, why", [
+    ("", "'': that is no event: a statement begins with f, r, w, in, out, look, ack, pulse, moment, wire, irq, bad, receive, "
+         "not ''"),
+    ("inb 0070", "a statement begins with .*, not 'inb'"),
+    ("r", "the width is missing"),
+    ("r b", "the address is missing"),
+    ("r x 000A0000", "the width is b, w, d or q, not 'x'"),
+    ("in q 0070", "the width is b, w or d, not 'q'"),
+    ("r b A0000", "the address is 8 hexadecimal digits, not 'A0000'"),
+    ("in b 70", "the port is 4 hexadecimal digits, not '70'"),
+    ("r b 000A0000 00", "the word '00' is too many"),
+    ("in b 0070 smm", "the word 'smm' is too many"),
+    ("w b 000A0000 177", "a value of width b has 2 hexadecimal digits, not 3"),
+    ("out d 0CF8 5A", "a value of width d has 8 hexadecimal digits, not 2"),
+    ("pulse 007", "the count is a decimal number of at most nine digits, without a leading zero, not '007'"),
+    ("moment 2024-02-29", "the moment is YYYY-MM-DDTHH:MM:SS, not '2024-02-29'"),
+    ("irq 1 2", "the level is 0 or 1, not '2'"),
+])
+def test_what_is_no_statement_says_why(statement, why):
+    with pytest.raises(errors.NoEvent, match=why) as refused:
+        Event.parse(statement)
+    assert refused.value.why and str(refused.value).startswith(f"{statement!r}: that is no event: ")
+
+
 @pytest.mark.parametrize("card", ["2 vga", "3 plain m24 i6 m4", "9 plain i8 x11"])
 def test_cards_are_read_and_written(card):
     assert str(Card.parse(card)) == card
