@@ -179,7 +179,10 @@ enum board_reset { BOARD_NO_RESET = 0, BOARD_SOFT_RESET = 1, BOARD_HARD_RESET = 
 /* A reply, and what stands after its step. */
 typedef struct board_reply {
     uint64_t value;    /* what was read; 0 where nothing was */
-    uint32_t version;  /* of the map after the step: it has changed where this has */
+    uint32_t version;  /* of the map after the step. It counts the writes that may change the map, also
+                        * one that leaves it as it was, as that of a PAM byte which is there already:
+                        * where it is the same the map is, and where it is another the map may be,
+                        * so that a monitor keeps each slot that is equal in the new map */
     uint32_t seen;     /* of a look: the version of the map before it */
     uint32_t lo;       /* of a look: the longest interval with this area, first and last address */
     uint32_t hi;
@@ -323,6 +326,8 @@ uint32_t board_save(board *handle, uint8_t *into, size_t room, size_t *bytes);
 /* Opens the board that was saved as these bytes: it is equal to that one, and goes on as that one
  * would. Nothing past them is read, and they may be freed. Bytes that no board wrote are refused, or
  * are those of another state that is in range: then that board is opened, and is as safe as any.
+ * There is no reply: what stands, as INT, line 4, COM1's room and the version of the map, a look
+ * (board_look) tells, which changes nothing.
  * CLOSED where the handle is open already, OTHER_VERSION, BAD_IMAGE, NO_MEMORY. */
 uint32_t board_load(board *handle, const uint8_t *from, size_t bytes);
 /* Writes the board as board_save does, without bytes that a monitor keeps itself: with dram those of
@@ -389,14 +394,17 @@ uint32_t board_decode_master(board *handle, uint32_t addr, uint8_t bytes, bool i
 uint32_t board_card_read(board *handle, uint8_t device, uint8_t base, uint32_t offset, uint8_t *into,
                          size_t bytes);
 
-/* ---- bytes that the guest did not write; no reply, and nothing else changes */
+/* ---- bytes that the guest did not write; no reply. Nothing else changes, but for INT by
+ * board_cmos_write */
 
 /* Puts bytes into the memory that the board keeps, as the guest's writes would, whatever the map
  * says.
  * CLOSED, PAST_END. */
 uint32_t board_dram_write(board *handle, uint32_t addr, const uint8_t *from, size_t bytes);
 /* Writes a byte of the clock, address 0 to 127, as the guest's writes of ports 70h and 71h would:
- * registers A and B take what a write changes of them, C and D nothing.
+ * registers A and B take what a write changes of them, C and D nothing. Of register B that may raise
+ * line 8, and so INT, as where UF is set and UIE is written: what the last reply says of INT does not
+ * stand then, and a look (board_look) tells what does.
  * CLOSED, NO_BYTE. */
 uint32_t board_cmos_write(board *handle, uint8_t address, uint8_t byte);
 /* Puts bytes into a card from an offset in one of its bases on, as the guest's writes would, wherever

@@ -7,7 +7,7 @@ The rest stands in pyproject.toml. Where no library is found it stops, and says 
 import pathlib
 import sys
 
-from setuptools import setup
+from setuptools import Distribution, setup
 from setuptools.command.build_py import build_py
 from wheel.bdist_wheel import bdist_wheel
 
@@ -26,15 +26,18 @@ class BuildWithLibrary(build_py):  # type: ignore[misc]
             built.write_bytes(library.found().read_bytes())
 
 
-class WheelOfOneMachine(bdist_wheel):  # type: ignore[misc]
-    """A wheel for each Python 3 of this kind of machine: the library is compiled, the modules are not."""
+class Compiled(Distribution):  # type: ignore[misc]
+    """A distribution of one kind of machine, as one with compiled modules is."""
 
-    def finalize_options(self) -> None:
-        super().finalize_options()
-        self.root_is_pure = False
+    def has_ext_modules(self) -> bool:
+        return True
+
+
+class WheelOfPython3(bdist_wheel):  # type: ignore[misc]
+    """A wheel for each Python 3: the library is compiled, the modules are not."""
 
     def get_tag(self) -> tuple[str, str, str]:
         return "py3", "none", super().get_tag()[2]
 
 
-setup(cmdclass={"build_py": BuildWithLibrary, "bdist_wheel": WheelOfOneMachine})
+setup(distclass=Compiled, cmdclass={"build_py": BuildWithLibrary, "bdist_wheel": WheelOfPython3})

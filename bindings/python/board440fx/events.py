@@ -264,7 +264,6 @@ _WHY: dict[What, Callable[[Event], str]] = {
     What.TIME: lambda event: "the calendar from 1980 to 2099 has no such moment",
     What.WIRE: lambda event: f"a device is 2 to 9, and a level 0 or 1, not {event.addr} and {event.value}",
     What.IRQ: lambda event: f"a line is 0 to 15, and a level 0 or 1, not {event.addr} and {event.value}",
-    What.BAD_SECTOR: lambda event: f"a sector is 0 to 65535, not {event.addr}",
     What.SERIAL: lambda event: f"a byte is 0 to 255, not {event.value}",
 }
 

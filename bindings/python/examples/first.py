@@ -10,6 +10,4 @@ with Board(memory=8, rom=bytes(65536)) as board:
     board.out(0xCF8, 4, 0x80000058)  # registers 58h to 5Bh of the host bridge
     board.out(0xCFF, 1, 0x20)        # 5Bh is PAM2: bit 5 opens CC000h to CFFFFh for writes
     print(board.write(0xCC000, 1, 2))
-    print(repr(board.read(0xCC000)))
-    if board.denied_by:
-        print("denied by", board.denied_by.in_words)
+    print(board.read(0xCC000).answer)

@@ -36,7 +36,7 @@ def test_the_types_are_strict(tmp_path: pathlib.Path) -> None:
 def python_of_wheels() -> str:
     """A Python that builds wheels without the network."""
     for python in (sys.executable, "/usr/bin/python3"):
-        asked = [python, "-c", "import pip, setuptools, wheel.bdist_wheel"]
+        asked = [python, "-c", "import setuptools, wheel.bdist_wheel, pip"]
         if subprocess.run(asked, capture_output=True).returncode == 0:
             return python
     pytest.skip("no pip with setuptools and wheel")

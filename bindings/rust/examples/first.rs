@@ -9,7 +9,7 @@ fn main() -> Result<(), Error> {
     board.out_u8(0xCFF, 0x20)?; // 5Bh is PAM2: bit 5 opens CC000h to CFFFFh for writes
     for event in [Event::write(0xCC000, Width::Byte, 2), Event::read(0xCC000, Width::Byte)] {
         let answer = board.step(&event)?;
-        println!("{event} = {answer}");
+        println!("{event} = {}", answer.reply);
         if let Some(denial) = answer.denied_by() {
             println!("denied by {denial:#}");
         }

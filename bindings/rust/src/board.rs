@@ -94,6 +94,10 @@ impl Board {
     /// assert_eq!(Board::load(&image[1..]).err(), Some(Error::BadImage));
     /// # Ok::<(), Error>(())
     /// ```
+    ///
+    /// # Errors
+    ///
+    /// [`Error::OtherVersion`], [`Error::BadImage`], [`Error::NoMemory`].
     pub fn load(image: &[u8]) -> Result<Board, Error> {
         let board = Board::closed();
         // SAFETY: the handle is zeros, and the pointer is good for as many bytes.
@@ -116,6 +120,11 @@ impl Board {
     /// assert_eq!(Board::load_with(&image, &dram[1..], &[], &[]).err(), Some(Error::BadLength));
     /// # Ok::<(), Error>(())
     /// ```
+    ///
+    /// # Errors
+    ///
+    /// [`Error::OtherVersion`], [`Error::BadImage`], [`Error::NoMemory`]; [`Error::BadLength`] where what is given has
+    /// not as many bytes as the board.
     pub fn load_with(image: &[u8], dram: &[u8], fitted: &[u8], sectors: &[u8]) -> Result<Board, Error> {
         let board = Board::closed();
         // SAFETY: as of `load`.
@@ -142,6 +151,12 @@ impl Board {
     }
 
     /// Does an event, and tells the reply.
+    ///
+    /// # Errors
+    ///
+    /// [`Error::NoEvent`] where a field of the event is out of range; of memory [`Error::Value`], [`Error::End`]; of a
+    /// port [`Error::Alignment`], [`Error::Value`]; of pulses [`Error::Pulses`]; of a wire [`Error::Device`]; of a line
+    /// [`Error::Line`]; of a byte that COM1 receives [`Error::SerialFull`].
     pub fn step(&mut self, event: &Event) -> Result<Answer, Error> {
         let record = event.record();
         let mut reply = raw::Reply::default();
@@ -154,6 +169,10 @@ impl Board {
 
     /// Lets the clock go on one second from the one that it shows: [`Error::NoTime`] where SET holds it, or it shows
     /// none.
+    ///
+    /// # Errors
+    ///
+    /// [`Error::NoTime`] where SET holds the clock, or it shows no date and time.
     pub fn second(&mut self) -> Result<Answer, Error> {
         let mut record = raw::Event::default();
         let mut reply = raw::Reply::default();
@@ -165,6 +184,11 @@ impl Board {
     }
 
     /// Reads a port for each of the values, until the processor is asked for: how many were read.
+    ///
+    /// # Errors
+    ///
+    /// Of the first access [`Error::NoEvent`], [`Error::Alignment`]. A later one that would be refused ends the call
+    /// before it.
     pub fn in_many(&mut self, port: u16, width: Width, values: &mut [u32]) -> Result<usize, Error> {
         let event = Event::In { port, width };
         let (mut done, mut reply, bytes) = (0, raw::Reply::default(), event.record().bytes);
@@ -178,6 +202,11 @@ impl Board {
     }
 
     /// Writes each of the values to a port, until the processor is asked for: how many were written.
+    ///
+    /// # Errors
+    ///
+    /// Of the first access [`Error::NoEvent`], [`Error::Alignment`], [`Error::Value`]. A later one that would be refused
+    /// ends the call before it.
     pub fn out_many(&mut self, port: u16, width: Width, values: &[u32]) -> Result<usize, Error> {
         let event = |value| Event::Out { port, width, value };
         let (mut done, mut reply, bytes) = (0, raw::Reply::default(), event(0).record().bytes);
@@ -209,16 +238,28 @@ macro_rules! memory_calls {
         impl Board {
             $(
                 #[doc = concat!("Fetches ", $bytes, " of code.")]
+                ///
+                /// # Errors
+                ///
+                /// [`Error::End`] where it ends past FFFFFFFFh.
                 pub fn $fetch(&mut self, addr: u32) -> Result<$value, Error> {
                     self.value(&Event::fetch(addr, Width::$width)).map(|bits| bits as $value)
                 }
 
                 #[doc = concat!("Reads ", $bytes, " of memory.")]
+                ///
+                /// # Errors
+                ///
+                /// [`Error::End`] where it ends past FFFFFFFFh.
                 pub fn $read(&mut self, addr: u32) -> Result<$value, Error> {
                     self.value(&Event::read(addr, Width::$width)).map(|bits| bits as $value)
                 }
 
                 #[doc = concat!("Writes ", $bytes, " of memory.")]
+                ///
+                /// # Errors
+                ///
+                /// [`Error::End`] where it ends past FFFFFFFFh.
                 pub fn $write(&mut self, addr: u32, value: $value) -> Result<Answer, Error> {
                     self.step(&Event::write(addr, Width::$width, u64::from(value)))
                 }
@@ -247,12 +288,17 @@ fn port_cycles(port: u16, width: Width) -> Result<impl Iterator<Item = (u16, Wid
 impl Board {
     /// Reads a port of one, two or four bytes. Where it was cut the answer, [`Board::last`], is the last cycle's but
     /// for the value, which is the whole.
+    ///
+    /// # Errors
+    ///
+    /// [`Error::NoEvent`] of eight bytes, and where its last byte lies past port FFFFh.
     pub fn input(&mut self, port: u16, width: Width) -> Result<u32, Error> {
         let mut bits = 0;
         for (port, width, shift) in port_cycles(port, width)? {
             bits |= self.value(&Event::In { port, width })? << shift;
         }
-        if let Some(Answer { reply: Reply::Bus { value, .. }, .. }) = &mut self.last {
+        if let Some(Answer { event, reply: Reply::Bus { value, .. }, .. }) = &mut self.last {
+            *event = Event::In { port, width };
             *value = Some(Value { bits, width });
         }
         Ok(bits as u32)
@@ -260,47 +306,75 @@ impl Board {
 
     /// Writes a port of one, two or four bytes. Where it was cut the answer is the last cycle's but for the reset,
     /// which is the strongest.
+    ///
+    /// # Errors
+    ///
+    /// [`Error::NoEvent`] of eight bytes, and where its last byte lies past port FFFFh; [`Error::Value`].
     pub fn out(&mut self, port: u16, width: Width, value: u32) -> Result<Answer, Error> {
         let cycles = port_cycles(port, width)?;
         if u64::from(value) > width.mask() {
             return Err(Error::Value);
         }
-        let mut reset = None;
+        let (mut reset, event) = (None, Event::Out { port, width, value });
         for (port, width, shift) in cycles {
             let value = (u64::from(value) >> shift & width.mask()) as u32;
             reset = reset.max(self.step(&Event::Out { port, width, value })?.reset);
         }
         let last = self.last.as_mut().ok_or(Error::NoReply)?;
-        last.reset = reset;
+        (last.event, last.reset) = (event, reset);
         Ok(*last)
     }
 
     /// Reads a byte of a port.
+    ///
+    /// # Errors
+    ///
+    /// None: no such access is refused.
     pub fn in_u8(&mut self, port: u16) -> Result<u8, Error> {
         self.input(port, Width::Byte).map(|bits| bits as u8)
     }
 
     /// Reads two bytes of a port.
+    ///
+    /// # Errors
+    ///
+    /// [`Error::NoEvent`] where its last byte lies past port FFFFh.
     pub fn in_u16(&mut self, port: u16) -> Result<u16, Error> {
         self.input(port, Width::Word).map(|bits| bits as u16)
     }
 
     /// Reads four bytes of a port.
+    ///
+    /// # Errors
+    ///
+    /// [`Error::NoEvent`] where its last byte lies past port FFFFh.
     pub fn in_u32(&mut self, port: u16) -> Result<u32, Error> {
         self.input(port, Width::Dword)
     }
 
     /// Writes a byte to a port.
+    ///
+    /// # Errors
+    ///
+    /// None: no such access is refused.
     pub fn out_u8(&mut self, port: u16, value: u8) -> Result<Answer, Error> {
         self.out(port, Width::Byte, u32::from(value))
     }
 
     /// Writes two bytes to a port.
+    ///
+    /// # Errors
+    ///
+    /// [`Error::NoEvent`] where its last byte lies past port FFFFh.
     pub fn out_u16(&mut self, port: u16, value: u16) -> Result<Answer, Error> {
         self.out(port, Width::Word, u32::from(value))
     }
 
     /// Writes four bytes to a port.
+    ///
+    /// # Errors
+    ///
+    /// [`Error::NoEvent`] where its last byte lies past port FFFFh.
     pub fn out_u32(&mut self, port: u16, value: u32) -> Result<Answer, Error> {
         self.out(port, Width::Dword, value)
     }
@@ -309,6 +383,10 @@ impl Board {
 /// Interrupts, time, and what happens from outside.
 impl Board {
     /// Looks where an access would land. Nothing happens.
+    ///
+    /// # Errors
+    ///
+    /// None: no such access is refused.
     pub fn look(&mut self, kind: Kind, addr: u32, smm: bool) -> Result<Look, Error> {
         match self.step(&Event::Look { kind, addr, smm })?.reply {
             Reply::Look(look) => Ok(look),
@@ -317,36 +395,64 @@ impl Board {
     }
 
     /// Acknowledges the interrupt: the vector.
+    ///
+    /// # Errors
+    ///
+    /// None: no such access is refused.
     pub fn acknowledge(&mut self) -> Result<u8, Error> {
         self.value(&Event::Acknowledge).map(|bits| bits as u8)
     }
 
     /// Gives the 8254 1 to 1,000,000 pulses of its clock, 1.193182 MHz.
+    ///
+    /// # Errors
+    ///
+    /// [`Error::Pulses`] where they are not 1 to 1,000,000.
     pub fn pulse(&mut self, count: u32) -> Result<Answer, Error> {
         self.step(&Event::Pulse(count))
     }
 
     /// Gives the clock a moment to show.
+    ///
+    /// # Errors
+    ///
+    /// [`Error::NoEvent`] where the calendar from 1980 to 2099 has no such moment.
     pub fn time(&mut self, moment: Moment) -> Result<Answer, Error> {
         self.step(&Event::Time(moment))
     }
 
     /// Sets INTA# of the card at a device.
+    ///
+    /// # Errors
+    ///
+    /// [`Error::Device`] where no card has the device number.
     pub fn wire(&mut self, device: u8, level: bool) -> Result<Answer, Error> {
         self.step(&Event::Wire { device, level })
     }
 
     /// Sets an interrupt request line: 1, 3 to 7, 9 to 12 or 15.
+    ///
+    /// # Errors
+    ///
+    /// [`Error::Line`] of another line.
     pub fn irq(&mut self, line: u8, level: bool) -> Result<Answer, Error> {
         self.step(&Event::Irq { line, level })
     }
 
     /// Lets a sector of the disk go bad.
+    ///
+    /// # Errors
+    ///
+    /// None: a sector that is not there is none that goes bad.
     pub fn bad_sector(&mut self, sector: u32) -> Result<Answer, Error> {
         self.step(&Event::BadSector(sector))
     }
 
     /// COM1 receives a byte: [`Error::SerialFull`] where `serial_room` of the last answer is not set.
+    ///
+    /// # Errors
+    ///
+    /// [`Error::SerialFull`] where its queue is full, or loopback is on.
     pub fn receive(&mut self, byte: u8) -> Result<Answer, Error> {
         self.step(&Event::Receive(byte))
     }
@@ -355,6 +461,10 @@ impl Board {
 /// What is asked between two steps: the board stays as it is. And bytes that the guest did not write.
 impl Board {
     /// Where an access of one bus cycle would land, and what would deny it.
+    ///
+    /// # Errors
+    ///
+    /// [`Error::NoCycle`] where it is no access of one bus cycle, or out of range; [`Error::NoEvent`].
     pub fn decode(&self, event: &Event) -> Result<Part, Error> {
         let record = event.record();
         let mut part = raw::Part::default();
@@ -364,6 +474,10 @@ impl Board {
     }
 
     /// The memory map, with what its last change changed.
+    ///
+    /// # Errors
+    ///
+    /// None: an open board tells its map.
     pub fn map(&self) -> Result<Map, Error> {
         let mut map = raw::Map::default();
         let mut ranges = [raw::Range::default(); raw::MOST_RANGES];
@@ -384,12 +498,20 @@ impl Board {
     }
 
     /// The running board as bytes: what it was opened with, and all that it holds.
+    ///
+    /// # Errors
+    ///
+    /// [`Error::NoMemory`].
     pub fn save(&self) -> Result<Vec<u8>, Error> {
         self.save_without(false, false)
     }
 
     /// As [`Board::save`], without the bytes of the DRAM, or those of the disk, as it was fitted and as its sectors stand:
     /// zeros stand in the place of what is left out.
+    ///
+    /// # Errors
+    ///
+    /// [`Error::NoMemory`].
     pub fn save_without(&self, dram: bool, disk: bool) -> Result<Vec<u8>, Error> {
         let (mut bytes, mut none) = (0, [0; 1]);
         // SAFETY: as of `decode`; of no room nothing is written.
@@ -405,12 +527,20 @@ impl Board {
     }
 
     /// The ranges of the memory map in rising order.
+    ///
+    /// # Errors
+    ///
+    /// None: an open board tells its map.
     pub fn ranges(&self) -> Result<Ranges, Error> {
         self.map().map(Ranges::of)
     }
 
     /// After how many pulses of the 8254's clock line 0 next rises; none where it does not, unless something is
     /// written.
+    ///
+    /// # Errors
+    ///
+    /// None: an open board tells them.
     pub fn pulses_to_rise(&self) -> Result<Option<u32>, Error> {
         let mut pulses = 0;
         // SAFETY: as of `decode`.
@@ -419,12 +549,20 @@ impl Board {
     }
 
     /// Bytes of the memory that the board keeps: FFh past the installed memory.
+    ///
+    /// # Errors
+    ///
+    /// None: past the installed memory there are bytes too.
     pub fn dram_read(&self, addr: u32, into: &mut [u8]) -> Result<(), Error> {
         // SAFETY: as of `decode`; the pointer is good for as many bytes.
         check(unsafe { raw::board_dram_read(self.handle.get(), addr, into.as_mut_ptr(), into.len()) })
     }
 
     /// A sector of the disk, also one that is bad.
+    ///
+    /// # Errors
+    ///
+    /// [`Error::NoSector`] where there is no disk, or it has no such sector.
     pub fn disk_read(&self, sector: u32) -> Result<[u8; raw::SECTOR], Error> {
         let mut bytes = [0; raw::SECTOR];
         // SAFETY: as of `decode`; the pointer is good for as many bytes.
@@ -433,6 +571,10 @@ impl Board {
     }
 
     /// The levels of the sixteen interrupt lines, as the pair of 8259A hears them: bit k is that of line k.
+    ///
+    /// # Errors
+    ///
+    /// None: an open board tells them.
     pub fn lines(&self) -> Result<u16, Error> {
         let mut lines = 0;
         // SAFETY: as of `decode`.
@@ -441,6 +583,10 @@ impl Board {
     }
 
     /// What COM1 holds; nothing is taken or cleared.
+    ///
+    /// # Errors
+    ///
+    /// None: an open board tells it.
     pub fn serial_state(&self) -> Result<Com1, Error> {
         let mut state = raw::Com1::default();
         // SAFETY: as of `decode`.
@@ -449,6 +595,10 @@ impl Board {
     }
 
     /// What a read of port 71h would give of the clock, 0 to 127; nothing is cleared.
+    ///
+    /// # Errors
+    ///
+    /// [`Error::NoByte`] of another address.
     pub fn cmos_read(&self, address: u8) -> Result<u8, Error> {
         let mut byte = 0;
         // SAFETY: as of `decode`.
@@ -458,6 +608,10 @@ impl Board {
 
     /// Where an access of a bus master would land, a multiple of its width, and what would deny it: never SMRAM, nor
     /// memory at A0000h to BFFFFh.
+    ///
+    /// # Errors
+    ///
+    /// [`Error::NoCycle`] of eight bytes, and of an address that is no multiple of the width.
     pub fn decode_master(&self, addr: u32, width: Width, is_write: bool) -> Result<Part, Error> {
         let mut part = raw::Part::default();
         // SAFETY: as of `decode`.
@@ -466,6 +620,10 @@ impl Board {
     }
 
     /// The next piece of a transfer of the bus master. Words are taken as moved.
+    ///
+    /// # Errors
+    ///
+    /// [`Error::NoTransfer`] of a transfer that none began.
     pub fn next_piece(&self, transfer: &mut Transfer) -> Result<Piece, Error> {
         let mut piece = raw::Piece::default();
         // SAFETY: as of `decode`.
@@ -475,25 +633,73 @@ impl Board {
 
     /// Bytes of a card from an offset in one of its bases on: base 0 to 5, 6 for its expansion ROM, or 7 for the window
     /// of a VGA adapter.
+    ///
+    /// # Errors
+    ///
+    /// [`Error::PastEnd`] where the bytes do not all lie in the base.
     pub fn card_read(&self, device: u8, base: u8, offset: u32, into: &mut [u8]) -> Result<(), Error> {
         // SAFETY: as of `decode`; the pointer is good for as many bytes.
         check(unsafe { raw::board_card_read(self.handle.get(), device, base, offset, into.as_mut_ptr(), into.len()) })
     }
 
     /// Puts bytes into the memory that the board keeps, whatever the map says.
+    ///
+    /// # Errors
+    ///
+    /// [`Error::PastEnd`] where the bytes do not all lie in the installed memory.
     pub fn dram_write(&mut self, addr: u32, from: &[u8]) -> Result<(), Error> {
         // SAFETY: as of `step`; the pointer is good for as many bytes.
         check(unsafe { raw::board_dram_write(self.handle.get(), addr, from.as_ptr(), from.len()) })
     }
 
-    /// Writes a byte of the clock, 0 to 127, as writes of ports 70h and 71h would.
+    /// Writes a byte of the clock, 0 to 127, as writes of ports 70h and 71h would. That of register B may raise INT: what
+    /// stands after the step of [`Board::last`] is asked again.
+    ///
+    /// ```
+    /// use board_440fx::Board;
+    ///
+    /// let mut board = Board::builder().rom(&[0; 65536]).open()?;
+    /// for (port, byte) in [(0x20, 0x11), (0x21, 0x08), (0x21, 0x04), (0x21, 0x01), (0x21, 0x00)] {
+    ///     board.out_u8(port, byte)?;
+    /// }
+    /// for (port, byte) in [(0xA0, 0x11), (0xA1, 0x70), (0xA1, 0x02), (0xA1, 0x01), (0xA1, 0x00)] {
+    ///     board.out_u8(port, byte)?;
+    /// }
+    /// board.time("2024-02-29T12:34:56".parse()?)?; // the update sets UF
+    /// board.cmos_write(0x0B, 0x12)?; //              UIE and 24 hours: line 8 rises
+    /// assert_eq!(board.last().map(|answer| answer.interrupt), Some(true));
+    /// assert_eq!(board.acknowledge()?, 0x70);
+    /// # Ok::<(), board_440fx::Error>(())
+    /// ```
+    ///
+    /// # Errors
+    ///
+    /// [`Error::NoByte`] of another address.
     pub fn cmos_write(&mut self, address: u8, byte: u8) -> Result<(), Error> {
         // SAFETY: as of `step`.
-        check(unsafe { raw::board_cmos_write(self.handle.get(), address, byte) })
+        check(unsafe { raw::board_cmos_write(self.handle.get(), address, byte) })?;
+        if let Some(last) = self.last {
+            self.last = Some(last.as_of(&self.now()?));
+        }
+        Ok(())
+    }
+
+    /// What stands now, by a look, which changes nothing.
+    fn now(&mut self) -> Result<Answer, Error> {
+        let event = Event::Look { kind: Kind::Read, addr: 0, smm: false };
+        let mut reply = raw::Reply::default();
+        // SAFETY: as of `step`.
+        check(unsafe { raw::board_step(self.handle.get(), &event.record(), &mut reply) })?;
+        Answer::of(&event, &reply)
     }
 
     /// Puts bytes into a card from an offset in one of its bases on, wherever the base lies; the bases are those of
     /// [`Board::card_read`]. What an expansion ROM was given is not in the bytes of a saved board.
+    ///
+    /// # Errors
+    ///
+    /// [`Error::PastEnd`] where the bytes do not all lie in the base; [`Error::NoMemory`] of an expansion ROM into which
+    /// none were put yet.
     pub fn card_write(&mut self, device: u8, base: u8, offset: u32, from: &[u8]) -> Result<(), Error> {
         // SAFETY: as of `step`; the pointer is good for as many bytes.
         check(unsafe { raw::board_card_write(self.handle.get(), device, base, offset, from.as_ptr(), from.len()) })

@@ -57,6 +57,11 @@ impl<'a> Builder<'a> {
     }
 
     /// The board, as after power-on.
+    ///
+    /// # Errors
+    ///
+    /// [`Error::BadSize`], [`Error::BadCards`], [`Error::BadRom`], [`Error::BadDisk`], the first of them that holds;
+    /// else [`Error::NoMemory`].
     pub fn open(mut self) -> Result<Board, Error> {
         self.cards.sort_by_key(Card::device);
         Board::open(self.mib, &self.cards, self.rom, self.disk)

@@ -1,13 +1,12 @@
 //! Events: what is asked of a board.
 
 use crate::raw;
-use crate::{Error, Kind, Moment, Value, Width};
+use crate::{Kind, Moment, Value, Width};
 use std::fmt;
-use std::str::FromStr;
 
 /// What is asked of a board, or happens to it from outside.
 ///
-/// It reads and is written as a statement of a script is; that COM1 receives a byte has no statement there, and is
+/// It is written, and read by [`Event::parse`] and [`FromStr`](std::str::FromStr), as a statement of a script; that COM1 receives a byte has no statement there, and is
 /// `receive 41`.
 ///
 /// ```
@@ -205,73 +204,5 @@ impl fmt::Display for Event {
             Event::BadSector(sector) => write!(f, "bad {sector}"),
             Event::Receive(byte) => write!(f, "receive {byte:02X}"),
         }
-    }
-}
-
-/// A hexadecimal number of exactly these many digits.
-fn hexadecimal(text: &str, digits: usize) -> Result<u64, Error> {
-    let fits = text.len() == digits && text.chars().all(|digit| digit.is_ascii_hexdigit());
-    fits.then(|| u64::from_str_radix(text, 16).ok()).flatten().ok_or(Error::NoEvent)
-}
-
-fn address(text: &str) -> Result<u32, Error> {
-    hexadecimal(text, 8).map(|number| number as u32)
-}
-
-fn port_number(text: &str) -> Result<u16, Error> {
-    hexadecimal(text, 4).map(|number| number as u16)
-}
-
-fn value_of(text: &str, width: Width) -> Result<u64, Error> {
-    hexadecimal(text, 2 * usize::from(width.bytes()))
-}
-
-fn decimal<N: FromStr>(text: &str) -> Result<N, Error> {
-    text.parse().map_err(|_| Error::NoEvent)
-}
-
-fn level_of(text: &str) -> Result<bool, Error> {
-    match text {
-        "0" => Ok(false),
-        "1" => Ok(true),
-        _ => Err(Error::NoEvent),
-    }
-}
-
-/// Of a statement of a script, without its processor. What is none is `Error::NoEvent`.
-impl FromStr for Event {
-    type Err = Error;
-
-    fn from_str(statement: &str) -> Result<Event, Error> {
-        let mut words: Vec<&str> = statement.split(' ').collect();
-        let smm = words.last() == Some(&"smm");
-        if smm {
-            words.pop();
-        }
-        let event = match words[..] {
-            ["f", width, addr] => Event::fetch(address(addr)?, width.parse()?),
-            ["r", width, addr] => Event::read(address(addr)?, width.parse()?),
-            ["w", width, addr, value] => {
-                let width = width.parse()?;
-                Event::write(address(addr)?, width, value_of(value, width)?)
-            }
-            ["look", kind, addr] => Event::Look { kind: kind.parse()?, addr: address(addr)?, smm },
-            _ if smm => return Err(Error::NoEvent),
-            ["in", width, port] => Event::In { port: port_number(port)?, width: width.parse()? },
-            ["out", width, port, value] => {
-                let width = width.parse()?;
-                let value = u32::try_from(value_of(value, width)?).map_err(|_| Error::NoEvent)?;
-                Event::Out { port: port_number(port)?, width, value }
-            }
-            ["ack"] => Event::Acknowledge,
-            ["pulse", count] => Event::Pulse(decimal(count)?),
-            ["moment", moment] => Event::Time(moment.parse()?),
-            ["wire", device, level] => Event::Wire { device: decimal(device)?, level: level_of(level)? },
-            ["irq", line, level] => Event::Irq { line: decimal(line)?, level: level_of(level)? },
-            ["bad", sector] => Event::BadSector(decimal(sector)?),
-            ["receive", byte] => Event::Receive(hexadecimal(byte, 2)? as u8),
-            _ => return Err(Error::NoEvent),
-        };
-        Ok(if smm { event.in_smm() } else { event })
     }
 }

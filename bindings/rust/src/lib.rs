@@ -10,7 +10,7 @@
 //! board.out_u8(0xCFF, 0x20)?; //         opens for writes alone
 //! board.write_u8(0xCC000, 2)?;
 //! let answer = board.step(&Event::read(0xCC000, Width::Byte))?;
-//! assert_eq!(answer.to_string(), "FF abort 00.0.5B");
+//! assert_eq!(answer.to_string(), "r b 000CC000 = FF abort 00.0.5B, denied by 00.0.5B (PAM2)");
 //! # Ok::<(), board_440fx::Error>(())
 //! ```
 //!
@@ -18,6 +18,7 @@
 //! panics. What is proved of the library's calls is in the repository's docs/LIBRARY.md. This crate is tested.
 
 #![deny(missing_docs)]
+#![deny(clippy::missing_errors_doc)]
 #![deny(unsafe_op_in_unsafe_fn)]
 #![cfg_attr(not(test), deny(clippy::unwrap_used, clippy::expect_used, clippy::panic, clippy::indexing_slicing))]
 
@@ -25,7 +26,6 @@ mod access;
 mod board;
 mod builder;
 mod card;
-mod com1;
 mod error;
 mod event;
 #[cfg(test)]
@@ -34,6 +34,8 @@ mod log;
 mod map;
 mod raw;
 mod reply;
+mod serial;
+mod statement;
 mod target;
 mod transfer;
 
@@ -41,12 +43,13 @@ pub use access::{cycles, Kind, Moment, Value, Width};
 pub use board::Board;
 pub use builder::Builder;
 pub use card::{Base, Card, Identity};
-pub use com1::Com1;
 pub use error::Error;
 pub use event::Event;
 pub use log::Line;
 pub use map::{is_installed, Area, Map, Range, Ranges, Window};
 pub use reply::{Answer, Look, Parts, Reply, Reset};
+pub use serial::Com1;
+pub use statement::NoStatement;
 pub use target::{Denial, Device, Part, Register, Target};
 pub use transfer::{End, Piece, Transfer};
 

@@ -187,13 +187,19 @@ pub enum Reset {
 /// assert_eq!(answer.target(), Some(Target::Rom { offset: 0xFFF0 }));
 /// assert_eq!(answer.denied_by(), None);
 /// assert!(!answer.interrupt);
+/// assert_eq!(answer.to_string(), "f b FFFFFFF0 = 5A rom:0FFF0 -");
+/// let denied = board.step(&Event::read(0xCC000, Width::Byte))?;
+/// assert_eq!(denied.to_string(), "r b 000CC000 = FF abort 00.0.5B, denied by 00.0.5B (PAM2)");
 /// # Ok::<(), board_440fx::Error>(())
 /// ```
 #[derive(Clone, Copy, Debug, PartialEq, Eq, Hash)]
+#[non_exhaustive]
 pub struct Answer {
+    /// What was asked.
+    pub event: Event,
     /// The reply.
     pub reply: Reply,
-    /// The version of the map: it has changed where this has.
+    /// The version of the map: it counts the writes that may change it, so it is the same where this is.
     pub version: u32,
     /// Whether INT is asserted, so that a processor may acknowledge.
     pub interrupt: bool,
@@ -216,6 +222,7 @@ impl Answer {
             _ => return Err(Error::NoReply),
         };
         Ok(Answer {
+            event: *event,
             reply: Reply::of(event, reply).ok_or(Error::NoReply)?,
             version: reply.version,
             interrupt: reply.interrupt != 0,
@@ -224,6 +231,12 @@ impl Answer {
             irq4: reply.irq4 != 0,
             serial_room: reply.serial_room != 0,
         })
+    }
+
+    /// The same reply with what stands now, as the answer of a later step has it.
+    pub(crate) fn as_of(&self, now: &Answer) -> Answer {
+        let Answer { version, interrupt, irq4, serial_room, .. } = *now;
+        Answer { version, interrupt, irq4, serial_room, ..*self }
     }
 
     /// What was read, or the vector.
@@ -242,9 +255,13 @@ impl Answer {
     }
 }
 
-/// As in a log, from the value on.
+/// As in a log, the event and the reply, and what denied it, by name.
 impl fmt::Display for Answer {
     fn fmt(&self, f: &mut fmt::Formatter<'_>) -> fmt::Result {
-        self.reply.fmt(f)
+        write!(f, "{} = {}", self.event, self.reply)?;
+        match self.denied_by() {
+            Some(denial) => write!(f, ", denied by {denial:#}"),
+            None => Ok(()),
+        }
     }
 }

@@ -85,6 +85,10 @@ pub enum End {
 impl Transfer {
     /// A transfer of 1 to 256 sectors from `lba` on, below 2^28, by the table of descriptors at an address that is a
     /// multiple of 4. The first `readable` of the sectors are there and can be read.
+    ///
+    /// # Errors
+    ///
+    /// [`Error::NoTransfer`] of other numbers.
     pub fn begin(table: u32, lba: u32, sectors: u32, readable: u32, to_memory: bool) -> Result<Transfer, Error> {
         let mut record = raw::Transfer::default();
         // SAFETY: the pointer is good for a record, and the call takes no handle.
@@ -93,6 +97,10 @@ impl Transfer {
     }
 
     /// Goes on in the region of the descriptor that was wanted: its two doublewords, the base and the count.
+    ///
+    /// # Errors
+    ///
+    /// [`Error::NoTransfer`] where no descriptor is wanted.
     pub fn region(&mut self, base: u32, count: u32) -> Result<(), Error> {
         // SAFETY: as of `begin`.
         check(unsafe { raw::board_transfer_region(&mut self.record, base, count) })

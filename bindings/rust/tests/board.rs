@@ -46,7 +46,7 @@ fn a_fetch_reaches_the_rom() {
 fn memory_keeps_what_is_written() {
     let mut board = opened();
     board.write_u64(0x1003, 0x8877_6655_4433_2211).unwrap();
-    assert_eq!(board.last().unwrap().to_string(), "- dram:0 - dram:0 - dram:0 - dram:0 -");
+    assert_eq!(board.last().unwrap().reply.to_string(), "- dram:0 - dram:0 - dram:0 - dram:0 -");
     assert_eq!(board.read_u8(0x1003), Ok(0x11));
     assert_eq!(board.read_u16(0x1004), Ok(0x3322));
     assert_eq!(board.read_u32(0x1007), Ok(0x8877_6655));
@@ -178,7 +178,7 @@ fn a_port_that_is_not_aligned_is_cut() {
     board.out_u16(0x21, 0x115A).unwrap(); // 21h is the mask, 22h nobody's
     assert_eq!(board.in_u8(0x21), Ok(0x5A));
     assert_eq!(board.in_u16(0x21), Ok(0xFF5A));
-    assert_eq!(board.last().unwrap().to_string(), "FF5A abort none");
+    assert_eq!(board.last().unwrap().reply.to_string(), "FF5A abort none");
     assert_eq!(board.in_u16(0x20), Ok(0xFFFF)); // aligned, and nobody's in this width
     board.out_u8(RESET_CONTROL, 2).unwrap();
     let answer = board.out_u16(RESET_CONTROL, 0x0006).unwrap();
