@@ -287,7 +287,13 @@ extern "C" {
     pub(crate) fn board_dram_read(handle: *mut Handle, addr: u32, into: *mut u8, bytes: usize) -> u32;
     pub(crate) fn board_disk_read(handle: *mut Handle, sector: u32, into: *mut u8, bytes: usize) -> u32;
     pub(crate) fn board_cmos_read(handle: *mut Handle, address: u8, byte: *mut u8) -> u32;
-    pub(crate) fn board_decode_master(handle: *mut Handle, addr: u32, bytes: u8, is_write: bool, part: *mut Part) -> u32;
+    pub(crate) fn board_decode_master(
+        handle: *mut Handle,
+        addr: u32,
+        bytes: u8,
+        is_write: bool,
+        part: *mut Part,
+    ) -> u32;
     pub(crate) fn board_card_read(
         handle: *mut Handle,
         device: u8,

@@ -57,7 +57,10 @@ fn what_is_no_statement_is_refused() {
 }
 
 const WHY_NONE: &[(&str, &str)] = &[
-    ("inb 0070", "a statement begins with f, r, w, in, out, look, ack, pulse, moment, wire, irq, bad, receive, not \"inb\""),
+    (
+        "inb 0070",
+        "a statement begins with f, r, w, in, out, look, ack, pulse, moment, wire, irq, bad, receive, not \"inb\"",
+    ),
     ("r", "the width is missing"),
     ("r b", "the address is missing"),
     ("r x 000A0000", "the width is b, w, d or q, not \"x\""),
