@@ -439,6 +439,7 @@ PICS = [
     Case("timer-line", [*chips(), *timer(0, 0, 5), *requests()], "01", [*chips(), *requests()], "01"),
     Case("fallen-edge", [*chips(), "irq 5 1", "irq 5 0", *requests()], "20", [*chips(), *requests()], "20"),
     Case("spurious", [*chips(), "irq 5 1", "irq 5 0", "ack"], "25", [*chips(), "irq 5 1", "ack"], "24"),
+    Case("spurious", [*chips(), "ack"], "20", [*chips(), "irq 5 1", "ack"], "20"),
     Case(
         "pirq",
         [*put("01.0", 0x60, 8), *chips(), "wire 3 1", *requests(1)],
@@ -555,10 +556,18 @@ TIMERS = [
         "07",
     ),
     Case(
+        "timer-not-loaded",
+        [*timer(1, 2, 9)[:-1], *read(0x41)],
+        "09",
+        [*timer(1, 2, 9), *read(0x41)],
+        "08",
+    ),
+    Case(
         "timer-count", [*timer(1, 2, 9), "pulse 2", *read(0x41)], "09", [*timer(1, 3, 9), "pulse 2", *read(0x41)], "09"
     ),
 ]
 CLOCKS = [
+    Case("soft-reset", [*clock(0x0B, 0x12), *SOFT, *clock(0x0B)], "02", [*clock(0x0B, 0x12), *clock(0x0B)], "02"),
     Case("clock-index", [*out(0x70, 5), *read(0x70)], "05", [*clock(0), *read(0x71)], "05"),
     Case("clock-reset", [*clock(0x0B, 0x12), *HARD, *clock(0x0B)], "12", [*clock(0x0B, 0x12), *clock(0x0B)], "02"),
     Case(

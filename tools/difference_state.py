@@ -8,7 +8,7 @@ from board_texts import WIDTHS, Entry, Writers
 from causes.clock import ClockBytes
 from causes.disk import DATA as DISK_DATA
 from causes.disk import Disk
-from causes.interrupts import CLOCK_LINE, COM1_LINE, DISK_LINE, Interrupts
+from causes.interrupts import CLOCK_LINE, COM1_LINE, DISK_LINE, ICW1, Interrupts
 from causes.serial import COM1, Com1
 from causes.timer import Timer
 
@@ -108,7 +108,7 @@ class State:
     soft_reset: int = 0
     reset_control: int = 0
     port_written: dict[int, int] = field(default_factory=dict)  # the statement that wrote each last
-    pic_written: int = 0
+    pic_set_up: int = 0  # the statement that last changed a chip's mode or mask, ELCR or a line
     disk_written: int = 0
     com1_written: int = 0
     written_wide: set[str] = field(default_factory=set)  # targets to which a wide access came, that is not split
@@ -128,6 +128,7 @@ class State:
         elif words[0] == "in":
             self.note_in(entry, int(words[2], 16))
         elif words[0] == "irq":
+            self.pic_set_up = entry.number
             self.interrupts.set_line(int(words[1]), words[2] == "1")
         elif words[0] == "ack" and re.fullmatch("(vec|spur)[01]", entry.target):
             self.interrupts.acknowledge(entry.target, int(entry.value, 16))
@@ -191,9 +192,11 @@ class State:
         if kind == "clock":
             self.clock.write(port, value, entry.number)
         elif kind in ("pic0", "pic1"):
-            self.pic_written = entry.number
+            if port & 1 or value & ICW1:
+                self.pic_set_up = entry.number
             self.interrupts.write(int(kind == "pic1"), bool(port & 1), value)
         elif kind == "elcr":
+            self.pic_set_up = entry.number
             self.interrupts.write_elcr(port & 1, value)
         elif kind == "pit":
             self.timer.write(port, value)
@@ -211,7 +214,7 @@ class State:
         if port == DISK_DATA:
             self.disk.move(WIDTHS[entry.words[1]] // 2, is_write=True)
         else:
-            self.disk.write(port, value, entry.number)
+            self.disk.write(port, value)
         self.interrupts.raise_line(DISK_LINE)
 
     def note_config(self, entry: Entry, value: int) -> None:
@@ -240,8 +243,8 @@ class State:
         levels = self.interrupts.levels
         self.interrupts = Interrupts(levels=levels, rose=levels, has_wires=self.interrupts.has_wires)
         self.timer, self.com1 = Timer(), Com1()
-        self.pic_written = self.disk_written = self.com1_written = 0
-        self.disk = Disk(written=self.disk.written)
+        self.pic_set_up = self.disk_written = self.com1_written = 0
+        self.disk = Disk(written=self.disk.written, sectors=self.disk.sectors)
 
     # ---- what a row asks
 

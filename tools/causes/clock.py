@@ -78,7 +78,22 @@ if TYPE_CHECKING:
 
     When = Callable[[Byte], bool]
 
+
+def is_before_soft_reset(byte: "Byte") -> bool:
+    """Whether a soft reset came after the byte was written."""
+    state = byte.state
+    return is_data(byte) and 0 < state.clock.numbers.get(state.clock.index, 0) < state.soft_reset
+
+
 ROWS = [
+    Row(
+        "soft-reset",
+        DATASHEET,
+        "82371SB, RC: Reset Control Register",
+        "a soft reset, 04, resets the processor alone: the registers and the devices keep what they have",
+        "clock",
+        when=is_before_soft_reset,
+    ),
     Row(
         "clock-index",
         CHOICE,
@@ -116,7 +131,7 @@ ROWS = [
         "clock-date",
         DATASHEET,
         TIME_SECTION,
-        "the time and the date are in the form that register B says, binary or decimal and of 12 or 24 hours, and keep what "
+        "the time and the date are in the form of register B, binary or decimal and of 12 or 24 hours, and keep what "
         "is written",
         "clock",
         when=is_date_asked,

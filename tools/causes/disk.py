@@ -30,15 +30,14 @@ class Disk:
     written: set[int] = field(default_factory=set)  # sectors
     registers: dict[int, int] = field(default_factory=lambda: dict.fromkeys(range(ERROR, STATUS), 0))
     features: int = 0
-    numbers: dict[int, int] = field(default_factory=dict)  # the statement that wrote each register last
+    sectors: Optional[int] = None  # that the drive has, where that is known
 
     def move(self, words: int, is_write: bool) -> None:
         if is_write and self.command == WRITE and self.first is not None:
             self.written.add(self.first + self.words // WORDS_OF_A_SECTOR)
         self.words += words
 
-    def write(self, port: int, value: int, number: int) -> None:
-        self.numbers[port] = number
+    def write(self, port: int, value: int) -> None:
         if port == STATUS:
             self.begin(value)
         elif port == OTHER_STATUS:
@@ -53,8 +52,16 @@ class Disk:
         self.is_cut = self.is_cut or self.words % WORDS_OF_A_SECTOR != 0
         self.command, self.words, self.is_reset = command, 0, False
         self.features, self.first = self.registers[ERROR], self.address()
-        sectors = self.registers[COUNT] or 256
-        self.wanted = WORDS_OF_A_SECTOR * (0 if command not in MOVERS else 1 if command == IDENTIFY else sectors)
+        self.wanted = WORDS_OF_A_SECTOR * self.sectors_moved(command)
+
+    def sectors_moved(self, command: int) -> int:
+        """The sectors of words that a command moves."""
+        if command not in MOVERS or command == IDENTIFY:
+            return int(command == IDENTIFY)
+        asked = self.registers[COUNT] or 256
+        if self.sectors is None:
+            return asked
+        return 0 if self.first is None else min(asked, max(0, self.sectors - self.first))
 
     def address(self) -> Optional[int]:
         sector, head = self.registers[SECTOR], self.registers[DEVICE] & 0xF
@@ -143,6 +150,14 @@ ROWS = [
         when=lambda it: 0 < it.state.disk_written < it.state.soft_reset,
     ),
     Row(
+        "disk-absent",
+        CHOICE,
+        "Disk",
+        "the registers of an absent drive are those of the channel",
+        "ata",
+        when=is_absent,
+    ),
+    Row(
         "disk-busy",
         EITHER,
         STATUS_SECTION,
@@ -174,14 +189,6 @@ ROWS = [
         "another disk: its names, numbers and abilities in IDENTIFY DEVICE",
         "ata",
         when=lambda it: is_at_words(it) and it.state.disk.is_identifying,
-    ),
-    Row(
-        "disk-absent",
-        CHOICE,
-        "Disk",
-        "the registers of an absent drive are those of the channel",
-        "ata",
-        when=is_absent,
     ),
     Row(
         "disk-no-word",

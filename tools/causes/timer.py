@@ -28,6 +28,7 @@ class Counter:
     count: int = 0
     is_high_next: bool = False  # of a count of two bytes
     is_counted: bool = False  # a whole count was written
+    is_loaded: bool = False  # a pulse came since
     was_counting: bool = False  # a count had been written before this one
     gives_status: bool = False  # the next read does
     reads_left: int = 0  # of a latched count
@@ -40,7 +41,9 @@ class Counter:
         self.access = word >> 4 & 3
         self.mode = mode if mode < FIRST_REPEATED_MODE else mode - 4
         self.is_set_up, self.is_decimal, self.count = True, bool(word & BCD), 0
-        self.is_high_next = self.is_counted = self.was_counting = self.gives_status = self.triggered_early = False
+        self.is_high_next = (
+            self.is_counted
+        ) = self.is_loaded = self.was_counting = self.gives_status = self.triggered_early = False
         self.reads_left = 0
 
     def latch(self) -> None:
@@ -97,6 +100,7 @@ class Timer:
     def pulse(self) -> None:
         for counter in self.counters:
             counter.is_latch_old = counter.reads_left > 0
+            counter.is_loaded = counter.is_counted
 
     def write_gate_2(self, level: bool) -> None:
         rises, self.gate_2 = level and not self.gate_2, level
@@ -192,6 +196,14 @@ ROWS = [
         "pit",
         bits=OUT,
         when=gives_status,
+    ),
+    Row(
+        "timer-not-loaded",
+        EITHER,
+        f"{MODES}: Initial Count",
+        "a count is loaded by the pulse after it was written: what a counter reads before that is not its count",
+        "pit",
+        when=lambda it: not counter_of(it).is_loaded,
     ),
     Row(
         "timer-latch",

@@ -13,7 +13,7 @@ from .scripts import Script, reads
 
 MIB = 1 << 20
 NO_ANSWER = "no-answer"
-CLOCK_DATA, SECOND = 0x71, "second"
+CLOCK_DATA, SECOND, SECTOR = 0x71, "second", 512
 AREAS = (
     (0x80000, 0x9FFFF, "80000"), (0xA0000, 0xBFFFF, "A0000"), (0xC0000, 0xDFFFF, "C0000"), (0xE0000, 0xEFFFF, "E0000"),
     (0xF0000, 0xFFFFF, "F0000"), (0xF00000, 0xFFFFFF, "F00000"), (0xFFF80000, 0xFFFDFFFF, "FFF80000"),
@@ -90,6 +90,7 @@ def place_of_entry(entry: Entry) -> str:
 def differences_of(asked: Asked) -> Iterator[Difference]:
     """Each byte that reads otherwise, in the order of the script."""
     state = State(asked.script.setup.memory * MIB, image_of(asked.script.setup.rom), asked.view)
+    state.disk.sectors = len(image_of(asked.script.setup.disk)) // SECTOR if asked.script.setup.disk else None
     state.clock.is_told = SECOND in asked.script.statements
     for index, (entry, given) in enumerate(zip(asked.entries, asked.answers)):
         if is_dead(given):

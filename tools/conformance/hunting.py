@@ -58,6 +58,15 @@ class Hunt:
     wrong: int = 0
     left_out: int = 0
 
+    @property
+    def causes(self) -> list[Caught]:
+        """Those that a fresh machine shows too."""
+        return [it for it in self.caught.values() if it.again]
+
+    @property
+    def shown_once(self) -> list[Caught]:
+        return [it for it in self.caught.values() if not it.again]
+
     def run(self, budget: Budget, first_seed: int, is_first_enough: bool = False) -> Iterator[Caught]:
         """Each cause as it is found."""
         begun, seeds = time.monotonic(), itertools.count(first_seed)

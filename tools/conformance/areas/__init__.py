@@ -1,5 +1,5 @@
-"""Areas of the chipset for tools/hunt: random sequences that know the devices. An area makes steps from a random.Random; a
-step is what belongs together, and the first one, the prologue, sets the devices up."""
+"""Areas of the chipset for tools/hunt: random sequences that know the devices. An area makes steps of a random.Random;
+a step is what belongs together, and the first one, the prologue, sets the devices up."""
 import pathlib
 import random
 from dataclasses import dataclass

@@ -50,9 +50,22 @@ def interrupts(rng: random.Random) -> Steps:
     def look() -> Steps:
         return [requests(rng.randrange(2), rng.choice((READ_REQUESTS, READ_SERVICE)))]
 
-    elcr = [it for chip, bits in enumerate(ELCR_BITS) for it in outb(0x4D0 + chip, rng.choice((0, 0, rng.getrandbits(8) & bits)))]
-    doings = [(6, line), (4, lambda: [["ack"]]), (3, command), (1, mask), (1, lambda: even(rng.choice(SPECIAL_MASKS))), (1, poll),
-              (0.3, again), (0.3, sense), (4, look)]
+    elcr = [
+        it
+        for chip, bits in enumerate(ELCR_BITS)
+        for it in outb(0x4D0 + chip, rng.choice((0, 0, rng.getrandbits(8) & bits)))
+    ]
+    doings = [
+        (6, line),
+        (4, lambda: [["ack"]]),
+        (3, command),
+        (1, mask),
+        (1, lambda: even(rng.choice(SPECIAL_MASKS))),
+        (1, poll),
+        (0.3, again),
+        (0.3, sense),
+        (4, look),
+    ]
     return [[*elcr, *pic(rng.choice(ICW4))], *several(rng, 12, 40, doings)]
 
 
@@ -75,8 +88,9 @@ def timer(rng: random.Random) -> Steps:
         return [[f"pulse {rng.choice((1, 1, 2, 3, rng.randrange(1, 20), rng.randrange(1, 70000)))}"]]
 
     def read() -> Steps:
-        return rng.choice(([outb(0x43, number << 6 | LATCH) + reads()], [outb(0x43, STATUS | 2 << number) + reads()[:1]],
-                           [reads()]))
+        return rng.choice(
+            ([outb(0x43, number << 6 | LATCH) + reads()], [outb(0x43, STATUS | 2 << number) + reads()[:1]], [reads()])
+        )
 
     def beside() -> Steps:
         if number == 2:
@@ -130,7 +144,18 @@ def clock(rng: random.Random) -> Steps:
         at = f"{rng.randrange(0x0E, 0x32):02X}"
         return [cmos(at, f"{rng.getrandbits(8):02X}"), cmos(at)]
 
-    doings = [(4, lambda: [whole()]), (3, alarm), (5, seconds), (3, lambda: [cmos("0C")]), (2, registers), (2, memory),
-              (1, lambda: [requests(1)])]
+    doings = [
+        (4, lambda: [whole()]),
+        (3, alarm),
+        (5, seconds),
+        (3, lambda: [cmos("0C")]),
+        (2, registers),
+        (2, memory),
+        (1, lambda: [requests(1)]),
+    ]
     still = outb(0x43, 0x30) + outb(0x40, 0xFF, 0xFF)  # line 0 stays as it is
-    return [[*still, *whole(), *cmos("0C")], *several(rng, 6, 14, doings), *(cmos(at) for at in ("00", "02", "04", "07", "08", "09"))]
+    return [
+        [*still, *whole(), *cmos("0C")],
+        *several(rng, 6, 14, doings),
+        *(cmos(at) for at in ("00", "02", "04", "07", "08", "09")),
+    ]

@@ -12,7 +12,27 @@ SECTORS = (0, 1, 2, 3, 63, 64, 2015, 2016, 100000)
 FCR, LCR, MCR = (0, 1, 3, 5, 7, 0xC1, 0x81, 0x41), (3, 3, 0x83, 0x1B, 0x43), (0x18, 0x18, 8, 0x1F, 0x13)
 COM1_READS = (0x3F8, 0x3F8, 0x3F9, 0x3FA, 0x3FA, 0x3FB, 0x3FC, 0x3FD, 0x3FD, 0x3FE)
 RESETS = ((2, 6), (6,), (4,), (0, 4))
-PORTS = (0x20, 0x21, 0x40, 0x42, 0x61, 0x70, 0x80, 0xA0, 0x1F0, 0x1F2, 0x1F4, 0x3F6, 0x4D0, 0xCF8, 0xCFC, 0x3F8, 0x3FC, 0xB2, 0xE0)
+PORTS = (
+    0x20,
+    0x21,
+    0x40,
+    0x42,
+    0x61,
+    0x70,
+    0x80,
+    0xA0,
+    0x1F0,
+    0x1F2,
+    0x1F4,
+    0x3F6,
+    0x4D0,
+    0xCF8,
+    0xCFC,
+    0x3F8,
+    0x3FC,
+    0xB2,
+    0xE0,
+)
 NOT_WRITTEN = (0xCF8, 0xCF9, 0x92, 0x64, 0x60, 0xB2, 0x402, 0x510, 0x514, 0x604)  # a monitor may end, or reset
 
 
@@ -21,8 +41,15 @@ def address(rng: random.Random) -> list[str]:
     lba = rng.choice((*SECTORS, rng.randrange(64)))
     if rng.random() < 0.25:
         cylinder = rng.choice((0, 0, 1))
-        return outb(0x1F3, rng.choice((1, 2, 63, 0))) + outb(0x1F4, cylinder, ) + outb(0x1F5, 0) + outb(
-            0x1F6, 0xA0 | rng.choice((0, 0, 1, 15)))
+        return (
+            outb(0x1F3, rng.choice((1, 2, 63, 0)))
+            + outb(
+                0x1F4,
+                cylinder,
+            )
+            + outb(0x1F5, 0)
+            + outb(0x1F6, 0xA0 | rng.choice((0, 0, 1, 15)))
+        )
     drive = rng.choice((0,) * 9 + (0x10,))
     return outb(0x1F3, lba & 0xFF) + outb(0x1F4, lba >> 8 & 0xFF) + outb(0x1F5, lba >> 16) + outb(0x1F6, 0xE0 | drive)
 
@@ -36,7 +63,11 @@ def disk(rng: random.Random) -> Steps:
         steps = [[*set_up, *address(rng), *outb(0x1F7, code)], [OTHER_STATUS], [STATUS]]
         if code in MOVES and rng.random() < 0.85:
             count = rng.choice(WORDS)
-            steps.append(["in w 01F0"] * count if code < 0x30 else [f"out w 01F0 {rng.getrandbits(16):04X}" for _ in range(count)])
+            steps.append(
+                ["in w 01F0"] * count
+                if code < 0x30
+                else [f"out w 01F0 {rng.getrandbits(16):04X}" for _ in range(count)]
+            )
             steps += [[OTHER_STATUS], [STATUS]]
         return steps
 
@@ -54,8 +85,9 @@ def serial(rng: random.Random) -> Steps:
     """COM1 in loopback and out of it: FIFOs, the divisor latch, interrupts, bytes received, and line 4."""
 
     def control() -> Steps:
-        port, values = rng.choice(((0x3FA, FCR), (0x3FB, (*LCR, rng.getrandbits(8))), (0x3FC, (*MCR, rng.getrandbits(5))),
-                                   (0x3F9, range(16))))
+        port, values = rng.choice(
+            ((0x3FA, FCR), (0x3FB, (*LCR, rng.getrandbits(8))), (0x3FC, (*MCR, rng.getrandbits(5))), (0x3F9, range(16)))
+        )
         return [outb(port, rng.choice(values))]
 
     def sent() -> Steps:
@@ -77,15 +109,42 @@ def serial(rng: random.Random) -> Steps:
 def resets(rng: random.Random) -> Steps:
     """State everywhere, a reset by port 0CF9h, and what is left of it."""
     written = [
-        *(put_byte(f"00.0.{at:02X}", value) for at, value in ((0x5A, 0x33), (0x5D, 0x33), (0x64, 4), (0x68, 0x80), (0x72, 0x4A))),
-        put_byte("01.0.4E", 0xC7), put_byte("01.0.60", 0x0B), put_byte("01.1.04", 5), put_byte("01.1.41", 0x80), outb(0x4D0, 0xF8),
-        outb(0x4D1, 0xDE), [*pic(), *outb(0x21, 0x55)], outb(0x61, 3), cmos("0B", "72"), cmos("40", "5A"), ["w d 00001000 12345678"],
-        [*outb(0x3FB, 3), *outb(0x3FF, 0x77)], ["irq 5 1"],
+        *(
+            put_byte(f"00.0.{at:02X}", value)
+            for at, value in ((0x5A, 0x33), (0x5D, 0x33), (0x64, 4), (0x68, 0x80), (0x72, 0x4A))
+        ),
+        put_byte("01.0.4E", 0xC7),
+        put_byte("01.0.60", 0x0B),
+        put_byte("01.1.04", 5),
+        put_byte("01.1.41", 0x80),
+        outb(0x4D0, 0xF8),
+        outb(0x4D1, 0xDE),
+        [*pic(), *outb(0x21, 0x55)],
+        outb(0x61, 3),
+        cmos("0B", "72"),
+        cmos("40", "5A"),
+        ["w d 00001000 12345678"],
+        [*outb(0x3FB, 3), *outb(0x3FF, 0x77)],
+        ["irq 5 1"],
     ]
     looks = [
-        ["in b 0CF9"], ["in d 0CF8"], ["in b 04D0"], ["in b 04D1"], ["in b 0021"], ["in b 0061"], cmos("0B"), cmos("40"),
-        ["r d 00001000"], ["in b 03FB"], ["in b 03FC"], requests(0), *(get(f"00.0.{at:02X}") for at in (0x5A, 0x5D, 0x64, 0x68, 0x72)),
-        get("01.0.4E"), get("01.0.60"), get("01.1.04"), get("01.1.41"),
+        ["in b 0CF9"],
+        ["in d 0CF8"],
+        ["in b 04D0"],
+        ["in b 04D1"],
+        ["in b 0021"],
+        ["in b 0061"],
+        cmos("0B"),
+        cmos("40"),
+        ["r d 00001000"],
+        ["in b 03FB"],
+        ["in b 03FC"],
+        requests(0),
+        *(get(f"00.0.{at:02X}") for at in (0x5A, 0x5D, 0x64, 0x68, 0x72)),
+        get("01.0.4E"),
+        get("01.0.60"),
+        get("01.1.04"),
+        get("01.1.41"),
     ]
     first = rng.sample(written, rng.randint(4, 8))
     return [[], *first, outb(0xCF9, *rng.choice(RESETS)), *rng.sample(looks, 14)]
