@@ -13,7 +13,7 @@ from .compare import Asked, Difference, ask_both, first_difference
 from .protocol import Adapter
 from .scripts import Script
 
-MOST_TRIES = 120
+MOST_TRIES, MOST_STATEMENTS = 120, 5000  # that are asked while one script becomes shorter
 WITHOUT_PROLOGUE = re.compile("[rf] |in [bwd] 0CF")  # memory and configuration: other devices have to be initialised
 Wanted = Callable[[Difference], bool]
 
@@ -62,6 +62,7 @@ class Shrinking:
 
     def __init__(self, adapter: Adapter, begin: Shown, wanted: Wanted, most: int) -> None:
         self.adapter, self.best, self.wanted, self.left = adapter, begin, wanted, most
+        self.statements_left = MOST_STATEMENTS
 
     def without(self, first: int, end: int) -> bool:
         """Whether the steps from one up to another can go: then they are gone."""
@@ -70,7 +71,8 @@ class Shrinking:
 
     def becomes(self, script: Script) -> bool:
         """Whether another script shows it too, with fewer steps: then it is the best one."""
-        self.left -= 1
+        self.statements_left -= len(script.statements)
+        self.left = self.left - 1 if self.statements_left > 0 else 0
         found = shows(self.adapter, script, self.wanted, self.best.asked.view)
         if found is None or len(found.script.statements) >= len(self.best.script.statements):
             return False
