@@ -17,7 +17,7 @@ def bios() -> bytes:
             continue
         offset, _, digits = line.partition(" ")
         at, code = int(offset, 16), bytes.fromhex(digits)
-        image[at:at + len(code)] = code
+        image[at : at + len(code)] = code
     if len(image) != SIZE:
         raise AgentFault(f"{KEPT}: it has {len(image)} bytes")
     return bytes(image)

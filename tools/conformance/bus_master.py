@@ -1,5 +1,6 @@
-"""The bus master of the disk as one statement: `bus_master in|out TABLE LBA COUNT` answers bits 2 to 0 of the bus master's
-status register. What the registers of the disk hold after it is not told: such a statement stands where nothing asks."""
+"""The bus master of the disk as one statement: `bus_master in|out TABLE LBA COUNT` answers bits 2 to 0 of the bus
+master's status register. What the registers of the disk hold after it is not told: such a statement stands where
+nothing asks."""
 from dataclasses import dataclass
 
 from board440fx import Board, Descriptor, Ended, Words, errors
@@ -29,7 +30,9 @@ def done_by(board: Board, statement: str) -> int:
     asked = Asked.of(statement)
     disk = sectors_of(board, asked)
     written = bytearray()
-    transfer = board.transfer(asked.table, asked.lba, asked.sectors, readable=len(disk) // SECTOR, to_memory=asked.to_memory)
+    transfer = board.transfer(
+        asked.table, asked.lba, asked.sectors, readable=len(disk) // SECTOR, to_memory=asked.to_memory
+    )
     for piece in transfer:
         if isinstance(piece, Descriptor):
             base, count = (board.dram_read(piece.addr + at, DWORD) for at in (0, DWORD))
@@ -37,7 +40,7 @@ def done_by(board: Board, statement: str) -> int:
         elif isinstance(piece, Words) and asked.to_memory:
             at = piece.disk - asked.lba * SECTOR
             if is_dram(piece):
-                board.dram_write(piece.addr, disk[at:at + piece.count])
+                board.dram_write(piece.addr, disk[at : at + piece.count])
         elif isinstance(piece, Words):
             written += board.dram_read(piece.addr, piece.count)
         elif isinstance(piece, Ended):
@@ -68,8 +71,14 @@ def write_sectors(board: Board, lba: int, data: bytes) -> None:
         data += board.disk_read(lba + len(data) // SECTOR)[into_last:]
     for number in range(len(data) // SECTOR):
         at = lba + number
-        for port, value in ((SECTOR_COUNT, 1), (LBA_LOW, at & 0xFF), (LBA_MIDDLE, at >> 8 & 0xFF),
-                            (LBA_HIGH, at >> 16 & 0xFF), (DEVICE, LBA_MODE), (COMMAND, WRITE_SECTORS)):
+        for port, value in (
+            (SECTOR_COUNT, 1),
+            (LBA_LOW, at & 0xFF),
+            (LBA_MIDDLE, at >> 8 & 0xFF),
+            (LBA_HIGH, at >> 16 & 0xFF),
+            (DEVICE, LBA_MODE),
+            (COMMAND, WRITE_SECTORS),
+        ):
             board.out(port, 1, value)
-        words = data[number * SECTOR:(number + 1) * SECTOR]
-        board.out_many(DATA, DWORD, [int.from_bytes(words[k:k + DWORD], "little") for k in range(0, SECTOR, DWORD)])
+        words = data[number * SECTOR : (number + 1) * SECTOR]
+        board.out_many(DATA, DWORD, [int.from_bytes(words[k : k + DWORD], "little") for k in range(0, SECTOR, DWORD)])

@@ -1,14 +1,19 @@
 """The cases: each with its name, its rule and its steps, in a file a device in cases/.
 
     device 82441FX                       what the cases of the file are of
-    machine memory 16, disk d4           from here on: `rom r64` and `memory 16` where nothing else is said, `card 3 plain m20`
+    machine memory 16, disk d4           from here on: `rom r64` and `memory 16` where nothing else is said, `card 3
+    plain m20`
 
     case pam-reserved                    its name
     rule 82441FX, PAM: the reserved bits read 0
     put 00.0.59 FF                       its steps, a line each, in the words of case_words.py
     get 00.0.59
 
-    each WINDOW FIRST                    the cases up to `done` once for each row, with {WINDOW} and {FIRST} in their lines;
+A case begins with what sets its devices up: its first lines of `pic`, `ide`, `date` or ELCR are the prologue of its
+script, which a shorter script keeps.
+
+    each WINDOW FIRST                    the cases up to `done` once for each row, with {WINDOW} and {FIRST} in their
+    lines;
                                          the last field of a row may have spaces
     | c0000 000C0000
     | c4000 000C4000
@@ -22,8 +27,9 @@ from dataclasses import dataclass, field, replace
 from typing import Iterable, Iterator
 
 from .case_words import CaseFault, steps_of
-from .scripts import Script, Setup
+from .scripts import Script, Setup, reads
 
+SET_UP = ("pic ", "ide", "date ", "outb 04D0 ", "outb 04D1 ")
 FOLDER = pathlib.Path(__file__).resolve().parent / "cases"
 
 
@@ -36,6 +42,19 @@ class Case:
     machine: str
     rule: str = ""
     steps: list[tuple[str, ...]] = field(default_factory=list)
+    set_up: list[str] = field(default_factory=list)  # the statements of its first lines that only set devices up
+    is_set_up: bool = False  # whether another line came
+
+    def add(self, line: str) -> None:
+        """Adds a line's steps. The first lines are the prologue as long as they set devices up: a shorter script
+        keeps it."""
+        steps = steps_of(line)
+        statements = [statement for step in steps for statement in step]
+        self.is_set_up = self.is_set_up or not line.startswith(SET_UP) or any(map(reads, statements))
+        if self.is_set_up:
+            self.steps += [tuple(step) for step in steps]
+        else:
+            self.set_up += statements
 
     def script(self, images: pathlib.Path, rom: pathlib.Path | None = None) -> Script:
         """Its script, with the images of a folder; a ROM that is given stands for each ROM of its size."""
@@ -52,7 +71,7 @@ class Case:
                 setup = replace(setup, cards=(*setup.cards, value))
             else:
                 raise CaseFault(f"{self.name}: machine {text}")
-        return Script.of(replace(setup, rom=rom) if rom else setup, [(), *self.steps])
+        return Script.of(replace(setup, rom=rom) if rom else setup, [self.set_up, *self.steps])
 
 
 def expanded(lines: Iterable[str]) -> Iterator[str]:
@@ -98,7 +117,7 @@ def cases_of(file: pathlib.Path) -> list[Case]:
             found[-1].rule = rest
         else:
             try:
-                found[-1].steps.extend(tuple(step) for step in steps_of(line))
+                found[-1].add(line)
             except CaseFault as fault:
                 raise CaseFault(f"{file.name}: case {found[-1].name}: {fault}") from None
     return found

@@ -1,6 +1,7 @@
 """The words of a case: what a line of a file in cases/ stands for, as statements. A line is one step.
 
-A line is a statement, or begins with one of these words; `N * LINE` is N steps of the line, and `LINE; LINE` both in one step.
+A line is a statement, or begins with one of these words; `N * LINE` is N steps of the line, and `LINE; LINE` both in
+one step.
 
     get 00.0.59 [b|w|d]        reads a register of configuration space: device, function and offset
     put 00.0.59 33             writes one, of as many bytes as there are digits
@@ -90,6 +91,7 @@ def memory_read(word: str) -> Callable[..., Statements]:
     def read(*places: str) -> Statements:
         mode = " smm" if places[-1] == "smm" else ""
         return [f"{word} b {place}{mode}" for place in places if place != "smm"]
+
     return read
 
 
@@ -100,7 +102,9 @@ def write_byte(place: str, value: str, *mode: str) -> Statements:
 def pic(icw4: str = "01", icw1: str = "11") -> Statements:
     words = []
     for port, base, cascade in ((0x20, 0x20, 0x04), (0xA0, 0xA0, 0x02)):
-        words += outb(port, int(icw1, 16)) + outb(port + 1, base, cascade, int(icw4, 16) & (0x1F if port == 0x20 else 1), 0)
+        words += outb(port, int(icw1, 16)) + outb(
+            port + 1, base, cascade, int(icw4, 16) & (0x1F if port == 0x20 else 1), 0
+        )
     return words
 
 
@@ -162,10 +166,27 @@ def reset() -> Statements:
 
 
 WORDS: dict[str, Callable[..., Statements]] = {
-    "get": get, "put": put, "size": size, "pic": pic, "timer": timer, "count": count, "status": status, "cmos": cmos,
-    "date": date, "time": time, "ide": ide, "ata": ata, "task": task, "words": words, "reset": reset, "wb": write_byte,
-    "irr": chip_read(READ_IRR), "isr": chip_read(READ_ISR), "poll": chip_read(POLL),
-    "rb": memory_read("r"), "fb": memory_read("f"),
+    "get": get,
+    "put": put,
+    "size": size,
+    "pic": pic,
+    "timer": timer,
+    "count": count,
+    "status": status,
+    "cmos": cmos,
+    "date": date,
+    "time": time,
+    "ide": ide,
+    "ata": ata,
+    "task": task,
+    "words": words,
+    "reset": reset,
+    "wb": write_byte,
+    "irr": chip_read(READ_IRR),
+    "isr": chip_read(READ_ISR),
+    "poll": chip_read(POLL),
+    "rb": memory_read("r"),
+    "fb": memory_read("f"),
     **{f"in{width}": ports_in(width) for width in WIDTHS if width != "q"},
     **{f"out{width}": ports_out(width) for width in WIDTHS if width != "q"},
 }

@@ -1,5 +1,5 @@
-"""What another monitor answers otherwise than the board: each byte of each value, with the row of tools/differences.py that
-tells it, and the place that tells two of one row apart."""
+"""What another monitor answers otherwise than the board: each byte of each value, with the row of
+tools/differences.py that tells it, and the place that tells two of one row apart."""
 from dataclasses import dataclass
 from typing import Callable, Iterator, Optional, Sequence
 
@@ -15,9 +15,15 @@ MIB = 1 << 20
 NO_ANSWER = "no-answer"
 CLOCK_DATA, SECOND, SECTOR = 0x71, "second", 512
 AREAS = (
-    (0x80000, 0x9FFFF, "80000"), (0xA0000, 0xBFFFF, "A0000"), (0xC0000, 0xDFFFF, "C0000"), (0xE0000, 0xEFFFF, "E0000"),
-    (0xF0000, 0xFFFFF, "F0000"), (0xF00000, 0xFFFFFF, "F00000"), (0xFFF80000, 0xFFFDFFFF, "FFF80000"),
-    (0xFFFE0000, 0xFFFEFFFF, "FFFE0000"), (0xFFFF0000, 0xFFFFFFFF, "FFFF0000"),
+    (0x80000, 0x9FFFF, "80000"),
+    (0xA0000, 0xBFFFF, "A0000"),
+    (0xC0000, 0xDFFFF, "C0000"),
+    (0xE0000, 0xEFFFF, "E0000"),
+    (0xF0000, 0xFFFFF, "F0000"),
+    (0xF00000, 0xFFFFFF, "F00000"),
+    (0xFFF80000, 0xFFFDFFFF, "FFF80000"),
+    (0xFFFE0000, 0xFFFEFFFF, "FFFE0000"),
+    (0xFFFF0000, 0xFFFFFFFF, "FFFF0000"),
 )
 MOST_DRAM = 64 * MIB
 
@@ -105,8 +111,8 @@ def differences_of(asked: Asked) -> Iterator[Difference]:
 
 
 def ask_again(adapter: Adapter, script: Script, answers: list[str], view: str = "") -> Asked:
-    """What the board answers to a script that the monitor answered. Where the monitor cannot do a statement, both are asked
-    without it."""
+    """What the board answers to a script that the monitor answered. Where the monitor cannot do a statement, both are
+    asked without it."""
     cannot = {statement for statement, answer in zip(script.statements, answers) if answer == CANNOT}
     if not cannot:
         return Asked(script, answers_of(script), answers, view=view)

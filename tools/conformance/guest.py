@@ -1,4 +1,5 @@
-"""A monitor that has booted the agent's BIOS, which makes the accesses by the guest's processor and is asked over COM1."""
+"""A monitor that has booted the agent's BIOS, which makes the accesses by the guest's processor and is asked over
+COM1."""
 import os
 import shlex
 import signal
@@ -11,7 +12,8 @@ from .scripts import WIDTHS, Setup
 from .serving import MonitorEnded
 
 HELLO = 0x4E47_4121
-IN, OUT, READ, WRITE, SMM, SMM_READ, SMM_WRITE = 1, 4, 7, 10, 13, 14, 17  # what is asked, of a byte; then words, doublewords
+IN, OUT, READ, WRITE, SMM, SMM_READ, SMM_WRITE = 1, 4, 7, 10, 13, 14, 17  # what is asked, of a byte; then words,
+doublewords
 WIDTH_NUMBERS = {"b": 0, "w": 1, "d": 2}
 ANSWER_BYTES = 4
 COM1 = range(0x3F8, 0x400)
@@ -24,7 +26,8 @@ def question(operation: int, place: int = 0, value: int = 0) -> bytes:
 
 
 def question_of(statement: str) -> Optional[bytes]:
-    """What the agent is asked for a statement, or None where it cannot do it. A fetch cannot: what would be fetched runs."""
+    """What the agent is asked for a statement, or None where it cannot do it. A fetch cannot: what would be fetched
+    runs."""
     word, *fields = statement.split(" ")
     if word not in ("in", "out", "r", "w") or fields[0] not in WIDTH_NUMBERS:
         return None
@@ -42,19 +45,28 @@ def is_reset(asked: bytes) -> bool:
 
 
 class Guest:
-    """A monitor that was started by its command line, with {memory}, {rom}, {disk}, and the {port} on 127.0.0.1 that its COM1
-    calls."""
+    """A monitor that was started by its command line, with {memory}, {rom}, {disk}, and the {port} on 127.0.0.1 that
+    its COM1 calls."""
 
     def __init__(self, command: str, setup: Setup) -> None:
         self.link: Optional[socket.socket] = None
         self.has_smm: Optional[bool] = None
         with socket.create_server(("127.0.0.1", 0)) as server:
             server.settimeout(TICK)
-            words = {"rom": setup.rom, "memory": setup.memory, "disk": setup.disk or "", "port": server.getsockname()[1]}
+            words = {
+                "rom": setup.rom,
+                "memory": setup.memory,
+                "disk": setup.disk or "",
+                "port": server.getsockname()[1],
+            }
             try:
                 self.process = subprocess.Popen(
-                    [it.format(**words) for it in shlex.split(command)], stdin=subprocess.DEVNULL,
-                    stdout=subprocess.DEVNULL, stderr=subprocess.DEVNULL, start_new_session=True)
+                    [it.format(**words) for it in shlex.split(command)],
+                    stdin=subprocess.DEVNULL,
+                    stdout=subprocess.DEVNULL,
+                    stderr=subprocess.DEVNULL,
+                    start_new_session=True,
+                )
             except (OSError, KeyError, IndexError, ValueError) as fault:
                 raise MonitorEnded(f"{command} does not start: {fault}") from None
             self.link = self.called(server)

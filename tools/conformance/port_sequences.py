@@ -1,5 +1,5 @@
-"""Statements that a monitor with a guest's ports does by several accesses: a transfer of the bus master, and a level on INTA#
-of QEMU's device `edu`. What they use of configuration space is put back as it was."""
+"""Statements that a monitor with a guest's ports does by several accesses: a transfer of the bus master, and a level
+on INTA# of QEMU's device `edu`. What they use of configuration space is put back as it was."""
 import time
 from typing import Callable
 
@@ -53,8 +53,14 @@ def bus_master(ask: Ask, statement: str) -> int:
     out(ask, BUS_MASTER_PORTS + TABLE_POINTER, int(table, 16), "d")
     out(ask, BUS_MASTER_PORTS + STATUS, FLAGS)
     out(ask, BUS_MASTER_PORTS + COMMAND, TO_MEMORY * is_in)
-    for port, value in ((SECTOR_COUNT, int(sectors) & 0xFF), (LBA_LOW, lba & 0xFF), (LBA_MIDDLE, lba >> 8 & 0xFF),
-                        (LBA_HIGH, lba >> 16 & 0xFF), (DEVICE, LBA_MODE), (ATA_COMMAND, READ_DMA if is_in else WRITE_DMA)):
+    for port, value in (
+        (SECTOR_COUNT, int(sectors) & 0xFF),
+        (LBA_LOW, lba & 0xFF),
+        (LBA_MIDDLE, lba >> 8 & 0xFF),
+        (LBA_HIGH, lba >> 16 & 0xFF),
+        (DEVICE, LBA_MODE),
+        (ATA_COMMAND, READ_DMA if is_in else WRITE_DMA),
+    ):
         out(ask, port, value)
     out(ask, BUS_MASTER_PORTS + COMMAND, TO_MEMORY * is_in | START)
     status = ask(f"in b {BUS_MASTER_PORTS + STATUS:04X}")

@@ -4,9 +4,9 @@
         for answers in adapter.ask([script, other_script]):
             ...
 
-An answer is what was read, in hexadecimal; `-` where nothing is read; `?` where the statement cannot be done; or `! why`
-at the statement where the monitor ended or hung, which is the last answer of its script. `end` is answered with `end`.
-What is none of these, or does not come in time, is an AdapterFault: it says what was asked and what came.
+An answer is what was read, in hexadecimal; `-` where nothing is read; `?` where the statement cannot be done; or `!
+why` at the statement where the monitor ended or hung, which is the last answer of its script. `end` is answered with
+`end`. What is none of these, or does not come in time, is an AdapterFault: it says what was asked and what came.
 """
 import collections
 import concurrent.futures
@@ -79,7 +79,9 @@ class Waiting:
         why = fault_of(self.next, line)
         if why:
             raise AdapterFault(f"no answer: {self.asked()}, and `{shown(line)}` came, where {why}")
-        self.answers.append(line if is_dead(line) or line in (DONE, CANNOT) else line.upper().rjust(digits_of(self.next), "0"))
+        self.answers.append(
+            line if is_dead(line) or line in (DONE, CANNOT) else line.upper().rjust(digits_of(self.next), "0")
+        )
         return False
 
     def asked(self) -> str:

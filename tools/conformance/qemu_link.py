@@ -1,5 +1,5 @@
-"""A process of QEMU: its test protocol (qtest) on its standard input and output, QMP on a socket, COM1 on another. It goes
-back to its start by `loadvm` within milliseconds, where a new process takes a tenth of a second."""
+"""A process of QEMU: its test protocol (qtest) on its standard input and output, QMP on a socket, COM1 on another. It
+goes back to its start by `loadvm` within milliseconds, where a new process takes a tenth of a second."""
 import fcntl
 import json
 import os
@@ -41,8 +41,12 @@ class Options:
         words += ["-rtc", f"base={CLOCK_BEGINS},clock=vm"]
         if setup.disk:
             cylinders = max(1, setup.disk.stat().st_size // CYLINDER_BYTES)
-            words += ["-drive", f"file={setup.disk},if=none,id=d0,format=raw,snapshot=on", "-device",
-                      f"ide-hd,drive=d0,bus=ide.0,unit=0,cyls={cylinders},heads={HEADS},secs={SECTORS}"]
+            words += [
+                "-drive",
+                f"file={setup.disk},if=none,id=d0,format=raw,snapshot=on",
+                "-device",
+                f"ide-hd,drive=d0,bus=ide.0,unit=0,cyls={cylinders},heads={HEADS},secs={SECTORS}",
+            ]
         for card in setup.cards:
             words += ["-device", f"{CARD_DEVICE},addr={int(card.split()[0]):#x}"]
         return words + (["-accel", "qtest"] if self.modules else ["-accel", "tcg", "-S"])
@@ -65,15 +69,32 @@ class Link:
         qmp, qmp_of_qemu = socket.socketpair()
         self.com1, com1_of_qemu = socket.socketpair()
         self.com1.setblocking(False)
-        words = [*words, "-qtest", "stdio", "-qtest-log", "/dev/null",
-                 "-chardev", f"socket,id=qmp,fd={qmp_of_qemu.fileno()}", "-mon", "chardev=qmp,mode=control",
-                 "-chardev", f"socket,id=com1,fd={com1_of_qemu.fileno()}", "-serial", "chardev:com1"]
+        words = [
+            *words,
+            "-qtest",
+            "stdio",
+            "-qtest-log",
+            "/dev/null",
+            "-chardev",
+            f"socket,id=qmp,fd={qmp_of_qemu.fileno()}",
+            "-mon",
+            "chardev=qmp,mode=control",
+            "-chardev",
+            f"socket,id=com1,fd={com1_of_qemu.fileno()}",
+            "-serial",
+            "chardev:com1",
+        ]
         modules = {"QEMU_MODULE_DIR": self.options.modules} if self.options.modules else {}
         try:
             words += self.snapshot_words()
             self.process = subprocess.Popen(
-                words, stdin=subprocess.PIPE, stdout=subprocess.PIPE, stderr=subprocess.DEVNULL,
-                env={**os.environ, **modules}, pass_fds=(qmp_of_qemu.fileno(), com1_of_qemu.fileno()))
+                words,
+                stdin=subprocess.PIPE,
+                stdout=subprocess.PIPE,
+                stderr=subprocess.DEVNULL,
+                env={**os.environ, **modules},
+                pass_fds=(qmp_of_qemu.fileno(), com1_of_qemu.fileno()),
+            )
         except OSError as fault:
             raise MonitorEnded(f"{fault.filename or words[0]}: {fault.strerror}") from None
         finally:

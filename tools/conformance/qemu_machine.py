@@ -1,5 +1,5 @@
-"""QEMU's `pc` machine, which does the statements of a script by QEMU's test protocol. No processor of QEMU's runs: there is no
-SMM and no fetch, and an acknowledge is the 8259A's poll, whose level makes the vector.
+"""QEMU's `pc` machine, which does the statements of a script by QEMU's test protocol. No processor of QEMU's runs:
+there is no SMM and no fetch, and an acknowledge is the 8259A's poll, whose level makes the vector.
 
 Time is QEMU's virtual clock, where its accelerator `qtest` lets it be set. The 8254 takes a written count with the next
 pulse of its clock; QEMU takes it when it is written, and so is given it with the next pulse."""
@@ -40,8 +40,16 @@ class Machine:
         self.base, self.awaits = [0, 0], [False, False]  # of the interrupt controllers
         self.is_held, self.moved = False, 0  # of the disk
         self.handlers = {
-            "r": self.read, "in": self.read, "w": self.write, "out": self.write, "irq": self.irq, "ack": self.acknowledge,
-            "pulse": self.pulse, "second": self.second, "wire": self.wire, "bus_master": self.bus_master,
+            "r": self.read,
+            "in": self.read,
+            "w": self.write,
+            "out": self.write,
+            "irq": self.irq,
+            "ack": self.acknowledge,
+            "pulse": self.pulse,
+            "second": self.second,
+            "wire": self.wire,
+            "bus_master": self.bus_master,
             "receive": self.receive,
         }
 
@@ -68,7 +76,9 @@ class Machine:
         if is_port and place in SEES_COUNTS:
             self.load_counts()
         mask, digits = (1 << 8 * size) - 1, 2 * size
-        self.link.put(f"{'in' if is_port else 'read'}{LETTERS[width]} 0x{place}", lambda it: say(f"{it & mask:0{digits}X}"))
+        self.link.put(
+            f"{'in' if is_port else 'read'}{LETTERS[width]} 0x{place}", lambda it: say(f"{it & mask:0{digits}X}")
+        )
         if is_port:
             self.note_disk(int(place, 16), size)
 
@@ -191,7 +201,8 @@ class Machine:
 
 
 class Machines:
-    """The processes of QEMU: one for each machine, which goes back to its start for each script, or one for each script."""
+    """The processes of QEMU: one for each machine, which goes back to its start for each script, or one for each
+    script."""
 
     def __init__(self, options: Options) -> None:
         self.options, self.kept = options, dict[Setup, Link]()
@@ -228,7 +239,7 @@ class Machines:
         except MonitorEnded:
             if link:
                 link.close()
-            yield from (it for it in answers[:unanswered(answers)] if it)
+            yield from (it for it in answers[: unanswered(answers)] if it)
             raise
         self.end(setup, link, statements)
         yield from (it for it in answers if it is not None)

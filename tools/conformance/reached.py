@@ -9,25 +9,79 @@ from .case_files import Case
 from .reference import answers_of
 
 REGISTERS = {  # the tables of RegisterTable.antt: a register by the first and the last of its bytes
-    "00.0": ((0x00, 0x01), (0x02, 0x03), (0x04, 0x05), (0x06, 0x07), (0x08, 0x08), (0x09, 0x0B), (0x0E, 0x0E),
-             *((at, at) for at in (*range(0x59, 0x69), 0x72))),
-    "01.0": ((0x00, 0x01), (0x02, 0x03), (0x04, 0x05), (0x06, 0x07), (0x08, 0x08), (0x09, 0x0B), (0x0E, 0x0E), (0x4E, 0x4F),
-             *((at, at) for at in range(0x60, 0x64))),
-    "01.1": ((0x00, 0x01), (0x02, 0x03), (0x04, 0x05), (0x06, 0x07), (0x08, 0x08), (0x09, 0x0B), (0x0E, 0x0E), (0x40, 0x41)),
+    "00.0": (
+        (0x00, 0x01),
+        (0x02, 0x03),
+        (0x04, 0x05),
+        (0x06, 0x07),
+        (0x08, 0x08),
+        (0x09, 0x0B),
+        (0x0E, 0x0E),
+        *((at, at) for at in (*range(0x59, 0x69), 0x72)),
+    ),
+    "01.0": (
+        (0x00, 0x01),
+        (0x02, 0x03),
+        (0x04, 0x05),
+        (0x06, 0x07),
+        (0x08, 0x08),
+        (0x09, 0x0B),
+        (0x0E, 0x0E),
+        (0x4E, 0x4F),
+        *((at, at) for at in range(0x60, 0x64)),
+    ),
+    "01.1": (
+        (0x00, 0x01),
+        (0x02, 0x03),
+        (0x04, 0x05),
+        (0x06, 0x07),
+        (0x08, 0x08),
+        (0x09, 0x0B),
+        (0x0E, 0x0E),
+        (0x40, 0x41),
+    ),
     "DD.0": ((0x04, 0x05), (0x10, 0x27), (0x30, 0x33), (0x3C, 0x3D)),
 }
 TARGETS = {  # what answers, as in a log
-    "confadd": "the configuration address", "reset": "reset control", "elcr": "edge and level control", "pic0": "the master 8259A",
-    "pic1": "the slave 8259A", "vec0": "a vector of the master", "vec1": "a vector of the slave", "spur0": "level 7 of the master",
-    "spur1": "level 7 of the slave", "pit": "the 8254", "sys": "port 61h", "clock": "the clock", "kbd": "the keyboard controller's "
-    "socket", "ata": "the disk", "com1": "COM1", "dram": "DRAM", "shadow": "a shadow window", "smram": "SMRAM", "rom": "the ROM",
-    "card": "a card", "abort": "nobody", "time": "a second", "pulse": "pulses of the 8254", "wire": "INTA# of a card",
-    "irq": "a line", "bad": "a bad sector",
+    "confadd": "the configuration address",
+    "reset": "reset control",
+    "elcr": "edge and level control",
+    "pic0": "the master 8259A",
+    "pic1": "the slave 8259A",
+    "vec0": "a vector of the master",
+    "vec1": "a vector of the slave",
+    "spur0": "level 7 of the master",
+    "spur1": "level 7 of the slave",
+    "pit": "the 8254",
+    "sys": "port 61h",
+    "clock": "the clock",
+    "kbd": "the keyboard controller's " "socket",
+    "ata": "the disk",
+    "com1": "COM1",
+    "dram": "DRAM",
+    "shadow": "a shadow window",
+    "smram": "SMRAM",
+    "rom": "the ROM",
+    "card": "a card",
+    "abort": "nobody",
+    "time": "a second",
+    "pulse": "pulses of the 8254",
+    "wire": "INTA# of a card",
+    "irq": "a line",
+    "bad": "a bad sector",
 }
 DENIALS = {
-    "00.0.5": "a PAM register", "00.0.67": "DRB7", "00.0.68": "FDHC", "00.0.72": "SMRAM", "01.0.4E": "XBCS", "01.1.04": "the "
-    "command of 01.1", "01.1.40": "IDETIM", "DD.0.04": "a card's command", "DD.0.30": "an expansion ROM's register",
-    "confadd": "the configuration address", "none": "no register",
+    "00.0.5": "a PAM register",
+    "00.0.67": "DRB7",
+    "00.0.68": "FDHC",
+    "00.0.72": "SMRAM",
+    "01.0.4E": "XBCS",
+    "01.1.04": "the " "command of 01.1",
+    "01.1.40": "IDETIM",
+    "DD.0.04": "a card's command",
+    "DD.0.30": "an expansion ROM's register",
+    "confadd": "the configuration address",
+    "none": "no register",
 }
 EXAMPLES = 3
 
@@ -65,7 +119,11 @@ def marks_of(entry: Entry) -> set[tuple[str, str]]:
     """What an entry reaches, as kind and name."""
     found: set[tuple[str, str]] = set()
     for function, at in registers_of(entry):
-        found.update(("register", f"{function}.{first:02X}") for first, last in REGISTERS.get(function, ()) if first <= at <= last)
+        found.update(
+            ("register", f"{function}.{first:02X}")
+            for first, last in REGISTERS.get(function, ())
+            if first <= at <= last
+        )
     for target, denial in entry.replies:
         found.add(("target", target.partition(":")[0]))
         register = f"{with_card(denial[:4])}{denial[4:]}" if denial[2:3] == "." else denial
@@ -90,8 +148,11 @@ def rows(cases: Sequence[Case], images: pathlib.Path) -> list[Row]:
         for entry in answers_of(case.script(images)):
             for mark in marks_of(entry):
                 reached.setdefault(mark, {})[case.name] = None
-    named = [("register", f"{function}.{first:02X}", register_name(f"{function.replace('DD', '02')}.{first:02X}"))
-             for function, registers in REGISTERS.items() for first, _ in registers]
+    named = [
+        ("register", f"{function}.{first:02X}", register_name(f"{function.replace('DD', '02')}.{first:02X}"))
+        for function, registers in REGISTERS.items()
+        for first, _ in registers
+    ]
     named += [("target", name, what) for name, what in TARGETS.items()]
     named += [("denial", name, what) for name, what in DENIALS.items()]
     return [Row(kind, name, what, tuple(reached.get((kind, name), ()))) for kind, name, what in named]

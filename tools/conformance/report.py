@@ -1,4 +1,5 @@
 """What conform says: a line a case, each cause once with its shortest script, and the same as JSON."""
+import itertools
 import pathlib
 import re
 from dataclasses import dataclass
@@ -10,8 +11,13 @@ from .run import Found, Result
 from .shrink import Shown
 
 WHO_IS_RIGHT = {
-    DATASHEET: "the board is right", CHOICE: "a choice of the board", OTHER: "the monitor is right", EITHER: "both may be",
-    ABSENT: "not modelled by the board", VIEW: "it comes of how the monitor was asked", DATE: "a date",
+    DATASHEET: "the board is right",
+    CHOICE: "a choice of the board",
+    OTHER: "the monitor is right",
+    EITHER: "both may be",
+    ABSENT: "not modelled by the board",
+    VIEW: "it comes of how the monitor was asked",
+    DATE: "a date",
 }
 MOST_CASES_NAMED = 4
 
@@ -37,8 +43,11 @@ class Report:
         agree, left = self.count("agrees"), self.count("left out")
         values = sum(result.asked.values for result in self.results)
         known = len(self.found) - len(self.new)
-        return (f"{len(self.results)} cases, {values} values: {agree} cases agree, {len(self.results) - agree - left} differ, "
-                f"{left} left out; {len(self.found)} causes" + (f", {known} known" if known else ""))
+        return (
+            f"{len(self.results)} cases, {values} values: {agree} cases agree, "
+            f"{len(self.results) - agree - left} differ, {left} left out; "
+            f"{len(self.found)} causes" + (f", {known} known" if known else "")
+        )
 
     def in_order(self) -> list[Found]:
         """The causes by who is right, each kind by its first case."""
@@ -77,20 +86,26 @@ def last_line(shown: Shown) -> str:
     return f"{shown.script.statements[-1]} = {given}, board {entry.value} ({replies})"
 
 
+def folded(statements: Sequence[str]) -> list[str]:
+    """The lines of a script, where what is said several times in a row is said once, as in a case."""
+    runs = [(statement, len(list(run))) for statement, run in itertools.groupby(statements)]
+    return [statement if count == 1 else f"{count} * {statement}" for statement, count in runs]
+
+
 def cause_lines(found: Found, known: frozenset[str]) -> Iterator[str]:
     """A cause with its shortest script."""
     mark = " (known)" if found.cause.name in known else ""
     again = {True: "", False: " (not again on a fresh machine)", None: ""}[found.again]
     yield f"{found.cause.name}{mark}{again}: {found.cause.what}"
     yield f"  {right_by(found.cause)}; in {cases_named(found)}"
-    for statement in found.shown.script.statements[:-1]:
-        yield f"    {statement}"
+    for line in folded(found.shown.script.statements[:-1]):
+        yield f"    {line}"
     yield f"    {last_line(found.shown)}"
 
 
 def script_texts(shown: Shown) -> tuple[str, str]:
-    """A script of `board` with the values that the monitor gave, as tools/from-trace writes them. What is no statement of a
-    script stands there as a comment."""
+    """A script of `board` with the values that the monitor gave, as tools/from-trace writes them. What is no
+    statement of a script stands there as a comment."""
     lines, values, number = shown.script.setup.head(), list[str](), 0
     for statement, entry, answer in zip(shown.script.statements, shown.asked.entries, shown.asked.answers):
         if re.match("receive|bus_master", statement) or entry.statement == "second":
@@ -107,23 +122,54 @@ def script_texts(shown: Shown) -> tuple[str, str]:
 
 
 def result_item(result: Result) -> dict[str, object]:
-    differs = [{"statement": it.index + 1, "monitor": it.given, "board": it.entry.value, "cause": it.cause.name, "place": it.place}
-               for it in result.wrong]
-    return {"case": result.case.name, "device": result.case.device, "rule": result.case.rule, "said": result.said,
-            "values": result.asked.values, "left_out": result.asked.left_out,
-            "statements": result.asked.script.statements, "differs": differs}
+    differs = [
+        {
+            "statement": it.index + 1,
+            "monitor": it.given,
+            "board": it.entry.value,
+            "cause": it.cause.name,
+            "place": it.place,
+        }
+        for it in result.wrong
+    ]
+    return {
+        "case": result.case.name,
+        "device": result.case.device,
+        "rule": result.case.rule,
+        "said": result.said,
+        "values": result.asked.values,
+        "left_out": result.asked.left_out,
+        "statements": result.asked.script.statements,
+        "differs": differs,
+    }
 
 
 def cause_item(found: Found, known: frozenset[str]) -> dict[str, object]:
     shown = found.shown
     setup = shown.script.setup.lines()[1:-1]
-    return {"cause": found.cause.name, "kind": found.cause.kind, "by": found.cause.by,
-            "what": found.cause.what, "known": found.cause.name in known, "again": found.again, "cases": found.cases, "machine": setup,
-            "script": shown.script.statements, "monitor": shown.difference.given, "board": shown.difference.entry.value,
-            "answered": [list(it) for it in shown.difference.entry.replies], "place": shown.difference.place}
+    return {
+        "cause": found.cause.name,
+        "kind": found.cause.kind,
+        "by": found.cause.by,
+        "what": found.cause.what,
+        "known": found.cause.name in known,
+        "again": found.again,
+        "cases": found.cases,
+        "machine": setup,
+        "script": shown.script.statements,
+        "folded": folded(shown.script.statements),
+        "monitor": shown.difference.given,
+        "board": shown.difference.entry.value,
+        "answered": [list(it) for it in shown.difference.entry.replies],
+        "place": shown.difference.place,
+    }
 
 
 def json_item(report: Report, about: Optional[dict[str, object]] = None) -> dict[str, object]:
     """All of a run."""
-    return {**(about or {}), "summary": report.summary, "cases": [result_item(it) for it in report.results],
-            "causes": [cause_item(it, report.known) for it in report.in_order()]}
+    return {
+        **(about or {}),
+        "summary": report.summary,
+        "cases": [result_item(it) for it in report.results],
+        "causes": [cause_item(it, report.known) for it in report.in_order()],
+    }

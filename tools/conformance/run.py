@@ -52,8 +52,13 @@ class Found:
     again: Optional[bool] = None  # whether it was there on a fresh machine too, where that was tried
 
 
-def results_of(adapters: Adapters, cases: Iterable[Case], images: pathlib.Path, rom: Optional[pathlib.Path] = None,
-               view: str = "") -> Iterator[Result]:
+def results_of(
+    adapters: Adapters,
+    cases: Iterable[Case],
+    images: pathlib.Path,
+    rom: Optional[pathlib.Path] = None,
+    view: str = "",
+) -> Iterator[Result]:
     """The results of cases, in their order."""
     left = iter(cases)
     some = iter(lambda: list(itertools.islice(left, AT_ONCE)), [])
@@ -67,8 +72,8 @@ def results_of(adapters: Adapters, cases: Iterable[Case], images: pathlib.Path, 
 
 
 def causes_of(adapters: Adapters, results: Sequence[Result]) -> list[Found]:
-    """The causes behind the differences, in the order in which they were found, each made small from the case that shows it
-    after the fewest statements."""
+    """The causes behind the differences, in the order in which they were found, each made small from the case that
+    shows it after the fewest statements."""
     shown_by: dict[Reason, dict[str, tuple[int, Asked]]] = collections.defaultdict(dict)
     for result in results:
         for it in result.differences:

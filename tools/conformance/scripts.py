@@ -4,7 +4,8 @@ A statement is one of docs/FORMATS.md without the processor's number, or one of 
 
     second                              a second of the clock passes
     receive 41                          COM1 receives a byte
-    bus_master in 00002000 5 1          sector 5 and so on, 1 in all, go to memory by the table at 2000h; `out` to the disk
+    bus_master in 00002000 5 1          sector 5 and so on, 1 in all, go to memory by the table at 2000h; `out` to the
+    disk
 """
 import pathlib
 import re
@@ -31,12 +32,27 @@ class Setup:
     def lines(self) -> list[str]:
         """As an adapter reads it."""
         disk = [f"disk {self.disk.resolve()}"] if self.disk else []
-        return [BEGIN, f"memory {self.memory}", f"rom {self.rom.resolve()}", *disk, *(f"card {it}" for it in self.cards), PHASE]
+        return [
+            BEGIN,
+            f"memory {self.memory}",
+            f"rom {self.rom.resolve()}",
+            *disk,
+            *(f"card {it}" for it in self.cards),
+            PHASE,
+        ]
 
     def head(self) -> list[str]:
         """The first lines of the script that `board` reads, which names the images without their folder."""
         disk = [f"disk {self.disk.name}"] if self.disk else []
-        return [BEGIN, "cpus 1", f"memory {self.memory}", f"rom {self.rom.name}", *disk, *(f"card {it}" for it in self.cards), PHASE]
+        return [
+            BEGIN,
+            "cpus 1",
+            f"memory {self.memory}",
+            f"rom {self.rom.name}",
+            *disk,
+            *(f"card {it}" for it in self.cards),
+            PHASE,
+        ]
 
 
 @dataclass(frozen=True)
@@ -79,15 +95,19 @@ _HEX = "[0-9A-Fa-f]"
 _NUMBER = "(?:0|[1-9][0-9]{0,8})"
 _BYTES = {"b": 2, "w": 4, "d": 8, "q": 16}
 _ADDRESS = f"{_HEX}{{8}}"
-_FORMS = re.compile("|".join([
-    rf"[rf] [bwdq] {_ADDRESS}(?: smm)?",
-    *(rf"w {width} {_ADDRESS} {_HEX}{{{count}}}(?: smm)?" for width, count in _BYTES.items()),
-    rf"in [bwd] {_HEX}{{4}}",
-    *(rf"out {width} {_HEX}{{4}} {_HEX}{{{count}}}" for width, count in _BYTES.items() if width != "q"),
-    rf"ack|second|pulse {_NUMBER}|wire [2-9] [01]|irq {_NUMBER} [01]|bad {_NUMBER}|receive {_HEX}{{2}}",
-    r"moment [0-9]{4}-[0-9]{2}-[0-9]{2}T[0-9]{2}:[0-9]{2}:[0-9]{2}",
-    rf"bus_master (?:in|out) {_ADDRESS} {_NUMBER} {_NUMBER}",
-]))
+_FORMS = re.compile(
+    "|".join(
+        [
+            rf"[rf] [bwdq] {_ADDRESS}(?: smm)?",
+            *(rf"w {width} {_ADDRESS} {_HEX}{{{count}}}(?: smm)?" for width, count in _BYTES.items()),
+            rf"in [bwd] {_HEX}{{4}}",
+            *(rf"out {width} {_HEX}{{4}} {_HEX}{{{count}}}" for width, count in _BYTES.items() if width != "q"),
+            rf"ack|second|pulse {_NUMBER}|wire [2-9] [01]|irq {_NUMBER} [01]|bad {_NUMBER}|receive {_HEX}{{2}}",
+            r"moment [0-9]{4}-[0-9]{2}-[0-9]{2}T[0-9]{2}:[0-9]{2}:[0-9]{2}",
+            rf"bus_master (?:in|out) {_ADDRESS} {_NUMBER} {_NUMBER}",
+        ]
+    )
+)
 
 
 def is_statement(text: str) -> bool:

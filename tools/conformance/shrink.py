@@ -1,7 +1,7 @@
 """A shorter script that shows the same difference.
 
-It becomes shorter by whole steps, since single statements would leave devices half initialised and show other differences;
-the first step, the prologue, goes last and only where nothing of it matters.
+It becomes shorter by whole steps, since single statements would leave devices half initialised and show other
+differences; the first step, the prologue, goes last and only where nothing of it matters.
 """
 import re
 from dataclasses import dataclass, replace
@@ -54,7 +54,9 @@ def up_to_difference(asked: Asked, wanted: Wanted) -> Optional[Shown]:
         if not left:
             break
     script, end = Script.of(asked.script.setup, steps), found.index + 1
-    return Shown(script, replace(asked, script=script, entries=asked.entries[:end], answers=asked.answers[:end]), found)
+    return Shown(
+        script, replace(asked, script=script, entries=asked.entries[:end], answers=asked.answers[:end]), found
+    )
 
 
 class Shrinking:
