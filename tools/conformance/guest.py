@@ -12,8 +12,8 @@ from .scripts import WIDTHS, Setup
 from .serving import MonitorEnded
 
 HELLO = 0x4E47_4121
-IN, OUT, READ, WRITE, SMM, SMM_READ, SMM_WRITE = 1, 4, 7, 10, 13, 14, 17  # what is asked, of a byte; then words,
-doublewords
+# What is asked, of a byte; of a word it is 1 more, of a doubleword 2.
+IN, OUT, READ, WRITE, SMM, SMM_READ, SMM_WRITE = 1, 4, 7, 10, 13, 14, 17
 WIDTH_NUMBERS = {"b": 0, "w": 1, "d": 2}
 ANSWER_BYTES = 4
 COM1 = range(0x3F8, 0x400)

@@ -4,8 +4,8 @@
         for answers in adapter.ask([script, other_script]):
             ...
 
-An answer is what was read, in hexadecimal; `-` where nothing is read; `?` where the statement cannot be done; or `!
-why` at the statement where the monitor ended or hung, which is the last answer of its script. `end` is answered with
+An answer is what was read, in hexadecimal; `-` where nothing is read; `?` where the statement cannot be done; or
+`! why` at the statement where the monitor ended or hung, which is the last answer of its script. `end` is answered with
 `end`. What is none of these, or does not come in time, is an AdapterFault: it says what was asked and what came.
 """
 import collections

@@ -4,8 +4,7 @@ A statement is one of docs/FORMATS.md without the processor's number, or one of 
 
     second                              a second of the clock passes
     receive 41                          COM1 receives a byte
-    bus_master in 00002000 5 1          sector 5 and so on, 1 in all, go to memory by the table at 2000h; `out` to the
-    disk
+    bus_master in 00002000 5 1          1 sector from sector 5 on goes to memory by the table at 2000h; `out`: to the disk
 """
 import pathlib
 import re
