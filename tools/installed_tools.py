@@ -10,7 +10,7 @@ BEHIND = ("say-why", "running.sh")  # what the script calls
 PLACE = "libexec/board"
 SCRIPTS = {"board": "installed-board", "board-conform": "installed-conform"}  # in the place of links
 # What a tool needs and does not import, below the root.
-BESIDE = {"conform": ("tools/adapters", "bindings/python/board440fx", "examples/r64", "examples/r256", "examples/d4")}
+BESIDE = {"conform": ("tools/adapters", "bindings/python/board440fx")}
 IMPORT = re.compile(r"^\s*(?:from|import)\s+(\w+)", re.M)
 
 

@@ -5,14 +5,17 @@ The library for C is found as the Python binding finds it: in $BOARD_DIR, by pkg
 import pathlib
 import sys
 
-from board_texts import ROOT, Entry, entry_of
+from board_texts import ROOT, Entry, entry_of, stop
 
 from .scripts import Script, Setup
 
 sys.path.insert(0, str(ROOT / "bindings/python"))
-from board440fx import Board, BoardError, Event  # noqa: E402
+try:
+    from board440fx import Board, BoardError, Event
+except ModuleNotFoundError:
+    stop(2, "the Python module board440fx is not there: pip install the repository's bindings/python")
 
-from .bus_master import done_by  # noqa: E402
+from .bus_master import done_by
 
 MOST_EVENTS_KEPT = 1 << 16
 _events: dict[str, Event] = {}

@@ -146,7 +146,7 @@ def result_item(result: Result) -> dict[str, object]:
 
 def cause_item(found: Found, known: frozenset[str]) -> dict[str, object]:
     shown = found.shown
-    setup = shown.script.setup.lines()[1:-1]
+    setup = shown.script.setup.head()[2:-1]
     return {
         "cause": found.cause.name,
         "kind": found.cause.kind,
