@@ -6,7 +6,8 @@ from .words import EVEN_PORTS, READ_REQUESTS, READ_SERVICE, Steps, requests, sev
 
 LINES = (1, 3, 4, 5, 6, 7, 9, 10, 11, 12, 15)
 ICW4, MODES = ("01", "01", "01", "03", "11", "1D"), (0, 2, 3, 0, 2, 3, 1, 4, 5)
-ENDS, ROTATIONS, SPECIAL_MASKS, POLL = (0x20, 0x60), (0xA0, 0xE0, 0xC0, 0x80, 0, 0x40), (0x68, 0x48), 0x0C
+SPECIAL_MASKS, POLL = (0x68, 0x68, 0x48), 0x0C
+WITH_LEVEL, COMMANDS = (0x60, 0xE0, 0xC0), (0x20,) * 5 + (0x60,) * 3 + (0xA0, 0xA0, 0xE0, 0xC0, 0x80, 0x00, 0x40)
 ELCR_BITS = (0xF8, 0xDE)
 COUNTS = (0, 1, 2, 3, 5, 0x100)
 LATCH, STATUS = 0x00, 0xE0
@@ -24,15 +25,17 @@ def interrupts(rng: random.Random) -> Steps:
         levels[number] ^= 1
         return [[f"irq {number} {levels[number]}"]]
 
-    def even(*values: int) -> Steps:
-        return [outb(rng.choice(EVEN_PORTS), *values)]
-
     def command() -> Steps:
-        return even(rng.choice((*ENDS * 3, *ROTATIONS)) | rng.randrange(8))
+        word = rng.choice(COMMANDS)
+        return [outb(rng.choice(EVEN_PORTS), word | rng.randrange(8) if word in WITH_LEVEL else word)]
 
     def mask() -> Steps:
         port = rng.choice(EVEN_PORTS) + 1
         return [outb(port, rng.choice((0, 0, rng.getrandbits(8)))), [f"in b {port:04X}"]]
+
+    def special_mask() -> Steps:
+        port = rng.choice(EVEN_PORTS)
+        return [[*outb(port + 1, 1 << rng.randrange(8)), *outb(port, rng.choice(SPECIAL_MASKS))]]
 
     def poll() -> Steps:
         port = rng.choice(EVEN_PORTS)
@@ -60,7 +63,7 @@ def interrupts(rng: random.Random) -> Steps:
         (4, lambda: [["ack"]]),
         (3, command),
         (1, mask),
-        (1, lambda: even(rng.choice(SPECIAL_MASKS))),
+        (1.5, special_mask),
         (1, poll),
         (0.3, again),
         (0.3, sense),
@@ -92,6 +95,9 @@ def timer(rng: random.Random) -> Steps:
             ([outb(0x43, number << 6 | LATCH) + reads()], [outb(0x43, STATUS | 2 << number) + reads()[:1]], [reads()])
         )
 
+    def held() -> Steps:
+        return [outb(0x43, number << 6 | LATCH), *pulses(), reads()]
+
     def beside() -> Steps:
         if number == 2:
             return [outb(0x61, rng.randrange(4)), ["in b 0061"]]
@@ -99,7 +105,10 @@ def timer(rng: random.Random) -> Steps:
 
     prologue = pic() if number == 0 else outb(0x61, 1) if number == 2 else []
     first = set_up()
-    return [prologue + first, *several(rng, 6, 16, [(2, lambda: [set_up()]), (5, pulses), (5, read), (2, beside)])]
+    return [
+        prologue + first,
+        *several(rng, 6, 16, [(2, lambda: [set_up()]), (5, pulses), (5, read), (1, held), (2, beside)]),
+    ]
 
 
 def shown(value: int, form: str) -> str:
