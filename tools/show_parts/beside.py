@@ -13,9 +13,9 @@ def how_of(entry: Entry, given: Value) -> str:
     return "not" if given.why else "agree" if entry.value == given.value else "differ"
 
 
-def beside(file: pathlib.Path, script: str, log: list[Entry], excepted: list[str]) -> dict[str, Any]:
+def beside(file: pathlib.Path, script: str, log: list[Entry], excepted: list[str], rom: bytes) -> dict[str, Any]:
     """The values by statement, the differences by kinds, and the counts by what answered."""
-    comparison = Comparison(installed_of(script), excepted)
+    comparison = Comparison(installed_of(script), excepted, rom)
     values = values_of(file)
     if not values:
         stop(4, f"{file}: no value: looked for lines `STATEMENT VALUE`, as `158 1AF4 @180`")
