@@ -309,6 +309,14 @@ MEMORY = [
     Case("rom-repeats", [*put("01.0", 0x4E, 0x43), "r b 000E0001"], "00", ["r b FFFFFFF0"], "00"),
     Case("other-rom", ["r b FFFFFFF0"], "00", [*put("01.0", 0x4E, 0x43), "r b 000E0001"], "00"),
     Case("past-memory", [*put("00.0", 0x67, 4), "r b 01000000"], "00", ["r b 00001000"], "55"),
+    Case("pam-open", [*OPEN_C0000, "w b 000C0000 5A", "r b 000C0000"], "FF", [*OPEN_C0000, "r b 000C0000"], "55"),
+    Case(
+        "smram-open",
+        [*put("00.0", 0x72, 0x0A), "w b 000A0000 5A smm", "r b 000A0000 smm"],
+        "FF",
+        [*put("00.0", 0x72, 0x0A), "r b 000A0000 smm"],
+        "55",
+    ),
     Case("zeros", ["r b 00001000"], "FF", ["w b 00001000 5A", "r b 00001000"], "FF"),
     Case("dram-keeps", ["w b 00001000 5A", "r b 00001000"], "00", ["r b 00001000"], "FF"),
     Case(

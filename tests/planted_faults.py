@@ -113,7 +113,8 @@ class Spoiled:
             )
             changed = self.fault.change(probe, self.state)
             if name in self.meant and changed is not None and changed.value != probe.value:
-                shown[k] = self.meant[name]
+                hidden = changed.value ^ probe.value
+                shown[k] = shown[k] & ~hidden | self.meant[name] & hidden
         return bytes(shown[::-1]).hex().upper()
 
 

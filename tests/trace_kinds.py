@@ -79,7 +79,17 @@ class Kinds(Case):
         ("", "0 r b FFFE0012", "12", DATASHEET, "82371SB, XBCS"),
         ("", "0 r b 00001000", "FF", CHOICE, "Memory"),
         ("0 w b 00001000 5A\n", "0 r b 00001000", "00", DATASHEET, "82441FX, DRB"),
+        # what was written while it was shut did not reach the DRAM
+        ("0 w b 000F4543 E7\n" + SELECT.format("80000058") + "0 out b 0CFD 20\n", "0 r b 000F4543", "00", DATASHEET,
+         "82441FX, PAM"),
+        ("0 w b 000A0000 11\n" + SELECT.format("80000070") + "0 out b 0CFE 4A\n", "0 r b 000A0000", "11", DATASHEET,
+         "82441FX, SMRAM"),
+        ("0 w b 00800000 08\n" + SELECT.format("80000064") + "0 out b 0CFF 02\n", "0 r b 00800000", "08", DATASHEET,
+         "82441FX, DRB"),
+        (SELECT.format("8000084C") + "0 out b 0CFE 43\n", "0 r b 000E0001", "00", DATASHEET, "82371SB, XBCS"),
         # ports
+        ("", "0 in b 0CF8", "00", DATASHEET, "PCI Local Bus 2.1, Configuration Mechanism #1"),
+        ("", "0 in b 0070", "17", CHOICE, "Clock"),
         ("", "0 in b 0092", "02", ABSENT, "a device that the other has at this port"),
         ("", "0 in b 0064", "1C", ABSENT, "keyboard"),
         (SELECT.format("8000084C") + "0 out b 0CFE 00\n", "0 in b 0070", "00", DATASHEET, "82371SB, XBCS"),

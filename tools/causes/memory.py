@@ -44,6 +44,13 @@ def is_dram_behind_rom(byte: "Byte") -> bool:
     return SHADOWED <= byte.place < TOP_OF_SHADOW and byte.is_dram and byte.state.has_windows
 
 
+def is_kept_out(byte: "Byte") -> bool:
+    """Whether the other gave what is read where nobody or the ROM answers, or not what was written."""
+    rom = byte.state.rom
+    is_rom = byte.target == "shadow" and bool(rom) and byte.given == rom[byte.place % len(rom)] != 0
+    return byte.is_memory and (byte.given == 0xFF or is_rom or byte.place in byte.state.landed)
+
+
 def is_map_lost(byte: "Byte") -> bool:
     """Whether a soft reset came after the map's registers were written, and what was given is what the ROM has, or
     what is read where nobody answers."""
@@ -182,6 +189,22 @@ ROWS = [
         "a transfer moves as many words as the regions of its table have, or the sectors",
         TAKEN,
         when=lambda it: it.is_memory and it.state.has_mastered and it.place not in it.state.written,
+    ),
+    Row(
+        "pam-open",
+        DATASHEET,
+        PAM,
+        "a window that is open sends reads and writes to the DRAM behind it",
+        "shadow",
+        when=is_kept_out,
+    ),
+    Row(
+        "smram-open",
+        DATASHEET,
+        SMRAM,
+        "an access that SMRAM is open to reaches the DRAM",
+        "smram",
+        when=is_kept_out,
     ),
     Row(
         "zeros",

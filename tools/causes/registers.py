@@ -68,7 +68,7 @@ def is_base_of_another_size(byte: "Byte") -> bool:
 
 
 def is_reserved_in_confadd(byte: "Byte") -> bool:
-    return bool(byte.differing & {0: 0x03, 3: 0x7F}.get(byte.at, 0))
+    return not byte.differing & ~{0: 0x03, 3: 0x7F}.get(byte.at, 0)
 
 
 ROWS = [
@@ -361,20 +361,20 @@ ROWS = [
         when=lambda it: 0 < it.state.confadd_written < it.state.soft_reset,
     ),
     Row(
-        "confadd-narrow",
-        DATASHEET,
-        "PCI Local Bus 2.1, Configuration Mechanism #1",
-        "only a doubleword at 0CF8h is the configuration address: narrower accesses pass on to the bus",
-        "confadd",
-        when=lambda it: it.state.is_confadd_written_narrow,
-    ),
-    Row(
         "confadd-reserved",
         DATASHEET,
         "PCI Local Bus 2.1, Configuration Mechanism #1",
         "bits 30 to 24 and 1 to 0 of the configuration address read 0",
         "confadd",
         when=is_reserved_in_confadd,
+    ),
+    Row(
+        "confadd-narrow",
+        DATASHEET,
+        "PCI Local Bus 2.1, Configuration Mechanism #1",
+        "only a doubleword at 0CF8h is the configuration address: narrower accesses pass on to the bus",
+        "confadd",
+        when=lambda it: it.state.is_confadd_written_narrow,
     ),
     Row(
         "confadd", DATASHEET, "82441FX, CONFADD: Configuration Address Register", "it keeps what is written", "confadd"

@@ -1,7 +1,7 @@
 """Areas of the address map: configuration space, shadow windows, SMRAM, row boundaries, the ROM, and cards."""
 import random
 
-from ..case_words import address, get, put, reset
+from ..case_words import address, cmos, get, put, reset
 from .words import WIDTH_LETTERS, Steps, hexed, memory_access, put_byte, several
 
 OFFSETS = (4, 5, 6, 7, 0x40, 0x41, 0x4E, 0x4F, 0x60, 0x63, 0x59, 0x68, 0x72)
@@ -97,9 +97,10 @@ def rom(rng: random.Random) -> Steps:
         return memory_access(rng, rng.choice((*ROM_PLACES, rng.randrange(0xFFF0_0000, 1 << 32))))
 
     def port() -> Steps:
-        return [[rng.choice(("in b 0070", "in b 0060", "in b 0064"))]]
+        memory = [cmos("40", f"{rng.randrange(1, 0x100):02X}"), cmos("40")]
+        return rng.choice((memory, memory[1:], [["in b 0060"]], [["in b 0064"]]))
 
-    return [[], *several(rng, 8, 18, [(4, select), (5, access), (1, port)])]
+    return [[], *several(rng, 8, 18, [(4, select), (5, access), (2, port)])]
 
 
 def cards(rng: random.Random) -> Steps:
