@@ -12,7 +12,7 @@
 #include <stdlib.h>
 #include <string.h>
 
-enum { MOST_FIELDS = 800, MOST_BYTES = 1 << 15, LINE = 512, ROM = 0x10000, DISK = 1024, MIB = 1, FRAME = 28 };
+enum { MOST_FIELDS = 800, MOST_BYTES = 1 << 15, LINE = 512, ROM = 0x10000, DISK = 1024, MIB = 1, FRAME = 28, BASE_BYTE = 19 };
 enum { HOST = 0, ISA = 0x800, IDE = 0x900, CARD_3 = 0x1800, CARD_5 = 0x2800 };
 
 typedef struct field {
@@ -354,9 +354,29 @@ static void compare(const char *which) {
     b = loaded;
 }
 
+/* A base of which the board keeps no bytes is K and 40h, of memory alone. */
+static void outside_bases(void) {
+    static uint8_t rom[ROM], saved[MOST_BYTES];
+    static const uint8_t sizes[] = {4, FRAME};
+    for (size_t k = 0; k < sizeof sizes; k++) {
+        board_card card = {.device = 3, .bases = 1, .base = {{BOARD_OUTSIDE, sizes[k]}}};
+        board one = {0}, other = {0};
+        size_t bytes = 0;
+        must("open", board_open(&one, MIB, &card, 1, rom, ROM, rom, 0));
+        must("save", board_save(&one, saved, sizeof saved, &bytes));
+        is("a base that the monitor keeps", saved[BASE_BYTE], 0x40u + sizes[k]);
+        must("load", board_load(&other, saved, bytes));
+        board_close(&other);
+        saved[BASE_BYTE] |= 0x80;
+        is("ports that the monitor keeps", board_load(&other, saved, bytes), BOARD_BAD_IMAGE);
+        board_close(&one);
+    }
+}
+
 int main(void) {
     char line[LINE];
     size_t step = 0;
+    outside_bases();
     first();
     while (fgets(line, sizeof line, stdin)) {
         if (line[0] == '#' || line[0] == '\n') continue;
