@@ -1,6 +1,6 @@
 /* The bytes of a running board: a board that was brought there by events is saved as the bytes of kept.fields, field by
- * field, and these bytes are loaded as that board. All fields there that may be taken for one another differ, so that a
- * writer and a reader that agree on another order of fields are found. The fields stand in the order of docs/FORMATS.md,
+ * field, and these bytes are loaded as that board. All fields there that may be taken for one another differ, so that
+ * a writer and a reader that agree on another order of fields are found. The fields stand in the order of docs/FORMATS.md,
  * "A running board", with values by hand from it and from the datasheets.
  *
  *   kept <kept.fields      exit status 1 where a field differs, which is told
@@ -12,7 +12,8 @@
 #include <stdlib.h>
 #include <string.h>
 
-enum { MOST_FIELDS = 800, MOST_BYTES = 1 << 15, LINE = 512, ROM = 0x10000, DISK = 1024, MIB = 1, FRAME = 28, BASE_BYTE = 19 };
+enum { MOST_FIELDS = 800, MOST_BYTES = 1 << 15, LINE = 512 };
+enum { ROM = 0x10000, DISK = 1024, MIB = 1, FRAME = 28, BASE_BYTE = 19 };
 enum { HOST = 0, ISA = 0x800, IDE = 0x900, CARD_3 = 0x1800, CARD_5 = 0x2800 };
 
 typedef struct field {
@@ -110,8 +111,8 @@ static void open_board(void) {
     static uint8_t rom[ROM], disk[DISK];
     board_card cards[2] = {
         {.device = 3, .rom = 11, .bases = 2, .base = {{BOARD_MEMORY_BASE, 4}, {BOARD_IO_BASE, 3}}, .vendor_id = 0x1AF4,
-            .device_id = 0x1001, .revision_id = 0x5C, .class_code = 0x018002, .subsystem_vendor_id = 0x1BF5, .subsystem_id = 0x0203,
-            .interrupt_pin = 4},
+            .device_id = 0x1001, .revision_id = 0x5C, .class_code = 0x018002, .subsystem_vendor_id = 0x1BF5,
+            .subsystem_id = 0x0203, .interrupt_pin = 4},
         {.device = 5, .vga = 1, .bases = 1, .base = {{BOARD_OUTSIDE, FRAME}}},
     };
     rom[0x1007] = 0xC7;
