@@ -1,10 +1,9 @@
 -- What a board is fitted with, as bytes. Of the ROM and of the disk the pages that are not all zeros.
-use Rattle.std.specs.Prelude.{ℕ, ◌≡◌, ◌-◌, ◌==◌, ◌||◌, ◌++◌, Bool, if◌then◌else◌, List, [], ◌∷◌, length, flat_map, Option}
-use Rattle.std.specs.Prelude.{Some, None, unwrap_or, Result, Ok, Err}
+use Rattle.std.specs.Prelude.{ℕ, ◌==◌, ◌||◌, ◌++◌, Bool, if◌then◌else◌, List, [], ◌∷◌, length, flat_map, Option}
+use Rattle.std.specs.Prelude.{Some, None, unwrap_or}
 use Rattle.board_prelude.specs.Common.{w8, w32, to_le_bytes, most_mib, most_card_memory, Setup, is_rom_size}
 use Rattle.board_prelude.specs.Common.{is_disk_length}
-use Rattle.byte_fields.specs.declared.fault.Fault.{Fault}
-use Rattle.byte_fields.specs.Fields.{Failed, Reading, gives, ◌>>=◌, within, number_where}
+use Rattle.byte_fields.specs.Fields.{Reading, gives, ◌>>=◌, within, number_where}
 use Rattle.byte_fields.specs.Pages.{memory_bytes, memory_fields}
 use Rattle.image_writer.specs.ImageBytes.{card_bytes}
 use Rattle.board_chipset.specs.Given.{fitted_with, unless_left}
@@ -57,16 +56,10 @@ setup_bytes setup =
 abbrev pub disk_unless_left : (left : Bool) → Setup → Setup
 disk_unless_left left setup = fitted_with (unless_left left (bytes_on setup.disk)) setup
 
--- ---- memory, read in parts
+-- ---- memory, read in two parts
 
--- what is read of this many bytes of memory, after those that were read already
-abbrev pub left_of : (size : ℕ) (read : List ℕ) → Reading (List ℕ)
-left_of size read = do
-  later ← memory_fields (size - length read)
-  gives (read ++ later)
-
--- more of the memory was read: what is read of it in all is the same
-abbrev pub IsMore : (size : ℕ) (before : List ℕ) (from : List ℕ) → Result (Unit {0}) Fault → (now : List ℕ) (after : List ℕ)
-    → Type 0
-IsMore size before from (Ok done) now after = left_of size now after ≡ left_of size before from
-IsMore size before from (Err fault) now after = Failed fault after (left_of size before from)
+unfoldable pub parts_fields : (first more : ℕ) → Reading (List ℕ)
+parts_fields first more = do
+  bytes ← memory_fields first
+  later ← memory_fields more
+  gives (bytes ++ later)

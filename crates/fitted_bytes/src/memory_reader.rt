@@ -1,53 +1,51 @@
-//! Reads memory by pages, and takes no more of it than the bytes can tell.
+//! Reads memory by pages, and takes no memory for pages that the bytes are too few to tell.
 
-ghost use Rattle.std.specs.Prelude.{◌≡◌, ◌++◌, ◌<◌, ◌/◌, ◌*◌, ◌-◌, ℕ, List, length, replicate, drop, OnOk};
-ghost use Rattle.byte_fields.specs.Fields.{Filled, Took};
-ghost use Rattle.byte_fields.specs.Pages.{memory_page, memory_fields};
-ghost use Rattle.fitted_bytes.specs.Setups.{IsMore};
+ghost use Rattle.std.specs.Prelude.{◌≡◌, ◌*◌, ◌-◌, ◌≤◌, replicate, length};
+ghost use Rattle.byte_fields.specs.Fields.{Filled};
+ghost use Rattle.byte_fields.specs.Pages.{memory_fields};
+ghost use Rattle.fitted_bytes.specs.Setups.{parts_fields};
 
-use byte_fields::{Bad, Fault, Fields, MEMORY_PAGE};
+use byte_fields::{Fault, Fields, MEMORY_PAGE};
 use std::alloc::Global;
 
-/// How much memory is taken at first for so many bytes: each page of them has a byte at least among those that are
-/// left.
-fn first_room(left: usize, size: usize) -> usize {
-    size.min(left.saturating_mul(MEMORY_PAGE))
+/// Reads so many bytes by pages.
+fn pages(alloc: Global, fields: &mut Fields, count: usize) -> Result<Vec<u8>, Fault>
+    ensures filled { Filled (λ bytes. bytes.items) result fields.new (memory_fields count fields.old) }
+{
+    let mut bytes = vec![in alloc; 0; count]?;
+    fields.pages(MEMORY_PAGE, &mut bytes)?;
+    Ok(bytes)
 }
 
-/// Reads whole pages, one after another, until less than a page of `size` bytes is left, and adds them.
-fn push_whole(fields: &mut Fields, size: usize, bytes: &mut Vec<u8>) -> Result<(), Fault>
-    ensures more { IsMore size bytes.old.items fields.old result bytes.new.items fields.new }
-    ensures few { OnOk result (size - length bytes.new.items < memory_page) }
+/// The same, and takes no memory where nothing is left to read.
+#[tactic(auto, using(crate::proofs::FittedFormat::none_left))]
+fn last_pages(alloc: Global, fields: &mut Fields, count: usize) -> Result<Vec<u8>, Fault>
+    ensures filled { Filled (λ bytes. bytes.items) result fields.new (memory_fields count fields.old) }
 {
-    let zeros = [0; MEMORY_PAGE];
-    while bytes.len() < size && size - bytes.len() >= MEMORY_PAGE {
-        let page = fields.page(&zeros)?.unwrap_or(&zeros);
-        bytes.extend_from_slice(page)?;
+    if count > 0 && fields.len() == 0 {
+        return Err(Fault::Bad);
     }
-    Ok(())
+    pages(alloc, fields, count)
 }
 
-/// Reads the last page, which is shorter, and adds it.
-fn push_last(fields: &mut Fields, size: usize, bytes: &mut Vec<u8>) -> Result<(), Fault>
-    requires few { size - length bytes.old.items < memory_page }
-    ensures more { IsMore size bytes.old.items fields.old result bytes.new.items fields.new }
-    ensures whole { OnOk result (size ≤ length bytes.new.items) }
+/// Reads bytes by pages, and then more.
+#[tactic(auto, unfolding(crate::specs::Setups::parts_fields))]
+fn parts(alloc: Global, fields: &mut Fields, first: usize, more: usize) -> Result<Vec<u8>, Fault>
+    ensures filled { Filled (λ bytes. bytes.items) result fields.new (parts_fields first more fields.old) }
 {
-    let mut page = [0; MEMORY_PAGE];
-    let count = size.saturating_sub(bytes.len());
-    fields.pages(MEMORY_PAGE, &mut page[..count])?;
-    bytes.extend_from_slice(&page[..count])?;
-    Ok(())
+    let mut bytes = pages(alloc, fields, first)?;
+    let later = last_pages(alloc, fields, more)?;
+    bytes.extend_from_slice(&later)?;
+    Ok(bytes)
 }
 
-/// Reads so many bytes by pages. Where the bytes that are left are too few to tell them, no more memory is taken than
-/// for the pages that they tell.
+/// Reads so many bytes by pages. Each page has a byte at least among those that are left, so no more memory is taken
+/// than for as many pages.
+#[tactic(auto, using(crate::proofs::FittedFormat::in_parts))]
 pub(crate) fn memory(alloc: Global, fields: &mut Fields, size: u32) -> Result<Vec<u8>, Fault>
     ensures filled { Filled (λ bytes. bytes.items) result fields.new (memory_fields size fields.old) }
 {
     let size = size as usize;
-    let mut bytes = Vec::with_capacity(alloc, first_room(fields.len(), size))?;
-    push_whole(fields, size, &mut bytes)?;
-    push_last(fields, size, &mut bytes)?;
-    Ok(bytes)
+    let first = (size / MEMORY_PAGE).min(fields.len()) * MEMORY_PAGE;
+    parts(alloc, fields, first, size - first)
 }
