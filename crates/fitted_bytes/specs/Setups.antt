@@ -55,11 +55,3 @@ setup_bytes setup =
 
 abbrev pub disk_unless_left : (left : Bool) → Setup → Setup
 disk_unless_left left setup = fitted_with (unless_left left (bytes_on setup.disk)) setup
-
--- ---- memory, read in two parts
-
-unfoldable pub parts_fields : (first more : ℕ) → Reading (List ℕ)
-parts_fields first more = do
-  bytes ← memory_fields first
-  later ← memory_fields more
-  gives (bytes ++ later)

@@ -3,7 +3,6 @@
 
 mod fitted;
 mod identities;
-mod memory_reader;
 mod setup_reader;
 mod setup_writer;
 
