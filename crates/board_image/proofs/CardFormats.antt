@@ -1,15 +1,17 @@
 -- The fields of cards.
 use Rattle.std.proofs.Common.{◌≡◌, ℕ, ◌+◌, ◌-◌, ◌*◌, ◌^◌, ◌<◌, ◌≤◌, List, [], ◌∷◌, length, Option, Some, refl, ◌↔◌, Bool, true}
+use Rattle.std.proofs.Common.{false, sym}
 use Rattle.std.proofs.Common.{arith, map, flat_map, sum_by, All, unwrap_or}
 use Rattle.board_prelude.proofs.Common.{AllByRecursion, flat_map-cons, recursion_from_All, sum_by-cons, sum_by-append}
 use Rattle.board_prelude.proofs.Common.{Base, FittedCard, IsBase, IsCard, IsExpansionRom, Rises, memory_of_cards}
-use Rattle.board_prelude.proofs.Common.{memory_size, nat_tests}
+use Rattle.board_prelude.proofs.Common.{memory_size, nat_tests, MemoryBase, IoBase, OutsideBase}
 use Rattle.std.proofs.lemmas.List.Elements.{All-from_recursion}
 use Rattle.std.proofs.lemmas.List.Concat.{flat_map_single}
+use Rattle.board_image.specs.Common.{base_in, base_of_byte, has_room}
 use Rattle.board_image.specs.Common.{base_byte, can_stand, card_bytes, rom_of, bases_fields, card_fields, cards_fields}
 use Rattle.byte_fields.proofs.Formats.{IsFormat, format_as, fields_format, ◌then◌, ◌&◌, last_field, many_format}
 use Rattle.byte_fields.proofs.Formats.{AreGood}
-use Rattle.byte_fields.proofs.Numbers.{flag_format, byte_format, byte_within, Ranges}
+use Rattle.byte_fields.proofs.Numbers.{flag_format, byte_format, byte_within, where_ok, Ranges}
 use Rattle.board_image.proofs.ImageLoops.{base_field, room_after, bases_loop, card_after, past_card, cards_loop}
 
 -- ---- bases
@@ -21,9 +23,36 @@ CanStand outside base = can_stand outside base ≡ true
 abbrev pub IsBaseIn : (outside : Bool) (room : ℕ) → Base → Type 0
 IsBaseIn outside room base = IsBase base × (memory_size base ≤ room) × CanStand outside base
 
+base_said : (outside : Bool) (room : ℕ) (base : Base) → IsBaseIn outside room base →
+    (base_byte base < 2 ^ 8) × (base_in outside room (base_byte base) ≡ Some base)
+base_said true room (MemoryBase bits) is = grind (arith, nat_tests)
+base_said true room (IoBase bits) is = grind (arith, nat_tests)
+base_said true room (OutsideBase bits) is = grind (arith, nat_tests)
+base_said false room (MemoryBase bits) is = grind (arith, nat_tests)
+base_said false room (IoBase bits) is = grind (arith, nat_tests)
+base_said false room (OutsideBase bits) is = grind (arith, nat_tests)
+
+room_is : (outside : Bool) (room : ℕ) (base : Base) → has_room outside room base ≡ true → IsBaseIn outside room base
+room_is true room (MemoryBase bits) is = grind (arith, nat_tests)
+room_is true room (IoBase bits) is = grind (arith, nat_tests)
+room_is true room (OutsideBase bits) is = grind (arith, nat_tests)
+room_is false room (MemoryBase bits) is = grind (arith, nat_tests)
+room_is false room (IoBase bits) is = grind (arith, nat_tests)
+room_is false room (OutsideBase bits) is = grind (arith, nat_tests)
+
+byte_again : (n : ℕ) → n < 2 ^ 8 → base_byte (base_of_byte n) ≡ n
+byte_again n below = grind (arith, nat_tests)
+
+base_told : (outside : Bool) (room n : ℕ) (base : Base) → n < 2 ^ 8 → base_in outside room n ≡ Some base →
+    (n ≡ base_byte base) × IsBaseIn outside room base
+base_told outside room n base below is =
+    let told = where_ok (has_room outside room (base_of_byte n)) (base_of_byte n) base is in
+    rw (← told.1) (sym (byte_again n below), room_is outside room (base_of_byte n) told.0)
+
 base_format : (outside : Bool) (room : ℕ) →
     IsFormat 1 (base_field outside room) (λ base. base_byte base ∷ []) (IsBaseIn outside room)
-base_format outside room = grind (arith, nat_tests, byte_format)
+base_format outside room =
+    byte_format base_byte (IsBaseIn outside room) (base_said outside room) (base_told outside room)
 
 -- bases that fit in the room
 abbrev pub AreBasesIn : (outside : Bool) (room : ℕ) → List Base → Type 0
