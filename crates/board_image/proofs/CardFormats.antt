@@ -80,7 +80,7 @@ bases_format outside room count few =
     (is.0, (bases_are outside bases room).1 (each, is.1.1, stand)))
     (λ bases good.
     let all = (bases_are outside bases room).0 good.1 in
-    (good.0, All-from_recursion IsBase bases all.0, all.1, All-from_recursion (CanStand outside) bases all.2))
+    (good.0, (All-from_recursion IsBase bases all.0, all.1, All-from_recursion (CanStand outside) bases all.2)))
     (λ bases good. flat_map_single base_byte bases)
 
 -- ---- an expansion ROM
