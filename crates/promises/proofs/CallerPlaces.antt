@@ -1,8 +1,9 @@
 -- The place of a caller's entry, and what its looks say.
-use Rattle.std.proofs.Common.{◌≡◌, ◌==◌, ◌++◌, ◌∷◌, [], ℕ, Bool, List, Result, Ok, Err, IfOk, OnErr, refl, ap, sym, ◌∙◌, subst}
+use Rattle.std.proofs.Common.{◌≡◌, ◌==◌, ◌++◌, [], ℕ, Bool, List, Result, Ok, Err, IfOk, OnErr, refl, ap, sym, ◌∙◌}
+use Rattle.std.proofs.Common.{subst}
 use Rattle.std.proofs.lemmas.List.{append_cancel_right}
 use Rattle.std.proofs.lemmas.List.Elements.{filter-append}
-use Rattle.board_prelude.specs.Common.{Entry, Event, Look, Setup, Kind, MapChange, entries_by, map_writes_of}
+use Rattle.board_prelude.specs.Common.{Entry, Event, Look, Kind, entries_by}
 use Rattle.map_publish.specs.Laws.{IsLookAfter}
 use Rattle.shared_board.specs.declared.shared.Answered.{Answered}
 use Rattle.shared_board.specs.Known.{Extends}
@@ -10,7 +11,7 @@ use Rattle.shared_board.specs.Passes.{setup_in}
 use Rattle.board_live.specs.declared.cpu.Cpu.{Cpu}
 use Rattle.board_live.specs.Bus.{AddsByBus, AddsNone}
 use Rattle.board_live.specs.Callers.{setup_of, seen_of, mine_of, known_of}
-use Rattle.promises.specs.Caller.{GoesOn, View, HasPlace, AddsNothing, IsLookOf}
+use Rattle.promises.specs.Caller.{HasPlace, AddsNothing, IsLookOf}
 
 -- what came since has no entry of the caller's
 not_mine : (number : ℕ) (more seen list : List Entry) → list ≡ more ++ seen →

@@ -6,10 +6,10 @@ use Rattle.device_spec.specs.Common.{option_or, WideAccess}
 use Rattle.board_base.specs.declared.access.Access.{Access}
 use Rattle.board_spec.specs.declared.event.Entry.{Entry}
 use Rattle.board_spec.specs.declared.event.Event.TheVariants.{Memory, Wide}
-use Rattle.board_spec.specs.declared.event.Part.{Part}
 use Rattle.board_spec.specs.declared.event.Parts.{Parts}
 use Rattle.board_spec.specs.declared.event.Reply.TheVariants.{Parts as InParts}
-use Rattle.board_spec.specs.Common.{Setup, IsWideAccess, IsWideAnswer, CutIntoParts, Cell, is_write, joined, memory_answer}
+use Rattle.board_spec.specs.Common.{Setup, IsWideAccess, IsWideAnswer, CutIntoParts, Cell, is_write, joined}
+use Rattle.board_spec.specs.Common.{memory_answer}
 use Rattle.board_spec.specs.Common.{IsPart, memory_put, memory_target, value_at}
 use Rattle.board_spec.specs.Common.{part_answer, wide_value, parts_list, parts_of, stored_of, parts_put}
 use Rattle.promises.specs.Definitions.{answered_by, value_in, cycles_after, IsItsCycles, WideIsItsCycles}
@@ -40,9 +40,9 @@ module _ (setup : Setup) (before : List Entry) where
       joined value_of cycles ≡ joined (λ cycle. value_in (memory_answer setup before cycle)) cycles
   all_values access reads [] all = refl
   all_values access reads (cycle ∷ cycles) all =
-      let part = All-head all in
+      let part = All-head (IsPart access) cycle cycles all in
       let head = one_value cycle (ap is_write part.kind ∙ reads) in
-      let rest = all_values access reads cycles (All-tail all) in
+      let rest = all_values access reads cycles (All-tail (IsPart access) cycle cycles all) in
       cc (head, rest)
 
   read_of : (access : WideAccess) → IsWideAccess access → CutIntoParts → is_write access.kind ≡ false →
@@ -61,7 +61,8 @@ module _ (setup : Setup) (before : List Entry) where
   or_first (Some byte) second stored = refl
 
   put_alone : (cycle : Access) (now : List Entry) (cell : Cell) →
-      stored_of (record { actor = 0; seq = 0; event = Memory cycle; reply = memory_answer setup before cycle } ∷ now) cell
+      stored_of (record { actor = 0; seq = 0; event = Memory cycle; reply = memory_answer setup before cycle } ∷ now)
+      cell
       ≡ unwrap_or (memory_put cycle (part_answer setup before cycle).target cell) (stored_of now cell)
   unfolding stored_of memory_answer part_answer
   put_alone cycle now cell = refl
@@ -84,7 +85,7 @@ module _ (setup : Setup) (before : List Entry) where
   stored_by (cycle ∷ cycles) now cell =
       let later = parts_put cycles (map (part_answer setup before) cycles) cell in
       let first = memory_put cycle (part_answer setup before cycle).target cell in
-      let entry =
+      let entry : Entry =
       record { actor = 0; seq = 0; event = Memory cycle; reply = memory_answer setup before cycle } in
       ap (λ put. unwrap_or put (stored_of now cell)) (put_first cycle cycles cell)
       ∙ (or_first later first (stored_of now cell)
@@ -92,7 +93,8 @@ module _ (setup : Setup) (before : List Entry) where
 
   put_wide : (entry : Entry) (access : WideAccess) (value : Option ℕ) (parts : Parts) (cell : Cell) →
       entry.event ≡ Wide access → entry.reply ≡ InParts parts value →
-      stored_of (entry ∷ before) cell ≡ unwrap_or (parts_put (parts_of access) (parts_list parts) cell) (stored_of before cell)
+      stored_of (entry ∷ before) cell
+      ≡ unwrap_or (parts_put (parts_of access) (parts_list parts) cell) (stored_of before cell)
   unfolding stored_of
   put_wide entry access value parts cell asked replied = rw (asked, replied) refl
 

@@ -1,5 +1,5 @@
 -- The flat map answers at each address as the decode of the registers does.
-use Rattle.std.proofs.Common.{◌≡◌, ◌≤◌, ◌<◌, ◌+◌, ◌++◌, ◌∷◌, [], ℕ, zero, suc, Bool, List, Some, slice_get, ap, sym, ◌∙◌}
+use Rattle.std.proofs.Common.{◌≡◌, ◌≤◌, ◌<◌, ◌+◌, ◌∷◌, [], ℕ, zero, suc, Bool, List, Some, slice_get, ap, sym, ◌∙◌}
 use Rattle.std.proofs.Common.{arith, All, inl, inr, refl}
 use Rattle.board_prelude.proofs.Common.{cases_lt, nat_tests}
 use Rattle.device_spec.specs.Common.{Kind}

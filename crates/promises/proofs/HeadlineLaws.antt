@@ -1,16 +1,14 @@
 -- The headline can be met, leaves `replay` one text, and is what `check` accepts.
-use Rattle.std.proofs.Common.{◌≡◌, ◌<◌, ℕ, List, All, arith, sym, ap, ◌∙◌, refl}
-use Rattle.board_prelude.proofs.Common.{nat_tests, length-map, All-head, All-tail}
+use Rattle.std.proofs.Common.{◌≡◌, ℕ, List, arith, sym, refl}
+use Rattle.board_prelude.proofs.Common.{nat_tests}
 use Rattle.board_spec.specs.declared.event.Entry.{Entry}
 use Rattle.board_spec.specs.declared.event.Event.{Event}
-use Rattle.board_spec.specs.declared.event.Statement.{Statement}
 use Rattle.board_spec.specs.Common.{Setup, IsReplayOf, OneReplay, SomeReplay, LegalKeepsLock, IsAddressed, IsInRange}
 use Rattle.board_spec.specs.Common.{in_file_order, log_text}
 use Rattle.board_spec.proofs.OrderLawProofs.{replay_is_complete}
-use Rattle.script_spec.specs.ScriptText.{Script, IsScriptText}
+use Rattle.script_spec.specs.ScriptText.{Script}
 use Rattle.script_spec.specs.Laws.{OneScript, ScriptsAreInRange}
-use Rattle.promises.specs.Headline.{board_for, IsHeadline, InFileOrder, InRunOrder}
-use Rattle.promises.specs.Accepted.{IsAccepted}
+use Rattle.promises.specs.Headline.{board_for, IsHeadline, InFileOrder}
 use Rattle.promises.specs.Laws.{LooksAtAddress, SomeReplayLog, OneReplayLog, ReplaysAreAccepted, RunsAreAccepted}
 use Rattle.promises.specs.Laws.{AcceptedAreLogged}
 use Rattle.promises.proofs.Headlines.{looks_show}

@@ -1,5 +1,5 @@
 -- The headline follows from the cause of the status `done`.
-use Rattle.std.proofs.Common.{◌≡◌, ℕ, List, [], ◌∷◌, ◌++◌, Option, Some, arith, codes, option_map}
+use Rattle.std.proofs.Common.{◌≡◌, ℕ, List, [], ◌∷◌, ◌++◌, Option, Some, arith, option_map}
 use Rattle.board_prelude.proofs.Common.{nat_tests}
 use Rattle.board_spec.specs.declared.event.Entry.{Entry}
 use Rattle.board_spec.specs.declared.event.Event.{Event}
@@ -13,6 +13,8 @@ use Rattle.command_files.specs.declared.status.Which.TheVariants.{Log as LogFile
 use Rattle.command_files.specs.declared.status.Status.{Status}
 use Rattle.command_files.specs.declared.status.Status.TheVariants.{Done}
 use Rattle.command_files.specs.Common.{Known, nothing_known, Passes, rom_name, disk_name, board_of, ShelfCall}
+use Rattle.command_files.specs.Asked.{BoardsAgree}
+use Rattle.command_files.specs.Known.{Learns, OfScript, OfImage}
 use Rattle.board_commands.specs.Common.{IsCaused, SinkCall}
 use Rattle.board_commands.specs.Outcomes.{PutsText as PutsOf}
 use Rattle.board_commands.specs.Texts.{IsCommandText, IsRunText}
@@ -92,7 +94,7 @@ read_board files script other known is has = grind (arith, nat_tests)
 
 record IsLogged (files : List ℕ → List ℕ) (script other : Script) (log : List ℕ) (known : Known) : Type 0 where
   pub board : (other ≡ script) × (board_of known other ≡ board_for files script)
-  pub log : known.log ≡ files log
+  pub log_is : known.log ≡ files log
 
 logged_board : (files : List ℕ → List ℕ) (script other : Script) (log_name : List ℕ) (known : Known) →
     known ≡ with_log files script log_name → known.script ≡ Some other → IsLogged files script other log_name known
@@ -108,19 +110,15 @@ record HasLearnt (files : List ℕ → List ℕ) (image name : List ℕ) (known 
   pub known_is : known ≡ record nothing_known { image = Some saved; script = Some script }
 
 resume_learnt : (files : List ℕ → List ℕ) (image name : List ℕ) (one two known : Known) → one ≡ nothing_known →
-    Passes files one ImageFile (Some image) two → Passes files two ScriptFile (Some name) known →
+    Learns one ImageFile (files image) two → Learns two ScriptFile (files name) known →
     HasLearnt files image name known
-resume_learnt files image name one two known is first second =
-    let got = first.1 in
-    let says = second.1 in
-    let two_is : two ≡ record nothing_known { image = Some got.0 } = grind (arith, got.2.2) in
-    record {
-      saved = got.0;
-      bytes = got.2.1;
-      script = says.0;
-      spelled = says.1;
-      known_is = grind (arith, two_is, says.2);
-    }
+resume_learnt files image name one two known is (saved, sound, bytes, two_is) (script, spelled, known_is) = record {
+  saved = saved;
+  bytes = bytes;
+  script = script;
+  spelled = spelled;
+  known_is = grind (arith, is, two_is, known_is);
+}
 
 resumed_as : (saved other : Saved) (script said : Script) (known : Known) →
     known ≡ record nothing_known { image = Some saved; script = Some script } → known.image ≡ Some other →
@@ -131,8 +129,8 @@ resumed_of : (files : List ℕ → List ℕ) (image name : List ℕ) (saved othe
     (text : List ℕ) → files image ≡ image_bytes saved.setup saved.steps → IsScriptText (files name) script →
     other ≡ saved → said ≡ script → agreed ≡ saved → same ≡ script → IsForBoard agreed.setup same →
     IsResumeText other said text → IsResumed files image name text
-resumed_of files image name saved other agreed script said same text bytes spelled other_is said_is agreed_is same_is fits
-    says =
+resumed_of files image name saved other agreed script said same text bytes spelled other_is said_is agreed_is same_is
+    fits says =
     let of_saved = rw other_is at says in
     let is = rw said_is at of_saved in
     let of_agreed = rw agreed_is at fits in
@@ -156,18 +154,26 @@ resumed_of files image name saved other agreed script said same text bytes spell
       };
     }
 
+resume_by : (files : List ℕ → List ℕ) (image name text : List ℕ) (known : Known) → HasLearnt files image name known →
+    BoardsAgree known → OfScript known (λ said. OfImage known (λ saved. IsResumeText saved said text)) →
+    IsResumed files image name text
+resume_by files image name text known got (same, has_same, (agreed, has_agreed, fits))
+    (said, has_said, (other, has_other, says)) =
+    let agrees = resumed_as got.saved agreed got.script same known got.known_is has_agreed has_same in
+    let is = resumed_as got.saved other got.script said known got.known_is has_other has_said in
+    resumed_of files image name got.saved other agreed got.script said same text got.bytes got.spelled is.0 is.1
+    agrees.0 agrees.1 fits says
+
 resume_text : (files : List ℕ → List ℕ) (image name text : List ℕ) → IsCommandText (Resume image name) files text →
     IsResumed files image name text
 resume_text files image name text is =
     let second = is.read in
     let first = second.1 in
-    let got = resume_learnt files image name first.0 second.0 is.known first.1 first.2 second.2 in
-    let done = is.done in
-    let says = is.says in
-    let agreed = resumed_as got.saved done.2.0 got.script done.0 is.known got.known_is done.2.1 done.1 in
-    let same = resumed_as got.saved says.2.0 got.script says.0 is.known got.known_is says.2.1 says.1 in
-    resumed_of files image name got.saved says.2.0 done.2.0 got.script says.0 done.0 text got.bytes got.spelled same.0
-    same.1 agreed.0 agreed.1 done.2.2 says.2.2
+    let image_read = first.2 in
+    let script_read = second.2 in
+    let got =
+    resume_learnt files image name first.0 second.0 is.known first.1 image_read.1 script_read.1 in
+    resume_by files image name text is.known got is.done is.says
 
 -- ---- the other commands
 
@@ -260,11 +266,11 @@ module _ (files : List ℕ → List ℕ) (name : List ℕ) where
       let second = third.1 in
       let first = second.1 in
       let got = learnt files name first.0 second.0 third.0 fourth.0 first.1 first.2 second.2 third.2 in
-      let known_is = log_learnt got.script log fourth.0 is.known got.known_is fourth.2 in
+      let known_is = log_learnt files got.script log fourth.0 is.known got.known_is fourth.2 in
       let said = is.says in
       let same = logged_board files got.script said.0 log is.known known_is said.1 in
       verdict_of got.script said.0 (board_of is.known said.0) log is.known.log text got.spelled same.board.0
-      same.board.1 same.log said.2
+      same.board.1 same.log_is said.2
 
 pub text_of : (files : List ℕ → List ℕ) (command : Command) (text : List ℕ) → IsCommandText command files text →
     IsTextOf files command text

@@ -1,22 +1,22 @@
 -- How the program ends follows from how its command does.
-use Rattle.std.proofs.Common.{◌≡◌, ◌≢◌, ◌⊎◌, inl, inr, ◌∷◌, ◌++◌, [], ℕ, List, Option, Some, None, Result, Ok, Err, refl}
+use Rattle.std.proofs.Common.{◌≡◌, ◌≢◌, ◌⊎◌, inl, inr, ◌∷◌, ◌++◌, [], ℕ, List, Option, Some, None, Result, Ok, Err}
+use Rattle.std.proofs.Common.{refl}
 use Rattle.std.proofs.Common.{All, IsUtf8, arith, sym, ap, ◌∙◌}
 use Rattle.std.proofs.lemmas.List.{append-nil}
 use Rattle.board_prelude.proofs.Common.{nat_tests}
-use Rattle.std.specs.Io.KnownBytes.{Appends, Keeps}
+use Rattle.std.specs.Io.KnownBytes.{Keeps}
 use Rattle.board_spec.specs.Text.{line_feed}
-use Rattle.command_words.specs.Words.{Command, IsCommand, AreWordsOf, command_of, WordsDecide}
+use Rattle.command_words.specs.Words.{Command, IsCommand, AreWordsOf, command_of}
 use Rattle.command_files.specs.declared.status.Status.{Status}
 use Rattle.command_files.specs.declared.status.Status.TheVariants.{Done, Usage, NoMemory}
 use Rattle.command_files.specs.Common.{code_of, ShelfCall}
 use Rattle.command_files.specs.FaultText.{text_of}
 use Rattle.board_commands.specs.Outcomes.{SinkCall, IsCaused}
-use Rattle.board_commands.specs.Output.{AppendsFront}
 use Rattle.board_main.specs.declared.line.WordFault.{WordFault}
 use Rattle.board_main.specs.declared.line.WordFault.TheVariants.{NoText, NoRoom}
 use Rattle.board_main.specs.Given.{AreRead, status_of_words}
 use Rattle.board_main.specs.Ends.{EndsAfter, EndsProgram}
-use Rattle.board_main.specs.Outputs.{IsIdle, TookAll, TookFront, IsTold}
+use Rattle.board_main.specs.Outputs.{IsIdle, TookAll, TookFront}
 use Rattle.board_main.specs.Own.{own_of}
 use Rattle.promises.specs.Accepted.{PutsText}
 use Rattle.promises.specs.Totality.{AreNoCommand, Told, IsCause, Leaves, WritesFront}
@@ -72,8 +72,8 @@ module _ (shelf : ShelfCall) (sink errors : SinkCall) (given : Option (List (Lis
           EndsAfter read is.status shelf sink → IsCause command told is.status × Leaves command told is.status
       cause_by (Ok others) same ends =
           let of_words = rw same at ends in
-          ends_so told shelf sink files_told failed_told read_before read_now put_before put_now took takes words command
-          is.status there are (of_words.command (not_own words command are)).caused
+          ends_so told shelf sink files_told failed_told read_before read_now put_before put_now took takes words
+          command is.status there are (of_words.command (not_own words command are)).caused
       cause_by (Err NoText) bad ends = absurd (bad texts)
       cause_by (Err NoRoom) bad ends = nothing is.status ends.0 ends.2.kept
 
@@ -81,37 +81,38 @@ module _ (shelf : ShelfCall) (sink errors : SinkCall) (given : Option (List (Lis
           × Leaves command told status
       caused_so =
           let read = is.ends.read in
-          (is.status, is.coded, cause_by is.ends.words (rw given_is at read) is.ends.ends)
+          let both = cause_by is.ends.words (rw given_is at read) is.ends.ends in
+          (is.status, is.coded, both.0, both.1)
 
   -- ---- no command
 
   usage_by : (read : Result (List (List ℕ)) WordFault) → is.status ≡ Usage → AreRead (Some words) read →
-      EndsAfter read is.status shelf sink → ¬ All IsUtf8 words ⊎ ((own_of words ≡ None) × AreNoCommand words)
+      EndsAfter read is.status shelf sink → (¬ All IsUtf8 words) ⊎ ((own_of words ≡ None) × AreNoCommand words)
   usage_by (Ok others) usage same ends =
       let of_words = rw same at ends in
       let none = of_words.usage.0 usage in inr (none.0, no_command words none.1)
   usage_by (Err NoText) usage bad ends = inl bad
   usage_by (Err NoRoom) usage bad ends = grind (arith, usage, ends.0)
 
-  pub usage_so : code ≡ 1 → ¬ All IsUtf8 words ⊎ ((own_of words ≡ None) × AreNoCommand words)
+  pub usage_so : code ≡ 1 → (¬ All IsUtf8 words) ⊎ ((own_of words ≡ None) × AreNoCommand words)
   usage_so one =
       let read = is.ends.read in
       usage_by is.ends.words (is_usage is.status (sym one ∙ is.coded)) (rw given_is at read) is.ends.ends
 
   no_command_by : (read : Result (List (List ℕ)) WordFault) → own_of words ≡ None → AreNoCommand words →
       AreRead (Some words) read → EndsAfter read is.status shelf sink → (is.status ≡ Usage) ⊎ (is.status ≡ NoMemory)
-  no_command_by (Ok others) own no same ends =
-      let of_words = rw same at ends in inl (of_words.usage.1 (own, found words (command_of words) refl no))
-  no_command_by (Err NoText) own no bad ends = inl ends.0
-  no_command_by (Err NoRoom) own no bad ends = inr ends.0
+  no_command_by (Ok others) own none same ends =
+      let of_words = rw same at ends in inl (of_words.usage.1 (own, found words (command_of words) refl none))
+  no_command_by (Err NoText) own none bad ends = inl ends.0
+  no_command_by (Err NoRoom) own none bad ends = inr ends.0
 
   coded_so : (is.status ≡ Usage) ⊎ (is.status ≡ NoMemory) → (code ≡ 1) ⊎ (code ≡ 8)
   coded_so (inl usage) = inl (is.coded ∙ ap code_of usage)
   coded_so (inr memory) = inr (is.coded ∙ ap code_of memory)
 
   pub no_command_so : own_of words ≡ None → AreNoCommand words → (code ≡ 1) ⊎ (code ≡ 8)
-  no_command_so own no =
-      let read = is.ends.read in coded_so (no_command_by is.ends.words own no (rw given_is at read) is.ends.ends)
+  no_command_so own none =
+      let read = is.ends.read in coded_so (no_command_by is.ends.words own none (rw given_is at read) is.ends.ends)
 
 -- ---- standard error
 

@@ -17,12 +17,12 @@ go_on setup history more later first second same =
     left ∙ (ap (λ said. statements_of history ++ said) same ∙ sym right) in
     append_cancel_right more later history
     (one_replay setup (statements_of (later ++ history)) (more ++ history) (later ++ history)
-        (record { legal = first; same = both }) (record { legal = second; same = refl }))
+    (record { legal = first; same = both }) (record { legal = second; same = refl }))
 
 pub as_saved : (setup : Setup) (history : List Entry) (board : Standing) → board.setup ≡ setup →
     board.entries ≡ history → IsAsSaved setup history board
 as_saved setup history board setup_is same = record {
-  setup = setup_is;
+  same_setup = setup_is;
   same = same;
   alike = subst (GoOnAlike setup history) (sym same) (go_on setup history);
 }
@@ -36,7 +36,8 @@ loaded_as_saved setup history (Err fault) setup_is same = tt
 -- of all histories with these steps
 pub at_history : {E : Type 0} (setup : Setup) (steps : List Statement) (history : List Entry)
     (result : Result Standing E) →
-    IfOk result (λ board. (other : List Entry) → IsLegal setup other → statements_of other ≡ steps → board.entries ≡ other) →
+    IfOk result
+    (λ board. (other : List Entry) → IsLegal setup other → statements_of other ≡ steps → board.entries ≡ other) →
     IsLegal setup history → statements_of history ≡ steps → IfOk result (λ board. board.entries ≡ history)
 at_history setup steps history (Ok board) saved legal same = saved history legal same
 at_history setup steps history (Err fault) saved legal same = tt

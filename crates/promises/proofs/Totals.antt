@@ -1,38 +1,43 @@
 -- Totality follows from the causes of each status.
-use Rattle.std.proofs.Common.{◌≡◌, ◌≢◌, ◌⊎◌, ◌↔◌, inl, inr, ℕ, List, [], ◌∷◌, ◌++◌, Option, Some, None, arith, refl, sym, take}
+use Rattle.std.proofs.Common.{◌≡◌, ◌⊎◌, ◌↔◌, inl, inr, ℕ, List, [], ◌∷◌, ◌++◌, Option, Some, None, arith, refl, take}
 use Rattle.board_prelude.proofs.Common.{nat_tests}
-use Rattle.board_outside.specs.Outside.{Put, Rose}
-use Rattle.command_words.specs.Words.{Command, IsCommand, AreWordsOf, command_of}
+use Rattle.board_outside.specs.Outside.{Put}
+use Rattle.command_words.specs.Words.{Command, Resume, IsCommand, AreWordsOf, command_of}
 use Rattle.command_words.proofs.WordLaws.{words_decide}
 use Rattle.command_files.specs.declared.status.Status.{Status}
 use Rattle.command_files.specs.declared.status.Status.TheVariants.{Done, Usage, ReadFault, WriteFault, NoMemory}
 use Rattle.command_files.specs.declared.status.Status.TheVariants.{TooLong, BadScript, BadImage, Differs, OtherBoard}
-use Rattle.command_files.specs.declared.status.Which.TheVariants.{Rom, Disk, Image}
 use Rattle.command_files.specs.declared.status.Which.{Which}
-use Rattle.command_files.specs.Common.{Files, CanEnd, ShelfCall, AsksFor, OfFiles, OfCalls, ReadsFile}
+use Rattle.command_files.specs.Asked.{AsksFor, ReadsFile}
+use Rattle.command_files.specs.Calls.{Since}
+use Rattle.command_files.specs.Outcomes.{CompareBoards, IsImageKind}
+use Rattle.command_files.specs.Common.{Files, CanEnd, ShelfCall, OfCalls}
+use Rattle.command_files.specs.declared.status.Which.TheVariants.{Script, Rom, Disk, Image}
 use Rattle.command_files.proofs.Refusals.{at_files}
-use Rattle.board_commands.specs.Outcomes.{SinkCall, IsCaused, IsExact, HasCause, Stopped, OfCommand, PutsTextFront, WordsCanEnd}
+use Rattle.board_commands.specs.Outcomes.{SinkCall, IsCaused, IsExact, HasCause, Stopped, OfCommand, PutsTextFront}
+use Rattle.board_commands.specs.Outcomes.{WordsCanEnd}
 use Rattle.board_commands.specs.Outcomes.{PutsText as PutsOf, IsQuietFor}
 use Rattle.board_commands.specs.Puts.{ArePutsOf, AllTook, LatestRefused}
 use Rattle.std.specs.Io.KnownBytes.{Appends, Keeps}
-use Rattle.promises.specs.Accepted.{PutsText}
-use Rattle.promises.specs.Totality.{AreNoCommand, Told, IsCause, PutsFront, Leaves, CanEndSo, TookEach, RefusedLast, ArePuts}
-use Rattle.promises.proofs.Headlines.{said, text_of, puts_text}
+use Rattle.promises.specs.Accepted.{IsTextOf}
+use Rattle.promises.specs.Totality.{AreNoCommand, Told, IsCause, PutsFront, Leaves, CanEndSo, IsReadBy, TookEach}
+use Rattle.promises.specs.Totality.{RefusedLast, ArePuts}
+use Rattle.promises.proofs.Headlines.{said, text_of}
 
 -- ---- the words
 
 pub no_command : (words : List (List ℕ)) → command_of words ≡ None → AreNoCommand words
-no_command words none command there are = grind (none, said words command there are)
+no_command words none command there are = grind (arith, none, said words command there are)
 
 pub found : (words : List (List ℕ)) (read : Option Command) → command_of words ≡ read → AreNoCommand words → read ≡ None
-found words None is no = refl
-found words (Some command) is no =
-    let decided = (words_decide words command).2 is in absurd (no command decided.0 decided.1)
+found words None is others = refl
+found words (Some command) is others =
+    let decided = (words_decide words command).0 is in absurd (others command decided.0 decided.1)
 
 pub usage_decided : (words : List (List ℕ)) (ended : Status) → ((ended ≡ Usage) ↔ (command_of words ≡ None)) →
     (ended ≡ Usage) ↔ AreNoCommand words
 usage_decided words ended decided =
-    (λ is. no_command words (decided.0 is), λ no. decided.1 (found words (command_of words) refl no))
+    (λ is. no_command words (decided.0 is), λ others. decided.1 (found words (command_of words) refl others))
 
 -- ---- what was put
 
@@ -41,6 +46,7 @@ took_each [] took = tt
 took_each (latest ∷ before) took = (took.0, took_each before took.1)
 
 refused_last : (made : List Put) → LatestRefused made → RefusedLast made
+refused_last [] refused = absurd refused
 refused_last (latest ∷ before) refused = (refused.0, took_each before refused.1)
 
 puts_by : (ended : Status) (made : List Put) → ArePutsOf ended made → ArePuts ended made
@@ -50,17 +56,38 @@ puts_by NoMemory made (inl none) = inl none
 puts_by NoMemory made (inr refused) = inr (refused_last made refused)
 puts_by _ made puts = puts
 
+made_since : (ended : Status) (before now : List Put) → Since before (Some now) (ArePutsOf ended) →
+    (made : List Put) × (now ≡ made ++ before) × ArePuts ended made
+made_since ended before now since =
+    (since.made, grind (arith, since.told), puts_by ended since.made since.holds)
+
 pub puts_made : (ended : Status) (told_before told_now : Option (List Put)) (before now : List Put) →
     told_before ≡ Some before → told_now ≡ Some now → OfCalls told_before told_now (ArePutsOf ended) →
     (made : List Put) × (now ≡ made ++ before) × ArePuts ended made
 puts_made ended told_before told_now before now before_is now_is calls =
-    let since = rw (before_is, now_is) at calls in
-    (since.made, grind (arith, since.told), puts_by ended since.made since.holds)
+    made_since ended before now (rw (before_is, now_is) at calls)
 
 -- ---- the statuses that can be
 
+image_kind : (which : Which) → IsImageKind which → (which ≡ Rom) ⊎ (which ≡ Disk) ⊎ (which ≡ Image)
+image_kind Rom is = inl refl
+image_kind Disk is = inr (inl refl)
+image_kind Image is = inr (inr refl)
+image_kind _ is = absurd is
+
+other_board : (command : Command) → CompareBoards command → IsReadBy command Image
+other_board (Resume image script) is = ([], Script ∷ [], refl)
+other_board _ is = absurd is
+
 can_end : (command : Command) (ended : Status) → CanEnd command ended → CanEndSo command ended
-can_end command ended can = grind (arith, nat_tests)
+can_end command Usage can = can
+can_end command (ReadFault which) can = can
+can_end command (TooLong which) can = can
+can_end command (BadScript line why) can = can
+can_end command (BadImage which) can = (can.0, image_kind which can.1)
+can_end command (Differs line) can = can
+can_end command OtherBoard can = other_board command can
+can_end command _ can = tt
 
 pub possible : (words : List (List ℕ)) (command : Command) (ended : Status) → IsCommand command →
     AreWordsOf words command → WordsCanEnd (command_of words) ended → CanEndSo command ended
@@ -76,22 +103,33 @@ module _ (told : Told) (shelf : ShelfCall) (sink : SinkCall) (files_told : shelf
     (read_before : shelf.faults_before ≡ told.read_faults_before) (read_now : shelf.faults_now ≡ told.read_faults_now)
     (put_before : sink.faults_before ≡ told.put_faults_before) (put_now : sink.faults_now ≡ told.put_faults_now)
     (took : sink.taken_before ≡ Some told.before) (takes : sink.taken_now ≡ Some told.now) where
+  appended : (bytes : List ℕ) → Appends sink.taken_before sink.taken_now bytes → told.now ≡ told.before ++ bytes
+  appended bytes taken = rw (took, takes) at taken
+
+  in_two : (command : Command) (text first rest : List ℕ) → text ≡ first ++ rest → IsTextOf told.files command text →
+      IsTextOf told.files command (first ++ rest)
+  in_two command text first rest is says = rw is at says
+
   front : (command : Command) → OfCommand (Some command) shelf.files (PutsTextFront sink.taken_before sink.taken_now) →
       PutsFront command told
   front command puts =
-      let of = at_files shelf.files told.files (PutsTextFront sink.taken_before sink.taken_now command) files_told puts in
-      let sent = of.taken.sent in
-      let taken = sent.taken in
-      let at_told = rw (took, takes) at taken in
-      (sent.front, of.taken.rest, rw sent.whole at (text_of told.files command of.text of.says), at_told)
+      let of =
+      at_files shelf.files told.files (PutsTextFront sink.taken_before sink.taken_now command) files_told puts in
+      let sent = of.taken.sent in (
+        sent.front,
+        of.taken.rest,
+        in_two command of.text sent.front of.taken.rest sent.whole (text_of told.files command of.text of.says),
+        appended sent.front sent.taken,
+      )
 
   kept : Keeps sink.taken_before sink.taken_now → told.now ≡ told.before
   kept keeps = rw (took, takes) at keeps
 
-  cause_of : (command : Command) (ended : Status) → HasCause ended (Some command) shelf sink → IsCause command told ended
+  cause_of : (command : Command) (ended : Status) → HasCause ended (Some command) shelf sink →
+      IsCause command told ended
   cause_of command Done cause =
       let puts = at_files shelf.files told.files (PutsOf sink.taken_before sink.taken_now command) files_told cause in
-      (puts.text, text_of told.files command puts.text puts.says, rw (took, takes) at (puts.taken))
+      (puts.text, text_of told.files command puts.text puts.says, appended puts.text puts.taken)
   cause_of command Usage cause = grind (arith, cause)
   cause_of command (ReadFault which) fails =
       let comes = at_files shelf.files told.files (FailedAt which shelf.failed_name command) files_told fails.comes in

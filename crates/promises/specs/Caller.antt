@@ -1,6 +1,6 @@
 -- A caller's history: what `Cpu::bus` and `Cpu::look` say of the one history that all callers share. Histories and
 -- lists of map writes have the newest first.
-use Rattle.std.specs.Prelude.{ℕ, ◌≡◌, List, [], ◌∷◌, ◌++◌, length}
+use Rattle.std.specs.Prelude.{ℕ, ◌≡◌, Bool, List, [], ◌∷◌, ◌++◌, length}
 use Rattle.board_spec.specs.declared.event.Entry.{Entry}
 use Rattle.board_spec.specs.declared.event.Event.{Event}
 use Rattle.board_spec.specs.declared.event.Reply.{Reply}
@@ -21,15 +21,15 @@ pub record View : Type 0 where
 -- a call of the bus has one place in one history: that history begins with what the caller saw, and what others did
 -- since has no entry of the caller's. Its reply is the answer after that history, and its entry the next. Then the
 -- caller has seen just that, and knows its map writes, which begin with those that it knew
-pub record HasPlace (setup : Setup) (number : ℕ) (event : Event) (reply : Reply) (place : ℕ) (before now : View) : Type 0
-  where
-    pub others : List Entry
-    pub not_mine : entries_by number others ≡ []
-    pub place_is : place ≡ length (others ++ before.seen)
-    pub answer : IsAnswer setup (others ++ before.seen) event reply
-    pub entry : now.seen ≡ next_entry (others ++ before.seen) number event reply ∷ (others ++ before.seen)
-    pub known : now.known ≡ map_writes_of setup now.seen
-    pub meets : GoesOn before.known (map_writes_of setup (others ++ before.seen))
+pub record HasPlace (setup : Setup) (number : ℕ) (event : Event) (reply : Reply) (place : ℕ)
+    (before now : View) : Type 0 where
+  pub others : List Entry
+  pub not_mine : entries_by number others ≡ []
+  pub place_is : place ≡ length (others ++ before.seen)
+  pub answer : IsAnswer setup (others ++ before.seen) event reply
+  pub entry : now.seen ≡ next_entry (others ++ before.seen) number event reply ∷ (others ++ before.seen)
+  pub known : now.known ≡ map_writes_of setup now.seen
+  pub meets : GoesOn before.known (map_writes_of setup (others ++ before.seen))
 
 -- a call that was refused for want of memory added no entry of the caller's, and what it has is not less
 pub record AddsNothing (number : ℕ) (before now : View) : Type 0 where

@@ -1,6 +1,6 @@
 -- The definitions: the flat map answers at each address as the decode of the registers does, built from scratch or
 -- changed in place, and a wide access is its cycles. Histories have the newest entry first.
-use Rattle.std.specs.Prelude.{ℕ, ◌≡◌, ◌≤◌, ◌<◌, ◌∷◌, ◌++◌, [], Bool, true, false, List, Option, Some, None, map}
+use Rattle.std.specs.Prelude.{ℕ, ◌≡◌, ◌≤◌, ◌<◌, ◌∷◌, ◌++◌, Bool, true, false, List, Option, Some, None, map}
 use Rattle.std.specs.Prelude.{slice_get, unwrap_or}
 use Rattle.device_spec.specs.Common.{Kind, Fetch, Read, Write, WideAccess}
 use Rattle.board_base.specs.declared.access.Access.{Access}

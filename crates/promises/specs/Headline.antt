@@ -1,5 +1,5 @@
 -- The headline: what was put once `run`, `replay`, `check` or `resume` is done. Histories have the newest entry first.
-use Rattle.std.specs.Prelude.{ℕ, ◌≡◌, ◌<◌, ◌⊎◌, List, [], ◌∷◌, ◌++◌, codes, decimal, is_some, length, option_map}
+use Rattle.std.specs.Prelude.{ℕ, ◌≡◌, ◌<◌, ◌⊎◌, List, [], ◌∷◌, ◌++◌, length, option_map}
 use Rattle.board_spec.specs.declared.event.Entry.{Entry}
 use Rattle.board_spec.specs.declared.event.Event.{Event}
 use Rattle.board_spec.specs.declared.event.Event.TheVariants.{Look as LookAt}
@@ -7,9 +7,8 @@ use Rattle.board_spec.specs.declared.event.Reply.{Reply}
 use Rattle.board_spec.specs.declared.event.Reply.TheVariants.{Saw}
 use Rattle.board_spec.specs.declared.event.Statement.{Statement}
 use Rattle.board_spec.specs.Common.{Setup, IsLegal, IsCompleteFor, LockLaw, IsSpan, byte_of, version_of, log_text}
-use Rattle.board_spec.specs.Common.{statements_of, in_file_order, line_feed}
+use Rattle.board_spec.specs.Common.{statements_of, in_file_order}
 use Rattle.script_spec.specs.ScriptText.{Script, IsScriptText}
-use Rattle.board_image.specs.Common.{image_bytes}
 
 -- the board that a script asks for: the memory and the cards that it says, and the files that it names
 abbrev pub board_for : (files : List ℕ → List ℕ) → Script → Setup

@@ -1,9 +1,8 @@
 -- Images and bus masters. A board that was saved and loaded goes on as it would have unsaved, and no bus master reaches
 -- SMRAM. Histories have the newest entry first.
-use Rattle.std.specs.Prelude.{ℕ, ◌≡◌, ◌≢◌, ◌+◌, ◌*◌, ◌%◌, ◌<◌, ◌⊎◌, ◌++◌, List, Option, Some, false, true}
-use Rattle.std.specs.Prelude.{Result, Ok, Err, IfOk, IfErr}
+use Rattle.std.specs.Prelude.{ℕ, ◌≡◌, ◌≢◌, ◌+◌, ◌*◌, ◌%◌, ◌<◌, ◌⊎◌, ◌++◌, List, Some, false}
+use Rattle.std.specs.Prelude.{Result, Ok, Err}
 use Rattle.board_spec.specs.declared.event.Entry.{Entry}
-use Rattle.board_spec.specs.declared.event.Statement.{Statement}
 use Rattle.board_spec.specs.Common.{Setup, IsLegal, statements_of, first_cell, DramCell, is_smram_range}
 use Rattle.device_spec.specs.Common.{Target, Smram, Area}
 use Rattle.board_base.specs.declared.target.Area.TheVariants.{Dram as DramArea, Shadow as ShadowArea}
@@ -22,7 +21,7 @@ GoOnAlike setup history other =
 
 -- a board has the history of the one that was saved, and so goes on as that one would
 pub record IsAsSaved (setup : Setup) (history : List Entry) (board : Standing) : Type 0 where
-  pub setup : board.setup ≡ setup
+  pub same_setup : board.setup ≡ setup
   pub same : board.entries ≡ history
   pub alike : GoOnAlike setup history board.entries
 

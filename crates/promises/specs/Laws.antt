@@ -2,7 +2,6 @@
 use Rattle.std.specs.Prelude.{ℕ, ◌≡◌, ◌<◌, List, All}
 use Rattle.board_spec.specs.declared.event.Event.{Event}
 use Rattle.board_spec.specs.declared.event.Event.TheVariants.{Look as LookAt}
-use Rattle.board_spec.specs.declared.event.Statement.{Statement}
 use Rattle.board_spec.specs.Common.{IsCompleteFor, address_count, in_file_order}
 use Rattle.script_spec.specs.ScriptText.{Script, IsScriptText}
 use Rattle.promises.specs.Headline.{IsHeadline, InFileOrder, InRunOrder}

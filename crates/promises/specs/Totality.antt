@@ -2,7 +2,7 @@
 -- comes where words and files ask for it. A list of puts has the latest first.
 use Rattle.std.specs.Prelude.{ℕ, ◌≡◌, ◌≢◌, ◌⊎◌, List, [], ◌∷◌, ◌++◌, None, take}
 use Rattle.board_outside.specs.Outside.{Rose, Put}
-use Rattle.command_words.specs.Words.{Command, Check, Resume, IsCommand, AreWordsOf}
+use Rattle.command_words.specs.Words.{Command, IsCommand, AreWordsOf}
 use Rattle.command_files.specs.declared.status.Which.{Which}
 use Rattle.command_files.specs.declared.status.Which.TheVariants.{Script, Rom, Disk, Log, Image}
 use Rattle.command_files.specs.declared.status.Status.{Status}

@@ -13,7 +13,12 @@ use board_spec::{Event, Look};
 use std::sync::Wait;
 
 /// Does an event at the shared board.
-pub fn bus_in_its_place<R: Wait>(cpu: &mut Cpu, live: &Live, rt: &R, event: &Event) -> Result<Answered, NoMemory>
+pub fn bus_in_its_place<R: Wait>(
+    cpu: &mut Cpu,
+    live: &Live,
+    rt: &R,
+    event: &Event,
+) -> Result<Answered, NoMemory>
     requires own { IsCallerOf live.now cpu.old }
     requires event { IsInRange (setup_of cpu.old) event.now }
     requires no_look { IsNoLook event.now }

@@ -1,6 +1,6 @@
 //! The definitions, of the calls that build the map and change it, and of a law.
 
-ghost use Rattle.std.specs.Prelude.{◌≡◌, ◌≤◌, ℕ};
+ghost use Rattle.std.specs.Prelude.{◌≡◌};
 ghost use Rattle.board_prelude.specs.Common.{Setup, Bytes, changed_byte, area_of, IsSpan};
 ghost use Rattle.addr_decode.specs.Common.{StandsFor, map_bytes};
 ghost use Rattle.pci_bars.specs.Cards.{AreFitted};
@@ -8,8 +8,8 @@ ghost use Rattle.promises.specs.Definitions.{AnswersAsDecode, WideIsItsCycles};
 
 use addr_decode::MapRegs;
 use board_base::Kind;
-use board_spec::laws::law_parts;
 use board_spec::MapChange;
+use board_spec::laws::law_parts;
 use map_builder::{Changed, FlatMap, Span};
 
 /// The map of these registers, built from scratch: it answers as their decode does.

@@ -1,6 +1,6 @@
 //! The headline, of the board's commands.
 
-ghost use Rattle.std.specs.Prelude.{◌≡◌, ◌⊎◌, List, ℕ, map, string_bytes, Some};
+ghost use Rattle.std.specs.Prelude.{◌≡◌, List, ℕ, map, string_bytes, Some};
 ghost use Rattle.command_words.specs.Words.{Command, IsCommand, AreWordsOf};
 ghost use Rattle.promises.specs.Accepted.{PutsText};
 

@@ -1,6 +1,6 @@
 //! Saved boards, of the calls that load them.
 
-ghost use Rattle.std.specs.Prelude.{◌≡◌, ◌⊎◌, ℕ, List, Ok, Err, IfOk};
+ghost use Rattle.std.specs.Prelude.{◌≡◌, List, IfOk};
 ghost use Rattle.board_spec.specs.declared.event.Entry.{Entry};
 ghost use Rattle.board_spec.specs.Common.{Setup as Fitting, IsLegal, statements_of};
 ghost use Rattle.image_writer.specs.ImageBytes.{IsImage, image_bytes};
@@ -10,9 +10,9 @@ ghost use Rattle.board_chipset.specs.ChipsetState.{IsChipset, chipset_bytes};
 ghost use Rattle.board_chipset.specs.declared.state_fault.StateFault.{StateFault as StateRefused};
 ghost use Rattle.promises.specs.Images.{IsAsSaved, IsTakenFor};
 
+use board_base::NoMemory;
 use board_chipset::{Chipset, StateFault};
 use board_core::{Board, Setup};
-use board_base::NoMemory;
 use board_image::{Image, ImageFault, load, read_image};
 use std::alloc::Global;
 

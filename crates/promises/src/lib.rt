@@ -24,7 +24,9 @@ mod program;
 mod totality;
 
 pub use caller::{bus_in_its_place, look_never_back};
-pub use definitions::{law_wide_is_its_cycles, map_as_decoded, map_changed_as_decoded, span_as_decoded};
+pub use definitions::{
+    law_wide_is_its_cycles, map_as_decoded, map_changed_as_decoded, span_as_decoded,
+};
 pub use headline::board_with_headline;
 pub use images::{board_as_saved, chipset_as_saved, image_as_saved};
 pub use masters::{piece_beside_smram, reach_beside_smram, transfer_beside_smram};

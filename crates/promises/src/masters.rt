@@ -1,6 +1,6 @@
 //! Bus masters, of the calls that say and do their accesses.
 
-ghost use Rattle.std.specs.Prelude.{ℕ, ◌≡◌, ◌<◌, ◌≤◌, ◌^◌, ◌×◌, true};
+ghost use Rattle.std.specs.Prelude.{ℕ, ◌≡◌, ◌<◌, ◌≤◌, ◌^◌, true};
 ghost use Rattle.board_prelude.specs.Common.{Setup, Bytes, is_smram_range};
 ghost use Rattle.addr_decode.specs.Common.{StandsFor, map_bytes};
 ghost use Rattle.pci_bars.specs.Cards.{AreFitted};
@@ -27,7 +27,12 @@ pub fn reach_beside_smram(chipset: &Chipset, addr: u32, kind: Kind) -> Part
 
 /// A whole transfer, on a store of a board with a history or without: no byte of DRAM at A0000h to BFFFFh changes, and
 /// with other bytes there it ends the same way and leaves the same on the disk.
-pub fn transfer_beside_smram(master: &mut BusMaster, store: &mut Store, lba: u32, count: u32) -> Done
+pub fn transfer_beside_smram(
+    master: &mut BusMaster,
+    store: &mut Store,
+    lba: u32,
+    count: u32,
+) -> Done
     requires started { is_started master.old ≡ true }
     requires some { 1 ≤ count }
     requires most { count ≤ 256 }

@@ -20,7 +20,8 @@ use std::process::ExitCode;
 use std::sync::Wait;
 use std::thread::Threads;
 
-/// Does what the words of a command line ask for. Where they are a command and the exit code is 0, its text was written.
+/// Does what the words of a command line ask for. Where they are a command and the exit code is 0, its text was
+/// written.
 pub fn program_with_headline<R, L, S, W, E>(
     rt: &R,
     line: &L,
@@ -74,7 +75,7 @@ where
     // It is 1 only where a word is not UTF-8, or the words are neither a command nor the program's own; and there it is
     // 1, or 8 for want of memory.
     ensures usage { (words : List (List ℕ)) → L.given line.now ≡ Some words → exit_status result ≡ 1 →
-        ¬ All IsUtf8 words ⊎ ((own_of words ≡ None) × AreNoCommand words) }
+        (¬ All IsUtf8 words) ⊎ ((own_of words ≡ None) × AreNoCommand words) }
     ensures no_command { (words : List (List ℕ)) → L.given line.now ≡ Some words → own_of words ≡ None →
         AreNoCommand words → (exit_status result ≡ 1) ⊎ (exit_status result ≡ 8) }
     // Standard error has nothing where it is 0, and else a front of the line of its status.

@@ -2,7 +2,7 @@ use Rattle.promises.proofs.CallerPlaces.{placed, added_nothing, if_ok, on_err}
 use Rattle.promises.proofs.caller.bus_in_its_place.Goals as goal
 
 pub returns : goal.returns
-returns c = record {
+returns g c = record {
   own = c.bus.ensures.own;
   place =
       if_ok c.bus.result _ _

@@ -4,7 +4,7 @@ use Rattle.promises.proofs.Programs.{caused_so, usage_so, no_command_so, silent_
 use Rattle.promises.proofs.program.program_with_causes.Goals as goal
 
 pub returns : goal.returns
-returns c =
+returns g c =
     let code = exit_status c.run_program.result in
     let ends = c.run_program.ensures.ends in
     record {

@@ -3,7 +3,7 @@ use Rattle.promises.proofs.Totals.{usage_decided, nothing_put, ends_so, comes, p
 use Rattle.promises.proofs.totality.board_with_causes.Goals as goal
 
 pub returns : goal.returns
-returns c =
+returns g c =
     let words = map string_bytes c.args.words.now in
     let ended = c.board.result in
     let caused = c.board.ensures.caused in
