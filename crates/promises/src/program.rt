@@ -10,7 +10,7 @@ ghost use Rattle.command_files.specs.Status.{code_of};
 ghost use Rattle.command_files.specs.declared.status.Status.{Status};
 ghost use Rattle.board_main.specs.Own.{own_of};
 ghost use Rattle.promises.specs.Accepted.{PutsText};
-ghost use Rattle.promises.specs.Totality.{AreNoCommand, IsCause, Leaves, WritesFront};
+ghost use Rattle.promises.specs.Totality.{AreNoCommand, Told, IsCause, Leaves, WritesFront};
 
 use board_files::OutSink;
 use board_main::{CommandLine, run_program};
@@ -61,7 +61,7 @@ where
     ensures cause { (words : List (List ℕ)) (command : Command) (files : List ℕ → List ℕ) (before now : List ℕ) →
         L.given line.now ≡ Some words → All IsUtf8 words → IsCommand command → AreWordsOf words command →
         S.files shelf.old ≡ Some files → W.contents out.old.out ≡ Some before → W.contents out.new.out ≡ Some now →
-        let told = record {
+        let told : Told = record {
           files = files;
           failed_name = S.failed_name shelf.new;
           read_faults_before = S.faults shelf.old;

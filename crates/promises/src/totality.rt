@@ -9,7 +9,7 @@ ghost use Rattle.command_words.specs.Words.{Command, IsCommand, AreWordsOf};
 ghost use Rattle.command_files.specs.Asked.{AsksFor};
 ghost use Rattle.command_files.specs.declared.status.Which.{Which};
 ghost use Rattle.command_files.specs.declared.status.Status.{Status as Ended};
-ghost use Rattle.promises.specs.Totality.{AreNoCommand, IsCause, Leaves, CanEndSo, ArePuts};
+ghost use Rattle.promises.specs.Totality.{AreNoCommand, Told, IsCause, Leaves, CanEndSo, ArePuts};
 
 use board_base::NoMemory;
 use board_commands::{Status, board};
@@ -36,7 +36,7 @@ pub fn board_with_causes<R: Threads + Wait + Sync, S: Shelf, K: Sink, G: Gate>(
     ensures cause { (command : Command) (files : List ℕ → List ℕ) (before now : List ℕ) → IsCommand command →
         AreWordsOf (map string_bytes words.now) command → S.files shelf.old ≡ Some files →
         K.taken out.old ≡ Some before → K.taken out.new ≡ Some now →
-        let told = record {
+        let told : Told = record {
           files = files;
           failed_name = S.failed_name shelf.new;
           read_faults_before = S.faults shelf.old;
