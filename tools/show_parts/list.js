@@ -146,8 +146,10 @@ function fitList() {
   const isOther = list.clientWidth !== fittedWidth;
   fittedWidth = list.clientWidth;
   sizeList();
-  if (isOther) renewList();
-  else drawSoon();
+  drawSoon();
+  if (!isOther) return;
+  for (const row of drawn.values()) row.classList.remove("tight");
+  tighten([...drawn.values()]);
 }
 
 let drawing = 0;
