@@ -7,7 +7,7 @@ import signal
 import subprocess
 import sys
 import time
-from typing import Any
+from typing import Any, Optional
 
 ROOT = pathlib.Path(__file__).resolve().parent.parent
 sys.path.insert(0, str(ROOT / "tools"))
@@ -174,10 +174,11 @@ class Tree:
 
     def start(self, *words, script=None, env=None, **how):
         """Starts the script, by its first line or by a shell, in a folder beside the tree."""
-        shell = {None: [], "busybox": ["busybox", "sh"]}.get(self.shell, [self.shell])
-        usual: dict[str, Any] = {"stdout": subprocess.PIPE, "stderr": subprocess.PIPE, "text": True, "cwd": self.room / "elsewhere"}
-        usual.update(env={**self.environment(), **(env or {})}, **how)
-        return subprocess.Popen([*shell, script or self.top / "board", *words], **usual)
+        shells: dict[Optional[str], list[str]] = {None: [], "busybox": ["busybox", "sh"]}
+        shell = shells.get(self.shell, [str(self.shell)])
+        usual: dict[str, Any] = {"stdout": subprocess.PIPE, "stderr": subprocess.PIPE, "text": True,
+                                 "cwd": self.room / "elsewhere", "env": {**self.environment(), **(env or {})}}
+        return subprocess.Popen([*shell, script or self.top / "board", *words], **(usual | how))
 
     def call(self, *words, **how):
         """The status, the output and what was said of one call."""

@@ -1,7 +1,7 @@
-"""Runs tests side by side, each in a limit of time of its own, and counts what passed, what failed and what was not run.
+"""Runs tests side by side, each in a limit of its own, and counts what passed, what failed and what was not run.
 
-A test is a program of the repository. Exit status 0: it passed; 77: it was not run, and its last line says why; another:
-it failed. A line `not run: PART: WHY` of it names a part that was left out.
+A test is a program of the repository. Exit status 0: it passed; 77: it was not run, and its last line says why;
+another: it failed. A line `not run: PART: WHY` of it names a part that was left out.
 """
 import concurrent.futures
 import os

@@ -240,7 +240,8 @@ class Board:
         about.add_argument("--images", type=pathlib.Path, metavar="FOLDER", help=images)
         about.add_argument("--program", type=pathlib.Path, default=default, help=program)
 
-    def run(self, command: str, *files: pathlib.Path, stderr: Optional[int] = subprocess.PIPE) -> subprocess.CompletedProcess:
+    def run(self, command: str, *files: pathlib.Path,
+            stderr: Optional[int] = subprocess.PIPE) -> subprocess.CompletedProcess:
         words = [self.program, command, *(file.resolve() for file in files)]
         try:
             run = subprocess.run(words, cwd=self.folder, stdin=subprocess.DEVNULL, stdout=subprocess.PIPE,

@@ -5,13 +5,15 @@
 #include <stdlib.h>
 #include <string.h>
 
-enum { MIB = 1 << 20, SECTOR = 512, CARDS = 8, FIRST = 2, EXPANSION_ROM = 6, ADDRESS = 0xCF8, DATA = 0xCFC };
+enum { MIB = 1 << 20, SECTOR = 512, CARDS = 8, FIRST = 2, EXPANSION_ROM = 6, ADDRESS = 0xCF8, DATA = 0xCFC,
+       VENDOR = 0x1AF4 };
 
 static int failed;
 
 static void expect(const char *what, uint64_t of, uint64_t got, uint64_t wanted) {
     if (got == wanted) return;
-    printf("ample: %s of %llu: %llu, not %llu\n", what, (unsigned long long)of, (unsigned long long)got, (unsigned long long)wanted);
+    printf("ample: %s of %llu: %llu, not %llu\n", what, (unsigned long long)of, (unsigned long long)got,
+           (unsigned long long)wanted);
     failed = 1;
 }
 
@@ -28,7 +30,8 @@ static void fill(uint8_t *bytes, size_t count, uint32_t seed) {
 
 static const uint8_t rom[65536];
 
-static void open_with(board *b, uint32_t mib, const board_card *cards, size_t count, const uint8_t *disk, size_t bytes) {
+static void open_with(board *b, uint32_t mib, const board_card *cards, size_t count, const uint8_t *disk,
+                      size_t bytes) {
     expect("open", mib, board_open(b, mib, cards, count, rom, sizeof rom, disk, bytes), BOARD_OK);
 }
 
@@ -87,11 +90,12 @@ static void identities(size_t count) {
     board b = {0}, other = {0};
     size_t bytes = 0;
     for (uint8_t k = 0; k < count; k++)
-        cards[k] = (board_card){.device = (uint8_t)(FIRST + k), .vendor_id = 0x1AF4, .device_id = (uint16_t)(0x1000 + k)};
+        cards[k] = (board_card){.device = (uint8_t)(FIRST + k), .vendor_id = VENDOR, .device_id = (uint16_t)(0x1000 + k)};
     open_with(&b, 8, cards, count, rom, 0);
     uint8_t *image = saved(&b, false, false, &bytes, count);
     expect("load of cards", count, board_load(&other, image, bytes), BOARD_OK);
-    for (uint8_t k = 0; k < count; k++) expect("a card's identity", k, identity_of(&other, FIRST + k), 0x10001AF4u + ((uint32_t)k << 16));
+    for (uint8_t k = 0; k < count; k++)
+        expect("a card's identity", k, identity_of(&other, FIRST + k), (0x1000u + k) << 16 | VENDOR);
     board_close(&other);
     board_close(&b);
     free(image);
@@ -116,7 +120,8 @@ static void given(board *b, uint8_t device, uint8_t bits, uint32_t from, size_t 
 }
 
 static void roms(void) {
-    static const board_card two[] = {{.device = 2, .rom = 17}, {.device = 9, .rom = 18}}, large[] = {{.device = 5, .rom = 21}, {.device = 6, .rom = 24}};
+    static const board_card two[] = {{.device = 2, .rom = 17}, {.device = 9, .rom = 18}};
+    static const board_card large[] = {{.device = 5, .rom = 21}, {.device = 6, .rom = 24}};
     board b = {0};
     open_with(&b, 8, two, 2, rom, 0);
     given(&b, 2, 17, 0, 1 << 17);
@@ -129,7 +134,8 @@ static void roms(void) {
 }
 
 int main(void) {
-    static const struct { uint32_t mib; size_t sectors; } sizes[] = {{1, 1}, {2, 0}, {8, 64}, {9, 0}, {16, 0}, {17, 8}, {48, 0}, {64, 65536}, {200, 0}};
+    static const struct { uint32_t mib; size_t sectors; } sizes[] = {
+        {1, 1}, {2, 0}, {8, 64}, {9, 0}, {16, 0}, {17, 8}, {48, 0}, {64, 65536}, {200, 0}};
     for (size_t k = 0; k < sizeof sizes / sizeof *sizes; k++) kept(sizes[k].mib, sizes[k].sectors);
     for (size_t count = 1; count <= CARDS; count++) identities(count);
     roms();
