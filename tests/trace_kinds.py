@@ -17,7 +17,7 @@ from trace_case import EXAMPLES, LOADED, PROGRAM, ROOT, SETUP, TOOLS, TRACES, Ca
 import differences
 import trace_clock
 
-from differences import ABSENT, CHOICE, DATASHEET, DATE, EITHER
+from differences import ABSENT, CHOICE, DATASHEET, DATE
 SELECT = "0 out d 0CF8 {}\n"
 
 

@@ -9,7 +9,7 @@ from causes.clock import ClockBytes
 from causes.disk import DATA as DISK_DATA
 from causes.disk import Disk
 from causes.interrupts import CLOCK_LINE, COM1_LINE, DISK_LINE, ICW1, Interrupts
-from causes.serial import COM1, Com1
+from causes.serial import Com1
 from causes.timer import Timer
 
 LOCK, LOCK_BYTE = 0x10, 0x72
