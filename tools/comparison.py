@@ -165,14 +165,14 @@ class Comparison:
             return it
         it.words = words_of(self.state.disk.words, entry.value, given.value)
         if self.group:
-            self.group.words += it.words
+            self.group.words = [*(self.group.words or []), *it.words]
             return None
         self.kinds[ABSENT] += 1
         self.group = it
         return it
 
     def count_lines(self) -> Iterator[str]:
-        total = sum(self.counts.values(), collections.Counter())
+        total: collections.Counter[str] = sum(self.counts.values(), collections.Counter())
         yield f"{'':14} agree differ not compared"
         for name, count in [*sorted(self.counts.items()), ("all", total)]:
             yield f"{name:14} {count['agree']:5} {count['differ']:6} {count['not']:12}"

@@ -87,7 +87,8 @@ def is_ide(entry: Entry) -> bool:
 def questions(log: list[Entry], resets: set[int]) -> tuple[list[str], list[tuple[int, int]], int]:
     """The statements with what is asked between them; of each question its place and the statement before it; and how
     far they fit into one script."""
-    statements, asked = list(PREPARED), []
+    statements = list(PREPARED)
+    asked: list[tuple[int, int]] = []
     for entry in log:
         if not is_kept(entry):
             continue
