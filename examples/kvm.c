@@ -59,7 +59,7 @@ static void follow_map(void) {
     static board_range ranges[BOARD_MOST_RANGES];
     board_window window; board_map map;
     ok(board_ranges(&b, &map, ranges, BOARD_MOST_RANGES, &window, 0));
-    uint32_t count = board_slots_follow(&slots, ranges, map.ranges, map.mib, ROM_BYTES, changes);
+    uint32_t count = board_slots_follow(&slots, ranges, map.ranges, (uint32_t)s.mib, ROM_BYTES, changes);
     for (board_slot_change *c = changes; c < changes + count; c++) {
         uint8_t *at = (c->slot.is_rom ? rom : guest) + c->slot.offset;
         uint64_t bytes = c->is_added ? (uint64_t)c->slot.hi - c->slot.lo + 1 : 0; /* 0 takes it away */

@@ -69,7 +69,7 @@ static void follow_map(void) { /* all anew: the slots, and between them what exi
     board_window window; board_map map;
     ok(board_ranges(&b, &map, ranges, BOARD_MOST_RANGES, &window, 0));
     if (seen != UINT32_MAX) uc_mem_unmap(uc, 0, 1ull << 32);
-    uint32_t count = board_slots_of(ranges, map.ranges, map.mib, ROM_BYTES, slot);
+    uint32_t count = board_slots_of(ranges, map.ranges, (uint32_t)s.mib, ROM_BYTES, slot);
     for (uint64_t k = 0, at = 0, lo; k <= count; at = slot[k++].hi + 1ull) {
         uint32_t rights = slot[k].is_read_only ? UC_PROT_READ | UC_PROT_EXEC : UC_PROT_ALL;
         uint8_t *bytes = (slot[k].is_rom ? rom : guest) + slot[k].offset;

@@ -736,21 +736,22 @@ typedef struct board_clocks {
 
 /* Lets time go by until so many nanoseconds after the power came: the 8254's pulses, 1,193,182 a second, and
  * the seconds of the MC146818, but for those in which it stands. Where line 0 rises on the way the pulses end
- * there, so that no tick is lost: the guest takes that interrupt, and the next call goes on. reply is as before
- * where there was nothing to do.
+ * there, so that no tick is lost: the guest takes that interrupt, and the next call goes on. So it does after
+ * 1,000,000 pulses and after 60 seconds, so that no call takes long. reply is as before where there was
+ * nothing to do.
  * CLOSED. */
 static inline uint32_t board_run_until(board *handle, board_clocks *clocks, uint64_t nanoseconds, board_reply *reply) {
     uint64_t second = 1000000000, hertz = 1193182, whole = nanoseconds / second;
     uint64_t due = whole * hertz + nanoseconds % second * hertz / second;
+    uint64_t count = due > clocks->pulses ? due - clocks->pulses : 0;
     uint32_t to_rise, status = board_pulses_to_rise(handle, &to_rise);
     board_event event;
-    if (status == BOARD_OK && to_rise > 0 && clocks->pulses + to_rise < due) due = clocks->pulses + to_rise;
-    while (status == BOARD_OK && clocks->pulses < due) {
-        uint64_t count = due - clocks->pulses < 1000000 ? due - clocks->pulses : 1000000;
-        status = board_pulse(handle, (uint32_t)count, reply);
-        clocks->pulses += count;
-    }
-    for (; status == BOARD_OK && clocks->seconds < whole; clocks->seconds++) {
+    if (status != BOARD_OK) return status;
+    if (to_rise > 0 && count > to_rise) count = to_rise;
+    if (count > 1000000) count = 1000000;
+    if (count > 0) status = board_pulse(handle, (uint32_t)count, reply);
+    clocks->pulses += count;
+    for (int k = 0; k < 60 && status == BOARD_OK && clocks->seconds < whole; k++, clocks->seconds++) {
         status = board_second(handle, &event, reply);
         if (status == BOARD_NO_TIME) status = BOARD_OK;
     }
@@ -910,8 +911,9 @@ static inline uint32_t board_slots_fill(board_slots *slots, const board_slot *wa
  * then is a slot of its own; there is no way with fewer changes. Where so many small ones stay that the
  * numbers could run out all are taken away first, and come again as few.
  *
- * rom_bytes is how many bytes the monitor's copy of the ROM has, in whole pages. With copies of the ROM one
- * after the other, 512 KiB in all, each range of it is one slot. */
+ * mib is how many MiB the guest's memory has: also of a loaded board those that the monitor has, whatever the
+ * board says. rom_bytes is how many bytes the monitor's copy of the ROM has, in whole pages. With copies of the
+ * ROM one after the other, 512 KiB in all, each range of it is one slot. */
 static inline uint32_t board_slots_follow(board_slots *slots, const board_range *ranges, size_t count, uint32_t mib,
                                           uint32_t rom_bytes, board_slot_change *changes) {
     board_slot wanted[BOARD_MOST_SLOTS];
