@@ -1,6 +1,6 @@
-; A boot sector, for `nasm -f bin`, that drives the one queue of a legacy virtio block card. It tells of an available
-; index that lies past the ring, and then, after a reset of the card, of a read of sector 0: the used index and the status
-; of each, FFh where none was written.
+; A boot sector, for `nasm -f bin`, that drives the one queue of a legacy virtio block card. It offers reads of sector 0,
+; each time after a reset of the card: more than the ring holds, one, and as many as it holds; and tells the used index and
+; the status of each, FFh where none was written.
 bits 16
 org 7C00h
 
@@ -40,6 +40,8 @@ start:
     mov ax, 1000           ; requests, of which the ring holds 128
     call ask
     mov ax, 1
+    call ask
+    mov ax, RING
     call ask
     mov si, line
     call print
