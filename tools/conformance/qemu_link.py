@@ -23,6 +23,7 @@ BLOCK = 1 << 16
 CYLINDER_BYTES, HEADS, SECTORS = 516096, 16, 63
 CLOCK_BEGINS = "2024-02-28T22:59:49"
 SNAPSHOT = "begin"
+PORT_B, REFRESH = 0x61, 0x10
 MACHINE = "-M pc,acpi=off,hpet=off,usb=off,vmport=off,i8042=off -nodefaults -display none -vga none -net none"
 CARD_DEVICE = "edu"  # has INTA#, which a register raises
 
@@ -119,11 +120,17 @@ class Link:
         try:
             if self.monitor(f"loadvm {SNAPSHOT}") == "":
                 self.drain()
+                self.put_refresh_back()
                 return True
         except (MonitorEnded, OSError):
             pass
         self.close()
         return False
+
+    def put_refresh_back(self) -> None:
+        """Lets bit 4 of port 61h begin as in a new process: QEMU flips it at each read, and `loadvm` does not know it."""
+        if self.ask(f"inb 0x{PORT_B:x}") & REFRESH:
+            self.ask(f"inb 0x{PORT_B:x}")
 
     def drain(self) -> None:
         """Takes what the guest sent by COM1, which would else stand still once nobody takes more."""
