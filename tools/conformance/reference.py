@@ -61,7 +61,7 @@ class Machine:
             answer = self.board.second() if word == "second" else self.board.step(event_of(statement))
         except BoardError:
             return self.entry(statement, "- none -")
-        return self.entry(str(answer.event), str(answer))
+        return self.entry(str(answer.event), str(answer.reply))
 
     def entry(self, statement: str, answer: str) -> Entry:
         found = entry_of(f"{self.number} 0.{self.number} {statement} = {answer}")
