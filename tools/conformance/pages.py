@@ -43,7 +43,7 @@ def shown_page(found: Found, folder: pathlib.Path, number: int) -> str:
     words = [sys.executable, str(ROOT / "tools/show"), str(script), *beside]
     made = subprocess.run(words, capture_output=True, text=True)
     if made.returncode:
-        raise PageFault(f"{script}: tools/show ended with {made.returncode}: {made.stderr.strip()}")
+        raise PageFault(f"{script}: tools/show ended with {made.returncode}: {(made.stderr.strip().splitlines() or [''])[-1]}")
     name = f"{number:02}.html"
     (folder / name).write_text(made.stdout)
     return name
