@@ -98,8 +98,8 @@ class Row:
     def text(self) -> str:
         """As a row of a table."""
         more = f" and {len(self.cases) - EXAMPLES} more" if len(self.cases) > EXAMPLES else ""
-        named = ", ".join(f"`{it}`" for it in self.cases[:EXAMPLES]) + more if self.cases else "none"
-        return f"| {self.kind} | `{self.name}` | {self.what} | {named} |"
+        named = ", ".join(self.cases[:EXAMPLES]) + more if self.cases else "none"
+        return f"| {self.kind} | {self.name} | {self.what} | {named} |"
 
 
 def with_card(function: str) -> str:
