@@ -21,6 +21,7 @@ ICW1, POLL, REQUEST, CASCADE, VECTOR_BASE = 0x10, 0x0C, 0x80, 2, 0xF8
 DISK, ALTERNATE_STATUS, DATA, ATA_COMMAND = (*range(0x1F0, 0x1F8), 0x3F6), 0x3F6, 0x1F0, 0x1F7
 BUSY, HELD_RESET, SECTOR = 0x80, 0x04, 512
 RESET_CONTROL, RESETS = 0xCF9, 0x04
+READ_PORT_B, TIMER_CONTROL, SPEAKER_COUNTER = "in b 0061", "out b 0043", 2
 COUNTERS = ("0040", "0041", "0042")
 SEES_COUNTS = ("0020", *COUNTERS, "0043", "0061")
 
@@ -207,9 +208,10 @@ class Machines:
     def __init__(self, options: Options) -> None:
         self.options, self.kept = options, dict[Setup, Link]()
 
-    def begin(self, setup: Setup) -> Link:
+    def begin(self, setup: Setup, statements: Sequence[str]) -> Link:
+        """A process at its start. Its clock does not go back, and the counters have counted on since."""
         link = self.kept.pop(setup, None)
-        if link and link.now > MOST_AHEAD:
+        if link and (link.now > MOST_AHEAD or sees_first_output(statements)):
             link.close()
             link = None
         if link is None or not link.back():
@@ -231,7 +233,7 @@ class Machines:
         answers: list[Optional[str]] = [None] * len(statements)
         link: Optional[Link] = None
         try:
-            link = self.begin(setup)
+            link = self.begin(setup, statements)
             machine = Machine(link, setup)
             for at, statement in enumerate(statements):
                 machine.do(statement, lambda answer, at=at: answers.__setitem__(at, answer))  # type: ignore[misc]
@@ -247,6 +249,16 @@ class Machines:
     def close(self) -> None:
         for link in self.kept.values():
             link.close()
+
+
+def sees_first_output(statements: Sequence[str]) -> bool:
+    """Whether port 61h is read before counter 2 has a mode: its output then tells how long the machine has run."""
+    for statement in statements:
+        if statement == READ_PORT_B:
+            return True
+        if statement.startswith(TIMER_CONTROL) and int(statement[-2:], 16) >> 6 == SPEAKER_COUNTER:
+            return False
+    return False
 
 
 def unanswered(answers: Sequence[Optional[str]]) -> int:

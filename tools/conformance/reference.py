@@ -4,6 +4,7 @@ The library for C is found as the Python binding finds it: in $BOARD_DIR, by pkg
 """
 import pathlib
 import sys
+import threading
 
 from board_texts import ROOT, Entry, entry_of, stop
 
@@ -12,12 +13,14 @@ from .scripts import Script, Setup
 sys.path.insert(0, str(ROOT / "bindings/python"))
 try:
     from board440fx import Board, BoardError, Event
+    from board440fx.library import library
 except ModuleNotFoundError:
     stop(2, "the Python module board440fx is not there: pip install the repository's bindings/python")
 
 from .bus_master import done_by
 
 MOST_EVENTS_KEPT = 1 << 16
+_loading = threading.Lock()  # of the library, which the first board loads
 _events: dict[str, Event] = {}
 _images: dict[pathlib.Path, tuple[int, bytes]] = {}
 
@@ -44,6 +47,8 @@ class Machine:
 
     def __init__(self, setup: Setup) -> None:
         disk = image_of(setup.disk) if setup.disk else b""
+        with _loading:
+            library()
         self.board = Board(memory=setup.memory, cards=setup.cards, rom=image_of(setup.rom), disk=disk)
         self.number = 0
 
