@@ -18,6 +18,7 @@ WIDTH_NUMBERS = {"b": 0, "w": 1, "d": 2}
 ANSWER_BYTES = 4
 COM1 = range(0x3F8, 0x400)
 RESET_CONTROL, RESETS = 0xCF9, 0x04
+DISK, ALTERNATE_STATUS, BUSY, NOBODY, MOST_POLLS = (*range(0x1F0, 0x1F8), 0x3F6), 0x3F6, 0x80, 0xFF, 500
 SECONDS_TO_START, SECONDS_TO_ANSWER, SECONDS_TO_RESET, SECONDS_TO_END, TICK = 60.0, 30.0, 0.5, 2.0, 0.5
 
 
@@ -42,6 +43,12 @@ def question_of(statement: str) -> Optional[bytes]:
 def is_reset(asked: bytes) -> bool:
     """Whether a question may reset the machine: the agent then begins anew."""
     return asked[0] == OUT and int.from_bytes(asked[1:5], "little") == RESET_CONTROL and bool(asked[5] & RESETS)
+
+
+def asks_disk(statement: str) -> bool:
+    """Whether a statement reaches the disk's ports."""
+    words = statement.split(" ")
+    return words[0] in ("in", "out") and int(words[2], 16) in DISK
 
 
 class Guest:
@@ -148,6 +155,13 @@ class Guest:
         except TimeoutError:
             pass
         self.link.settimeout(SECONDS_TO_ANSWER)
+
+    def wait_for_disk(self) -> None:
+        """Waits while the disk is busy: here a command is done when it is written. A held reset stays busy."""
+        for _ in range(MOST_POLLS):
+            status = self.ask(question(IN, ALTERNATE_STATUS))
+            if status == NOBODY or not status & BUSY:
+                return
 
     def can_enter_smm(self) -> bool:
         if self.has_smm is None:
