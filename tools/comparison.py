@@ -68,7 +68,7 @@ class Difference:
     def place(self) -> str:
         return f"statement {self.entry.number}" + (f", line {self.given.line} of the trace" if self.given.line else "")
 
-    def item(self) -> dict:
+    def item(self) -> dict[str, object]:
         """As an item of --json."""
         return {
             "item": "difference",
@@ -121,8 +121,8 @@ class Comparison:
     def __init__(self, installed: int, excepted: list[str], rom: bytes = b"", view: str = ""):
         self.state = State(installed, rom, view)
         self.excepted = tuple(excepted)
-        self.counts: dict[str, collections.Counter] = collections.defaultdict(collections.Counter)
-        self.not_compared: collections.Counter = collections.Counter()
+        self.counts: dict[str, collections.Counter[str]] = collections.defaultdict(collections.Counter)
+        self.not_compared: collections.Counter[str] = collections.Counter()
         self.kinds = dict.fromkeys(KINDS, 0)
         self.group: Optional[Difference] = None
 
@@ -181,7 +181,7 @@ class Comparison:
         counts = {kind: count for kind, count in self.kinds.items() if count or kind in ALWAYS_COUNTED_UP}
         yield "differences: " + ", ".join(f"{count} {kind}" for kind, count in counts.items())
 
-    def count_item(self) -> dict:
+    def count_item(self) -> dict[str, object]:
         return {
             "item": "counts",
             "targets": {name: dict(agree=it["agree"], differ=it["differ"], not_compared=it["not"])

@@ -166,9 +166,18 @@ def chip_of(byte: "Byte") -> Chip:
     return byte.state.interrupts.chips[chip_number(byte)]
 
 
-def any_chip(wanted: Callable[[Chip], bool]) -> Callable[["Byte"], bool]:
-    """Whether one of both is so: what a chip gives hangs on both where the slave asks."""
-    return lambda byte: any(wanted(chip) for chip in byte.state.interrupts.chips)
+def chip_at_issue(byte: "Byte") -> Chip:
+    """The chip that answered otherwise: of two vectors the slave where both are its own, and else the master."""
+    master, slave = byte.state.interrupts.chips
+    if byte.target in ("pic0", "pic1"):
+        return chip_of(byte)
+    is_slave = chip_number(byte) == 1 and slave.base is not None and byte.given & BASE_BITS == slave.base
+    return slave if is_slave else master
+
+
+def at_issue(wanted: Callable[[Chip], bool]) -> Callable[["Byte"], bool]:
+    """Whether the chip that answered otherwise is so."""
+    return lambda byte: wanted(chip_at_issue(byte))
 
 
 def is_even(byte: "Byte") -> bool:
@@ -279,7 +288,7 @@ ROWS = [
         "Interrupt controllers",
         "ICW1 in the middle of a sequence begins the sequence anew",
         BOTH,
-        when=any_chip(lambda it: it.is_begun_anew),
+        when=at_issue(lambda it: it.is_begun_anew),
     ),
     Row(
         "poll-kept",
@@ -384,7 +393,7 @@ ROWS = [
         "8259A, Special Mask Mode",
         "a masked level in service blocks no other, and a non-specific end of interrupt passes over it",
         BOTH,
-        when=any_chip(lambda it: it.special_mask),
+        when=at_issue(lambda it: it.special_mask),
     ),
     Row(
         "rotation-at-end",
@@ -393,7 +402,7 @@ ROWS = [
         "a rotating specific end of interrupt makes its level the lowest also where it was not in service; a "
         "non-specific one that finds none does nothing",
         BOTH,
-        when=any_chip(lambda it: it.is_rotated_openly),
+        when=at_issue(lambda it: it.is_rotated_openly),
     ),
     Row(
         "elcr-sense",
@@ -465,7 +474,7 @@ ROWS = [
         "8259A, Automatic End of Interrupt (AEOI) Mode",
         "a level leaves service at the end of its acknowledge",
         BOTH,
-        when=any_chip(lambda it: it.automatic),
+        when=at_issue(lambda it: it.automatic),
     ),
     Row(
         "rotation",
@@ -473,7 +482,7 @@ ROWS = [
         "8259A, Automatic Rotation and Specific Rotation",
         "a rotation moves the lowest priority",
         BOTH,
-        when=any_chip(lambda it: it.lowest != SPURIOUS),
+        when=at_issue(lambda it: it.lowest != SPURIOUS),
     ),
     Row(
         "in-service",

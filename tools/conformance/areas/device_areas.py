@@ -1,7 +1,7 @@
 """Areas of the disk, COM1, the reset control port, and all ports."""
 import random
 
-from ..case_words import cmos, get, ide, outb, pic
+from ..case_words import cmos, get, ide, outb, pic, put
 from .words import WIDTH_LETTERS, Steps, hexed, put_byte, requests, several
 
 OTHER_STATUS, STATUS = "in b 03F6", "in b 01F7"
@@ -74,10 +74,25 @@ def disk(rng: random.Random) -> Steps:
     def look() -> Steps:
         return [[f"in b {0x1F1 + rng.randrange(7):04X}"] for _ in range(3)]
 
+    def channel() -> Steps:
+        return [
+            put("01.1.40", rng.choice(("0000", "8000"))),
+            put("01.1.04", rng.choice(("0000", "0005"))),
+            [STATUS],
+            ide(),
+        ]
+
     def software_reset() -> Steps:
         return [["out b 03F6 04", STATUS, f"out b 03F6 {rng.choice((0, 2)):02X}"]]
 
-    doings = [(8, command), (6, look), (1, software_reset), (1, lambda: [["in w 01F0"]]), (2, lambda: [requests(1)])]
+    doings = [
+        (8, command),
+        (6, look),
+        (1, channel),
+        (1, software_reset),
+        (1, lambda: [["in w 01F0"]]),
+        (2, lambda: [requests(1)]),
+    ]
     return [[*ide(), *pic()], *several(rng, 6, 14, doings)]
 
 
