@@ -49,7 +49,8 @@ class Disk:
             self.is_drive_1 = bool(self.registers[DEVICE] & DRIVE_1)
 
     def begin(self, command: int) -> None:
-        self.is_cut = self.is_cut or self.words % WORDS_OF_A_SECTOR != 0
+        is_within = self.words % WORDS_OF_A_SECTOR != 0 if self.sectors is None else self.is_moving
+        self.is_cut = self.is_cut or is_within
         self.command, self.words, self.is_reset = command, 0, False
         self.features, self.first = self.registers[ERROR], self.address()
         self.wanted = WORDS_OF_A_SECTOR * self.sectors_moved(command)

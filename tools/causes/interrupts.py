@@ -214,6 +214,12 @@ def is_fallen(byte: "Byte") -> bool:
     return bool(lines_more(byte) & fallen)
 
 
+def is_fallen_at_poll(byte: "Byte") -> bool:
+    """Whether the other's poll gave the level of a line that fell."""
+    fallen = byte.state.interrupts.fell & ~byte.state.interrupts.elcr
+    return byte.given >> 7 == 1 and bool(fallen >> LEVELS * chip_number(byte) + (byte.given & 7) & 1)
+
+
 def is_fallen_at_acknowledge(byte: "Byte") -> bool:
     """Whether the other gave the vector of a line that fell before it was acknowledged."""
     interrupts = byte.state.interrupts
@@ -345,7 +351,7 @@ ROWS = [
         EDGES,
         "an input has to stay high until the first acknowledge, and a request that fell is none",
         REGISTERS,
-        when=lambda it: is_request(it) and is_fallen(it),
+        when=lambda it: is_request(it) and is_fallen(it) or is_poll(it) and is_fallen_at_poll(it),
     ),
     Row(
         "spurious",
