@@ -356,7 +356,7 @@ FAULTS = [
         "pirq-off",
         "bit 7 of PIRQRC does not turn a route off",
         "pirq*",
-        "config",
+        "pirq",
         written("01.0.6[0-3]", without(0x80)),
         is_hidden=True,
     ),

@@ -9,7 +9,7 @@ from ..scripts import Script, Setup
 from . import chip_areas, device_areas, map_areas
 from .words import Steps
 
-CARD = "2 plain m20 m12 i8"
+CARD, ASKING_CARD = "2 plain m20 m12 i8", f"{chip_areas.CARD_AT} plain m20"
 
 
 @dataclass(frozen=True)
@@ -35,6 +35,7 @@ AREAS = [
     Area("rom", map_areas.rom, rom="r256"),
     Area("cards", map_areas.cards, cards=(CARD,)),
     Area("pic", chip_areas.interrupts),
+    Area("pirq", chip_areas.routes, cards=(ASKING_CARD,)),
     Area("pit", chip_areas.timer),
     Area("rtc", chip_areas.clock),
     Area("ata", device_areas.disk, has_disk=True),

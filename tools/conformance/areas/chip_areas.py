@@ -1,7 +1,7 @@
 """Areas of the two 8259A, the 8254 and the clock."""
 import random
 
-from ..case_words import cmos, date, outb, pic
+from ..case_words import cmos, date, outb, pic, put
 from .words import EVEN_PORTS, READ_REQUESTS, READ_SERVICE, Steps, requests, several
 
 LINES = (1, 3, 4, 5, 6, 7, 9, 10, 11, 12, 15)
@@ -9,6 +9,7 @@ ICW4, MODES = ("01", "01", "01", "03", "11", "1D"), (0, 2, 3, 0, 2, 3, 1, 4, 5)
 SPECIAL_MASKS, POLL = (0x68, 0x68, 0x48), 0x0C
 WITH_LEVEL, COMMANDS = (0x60, 0xE0, 0xC0), (0x20,) * 5 + (0x60,) * 3 + (0xA0, 0xA0, 0xE0, 0xC0, 0x80, 0x00, 0x40)
 ELCR_BITS = (0xF8, 0xDE)
+PIRQRC, ROUTE_OFF, CARD_AT = 0x60, 0x80, 3
 COUNTS = (0, 1, 2, 3, 5, 0x100)
 LATCH, STATUS = 0x00, 0xE0
 DECIMAL = 0.1
@@ -70,6 +71,30 @@ def interrupts(rng: random.Random) -> Steps:
         (4, look),
     ]
     return [[*elcr, *pic(rng.choice(ICW4))], *several(rng, 12, 40, doings)]
+
+
+def routes(rng: random.Random) -> Steps:
+    """A card's request by PIRQRC, its line by ELCR, and what the 8259A make of it."""
+
+    def route() -> Steps:
+        value = rng.choice((*LINES, rng.randrange(16))) | rng.choice((0, 0, ROUTE_OFF))
+        return [put(f"01.0.{PIRQRC + rng.randrange(4):02X}", f"{value:02X}")]
+
+    def sense() -> Steps:
+        chip = rng.randrange(2)
+        return [outb(0x4D0 + chip, ELCR_BITS[chip] & rng.choice((0, 0xFF)))]
+
+    def wire() -> Steps:
+        return [[f"wire {CARD_AT} {rng.randrange(2)}"]]
+
+    def ended() -> Steps:
+        return [["ack"], [*outb(0xA0, 0x20), *outb(0x20, 0x20)]]
+
+    def look() -> Steps:
+        return [requests(rng.randrange(2), rng.choice((READ_REQUESTS, READ_REQUESTS, READ_SERVICE)))]
+
+    all_routed = [it for at in range(4) for it in put(f"01.0.{PIRQRC + at:02X}", f"{rng.choice(LINES):02X}")]
+    return [[*pic(), *all_routed], *several(rng, 8, 24, [(3, route), (1, sense), (5, wire), (1, ended), (6, look)])]
 
 
 def timer(rng: random.Random) -> Steps:

@@ -4,6 +4,7 @@ import random
 from ..case_words import cmos, get, ide, outb, pic, put
 from .words import WIDTH_LETTERS, Steps, hexed, put_byte, requests, several
 
+WORDS_OF_A_SECTOR = 256
 OTHER_STATUS, STATUS = "in b 03F6", "in b 01F7"
 COMMANDS = (0x20, 0x20, 0x20, 0x30, 0x30, 0x40, 0x90, 0x91, 0xE7, 0xEF)
 OTHER_COMMANDS = (0xA1, 0x00, 0x10, 0x21, 0x31, 0x70, 0xC4, 0xC6, 0xE1, 0xE5, 0xF8)
@@ -82,6 +83,16 @@ def disk(rng: random.Random) -> Steps:
             ide(),
         ]
 
+    def kept() -> Steps:
+        """A sector that is written and read again."""
+        where = [*outb(0x1F2, 1), *outb(0x1F3, rng.randrange(4)), *outb(0x1F4, 0), *outb(0x1F5, 0), *outb(0x1F6, 0xE0)]
+        words = [f"out w 01F0 {rng.getrandbits(16):04X}" for _ in range(WORDS_OF_A_SECTOR)]
+        return [[*where, *outb(0x1F7, 0x30), *words], [*where, *outb(0x1F7, 0x20), *["in w 01F0"] * WORDS_OF_A_SECTOR]]
+
+    def quiet() -> Steps:
+        """A command without its interrupt, or with it."""
+        return [[*outb(0x3F6, rng.choice((0, 2, 2))), STATUS, *outb(0x1F7, rng.choice((0x90, 0xE7)))], requests(1)]
+
     def software_reset() -> Steps:
         return [["out b 03F6 04", STATUS, f"out b 03F6 {rng.choice((0, 2)):02X}"]]
 
@@ -89,6 +100,8 @@ def disk(rng: random.Random) -> Steps:
         (8, command),
         (6, look),
         (1, channel),
+        (0.3, kept),
+        (1, quiet),
         (1, software_reset),
         (1, lambda: [["in w 01F0"]]),
         (2, lambda: [requests(1)]),
