@@ -192,10 +192,6 @@ def is_request(byte: "Byte") -> bool:
     return is_even(byte) and not is_poll(byte) and not chip_of(byte).reads_service
 
 
-def is_service(byte: "Byte") -> bool:
-    return is_even(byte) and not is_poll(byte) and chip_of(byte).reads_service
-
-
 def lines_more(byte: "Byte") -> int:
     """The lines that ask in the other alone, as bits of sixteen."""
     return (byte.given & ~byte.ours) << LEVELS * chip_number(byte)

@@ -8,7 +8,6 @@ if TYPE_CHECKING:
 
 RC = "82371SB, RC: Reset Control Register"
 NMISC = "82371SB, NMISC: NMI Status and Control Register"
-PORT_61 = 0x61
 OUT_2, REFRESH, KEPT_BITS, GATE_2 = 0x20, 0x10, 0x03, 0x01
 ELCR_BITS = {0x4D0: 0xF8, 0x4D1: 0xDE}
 SOFT_RESET = "a soft reset, 04, resets the processor alone: the registers and the devices keep what they have"
