@@ -176,8 +176,8 @@ def chip_at_issue(byte: "Byte") -> Chip:
 
 
 def at_issue(wanted: Callable[[Chip], bool]) -> Callable[["Byte"], bool]:
-    """Whether the chip that answered otherwise is so."""
-    return lambda byte: wanted(chip_at_issue(byte))
+    """Whether the chip that answered otherwise is so. What asks, in IRR, hangs on none of its modes."""
+    return lambda byte: wanted(chip_at_issue(byte)) and not (byte.target in ("pic0", "pic1") and is_request(byte))
 
 
 def is_even(byte: "Byte") -> bool:
