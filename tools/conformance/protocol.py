@@ -222,10 +222,19 @@ class Adapter:
         try:
             status = process.wait(SECONDS_TO_END)
         except subprocess.TimeoutExpired:
-            process.kill()
-            process.wait()
+            stop(process)
         process.stdout.close()
         return status
+
+
+def stop(process: "subprocess.Popen[bytes]") -> None:
+    """Ends an adapter that does not end by itself, and lets it end what it began."""
+    process.terminate()
+    try:
+        process.wait(SECONDS_TO_END)
+    except subprocess.TimeoutExpired:
+        process.kill()
+        process.wait()
 
 
 class Adapters:

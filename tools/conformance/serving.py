@@ -5,6 +5,7 @@
     serve(answers_of)
 """
 import pathlib
+import signal
 import sys
 from typing import Callable, Iterable, Iterator, Sequence
 
@@ -46,7 +47,8 @@ def scripts_given() -> Iterator[tuple[Setup, Sequence[str]]]:
 
 
 def serve(answers_of: Answers) -> None:
-    """Answers scripts until standard input ends."""
+    """Answers scripts until standard input ends. A signal that ends it ends the monitor that was begun too."""
+    signal.signal(signal.SIGTERM, lambda number, frame: sys.exit(128 + number))
     for setup, statements in scripts_given():
         try:
             for answer in answers_of(setup, statements):
