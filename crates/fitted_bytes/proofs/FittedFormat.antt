@@ -1,6 +1,7 @@
 -- Setups and the identities of cards are spelled and read back, and so is what stands in front of the state of a
 -- running board.
-use Rattle.std.proofs.Common.{◌≡◌, ℕ, ◌^◌, ◌<◌, ◌≤◌, true, List, length, Option, Some, None, refl, arith, [], ◌∷◌}
+use Rattle.std.proofs.Common.{◌≡◌, ℕ, zero, suc, ◌-◌, ◌*◌, ◌+◌, ◌^◌, ◌<◌, ◌≤◌, true, List, length, Option, Some, None}
+use Rattle.std.proofs.Common.{Err, refl, arith, [], ◌∷◌, ap, ◌∙◌}
 use Rattle.std.proofs.Common.{flat_map, All, ◌↔◌}
 use Rattle.board_prelude.proofs.Common.{eqb-true, nat_tests, nil_from_length, AllByRecursion, recursion_from_All}
 use Rattle.board_prelude.specs.Common.{IsSetup, IsRomSize, is_rom_size, IsDisk, most_card_memory, most_mib}
@@ -8,12 +9,14 @@ use Rattle.byte_fields.proofs.Formats.{IsFormat, fields_format, ◌then◌, ◌&
 use Rattle.byte_fields.proofs.Formats.{many_format, AreGood}
 use Rattle.byte_fields.proofs.Numbers.{wide32, byte_within, within_format, where_format, wide16, any_byte, any_number}
 use Rattle.byte_fields.proofs.Numbers.{Ranges}
-use Rattle.byte_fields.proofs.PageFormats.{memory_format}
+use Rattle.byte_fields.proofs.PageFormats.{memory_format, memory_then}
+use Rattle.byte_fields.specs.Pages.{memory_fields, memory_page}
+use Rattle.byte_fields.specs.Pages.{pages_fields, each_page_field, cut, page_field}
 use Rattle.board_image.proofs.EventFormats.{wider}
 use Rattle.board_image.proofs.CardFormats.{cards_format, stand_anywhere}
 use Rattle.board_image.proofs.ImageFormats.{rom_size_to, rom_size_from, rom_most, length_from}
 use Rattle.fitted_bytes.specs.Setups.{bytes_on, counted_bytes, disk_fields, disk_where, is_fitted_size, rom_fields}
-use Rattle.fitted_bytes.specs.Setups.{setup_bytes, setup_fields}
+use Rattle.fitted_bytes.specs.Setups.{parts_fields, setup_bytes, setup_fields}
 use Rattle.std.proofs.lemmas.List.Elements.{All-from_recursion}
 use Rattle.card_identity.specs.declared.identity.FittedIdentity.{FittedIdentity}
 use Rattle.byte_fields.specs.Fields.{Reading}
@@ -22,6 +25,23 @@ use Rattle.fitted_bytes.specs.Identities.{AreIdentities, IsIdentity, first_bytes
 use Rattle.fitted_bytes.specs.Identities.{identity_fields, identities_bytes, identities_fields, some_identities}
 use Rattle.board_chipset.proofs.Marks.{exactly_format}
 use Rattle.fitted_bytes.specs.Fitted.{IsFitting, fitting_bytes, fitting_fields, magic, version}
+
+-- ---- memory in two parts
+
+-- without a byte there is no page
+pub none_left : (count : ℕ) → 0 < count → memory_fields count [] ≡ Err 0
+unfolding pages_fields each_page_field cut page_field
+none_left zero some = absurd (omega (arith, some))
+none_left (suc n) some = refl
+
+-- whole pages, and then what is left
+pub in_parts : (pages size first : ℕ) (bytes : List ℕ) → first ≡ pages * memory_page → first ≤ size →
+    memory_fields size bytes ≡ parts_fields first (size - first) bytes
+unfolding parts_fields
+in_parts pages size first bytes whole fits =
+    let long : size ≡ first + (size - first) = omega (arith, fits) in
+    ap (λ (n : ℕ). memory_fields n bytes) long
+    ∙ rw (← whole) at (memory_then pages (size - first) bytes)
 
 -- ---- the ROM
 
@@ -81,8 +101,7 @@ setup_format =
     (λ setup is.
     let cards = is.cards in (
       (setup.mib, (is.some_memory, is.most_memory)) & (length setup.cards, (omega arith, cards.count))
-          & (setup.cards, (refl, cards.each, cards.rises, is.windows, stand_anywhere setup.cards))
-          & (setup.rom, is.rom) & (setup.disk, is.disk),
+          & (setup.cards, (refl, cards.each, cards.rises, is.windows, stand_anywhere setup.cards)) & (setup.rom, is.rom) & (setup.disk, is.disk),
       refl,
     ))
     (λ t.

@@ -1,5 +1,5 @@
 -- What a board is fitted with, as bytes. Of the ROM and of the disk the pages that are not all zeros.
-use Rattle.std.specs.Prelude.{ℕ, ◌==◌, ◌||◌, ◌++◌, Bool, if◌then◌else◌, List, [], ◌∷◌, length, flat_map, Option}
+use Rattle.std.specs.Prelude.{ℕ, ◌==◌, ◌||◌, ◌++◌, Bool, true, if◌then◌else◌, List, [], ◌∷◌, length, flat_map, Option}
 use Rattle.std.specs.Prelude.{Some, None, unwrap_or}
 use Rattle.board_prelude.specs.Common.{w8, w32, to_le_bytes, most_mib, most_card_memory, Setup, is_rom_size}
 use Rattle.board_prelude.specs.Common.{is_disk_length}
@@ -55,3 +55,11 @@ setup_bytes setup =
 
 abbrev pub disk_unless_left : (left : Bool) → Setup → Setup
 disk_unless_left left setup = fitted_with (unless_left left (bytes_on setup.disk)) setup
+
+-- ---- memory, read in two parts
+
+unfoldable pub parts_fields : (first more : ℕ) → Reading (List ℕ)
+parts_fields first more = do
+  bytes ← memory_fields first
+  later ← memory_fields more
+  gives (bytes ++ later)

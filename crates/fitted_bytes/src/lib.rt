@@ -3,6 +3,7 @@
 
 mod fitted;
 mod identities;
+mod memory_reader;
 mod setup_reader;
 mod setup_writer;
 

@@ -1,15 +1,15 @@
 //! Reads a setup.
 
-ghost use Rattle.std.specs.Prelude.{◌≡◌, IfOk, option_map, replicate};
+ghost use Rattle.std.specs.Prelude.{◌≡◌, option_map};
 ghost use Rattle.board_prelude.specs.Common.{w32, is_rom_size};
 ghost use Rattle.byte_fields.specs.Fields.{Filled, Took, number_where};
-ghost use Rattle.byte_fields.specs.Pages.{memory_fields};
 ghost use Rattle.fitted_bytes.specs.Setups.{disk_fields, is_fitted_size, rom_fields, setup_fields};
 
 use crate::identities::MOST_CARDS;
+use crate::memory_reader::memory;
 use board_chipset::{Setup, is_disk_size, is_rom_size};
 use board_image::cards;
-use byte_fields::{Bad, Fault, Fields, MEMORY_PAGE};
+use byte_fields::{Bad, Fault, Fields};
 use std::alloc::Global;
 
 /// The most memory in MiB.
@@ -41,15 +41,6 @@ fn disk_size(fields: &mut Fields) -> Result<u32, Bad>
     let size = u32::from_le_bytes(fields.front()?);
     fields.past(4, is_fitted_size(size))?;
     Ok(size)
-}
-
-/// Reads so many bytes by pages.
-fn memory(alloc: Global, fields: &mut Fields, size: u32) -> Result<Vec<u8>, Fault>
-    ensures filled { Filled (λ bytes. bytes.items) result fields.new (memory_fields size fields.old) }
-{
-    let mut bytes = vec![in alloc; 0; size as usize]?;
-    fields.pages(MEMORY_PAGE, &mut bytes)?;
-    Ok(bytes)
 }
 
 /// Reads a ROM.
