@@ -11,6 +11,7 @@ import re
 import subprocess
 import tarfile
 import tempfile
+import threading
 
 from .errors import LibraryError
 from .records import CALLS
@@ -111,8 +112,16 @@ def found() -> pathlib.Path:
     raise LibraryError(f"no {LIBRARY} was found: `./board --library DIR` makes it, and BOARD_DIR=DIR says where it is")
 
 
+_FINDING = threading.Lock()
+
+
 @functools.cache
-def library() -> ctypes.CDLL:
-    """The library, found once."""
+def _found_library() -> ctypes.CDLL:
     path = found()
     return load(path, [path.with_name(HEADER)])
+
+
+def library() -> ctypes.CDLL:
+    """The library, found once, whichever thread asks first."""
+    with _FINDING:
+        return _found_library()

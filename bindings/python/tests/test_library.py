@@ -93,3 +93,15 @@ def test_a_folder_without_a_library_is_said(tmp_path):
     environment = {**os.environ, "BOARD_DIR": str(tmp_path), "PYTHONPATH": str(SOURCES / "python")}
     said = subprocess.run(asked, env=environment, capture_output=True, text=True).stderr
     assert said.splitlines()[-1].endswith(f"BOARD_DIR: {tmp_path} has no libboard.so")
+
+
+def test_threads_that_ask_at_once_get_one_library():
+    """In a process of its own, in which nobody asked before."""
+    program = ("import concurrent.futures as futures\n"
+               "from board440fx.library import library\n"
+               "with futures.ThreadPoolExecutor(8) as pool:\n"
+               "    found = list(pool.map(lambda _: library(), range(8)))\n"
+               "print(len({id(it) for it in found}))\n")
+    environment = {**os.environ, "PYTHONPATH": str(pathlib.Path(__file__).resolve().parents[1])}
+    done = subprocess.run([sys.executable, "-c", program], env=environment, capture_output=True, text=True)
+    assert (done.stdout, done.returncode) == ("1\n", 0), done.stderr
