@@ -1,6 +1,5 @@
 -- Totality follows from the causes of each status.
 use Rattle.std.proofs.Common.{◌≡◌, ◌⊎◌, ◌↔◌, inl, inr, ℕ, List, [], ◌∷◌, ◌++◌, Option, Some, None, arith, refl, take}
-use Rattle.board_prelude.proofs.Common.{nat_tests}
 use Rattle.board_outside.specs.Outside.{Put}
 use Rattle.command_words.specs.Words.{Command, Resume, IsCommand, AreWordsOf, command_of}
 use Rattle.command_words.proofs.WordLaws.{words_decide}
