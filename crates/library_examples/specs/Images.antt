@@ -1,6 +1,6 @@
 -- Worked examples of the bytes of an image: the number of a base is its power of two, bit 7 is set where it is for
--- ports, and bit 6 where the board keeps no bytes of it.
-use Rattle.std.specs.Prelude.{ℕ, ◌≡◌, ◌++◌, false, List, [], ◌∷◌, map, Option, Some, None, Result, Ok, Err}
+-- ports, and bit 6, in a running board alone, where the board keeps no bytes of it.
+use Rattle.std.specs.Prelude.{ℕ, ◌≡◌, ◌++◌, false, true, List, [], ◌∷◌, map, Option, Some, None, Result, Ok, Err}
 use Rattle.board_prelude.specs.Common.{MemoryBase, IoBase, OutsideBase, FittedCard}
 use Rattle.board_image.specs.Common.{card_bytes}
 use Rattle.board_image.specs.ImageFields.{card_fields, head_fields}
@@ -12,10 +12,14 @@ port_card = record { dev = 3; vga = false; bases = MemoryBase 12 ∷ IoBase 4 �
 abbrev pub port_card_bytes : List ℕ
 port_card_bytes = 3 ∷ 0 ∷ 0 ∷ 2 ∷ 0x0C ∷ 0x84 ∷ []
 
--- what is read of bytes where a first card may stand: it, and the bytes left, or how many are left from the bad field
--- on
+-- what is read of bytes where a first card may stand in an image: it, and the bytes left, or how many are left from the
+-- bad field on
 abbrev pub read_card : List ℕ → Result (FittedCard × List ℕ) ℕ
-read_card bytes = card_fields 1 0x400_0000 bytes
+read_card bytes = card_fields false 1 0x400_0000 bytes
+
+-- and in the bytes of a running board, whose cards may have bases of which the board keeps no bytes
+abbrev pub read_running : List ℕ → Result (FittedCard × List ℕ) ℕ
+read_running bytes = card_fields true 1 0x400_0000 bytes
 
 -- a card with one base of this number
 abbrev pub with_base : ℕ → List ℕ
@@ -46,11 +50,15 @@ with_outside bits = record { dev = 3; vga = false; bases = OutsideBase bits ∷ 
 -- it takes none of the memory that is left for cards
 pub record OutsideKept : Type 0 where
   pub written : card_bytes frame_card ≡ frame_card_bytes
-  pub read : card_fields 1 0x1000 frame_card_bytes ≡ Ok (frame_card, [])
-  pub least : read_card (with_base 0x44) ≡ Ok (with_outside 4, [])
-  pub too_little : read_card (with_base 0x43) ≡ Err 1
-  pub too_much : read_card (with_base 0x5D) ≡ Err 1
-  pub both_bits : read_card (with_base 0xC4) ≡ Err 1
+  pub read : card_fields true 1 0x1000 frame_card_bytes ≡ Ok (frame_card, [])
+  pub least : read_running (with_base 0x44) ≡ Ok (with_outside 4, [])
+  pub too_little : read_running (with_base 0x43) ≡ Err 1
+  pub too_much : read_running (with_base 0x5D) ≡ Err 1
+  pub both_bits : read_running (with_base 0xC4) ≡ Err 1
+  -- no image has one
+  pub least_in_image : read_card (with_base 0x44) ≡ Err 1
+  pub most_in_image : read_card (with_base 0x5C) ≡ Err 1
+  pub both_in_image : read_card (with_base 0xC4) ≡ Err 1
 
 -- ---- the head: `BOARDIMG`, version 1, MiB, cards, whether there is a disk, a byte that is reserved, and four bytes
 -- each for the length of the ROM, that of the disk, and the number of steps, the low byte first
@@ -104,7 +112,7 @@ pub record HeadBorders : Type 0 where
 -- ---- cards: devices in rising order to 9, six bases, expansion ROMs of 2 KiB to 16 MiB, and the memory that is left
 
 abbrev pub card_from : (above room : ℕ) → List ℕ → Option ℕ
-card_from above room bytes = left_of (card_fields above room bytes)
+card_from above room bytes = left_of (card_fields false above room bytes)
 
 pub record CardFieldBorders : Type 0 where
   pub devices :
