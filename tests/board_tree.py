@@ -174,7 +174,7 @@ class Tree:
 
     def start(self, *words, script=None, env=None, **how):
         """Starts the script, by its first line or by a shell, in a folder beside the tree."""
-        shells: dict[Optional[str], list[str]] = {None: [], "busybox": ["busybox", "sh"]}
+        shells: dict[Optional[str], list[str]] = {None: [], "busybox": [str(shutil.which("busybox")), "sh"]}
         shell = shells.get(self.shell, [str(self.shell)])
         usual: dict[str, Any] = {"stdout": subprocess.PIPE, "stderr": subprocess.PIPE, "text": True,
                                  "cwd": self.room / "elsewhere", "env": {**self.environment(), **(env or {})}}
