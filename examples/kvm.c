@@ -3,7 +3,7 @@
  *     a.out BIOS DISK MIB [SAVE [LOAD]]      as in a.out /usr/share/seabios/bios.bin disk.img 64 saved
  *
  * COM1 is standard input and output, so `stty raw -echo` stands before it, and Ctrl-] ends it. SIGUSR1 writes the guest
- * as it runs into SAVE; LOAD goes on from such a file. DISK gets what the guest wrote at each save and at the end. */
+ * as it runs into SAVE; LOAD goes on from such a file. DISK gets what was written at FLUSH CACHE, save and end. */
 #define _GNU_SOURCE
 #include "board.h"
 #include <errno.h>
@@ -19,8 +19,9 @@
 #include <unistd.h>
 
 enum { TICK = 1000 /* us */, END_KEY = 0x1D, ROM_BYTES = 512 << 10, SECTOR = 512, LEAVES = 256, MSRS = 11 };
+enum { DISK_COMMAND = 0x1F7, FLUSH_CACHE = 0xE7 };
 static struct saved { /* what is saved between the memory and the board */
-    uint64_t mib, image_bytes, now, is_halted;
+    uint64_t mib, image_bytes, is_halted;
     board_clocks clocks;
     struct kvm_regs regs; struct kvm_sregs sregs; struct kvm_xcrs xcrs; struct kvm_xsave xsave;
     struct kvm_vcpu_events events;
@@ -74,12 +75,15 @@ static void serve(uint8_t what, bool is_write, uint64_t addr, uint8_t *data, uin
     uint8_t kind = is_write ? BOARD_WRITE : BOARD_READ;
     ok(board_access(&b, what, kind, addr, data, bytes, guest, (uint32_t)s.mib, &last));
 }
+static void write_disk(void) {
+    for (uint32_t k = 0; k < disk_bytes / SECTOR; k++) ok(board_disk_read(&b, k, disk + (size_t)k * SECTOR, SECTOR));
+}
 static void serve_port(void) { /* a string instruction is many accesses of one port */
-    uint8_t *data = (uint8_t *)run + run->io.data_offset;
-    for (uint32_t k = 0; k < run->io.count && !reset; k++, data += run->io.size) {
-        serve(BOARD_PORT, run->io.direction == KVM_EXIT_IO_OUT, run->io.port, data, run->io.size);
+    uint8_t *data = (uint8_t *)run + run->io.data_offset, is_write = run->io.direction == KVM_EXIT_IO_OUT;
+    for (uint32_t k = 0; k < run->io.count && !reset; k++, data += run->io.size, reset = last.reset) {
+        serve(BOARD_PORT, is_write, run->io.port, data, run->io.size);
         if (last.has_sent) putchar(last.sent), fflush(stdout);
-        reset = last.reset;
+        if (is_write && run->io.port == DISK_COMMAND && *data == FLUSH_CACHE) write_disk();
     }
 }
 static bool serve_exit(void) { /* whether the guest can go on */
@@ -95,13 +99,13 @@ static bool serve_exit(void) { /* whether the guest can go on */
 static void end_instruction(void) { /* the one that made the last exit, and may make more; none begins */
     do run->immediate_exit = 1; while (!ioctl(cpu, KVM_RUN, 0) && serve_exit());
 }
-static void keep_time(void) { /* by the host's clock */
+static void keep_time(void) { /* by the host's clock, but for what the guest was kept from: no flood of ticks */
     static uint64_t began;
     struct timespec host;
     clock_gettime(CLOCK_MONOTONIC, &host);
-    uint64_t now = (uint64_t)host.tv_sec * 1000000000 + (uint64_t)host.tv_nsec;
-    if (!began) began = now - s.now; /* a loaded guest has had s.now */
-    ok(board_run_until(&b, &s.clocks, s.now = now - began, &last));
+    uint64_t now = host.tv_sec * 1000000000ull + host.tv_nsec, had = s.clocks.pulses * 1000 / 1193182 * 1000000;
+    if (!began || now - began > had + 50000 * TICK) began = now - had; /* a loaded guest has had some */
+    ok(board_run_until(&b, &s.clocks, now - began, &last));
 }
 static void listen_to_terminal(void) {
     uint8_t key;
@@ -137,9 +141,6 @@ static void reset_processor(void) {
 #define MOVE_ALL(way) move_part(KVM_##way##_SREGS, &s.sregs), move_part(KVM_##way##_XCRS, &s.xcrs), \
     move_part(KVM_##way##_XSAVE, &s.xsave), move_part(KVM_##way##_MSRS, &s.msrs), \
     move_part(KVM_##way##_REGS, &s.regs), move_part(KVM_##way##_VCPU_EVENTS, &s.events)
-static void write_disk(void) {
-    for (uint32_t k = 0; k < disk_bytes / SECTOR; k++) ok(board_disk_read(&b, k, disk + (size_t)k * SECTOR, SECTOR));
-}
 static void save(const char *name) {
     (void)board_save(&b, rom, 0, &s.image_bytes); /* without room it tells how many bytes they are */
     uint8_t *image = map_file("/dev/zero", MAP_PRIVATE, &s.image_bytes);
@@ -195,6 +196,5 @@ int main(int count, char **words) {
         run->request_interrupt_window = last.interrupt;
         goes_on = ioctl(cpu, KVM_RUN, 0) ? errno == EINTR || errno == EAGAIN : serve_exit();
     }
-    fprintf(stderr, "kvm: ended after exit %u\n", run->exit_reason);
-    write_disk();
+    write_disk(), fprintf(stderr, "kvm: ended after exit %u\n", run->exit_reason);
 }

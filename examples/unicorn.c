@@ -18,12 +18,12 @@
 #include <unistd.h>
 
 enum { TICK = 1000 /* us */, END_KEY = 0x1D, ROM_BYTES = 512 << 10, SECTOR = 512, REGISTERS = 14 };
-enum { PROTECTED = 1, TRAP = 0x100, INTERRUPTS = 0x200, HLT = 0xF4, INT = 0xCD }; /* of CR0, of EFLAGS; instructions */
+enum { PROTECTED = 1, TRAP = 0x100, INTERRUPTS = 0x200, HLT = 0xF4, INT = 0xCD, DISK_COMMAND = 0x1F7, FLUSH_CACHE = 0xE7 };
 static const int registers[REGISTERS] = {UC_X86_REG_EAX, UC_X86_REG_EBX, UC_X86_REG_ECX, UC_X86_REG_EDX, UC_X86_REG_ESI,
     UC_X86_REG_EDI, UC_X86_REG_EBP, UC_X86_REG_ESP, UC_X86_REG_EFLAGS, UC_X86_REG_CS, UC_X86_REG_DS, UC_X86_REG_ES,
     UC_X86_REG_SS, UC_X86_REG_EIP};
 static struct saved { /* what is saved between the memory and the board */
-    uint64_t mib, image_bytes, now;
+    uint64_t mib, image_bytes;
     board_clocks clocks;
     uint32_t value[REGISTERS];
 } s;
@@ -79,13 +79,13 @@ static void follow_map(void) { /* all anew: the slots, and between them what exi
     }
     seen = map.version;
 }
-static void keep_time(void) { /* by the host's clock */
+static void keep_time(void) { /* by the host's clock, but for what the guest was kept from: no flood of ticks */
     static uint64_t began;
     struct timespec host;
     clock_gettime(CLOCK_MONOTONIC, &host);
-    uint64_t now = (uint64_t)host.tv_sec * 1000000000 + (uint64_t)host.tv_nsec;
-    if (!began) began = now - s.now; /* a loaded guest has had s.now */
-    ok(board_run_until(&b, &s.clocks, s.now = now - began, &last));
+    uint64_t now = host.tv_sec * 1000000000ull + host.tv_nsec, had = s.clocks.pulses * 1000 / 1193182 * 1000000;
+    if (!began || now - began > had + 50000 * TICK) began = now - had; /* a loaded guest has had some */
+    ok(board_run_until(&b, &s.clocks, now - began, &last));
 }
 static void listen_to_terminal(void) {
     uint8_t key;
@@ -93,11 +93,15 @@ static void listen_to_terminal(void) {
         if (read(STDIN_FILENO, &key, 1) != 1 || key == END_KEY) is_ended = 1;
         else ok(board_receive(&b, key, &last));
 }
+static void write_disk(void) {
+    for (uint32_t k = 0; k < disk_bytes / SECTOR; k++) ok(board_disk_read(&b, k, disk + (size_t)k * SECTOR, SECTOR));
+}
 static uint64_t serve_port(uint8_t kind, uint32_t port, uint32_t value, int bytes) {
     if (reset || is_ended) return UINT32_MAX; /* the engine goes on to the end of its block */
     keep_time(), listen_to_terminal();
     uint64_t got = serve(BOARD_PORT, kind, port, value, (uint32_t)bytes);
     if (last.has_sent) putchar(last.sent), fflush(stdout);
+    if (kind == BOARD_WRITE && port == DISK_COMMAND && value == FLUSH_CACHE) write_disk();
     if (last.version != seen) follow_map();
     if ((reset = last.reset) || is_ended) uc_emu_stop(uc);
     return got;
@@ -130,9 +134,6 @@ static void reset_processor(void) {
     set(UC_X86_REG_CS, 0xF000), set(UC_X86_REG_EIP, 0xFFF0);
     if (reset == BOARD_HARD_RESET) ok(board_prepare(&b, &last));
     reset = BOARD_NO_RESET;
-}
-static void write_disk(void) {
-    for (uint32_t k = 0; k < disk_bytes / SECTOR; k++) ok(board_disk_read(&b, k, disk + (size_t)k * SECTOR, SECTOR));
 }
 static void save(const char *name) {
     (void)board_save(&b, rom, 0, &s.image_bytes); /* without room it tells how many bytes they are */
@@ -195,6 +196,5 @@ int main(int count, char **words) {
         uint64_t at = (get(UC_X86_REG_CS) << 4) + (uint16_t)get(UC_X86_REG_EIP);
         goes_on = !uc_emu_start(uc, at, UINT64_MAX, 0, 0) && wait_halted(count > 4 ? words[4] : NULL);
     }
-    fprintf(stderr, "unicorn: ended at %04X:%X\n", get(UC_X86_REG_CS), get(UC_X86_REG_EIP));
-    write_disk();
+    write_disk(), fprintf(stderr, "unicorn: ended at %04X:%X\n", get(UC_X86_REG_CS), get(UC_X86_REG_EIP));
 }

@@ -19,7 +19,7 @@ extern "C" {
 #endif
 
 /* The version of this interface: the records and numbers of this file, and the calls. */
-#define BOARD_INTERFACE 7u
+#define BOARD_INTERFACE 8u
 /* That of the library: BOARD_INTERFACE where this file is its own. No handle, no refusal. */
 uint32_t board_version(void);
 
@@ -29,85 +29,184 @@ typedef struct board {
     bool open;
 } board;
 
+/* made by tools/make-names: numbers. The records below name them. */
 /* How a call ends. At each call stand the statuses that it can give; none gives 10, 11 or 14. */
 enum board_status {
     BOARD_OK = 0,
-    BOARD_CLOSED = 1,      /* the handle holds no board; or, at board_open, it holds one */
-    BOARD_NO_MEMORY = 2,   /* malloc refused */
-    BOARD_BAD_SIZE = 3,    /* the guest's memory is not of 1 to 512 MiB */
-    BOARD_BAD_CARDS = 4,   /* a record says no card, or no board can be fitted with the cards */
-    BOARD_BAD_ROM = 5,     /* the ROM is not of 64, 128, 256 or 512 KiB */
-    BOARD_BAD_DISK = 6,    /* the disk is not of 1 to 65,536 whole sectors of 512 bytes */
-    BOARD_NO_EVENT = 7,    /* the record names no event */
-    BOARD_ALIGNMENT = 8,   /* a port is no multiple of the width */
-    BOARD_VALUE = 9,       /* a value does not fit the width, or is not 0 for a read */
-    BOARD_END = 12,        /* an access to memory ends past FFFFFFFFh */
-    BOARD_PULSES = 13,     /* a count of pulses is not 1 to 1,000,000 */
-    BOARD_DEVICE = 15,     /* no card has the device number */
-    BOARD_LINE = 16,       /* the line cannot be set from outside */
-    BOARD_NO_CYCLE = 17,   /* the event is no access that one bus cycle makes */
-    BOARD_NO_SECTOR = 18,  /* there is no disk, or it has no such sector */
-    BOARD_PAST_END = 19,   /* the bytes do not all lie in the installed memory, or in the card's base */
-    BOARD_NO_BYTE = 20,    /* the clock has 128 bytes */
+    BOARD_BAD_HANDLE = 1, /* the handle holds no board; or, where one is opened, it holds one */
+    BOARD_NO_MEMORY = 2, /* memory was refused */
+    BOARD_BAD_SIZE = 3, /* the guest's memory is not of 1 to 512 MiB */
+    BOARD_BAD_CARDS = 4, /* a record says no card, or no board can be fitted with the cards */
+    BOARD_BAD_ROM = 5, /* the ROM is not of 64, 128, 256 or 512 KiB */
+    BOARD_BAD_DISK = 6, /* the disk is not of 1 to 65,536 whole sectors of 512 bytes */
+    BOARD_NO_EVENT = 7, /* that is no event */
+    BOARD_ALIGNMENT = 8, /* a port is no multiple of the width */
+    BOARD_VALUE = 9, /* a value does not fit the width, or is not 0 where nothing is written */
+    BOARD_END = 12, /* an access to memory ends past FFFFFFFFh */
+    BOARD_PULSES = 13, /* a count of pulses is not 1 to 1,000,000 */
+    BOARD_DEVICE = 15, /* no card has the device number */
+    BOARD_LINE = 16, /* the line cannot be set from outside */
+    BOARD_NO_CYCLE = 17, /* the event is no access that one bus cycle makes */
+    BOARD_NO_SECTOR = 18, /* there is no disk, or it has no such sector */
+    /* the bytes do not all lie in the installed memory, or in the card's base */
+    BOARD_PAST_END = 19,
+    BOARD_NO_BYTE = 20, /* the clock has 128 bytes */
     BOARD_BAD_LENGTH = 21, /* not as many bytes as the sector, the memory or the disk has */
-    BOARD_NO_REPLY = 22,   /* the record is that of no reply */
-    BOARD_NO_ROOM = 23,    /* the text, or the saved board, does not fit */
+    BOARD_NO_REPLY = 22, /* that is no reply */
+    BOARD_NO_ROOM = 23, /* the text, or the saved board, does not fit */
     BOARD_SERIAL_FULL = 24, /* COM1 can receive no byte: its queue is full, or loopback is on */
-    BOARD_NO_TIME = 25,    /* the clock stands: SET is 1, or its registers say no date or time */
-    BOARD_BAD_IMAGE = 26,  /* the bytes are no saved board */
-    BOARD_OTHER_VERSION = 27, /* they are those of a board as another version saved it */
+    BOARD_NO_TIME = 25, /* the clock stands: SET is 1, or its registers say no date or time */
+    BOARD_BAD_IMAGE = 26, /* the bytes are no saved board */
+    BOARD_OTHER_VERSION = 27, /* another version saved these bytes */
     BOARD_NO_TRANSFER = 28 /* the numbers are those of no transfer of a bus master */
 };
+#define BOARD_CLOSED BOARD_BAD_HANDLE /* its name before this interface; it goes with the next */
 
 /* What a status says, in a line without a line feed. */
 static inline const char *board_status_text(uint32_t status) {
     switch (status) {
     case BOARD_OK: return "done";
-    case BOARD_CLOSED: return "the handle is closed, or was open already";
-    case BOARD_NO_MEMORY: return "out of memory";
-    case BOARD_BAD_SIZE: return "the memory is not of 1 to 512 MiB";
-    case BOARD_BAD_CARDS: return "no board can be fitted with these cards";
+    case BOARD_BAD_HANDLE: return "the handle holds no board; or, where one is opened, it holds one";
+    case BOARD_NO_MEMORY: return "memory was refused";
+    case BOARD_BAD_SIZE: return "the guest's memory is not of 1 to 512 MiB";
+    case BOARD_BAD_CARDS: return "a record says no card, or no board can be fitted with the cards";
     case BOARD_BAD_ROM: return "the ROM is not of 64, 128, 256 or 512 KiB";
     case BOARD_BAD_DISK: return "the disk is not of 1 to 65,536 whole sectors of 512 bytes";
-    case BOARD_NO_EVENT: return "the record names no event";
-    case BOARD_ALIGNMENT: return "the port is no multiple of the width";
-    case BOARD_VALUE: return "the value does not fit the width, or nothing is written";
-    case BOARD_END: return "the access ends past FFFFFFFFh";
-    case BOARD_PULSES: return "the count of pulses is not 1 to 1,000,000";
-    case BOARD_DEVICE: return "no card has this device number";
+    case BOARD_NO_EVENT: return "that is no event";
+    case BOARD_ALIGNMENT: return "a port is no multiple of the width";
+    case BOARD_VALUE: return "a value does not fit the width, or is not 0 where nothing is written";
+    case BOARD_END: return "an access to memory ends past FFFFFFFFh";
+    case BOARD_PULSES: return "a count of pulses is not 1 to 1,000,000";
+    case BOARD_DEVICE: return "no card has the device number";
     case BOARD_LINE: return "the line cannot be set from outside";
-    case BOARD_NO_CYCLE: return "the event is no access of one bus cycle in range";
+    case BOARD_NO_CYCLE: return "the event is no access that one bus cycle makes";
     case BOARD_NO_SECTOR: return "there is no disk, or it has no such sector";
-    case BOARD_PAST_END: return "the bytes do not all lie in the memory or the base";
-    case BOARD_NO_BYTE: return "the clock has no byte at this address";
+    case BOARD_PAST_END: return "the bytes do not all lie in the installed memory, or in the card's base";
+    case BOARD_NO_BYTE: return "the clock has 128 bytes";
     case BOARD_BAD_LENGTH: return "not as many bytes as the sector, the memory or the disk has";
-    case BOARD_NO_REPLY: return "the record is that of no reply";
-    case BOARD_NO_ROOM: return "what is told does not fit";
-    case BOARD_SERIAL_FULL: return "COM1 has no room for a byte";
-    case BOARD_NO_TIME: return "the clock stands, or shows no date and time";
+    case BOARD_NO_REPLY: return "that is no reply";
+    case BOARD_NO_ROOM: return "the text, or the saved board, does not fit";
+    case BOARD_SERIAL_FULL: return "COM1 can receive no byte: its queue is full, or loopback is on";
+    case BOARD_NO_TIME: return "the clock stands: SET is 1, or its registers say no date or time";
     case BOARD_BAD_IMAGE: return "the bytes are no saved board";
     case BOARD_OTHER_VERSION: return "another version saved these bytes";
-    case BOARD_NO_TRANSFER: return "the numbers are those of no transfer";
+    case BOARD_NO_TRANSFER: return "the numbers are those of no transfer of a bus master";
     default: return "no status of this library";
     }
 }
 
 /* What is asked. */
 enum board_what {
-    BOARD_MEMORY = 1,     /* kind, addr, bytes 1, 2, 4 or 8, smm, value */
-    BOARD_PORT = 2,       /* kind BOARD_READ or BOARD_WRITE, addr, bytes 1, 2 or 4, value */
-    BOARD_LOOK = 3,       /* kind, addr, smm: where would such an access land? */
-    BOARD_ACK = 4,        /* interrupt acknowledge */
-    BOARD_PULSE = 5,      /* value: 1 to 1,000,000 pulses of the 8254's clock */
-    BOARD_TIME = 6,       /* value: year to second as digits, 20261128143000; years 1980 to 2099 */
-    BOARD_WIRE = 7,       /* INTA# of the card at device addr takes the level value, 0 or 1 */
-    BOARD_IRQ = 8,        /* interrupt request line addr takes the level value, 0 or 1; of line 4
-                           * the board hears the or with the level of COM1 */
+    BOARD_MEMORY = 1, /* kind, addr, bytes 1, 2, 4 or 8, smm, value */
+    BOARD_PORT = 2, /* kind BOARD_READ or BOARD_WRITE, addr, bytes 1, 2 or 4, value */
+    BOARD_LOOK = 3, /* kind, addr, smm: where would such an access land? */
+    BOARD_ACK = 4, /* interrupt acknowledge */
+    BOARD_PULSE = 5, /* value: 1 to 1,000,000 pulses of the 8254's clock */
+    BOARD_TIME = 6, /* value: year to second as digits, 20261128143000; years 1980 to 2099 */
+    BOARD_WIRE = 7, /* INTA# of the card at device addr takes the level value, 0 or 1 */
+    /* interrupt request line addr takes the level value, 0 or 1; of line 4 the board hears the
+     * or with the level of COM1 */
+    BOARD_IRQ = 8,
     BOARD_BAD_SECTOR = 9, /* sector addr of the disk goes bad */
-    BOARD_SERIAL = 10     /* COM1 receives the byte value, 0 to 255, from outside */
+    BOARD_SERIAL = 10 /* COM1 receives the byte value, 0 to 255, from outside */
 };
 
-enum board_kind { BOARD_FETCH = 1, BOARD_READ = 2, BOARD_WRITE = 3 };
+/* The kind of an access. */
+enum board_kind {
+    BOARD_FETCH = 1, /* a code fetch */
+    BOARD_READ = 2, /* a read of data */
+    BOARD_WRITE = 3 /* a write */
+};
+
+/* What answered. */
+enum board_target {
+    BOARD_NOTHING = 0, /* a part that is not filled */
+    BOARD_DRAM = 1, /* unit: the row */
+    BOARD_SHADOW = 2, /* unit: the row */
+    BOARD_SMRAM = 3, /* main memory at A0000h to BFFFFh */
+    BOARD_ROM = 4, /* offset */
+    BOARD_CARD = 5, /* unit: its device; base; offset */
+    BOARD_IS_DEVICE = 6, /* unit: board_device */
+    BOARD_CONFIG = 7, /* unit: the device; base: the function; offset */
+    BOARD_ABORT = 8 /* nobody: reads give all ones, writes are lost */
+};
+
+/* A device of the board, or what gave a vector. */
+enum board_device {
+    BOARD_CONFADD = 1, /* the configuration address */
+    BOARD_RESET_CONTROL = 2, /* the reset control register */
+    BOARD_PIC0 = 3, /* the 8259A that is the master */
+    BOARD_PIC1 = 4, /* the 8259A that is the slave */
+    BOARD_PIT = 5, /* the 8254; also of `pulse` */
+    BOARD_SYSTEM = 6, /* port 61h */
+    /* the socket of the keyboard controller, which is empty: a read gives FFh, a write is lost */
+    BOARD_KEYBOARD = 7,
+    BOARD_CLOCK = 8, /* the MC146818; also of `moment` */
+    BOARD_ELCR = 9, /* edge and level control */
+    BOARD_ATA = 10, /* the disk; also of `bad` */
+    BOARD_WIRES = 11, /* the lines from outside: of `wire` and `irq` */
+    BOARD_VECTOR0 = 12, /* of `ack`: a vector that the master gave */
+    BOARD_VECTOR1 = 13, /* of `ack`: a vector that the slave gave */
+    BOARD_SPURIOUS0 = 14, /* of `ack`: a spurious vector of the master */
+    BOARD_SPURIOUS1 = 15, /* of `ack`: a spurious vector of the slave */
+    /* the 16550 of COM1, accesses of one byte at 3F8h to 3FFh before any card; a log has no line
+     * for it */
+    BOARD_UART = 16
+};
+
+/* What denied an access. */
+enum board_denial {
+    BOARD_NOT_DENIED = 0, /* it was let in */
+    BOARD_BY_REGISTER = 1, /* a register of configuration space, whose place stands beside it */
+    BOARD_BY_CONFADD = 2, /* the configuration address is not enabled */
+    BOARD_BY_NO_REGISTER = 3 /* no register keeps it out: nobody is there */
+};
+
+/* Which reply it is. */
+enum board_form {
+    BOARD_BUS_REPLY = 1, /* of an access of one bus cycle */
+    BOARD_PARTS_REPLY = 2, /* of an access in several parts */
+    BOARD_LOOK_REPLY = 3 /* of a look */
+};
+
+/* The reset that a step made. */
+enum board_reset {
+    BOARD_NO_RESET = 0, /* none */
+    BOARD_SOFT_RESET = 1, /* of the processor alone */
+    BOARD_HARD_RESET = 2 /* of the board too */
+};
+
+/* The kind of a base of a card: for memory, for ports, or for memory whose bytes the monitor
+ * keeps. Of that the board keeps none: reads give ones, writes are lost, and the reply tells
+ * card, base and offset, so that the monitor takes its own value, and its own bytes. */
+enum board_base_kind {
+    BOARD_MEMORY_BASE = 1, /* memory */
+    BOARD_IO_BASE = 2, /* ports */
+    BOARD_OUTSIDE = 3 /* memory whose bytes the monitor keeps */
+};
+
+/* What comes next in a transfer of a bus master. */
+enum board_piece_what {
+    BOARD_DESCRIPTOR = 1, /* a descriptor is to be read */
+    BOARD_WORDS = 2, /* words are to be moved */
+    BOARD_ENDED = 3 /* the transfer has ended */
+};
+
+/* How a transfer of a bus master ended. */
+enum board_end {
+    BOARD_EXACT = 1, /* the last word was also the end of the last region */
+    BOARD_LONGER = 2, /* the table goes on after the last word */
+    BOARD_SHORTER = 3, /* the last region ended, and words remain */
+    BOARD_ABORTED = 4, /* nobody answers at addr; part[0] says what denies it */
+    BOARD_MISSING = 5 /* sector is not there, or cannot be read */
+};
+
+/* Room that is enough for every map. */
+enum {
+    BOARD_MOST_RANGES = 142, /* ranges that every map has at most */
+    BOARD_MOST_WINDOWS = 64 /* windows that a change of the map has at most */
+};
+/* end of what is made */
 
 /* An event. What it has no use for is not read; reserved is 0. */
 typedef struct board_event {
@@ -119,45 +218,6 @@ typedef struct board_event {
     uint8_t smm;   /* 1 in system management mode */
     uint64_t reserved;
 } board_event;
-
-/* What answered. */
-enum board_target {
-    BOARD_NOTHING = 0, /* a part that is not filled */
-    BOARD_DRAM = 1,    /* unit: the row */
-    BOARD_SHADOW = 2,  /* unit: the row */
-    BOARD_SMRAM = 3,
-    BOARD_ROM = 4,     /* offset */
-    BOARD_CARD = 5,    /* unit: its device; base; offset */
-    BOARD_IS_DEVICE = 6, /* unit: board_device */
-    BOARD_CONFIG = 7,  /* unit: the device; base: the function; offset */
-    BOARD_ABORT = 8    /* nobody: reads give all ones, writes are lost */
-};
-
-enum board_device {
-    BOARD_CONFADD = 1,
-    BOARD_RESET_CONTROL,
-    BOARD_PIC0,
-    BOARD_PIC1,
-    BOARD_PIT,
-    BOARD_SYSTEM,
-    BOARD_KEYBOARD,
-    BOARD_CLOCK,
-    BOARD_ELCR,
-    BOARD_ATA,
-    BOARD_WIRES,
-    BOARD_VECTOR0,
-    BOARD_VECTOR1,
-    BOARD_SPURIOUS0,
-    BOARD_SPURIOUS1,
-    BOARD_UART /* the 16550 of COM1: accesses of one byte at 3F8h to 3FFh, before any card */
-};
-
-enum board_denial {
-    BOARD_NOT_DENIED = 0,
-    BOARD_BY_REGISTER = 1,
-    BOARD_BY_CONFADD = 2,
-    BOARD_BY_NO_REGISTER = 3
-};
 
 /* What answered an access, or one part of a wide one, and what denied it. */
 typedef struct board_part {
@@ -171,10 +231,6 @@ typedef struct board_part {
     uint8_t denial_off;
     uint8_t reserved;
 } board_part;
-
-enum board_form { BOARD_BUS_REPLY = 1, BOARD_PARTS_REPLY = 2, BOARD_LOOK_REPLY = 3 };
-
-enum board_reset { BOARD_NO_RESET = 0, BOARD_SOFT_RESET = 1, BOARD_HARD_RESET = 2 };
 
 /* A reply, and what stands after its step. */
 typedef struct board_reply {
@@ -232,9 +288,6 @@ typedef struct board_map {
     uint32_t mib;
 } board_map;
 
-/* Room that is enough for every map. */
-enum { BOARD_MOST_RANGES = 142, BOARD_MOST_WINDOWS = 64 };
-
 /* What COM1 holds. Of the registers what reads would give, none of which is made: nothing is taken
  * or cleared. Of the divisor latch both bytes, whatever LCR says. */
 typedef struct board_com1 {
@@ -253,11 +306,6 @@ typedef struct board_com1 {
     uint8_t irq4;         /* the level that BOARD_IRQ gave line 4 last */
     uint32_t reserved;
 } board_com1;
-
-/* The kind of a base of a card: for memory, for ports, or for memory whose bytes the monitor keeps.
- * Of that the board keeps none: reads give ones, writes are lost, and the reply tells card, base and
- * offset, so that the monitor takes its own value, and its own bytes. */
-enum board_base_kind { BOARD_MEMORY_BASE = 1, BOARD_IO_BASE = 2, BOARD_OUTSIDE = 3 };
 
 /* A base of a card: its kind, and log2 of its size: 4 to 24 of bytes of memory, 2 to 8 of ports, and
  * 4 to 28 of bytes outside. */
@@ -290,24 +338,24 @@ typedef struct board_card {
 
 /* Opens a board with these cards, in rising order of device, over copies of the ROM's and the
  * disk's bytes. A disk of no bytes is none. All is looked at before anything is copied.
- * CLOSED; BAD_CARDS where a record says no card, and else the first of BAD_SIZE, BAD_CARDS, BAD_ROM,
+ * BAD_HANDLE; BAD_CARDS where a record says no card, and else the first of BAD_SIZE, BAD_CARDS, BAD_ROM,
  * BAD_DISK that holds; and NO_MEMORY only where none does. */
 uint32_t board_open(board *handle, uint32_t mib, const board_card *cards, size_t card_count,
                     const uint8_t *rom, size_t rom_bytes, const uint8_t *disk, size_t disk_bytes);
 /* Does an event, and tells the reply.
- * CLOSED, NO_EVENT; of BOARD_MEMORY VALUE, END; of BOARD_PORT ALIGNMENT, VALUE; of BOARD_PULSE
+ * BAD_HANDLE, NO_EVENT; of BOARD_MEMORY VALUE, END; of BOARD_PORT ALIGNMENT, VALUE; of BOARD_PULSE
  * PULSES; of BOARD_WIRE DEVICE; of BOARD_IRQ LINE; of BOARD_SERIAL SERIAL_FULL. */
 uint32_t board_step(board *handle, const board_event *event, board_reply *reply);
 /* Lets the clock go on one second: BOARD_TIME of the second after the one that its registers say, in
  * whichever form register B has them. Two digits of the year are one of 1980 to 2079; the weekday's
  * register is not read, and set to the date's. event is what was done, for board_text.
- * CLOSED, NO_TIME. */
+ * BAD_HANDLE, NO_TIME. */
 uint32_t board_second(board *handle, board_event *event, board_reply *reply);
 /* Reads a port, or writes it, for each of the values in turn, as a string instruction does: a
  * BOARD_PORT event of 1, 2 or 4 bytes each. It ends early after one that asks for the processor: INT
  * is asserted, there was a reset, or COM1 sent a byte. done is how many were made, and reply is the
  * last one's; of no values it is as before.
- * CLOSED; of the first one NO_EVENT, ALIGNMENT, VALUE; a later one that would be refused ends it
+ * BAD_HANDLE; of the first one NO_EVENT, ALIGNMENT, VALUE; a later one that would be refused ends it
  * before, so that a write of it is refused by the next call. */
 uint32_t board_in_many(board *handle, uint16_t port, uint8_t bytes, uint32_t *values, size_t count,
                        size_t *done, board_reply *reply);
@@ -321,19 +369,19 @@ void board_close(board *handle);
 /* Writes the board as bytes: what it was opened with, and all that it holds. They are whole in
  * themselves, and the same board always has the same bytes. bytes is how many they are, also where
  * they do not fit: a call with room 0 tells it. The board stays as it is. It takes memory for a copy
- * of all but the bytes of the DRAM, which go straight into the room. CLOSED, NO_ROOM, NO_MEMORY. */
+ * of all but the bytes of the DRAM, which go straight into the room. BAD_HANDLE, NO_ROOM, NO_MEMORY. */
 uint32_t board_save(board *handle, uint8_t *into, size_t room, size_t *bytes);
 /* Opens the board that was saved as these bytes: it is equal to that one, and goes on as that one
  * would. Nothing past them is read, and they may be freed. Bytes that no board wrote are refused, or
  * are those of another state that is in range: then that board is opened, and is as safe as any.
  * There is no reply: what stands, as INT, line 4, COM1's room and the version of the map, a look
  * (board_look) tells, which changes nothing.
- * CLOSED where the handle is open already, OTHER_VERSION, BAD_IMAGE, NO_MEMORY. */
+ * BAD_HANDLE where the handle is open already, OTHER_VERSION, BAD_IMAGE, NO_MEMORY. */
 uint32_t board_load(board *handle, const uint8_t *from, size_t bytes);
 /* Writes the board as board_save does, without bytes that a monitor keeps itself: with dram those of
  * the DRAM, and with disk those of the disk, as it was fitted and as its sectors stand. Zeros stand in
  * the place of what is left out, of which a page takes a byte.
- * CLOSED, NO_ROOM, NO_MEMORY. */
+ * BAD_HANDLE, NO_ROOM, NO_MEMORY. */
 uint32_t board_save_without(board *handle, bool dram, bool disk, uint8_t *into, size_t room,
                             size_t *bytes);
 /* Opens the board that was saved as these bytes, as board_load does, with a monitor's bytes in the
@@ -341,7 +389,7 @@ uint32_t board_save_without(board *handle, bool dram, bool disk, uint8_t *into, 
  * of what is not given the count is 0. Which sectors are bad stays. With what board_save_without left
  * out it is the board that was saved. Where the disk as it was fitted is not kept, its sectors do for
  * both: no reply depends on it.
- * CLOSED where the handle is open already, OTHER_VERSION, BAD_IMAGE, NO_MEMORY; BAD_LENGTH where what
+ * BAD_HANDLE where the handle is open already, OTHER_VERSION, BAD_IMAGE, NO_MEMORY; BAD_LENGTH where what
  * is given has not as many bytes as the board. */
 uint32_t board_load_with(board *handle, const uint8_t *from, size_t bytes, const uint8_t *dram,
                          size_t dram_bytes, const uint8_t *fitted, size_t fitted_bytes,
@@ -349,48 +397,49 @@ uint32_t board_load_with(board *handle, const uint8_t *from, size_t bytes, const
 
 /* ---- what is asked between two steps: the board stays as it is */
 
-/* Tells the memory map: its version, its ranges in rising order, which cover all addresses, and the
- * windows that its last change changed; an address beside them has the areas that it had before. Of
- * each as many are told as there is room for, and map says how many there are.
- * CLOSED. */
+/* Writes the memory map: to *map its version and how many ranges and windows there are, to ranges[]
+ * its ranges in rising order, which cover all addresses, and to windows[] those that its last change
+ * changed; an address beside them has the areas that it had before. Of each as many as there is room
+ * for.
+ * BAD_HANDLE. */
 uint32_t board_ranges(board *handle, board_map *map, board_range *ranges, size_t room,
                       board_window *windows, size_t windows_room);
-/* Tells where a BOARD_MEMORY or BOARD_PORT event of one bus cycle would land, and what would deny
- * it.
- * CLOSED, NO_EVENT; NO_CYCLE also where the event is out of range. */
+/* Writes to *part where a BOARD_MEMORY or BOARD_PORT event of one bus cycle would land, and what would
+ * deny it.
+ * BAD_HANDLE, NO_EVENT; NO_CYCLE also where the event is out of range. */
 uint32_t board_decode(board *handle, const board_event *event, board_part *part);
-/* Tells after how many pulses of the 8254's clock line 0 next rises: 0 where it does not, unless
- * something is written.
- * CLOSED. */
+/* Writes to *pulses after how many pulses of the 8254's clock line 0 next rises: 0 where it does not,
+ * unless something is written.
+ * BAD_HANDLE. */
 uint32_t board_pulses_to_rise(board *handle, uint32_t *pulses);
-/* Tells bytes of the memory that the board keeps, as the guest's reads would: FFh past the
- * installed memory.
- * CLOSED. */
+/* Writes to into[] bytes of the memory that the board keeps, as the guest's reads give them: FFh past
+ * the installed memory.
+ * BAD_HANDLE. */
 uint32_t board_dram_read(board *handle, uint32_t addr, uint8_t *into, size_t bytes);
-/* Tells the 512 bytes of a sector, also of one that is bad.
- * CLOSED, NO_SECTOR; of a sector that is there BAD_LENGTH. */
+/* Writes to into[] the 512 bytes of a sector, also of one that is bad.
+ * BAD_HANDLE, NO_SECTOR; of a sector that is there BAD_LENGTH. */
 uint32_t board_disk_read(board *handle, uint32_t sector, uint8_t *into, size_t bytes);
-/* Tells what a read of port 71h would give of the clock, index 0 to 127, and clears nothing: of
- * register C (12) its flags with IRQF, of D (13) 80h.
- * CLOSED, NO_BYTE. */
+/* Writes to *byte what a read of port 71h would give of the clock, index 0 to 127, and clears nothing:
+ * of register C (12) its flags with IRQF, of D (13) 80h.
+ * BAD_HANDLE, NO_BYTE. */
 uint32_t board_cmos_read(board *handle, uint8_t address, uint8_t *byte);
 
-/* Tells the levels of the sixteen interrupt lines, as the pair of 8259A hears them: bit k is that of
- * line k. Line 0 is the 8254's, 4 the or of COM1's and of BOARD_IRQ's, 8 the clock's, 14 the disk's.
- * CLOSED. */
+/* Writes to *lines the levels of the sixteen interrupt lines, as the pair of 8259A hears them: bit k is
+ * that of line k. Line 0 is the 8254's, 4 the or of COM1's and of BOARD_IRQ's, 8 the clock's, 14 the disk's.
+ * BAD_HANDLE. */
 uint32_t board_lines(board *handle, uint16_t *lines);
-/* Tells what COM1 holds.
- * CLOSED. */
+/* Writes to *state what COM1 holds.
+ * BAD_HANDLE. */
 uint32_t board_serial_state(board *handle, board_com1 *state);
-/* Tells where an access of a bus master of 1, 2 or 4 bytes at a multiple of them would land, and what
- * would deny it: SMRAM answers no bus master, and at A0000h to BFFFFh it never is memory of the board.
- * CLOSED; NO_CYCLE of another count of bytes and another address. */
+/* Writes to *part where an access of a bus master of 1, 2 or 4 bytes at a multiple of them would land,
+ * and what would deny it: SMRAM answers no bus master, and at A0000h to BFFFFh it never is memory of the board.
+ * BAD_HANDLE; NO_CYCLE of another count of bytes and another address. */
 uint32_t board_decode_master(board *handle, uint32_t addr, uint8_t bytes, bool is_write,
                              board_part *part);
-/* Tells bytes of a card from an offset in one of its bases on, as the guest's reads would: of base 0
- * to 5, 6 for its expansion ROM, or 7 for the window of a VGA adapter, A0000h to BFFFFh. A base that
+/* Writes to into[] bytes of a card from an offset in one of its bases on, as the guest's reads give
+ * them: of base 0 to 5, 6 for its expansion ROM, or 7 for the window of a VGA adapter, A0000h to BFFFFh. A base that
  * is not there has none, nor one of BOARD_OUTSIDE.
- * CLOSED, PAST_END. */
+ * BAD_HANDLE, PAST_END. */
 uint32_t board_card_read(board *handle, uint8_t device, uint8_t base, uint32_t offset, uint8_t *into,
                          size_t bytes);
 
@@ -399,19 +448,19 @@ uint32_t board_card_read(board *handle, uint8_t device, uint8_t base, uint32_t o
 
 /* Puts bytes into the memory that the board keeps, as the guest's writes would, whatever the map
  * says.
- * CLOSED, PAST_END. */
+ * BAD_HANDLE, PAST_END. */
 uint32_t board_dram_write(board *handle, uint32_t addr, const uint8_t *from, size_t bytes);
 /* Writes a byte of the clock, address 0 to 127, as the guest's writes of ports 70h and 71h would:
  * registers A and B take what a write changes of them, C and D nothing. Of register B that may raise
  * line 8, and so INT, as where UF is set and UIE is written: what the last reply says of INT does not
  * stand then, and a look (board_look) tells what does.
- * CLOSED, NO_BYTE. */
+ * BAD_HANDLE, NO_BYTE. */
 uint32_t board_cmos_write(board *handle, uint8_t address, uint8_t byte);
 /* Puts bytes into a card from an offset in one of its bases on, as the guest's writes would, wherever
  * the base lies and whether or not the card decodes it; the bases are those of board_card_read. Of
  * the expansion ROM (6), which no guest writes, its bytes are the board's own until some are put. They
  * are not in what board_save writes: after board_load they are put again.
- * CLOSED, PAST_END; NO_MEMORY only of a ROM into which no bytes were put yet. */
+ * BAD_HANDLE, PAST_END; NO_MEMORY only of a ROM into which no bytes were put yet. */
 uint32_t board_card_write(board *handle, uint8_t device, uint8_t base, uint32_t offset,
                           const uint8_t *from, size_t bytes);
 
@@ -433,20 +482,6 @@ typedef struct board_transfer {
     uint8_t to_memory; /* 1 from the disk to memory */
     uint16_t reserved;
 } board_transfer;
-
-enum board_piece_what {
-    BOARD_DESCRIPTOR = 1, /* a descriptor is to be read */
-    BOARD_WORDS = 2,      /* words are to be moved */
-    BOARD_ENDED = 3       /* the transfer has ended */
-};
-
-enum board_end {
-    BOARD_EXACT = 1,   /* the last word was also the end of the last region */
-    BOARD_LONGER = 2,  /* the table goes on after the last word */
-    BOARD_SHORTER = 3, /* the last region ended, and words remain */
-    BOARD_ABORTED = 4, /* nobody answers at addr; part[0] says what denies it */
-    BOARD_MISSING = 5  /* sector is not there, or cannot be read */
-};
 
 /* What comes next. A part whose target is BOARD_DRAM or BOARD_SHADOW is of memory, at the addresses
  * themselves, and none of its bytes lies at A0000h to BFFFFh; none is SMRAM. One of BOARD_CARD or
@@ -473,10 +508,10 @@ typedef struct board_piece {
  * NO_TRANSFER of other numbers. */
 uint32_t board_transfer_begin(board_transfer *transfer, uint32_t table, uint32_t lba,
                               uint32_t sectors, uint32_t readable, bool to_memory);
-/* Tells the next piece, and takes words as moved. A descriptor stays wanted until
+/* Writes the next piece to *piece, and takes words as moved. A descriptor stays wanted until
  * board_transfer_region has its two doublewords. A caller that does each piece before it asks for the
  * next moves what the bus master would, and ends as it would.
- * CLOSED, NO_TRANSFER. */
+ * BAD_HANDLE, NO_TRANSFER. */
 uint32_t board_transfer_next(board *handle, board_transfer *transfer, board_piece *piece);
 /* Goes on with the region that a descriptor names: its doublewords, the base and the count. No handle.
  * NO_TRANSFER also where a region is in use. */
@@ -491,7 +526,7 @@ static inline uint32_t board_ask(board *handle, uint8_t what, uint8_t kind, uint
 }
 
 /* Fetches, reads or writes 1, 2, 4 or 8 bytes of memory, aligned or not.
- * CLOSED, NO_EVENT of another count of bytes, END; of a write VALUE. */
+ * BAD_HANDLE, NO_EVENT of another count of bytes, END; of a write VALUE. */
 static inline uint32_t board_fetch(board *handle, uint32_t addr, uint8_t bytes, bool smm,
                                    board_reply *reply) {
     return board_ask(handle, BOARD_MEMORY, BOARD_FETCH, addr, bytes, smm, 0, reply);
@@ -508,8 +543,8 @@ static inline uint32_t board_write(board *handle, uint32_t addr, uint8_t bytes, 
     return board_ask(handle, BOARD_MEMORY, BOARD_WRITE, addr, bytes, smm, value, reply);
 }
 
-/* Tells where an access would land, and the longest interval in which it does.
- * CLOSED, NO_EVENT of another kind. */
+/* Writes to *reply where an access would land, and the longest interval in which it does.
+ * BAD_HANDLE, NO_EVENT of another kind. */
 static inline uint32_t board_look(board *handle, uint8_t kind, uint32_t addr, bool smm,
                                   board_reply *reply) {
     return board_ask(handle, BOARD_LOOK, kind, addr, 0, smm, 0, reply);
@@ -548,14 +583,14 @@ static inline uint8_t board_cycle(uint32_t addr, uint64_t bytes) {
 
 /* What refuses an access to ports before its first cycle, but for its value. */
 static inline uint32_t board_port_status(const board *handle, uint16_t port, uint8_t bytes) {
-    if (!handle->open) return BOARD_CLOSED;
+    if (!handle->open) return BOARD_BAD_HANDLE;
     if (bytes != 1 && bytes != 2 && bytes != 4) return BOARD_NO_EVENT;
     return (uint32_t)port + bytes > 0x10000 ? BOARD_NO_EVENT : BOARD_OK;
 }
 
 /* Reads a port of 1, 2 or 4 bytes. Where it is not aligned the bus cuts it into cycles in rising
  * order, and the reply is the last one's but for the value, which is the whole.
- * CLOSED, NO_EVENT of another count of bytes and past port FFFFh. */
+ * BAD_HANDLE, NO_EVENT of another count of bytes and past port FFFFh. */
 static inline uint32_t board_in(board *handle, uint16_t port, uint8_t bytes, board_reply *reply) {
     uint64_t value = 0;
     uint32_t done = 0, status = board_port_status(handle, port, bytes);
@@ -571,7 +606,7 @@ static inline uint32_t board_in(board *handle, uint16_t port, uint8_t bytes, boa
 
 /* Writes a port of 1, 2 or 4 bytes, cut as board_in cuts. Each cut makes its own reset:
  * reply->reset is the strongest.
- * CLOSED, NO_EVENT as board_in, VALUE. */
+ * BAD_HANDLE, NO_EVENT as board_in, VALUE. */
 static inline uint32_t board_out(board *handle, uint16_t port, uint8_t bytes, uint32_t value,
                                  board_reply *reply) {
     uint32_t done = 0, reset = BOARD_NO_RESET, status = board_port_status(handle, port, bytes);
@@ -588,19 +623,19 @@ static inline uint32_t board_out(board *handle, uint16_t port, uint8_t bytes, ui
 }
 
 /* Acknowledges the interrupt: reply->value is its vector.
- * CLOSED. */
+ * BAD_HANDLE. */
 static inline uint32_t board_ack(board *handle, board_reply *reply) {
     return board_ask(handle, BOARD_ACK, 0, 0, 0, 0, 0, reply);
 }
 
 /* Gives the 8254 pulses of its clock, 1,193,182 of them a second.
- * CLOSED, PULSES. */
+ * BAD_HANDLE, PULSES. */
 static inline uint32_t board_pulse(board *handle, uint32_t pulses, board_reply *reply) {
     return board_ask(handle, BOARD_PULSE, 0, 0, 0, 0, pulses, reply);
 }
 
 /* Gives the clock a moment to show.
- * CLOSED, NO_EVENT where the calendar of 1980 to 2099 has no such moment. */
+ * BAD_HANDLE, NO_EVENT where the calendar of 1980 to 2099 has no such moment. */
 static inline uint32_t board_time(board *handle, uint32_t year, uint32_t month, uint32_t day,
                                   uint32_t hour, uint32_t minute, uint32_t second,
                                   board_reply *reply) {
@@ -612,19 +647,19 @@ static inline uint32_t board_time(board *handle, uint32_t year, uint32_t month, 
 }
 
 /* Sets an interrupt request line.
- * CLOSED, LINE. */
+ * BAD_HANDLE, LINE. */
 static inline uint32_t board_irq(board *handle, uint8_t line, bool level, board_reply *reply) {
     return board_ask(handle, BOARD_IRQ, 0, line, 0, 0, level, reply);
 }
 
 /* COM1 receives a byte.
- * CLOSED, SERIAL_FULL where reply->serial_room was 0 last. */
+ * BAD_HANDLE, SERIAL_FULL where reply->serial_room was 0 last. */
 static inline uint32_t board_receive(board *handle, uint8_t byte, board_reply *reply) {
     return board_ask(handle, BOARD_SERIAL, 0, 0, 0, 0, byte, reply);
 }
 
 /* Sets INTA# of the card at a device.
- * CLOSED, DEVICE. */
+ * BAD_HANDLE, DEVICE. */
 static inline uint32_t board_wire(board *handle, uint8_t device, bool level, board_reply *reply) {
     return board_ask(handle, BOARD_WIRE, 0, device, 0, 0, level, reply);
 }
@@ -652,7 +687,7 @@ static inline uint32_t board_config_write(board *handle, uint32_t function, uint
  *   38h, 3Dh              SeaBIOS boots from the disk
  *
  * Afterwards CONFADD is 0, as it was, and reply is that of the last step.
- * CLOSED. */
+ * BAD_HANDLE. */
 static inline uint32_t board_prepare(board *handle, board_reply *reply) {
     board_map map;
     board_range no_range;
@@ -700,7 +735,7 @@ static inline uint32_t board_access_cycle(board *handle, const board_event *even
  * Bytes of memory are those of guest, which has mib MiB as at board_open. Past port FFFFh and from 4 GiB on
  * nobody answers: a read gives ones. reply is the last cycle's, with the strongest reset of all and with the
  * last byte that one sent; where no cycle was made it is as before.
- * CLOSED, NO_EVENT. */
+ * BAD_HANDLE, NO_EVENT. */
 static inline uint32_t board_access(board *handle, uint8_t what, uint8_t kind, uint64_t addr, uint8_t *data,
                                     uint64_t bytes, uint8_t *guest, uint32_t mib, board_reply *reply) {
     uint64_t end = what == BOARD_PORT ? 0x10000 : 0x100000000ull;
@@ -739,7 +774,7 @@ typedef struct board_clocks {
  * there, so that no tick is lost: the guest takes that interrupt, and the next call goes on. So it does after
  * 1,000,000 pulses and after 60 seconds, so that no call takes long. reply is as before where there was
  * nothing to do.
- * CLOSED. */
+ * BAD_HANDLE. */
 static inline uint32_t board_run_until(board *handle, board_clocks *clocks, uint64_t nanoseconds, board_reply *reply) {
     uint64_t second = 1000000000, hertz = 1193182, whole = nanoseconds / second;
     uint64_t due = whole * hertz + nanoseconds % second * hertz / second;

@@ -11,9 +11,9 @@ from typing import Any, Optional
 
 ROOT = pathlib.Path(__file__).resolve().parent.parent
 sys.path.insert(0, str(ROOT / "tools"))
-from crate_sources import Crates
-from release_files import Member, write_archive, write_sources
-from release_layout import layout
+from launcher.crate_sources import Crates
+from launcher.release_files import Member, write_archive, write_sources
+from launcher.release_layout import layout
 
 CRATES = ("base: arrayvec\nleft may_wait=1: base\nright: base\naside: base\nboard_app: left right\n"
           "board_c staticlib: left\n")
@@ -99,12 +99,17 @@ exit "$(cat status)"
 """
 
 
+# What is asked of the C library for each script, and for one that is long.
+ASKED = ["glibc.malloc.hugetlb=1", "glibc.malloc.mmap_threshold=1048576"]
+ASKED_FOR_LONG = ["glibc.malloc.top_pad=33554432"]
+MOST_BYTES_SHORT = 1 << 20
+
 # What ./board --pack makes of that program and of a library.
 RELEASE = layout(ROOT, PROGRAM.encode(), {
     "include/board.h": Member((ROOT / "include/board.h").read_bytes()),
     "lib/libboard.a": Member(b"static\n"),
-    "lib/libboard.so.7": Member(b"shared\n", is_run=True),
-    "lib/libboard.so": Member(link="libboard.so.7"),
+    "lib/libboard.so.8": Member(b"shared\n", is_run=True),
+    "lib/libboard.so": Member(link="libboard.so.8"),
     "lib/pkgconfig/board.pc": Member(b"Name: board\n"),
 })
 
@@ -205,13 +210,14 @@ class Tree:
         write_archive(self.top, {**RELEASE, "bin/board": Member(program, is_run=True)}, "kit")
         write_sources(Crates(self.top))
 
-    def told(self, *words, is_quiet=False):
+    def told(self, *words, is_quiet=False, is_long=False):
         """What the program tells, in the caller's folder: it has the three open files that each program has, beside that
-        of ls; a file's size does not end it, nor what is typed where the script waits for it; and large pages are
-        asked for."""
+        of ls; a file's size does not end it, nor what is typed where the script waits for it. The C library is asked
+        for large pages, and for much memory at once where the script is long, before what the caller asks."""
         ignored = [signal.SIGXFSZ] if is_quiet else [signal.SIGXFSZ, signal.SIGINT, signal.SIGQUIT]
         mask = sum(1 << it - 1 for it in ignored)
-        tunables = ":".join(it for it in (self.tunables, "glibc.malloc.hugetlb=1") if it)
+        asked = [*ASKED, *ASKED_FOR_LONG[: is_long], *([self.tunables] if self.tunables else [])]
+        tunables = ":".join(asked)
         return 3, f"words: {' '.join(words)}\n{self.room}/elsewhere\n{tunables}\n4\nSigIgn:\t{mask:016x}\n"
 
     def runs(self, *words, told_as=None, **how):

@@ -708,11 +708,20 @@ DISKS = [
     Case(
         "disk-read",
         [*IDE, *ata(0x20, 100000), *read(0x1F1)],
-        "04",
+        "00",
         [*IDE, *ata(0x30, 100000), *read(0x1F1)],
-        "04",
+        "00",
         "disk",
     ),
+    Case(
+        "disk-not-there",
+        [*IDE, *ata(0x20, 100000), *read(0x1F1)],
+        "04",
+        [*IDE, *ata(0x20, 100000), *read(0x1F1)],
+        "00",
+        "disk",
+    ),
+    Case("disk-error-kept", [*IDE, *ata(0xE7), *read(0x1F1)], "01", [*IDE, *ata(0xE7), *read(0x1F1)], "04", "disk"),
     Case("disk-error", [*IDE, *ata(0xE7), *read(0x1F1)], "04", [*IDE, *ata(0x20, 100000), *read(0x1F1)], "04", "disk"),
     Case("disk-status", [*IDE, *ata(0xE7), *read(0x1F7)], "70", [*IDE, *ata(0x20), *read(0x1F7)], "70", "disk"),
 ]

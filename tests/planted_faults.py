@@ -5,11 +5,11 @@ import re
 from dataclasses import dataclass, replace
 from typing import Callable, Optional
 
-from board_texts import Entry
 from causes.timer import NULL_COUNT
 from conformance.reference import Machine
 from conformance.scripts import WIDTHS, Setup
-from difference_state import State
+from shared.board_texts import Entry
+from traces.difference_state import State
 
 MIB = 1 << 20
 LETTERS = {size: letter for letter, size in WIDTHS.items()}

@@ -16,7 +16,7 @@ sys.dont_write_bytecode = True
 ROOT = pathlib.Path(__file__).resolve().parent.parent
 TOOLS, EXAMPLES, TRACES = ROOT / "tools", ROOT / "examples", ROOT / "tests/traces"
 sys.path[:0] = [str(TOOLS)]
-import board_texts
+from shared import board_texts
 
 
 def program_given():

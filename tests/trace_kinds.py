@@ -1,5 +1,6 @@
 """Tests of the kinds of differences, the clock's offset, files, recorded traces, watch, and what explain says of
 statuses and denials. tests/trace-tools runs them."""
+import argparse
 import errno
 import gzip
 import json
@@ -13,11 +14,12 @@ import threading
 import time
 from typing import Callable
 
-from trace_case import EXAMPLES, LOADED, PROGRAM, ROOT, SETUP, TOOLS, TRACES, Case
-import differences
-import trace_clock
+from trace_case import EXAMPLES, PROGRAM, ROOT, SETUP, TOOLS, TRACES, Case
+from traces import ask_qemu
+from traces import clock as trace_clock
+from traces import differences
+from traces.differences import ABSENT, CHOICE, DATASHEET, DATE
 
-from differences import ABSENT, CHOICE, DATASHEET, DATE
 SELECT = "0 out d 0CF8 {}\n"
 
 
@@ -209,7 +211,7 @@ class Kinds(Case):
                     self.assertIn(row[4].partition(":")[0], headings, row)
 
     def test_the_table_is_printed(self):
-        run = subprocess.run([sys.executable, TOOLS / "differences.py"], capture_output=True, text=True)
+        run = subprocess.run([sys.executable, TOOLS / "differences"], capture_output=True, text=True)
         self.assertEqual(len(run.stdout.splitlines()), 2 + len(differences.TABLE))
         self.assertIn("| `drb` | by a datasheet | 82441FX, DRB: DRAM Row Boundary Registers |", run.stdout)
 
@@ -670,6 +672,6 @@ class Cards(Case):
         lines = ["0 out d 0CF8 80001010", "0 out d 0CFC E0000000", "0 r b E0000000", "0 out d 0CF8 80001004",
                  "0 out b 0CFC 03", "0 r b E0000000", "0 in b 0021", "0 r b 000A0000"]
         script = self.file("it.script", SETUP.replace("phase", "card 2 vga m20\nphase") + "\n".join(lines) + "\n")
-        words = LOADED["ask-qemu"].argparse.Namespace(script=script, images=None, program=PROGRAM)
-        found = LOADED["ask-qemu"].card_statements(words, ["2"])
+        words = argparse.Namespace(script=script, images=None, program=PROGRAM)
+        found = ask_qemu.card_statements(words, ["2"])
         self.assertEqual(found, {2: "2", 3: "2", 5: "2", 6: "2", 8: "2"})

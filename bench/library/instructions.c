@@ -1,8 +1,9 @@
 /* The calls that `bench/library/instructions` counts: a function for each row, which makes CALLS of them. The row `loop`
- * makes none: what it costs, the script takes off.
+ * makes none: what it costs, the script takes off. Compiled with SAID, it writes the status and the reply of each call.
  *
  *   instructions ROW */
 #include "board.h"
+#include <stdio.h>
 #include <stdlib.h>
 #include <string.h>
 
@@ -37,14 +38,24 @@ static void open_board(void) {
     }
 }
 
+#ifdef SAID
+static void say(uint32_t status) {
+    fwrite(&status, sizeof status, 1, stdout);
+    fwrite(&r, sizeof r, 1, stdout);
+}
+#else
+#define say(status) ((void)0)
+#endif
+
 static uint32_t next(void) { return at = at * 1664525u + 1013904223u; }
 
-#define ROW(name, call)                                                                                                   \
-    static __attribute__((noinline)) void row_##name(void) {                                                              \
-        for (uint32_t n = 0; n < CALLS; n++) {                                                                            \
-            uint32_t a = next(), status = call;                                                                           \
-            __asm__ volatile("" : : "r"(a), "r"(status), "r"(n) : "memory");                                              \
-        }                                                                                                                 \
+#define ROW(name, call)                                                                                               \
+    static __attribute__((noinline)) void row_##name(void) {                                                          \
+        for (uint32_t n = 0; n < CALLS; n++) {                                                                        \
+            uint32_t a = next(), status = call;                                                                       \
+            __asm__ volatile("" : : "r"(a), "r"(status), "r"(n) : "memory");                                          \
+            say(status);                                                                                              \
+        }                                                                                                             \
     }
 
 ROW(loop, 0)
@@ -61,6 +72,7 @@ ROW(acknowledge, board_ack(&b, &r))
 ROW(write_8254, board_out(&b, 0x40, 1, n % 2 ? 0x12 : 0x34, &r))
 ROW(pulses_100, board_pulse(&b, 100, &r))
 ROW(odd_8_bytes, board_read(&b, (a & 0x7FFF0) + 3, 8, false, &r))
+ROW(across, board_read(&b, 0xA0000 - 1 - n % 7, 8, false, &r))
 ROW(pam_write, board_out(&b, 0xCFE, 1, n % 2 ? 0x10 : 0x33, &r))
 
 static const struct { const char *name; void (*make)(void); } rows[] = {
@@ -68,7 +80,7 @@ static const struct { const char *name; void (*make)(void); } rows[] = {
     {"look", row_look}, {"config_dword", row_config_dword}, {"uart_status", row_uart_status},
     {"ata_status", row_ata_status}, {"port_61h", row_port_61h}, {"mask_8259a", row_mask_8259a},
     {"acknowledge", row_acknowledge}, {"write_8254", row_write_8254}, {"pulses_100", row_pulses_100},
-    {"odd_8_bytes", row_odd_8_bytes}, {"pam_write", row_pam_write},
+    {"odd_8_bytes", row_odd_8_bytes}, {"across", row_across}, {"pam_write", row_pam_write},
 };
 
 int main(int argc, char **argv) {

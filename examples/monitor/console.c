@@ -23,6 +23,15 @@ static void on_signal(int number) {
 
 bool console_ended(void) { return ended; }
 
+static const char *why_ended = "ended";
+
+const char *console_why(void) { return why_ended; }
+
+void console_end(const char *why) {
+    why_ended = why;
+    ended = 1;
+}
+
 bool console_save_asked(void) {
     bool asked = save_asked;
     save_asked = 0;
@@ -54,8 +63,10 @@ static bool is_taken(machine *m, uint8_t key) {
     case ENDING: ended = 1; return true;
     case SAVING: save_asked = 1; return true;
     case FIGURES: machine_tell(m, "running"); return true;
-    default: return false;
     }
+    for (EACH_DEVICE(d))
+        if (d->key && d->key(m, key)) return true;
+    return false;
 }
 
 /* A byte that was typed for the guest, or -1. */
@@ -78,5 +89,6 @@ void console_listen(machine *m) {
     fflush(stdout);
     int byte;
     board_reply reply;
-    while (m->serial_room && (byte = typed(m)) >= 0) machine_step(m, &(board_event){.what = BOARD_SERIAL, .value = (uint64_t)byte}, &reply);
+    while (m->options.type_keys && typed_has_room(m) && (byte = typed(m)) >= 0) typed_key(m, (uint8_t)byte);
+    while (!m->options.type_keys && m->serial_room && (byte = typed(m)) >= 0) machine_step(m, &(board_event){.what = BOARD_SERIAL, .value = (uint64_t)byte}, &reply);
 }

@@ -8,10 +8,11 @@ enum {
     PIT_FIRST = 0x40,
     PIT_LAST = 0x43,
     SYSTEM_PORT = 0x61,   /* its bits 4 and 5 show the 8254 */
-    DISK_DATA = 0x1F0,
     DISK_WORD = 2,        /* bytes */
     SECTOR_WORDS = 256,
     SYSTEM_CONTROL = 0x92,
+    CONFIG_ADDRESS = 0xCF8,
+    CONFIG_DATA = 0xCFC,
     PORTS = 0x10000,
     MOST_BYTES = 8        /* of one event to memory */
 };
@@ -55,23 +56,45 @@ static uint32_t use_virtio(machine *m, const board_part *p, uint8_t kind, uint8_
     return 0;
 }
 
-static bool is_disk(const machine *m, const board_reply *reply) {
-    return m->options.bochs_bios && reply->part[0].target == BOARD_IS_DEVICE && reply->part[0].unit == BOARD_ATA;
+static bool is_disk(const board_part *p) { return p->target == BOARD_IS_DEVICE && p->unit == BOARD_ATA; }
+
+/* What a cycle that the board has answered reads. */
+static uint32_t answered(machine *m, const port_cycle *c, const board_reply *reply) {
+    if (is_keyboard(m, reply, c->port, c->bytes)) return use_keyboard(m, c->kind, c->port, c->value);
+    if (is_fw_cfg(m, reply, c->kind, c->port, c->bytes)) return use_fw_cfg(m, c->kind, c->port, c->value);
+    if (c->port == DISK_DATA) m->counts.disk_words += c->bytes / DISK_WORD;
+    uint32_t value = c->kind == BOARD_READ ? (uint32_t)reply->value : c->value;
+    if (is_disk(&reply->part[0])) return identify_see(m, c->kind, c->port, c->bytes, value);
+    if (is_virtio(m, &reply->part[0])) return use_virtio(m, &reply->part[0], c->kind, c->bytes, c->value);
+    return value;
+}
+
+uint32_t machine_config(machine *m, const port_cycle *c) {
+    board_reply reply;
+    if (c->port < CONFIG_DATA || c->port > CONFIG_DATA + 3) return 0;
+    if (board_in(&m->board, CONFIG_ADDRESS, 4, &reply) != BOARD_OK || !(reply.value >> 31)) return 0;
+    return ((uint32_t)reply.value & ~3u) | (c->port - CONFIG_DATA);
+}
+
+static bool is_taken(machine *m, port_cycle *c) {
+    for (EACH_DEVICE(d))
+        if (d->take && d->take(m, c)) return true;
+    return false;
 }
 
 /* One bus cycle at a port, kind BOARD_READ or BOARD_WRITE: what it reads. */
 static uint32_t cycle_at(machine *m, uint8_t kind, uint32_t port, uint8_t bytes, uint32_t value) {
     board_reply reply;
+    port_cycle c = {port, value, kind, bytes};
     if (port >= PORTS) return all_ones(bytes);
     if (shows_time(port)) clock_runs_to(m, processor_time());
+    if (is_taken(m, &c)) return c.value;
     machine_step(m, &(board_event){.what = BOARD_PORT, .kind = kind, .addr = port, .bytes = bytes, .value = value}, &reply);
     if (kind == BOARD_WRITE && shows_time(port)) clock_plan(m);
-    if (is_keyboard(m, &reply, port, bytes)) return use_keyboard(m, kind, port, value);
-    if (is_fw_cfg(m, &reply, kind, port, bytes)) return use_fw_cfg(m, kind, port, value);
-    if (port == DISK_DATA) m->counts.disk_words += bytes / DISK_WORD;
-    if (is_disk(m, &reply)) return identify_see(m, kind, port, bytes, kind == BOARD_READ ? (uint32_t)reply.value : value);
-    if (is_virtio(m, &reply.part[0])) return use_virtio(m, &reply.part[0], kind, bytes, value);
-    return (uint32_t)reply.value;
+    c.value = answered(m, &c, &reply);
+    for (EACH_DEVICE(d))
+        if (d->answer) d->answer(m, &c, &reply);
+    return c.value;
 }
 
 uint32_t machine_in(machine *m, uint16_t port, unsigned bytes) {
@@ -105,7 +128,7 @@ void machine_out(machine *m, uint16_t port, unsigned bytes, uint32_t value) {
  * takes them, where nobody looks at each. */
 static bool is_one_call(const machine *m, uint16_t port, unsigned bytes) {
     const options *o = &m->options;
-    return port == DISK_DATA && bytes >= DISK_WORD && !o->nothing && !o->log && !o->explain && !o->bochs_bios;
+    return port == DISK_DATA && bytes >= DISK_WORD && !o->nothing && !o->log && !o->explain && !identify_awaits(m);
 }
 
 static size_t disk_words(machine *m, uint8_t kind, unsigned bytes, uint8_t *data, size_t count) {
@@ -141,6 +164,8 @@ static void move_parts(machine *m, const board_reply *reply, const board_event *
             if (event->kind == BOARD_WRITE) memcpy(m->memory + addr, data, bytes);
             else memcpy(data, m->memory + addr, bytes);
         }
+        for (EACH_DEVICE(d))
+            if (target == BOARD_CARD && d->memory) d->memory(m, &reply->part[k], event->kind, bytes, data);
         addr += bytes;
         data += bytes;
         left -= bytes;

@@ -20,7 +20,8 @@ enum {
     /* of the interfaces this bit is these ports; the next one is DMA, which is not here */
     BY_PORTS = 0x01,
     IS_RAM = 1,             /* the type of an entry of the memory's table */
-    NAME_BYTES = 56
+    NAME_BYTES = 56,
+    MOST_FILES = 16
 };
 
 /* The disk, as Open Firmware names it: function 1 of device 1, the first drive of the first channel. */
@@ -37,9 +38,12 @@ static void put_high_first(fw_cfg *f, uint64_t value, size_t bytes) {
 }
 
 static void put_bytes(fw_cfg *f, const void *from, size_t bytes) {
+    if (bytes > sizeof f->item - f->bytes) bytes = sizeof f->item - f->bytes;
     memcpy(f->item + f->bytes, from, bytes);
     f->bytes += bytes;
 }
+
+void fw_cfg_put(machine *m, const void *from, size_t bytes) { put_bytes(&m->fw_cfg, from, bytes); }
 
 /* Where memory is: one piece from 0 on, of which SeaBIOS itself leaves out what lies below 1 MiB. */
 static void put_memory(machine *m) {
@@ -53,30 +57,36 @@ static void put_boot_order(machine *m) {
     if (m->options.disk) put_bytes(&m->fw_cfg, disk_path, sizeof disk_path);
 }
 
-/* The files, by rising name: file k has the selector FIRST_FILE + k. */
-static const struct {
-    const char *name;
-    void (*put)(machine *m);
-} files[] = {{"bootorder", put_boot_order}, {"etc/e820", put_memory}};
-enum { FILE_COUNT = sizeof files / sizeof *files };
+/* The files, of which number k has the selector FIRST_FILE + k: the monitor's own, and then those of devices. */
+static const fw_cfg_file own_files[] = {{"bootorder", put_boot_order}, {"etc/e820", put_memory}, {0}};
+
+/* File number k, or NULL. */
+static const fw_cfg_file *file_at(size_t k) {
+    for (const fw_cfg_file *f = own_files; f->name; f++)
+        if (k-- == 0) return f;
+    for (EACH_DEVICE(d))
+        for (const fw_cfg_file *f = d->files; f && f->name; f++)
+            if (k-- == 0) return f;
+    return NULL;
+}
 
 /* How many bytes a file has; the item is begun anew. */
-static size_t file_bytes(machine *m, size_t file) {
+static size_t file_bytes(machine *m, const fw_cfg_file *file) {
     m->fw_cfg.bytes = 0;
-    files[file].put(m);
+    file->put(m);
     return m->fw_cfg.bytes;
 }
 
 /* The directory: a count, and for each file its bytes, its selector, two bytes of nothing, and its name. */
 static void put_files(machine *m) {
     fw_cfg *f = &m->fw_cfg;
-    size_t bytes[FILE_COUNT];
-    for (size_t k = 0; k < FILE_COUNT; k++) bytes[k] = file_bytes(m, k);
+    size_t bytes[MOST_FILES], count = 0;
+    for (; count < MOST_FILES && file_at(count); count++) bytes[count] = file_bytes(m, file_at(count));
     f->bytes = 0;
-    put_high_first(f, FILE_COUNT, 4);
-    for (size_t k = 0; k < FILE_COUNT; k++) {
+    put_high_first(f, count, 4);
+    for (size_t k = 0; k < count; k++) {
         char name[NAME_BYTES] = {0};
-        memcpy(name, files[k].name, strlen(files[k].name));
+        memcpy(name, file_at(k)->name, strlen(file_at(k)->name));
         put_high_first(f, bytes[k], 4);
         put_high_first(f, FIRST_FILE + k, 2);
         put(f, 0, 2);
@@ -84,7 +94,7 @@ static void put_files(machine *m) {
     }
 }
 
-/* An item that is not here has no bytes, and reads 0: no UUID, no nodes of memory, no boot menu, no tables. */
+/* An item that is not here has no bytes, and reads 0: no UUID, no nodes of memory, no boot menu. */
 static void select_item(machine *m, uint16_t key) {
     fw_cfg *f = &m->fw_cfg;
     f->bytes = f->next = 0;
@@ -96,8 +106,10 @@ static void select_item(machine *m, uint16_t key) {
     case PROCESSORS: case MOST_PROCESSORS: put(f, 1, 2); return;
     case BOOT_DEVICE: put(f, 'c', 2); return; /* the disk */
     case FILES: put_files(m); return;
-    default:
-        if (key >= FIRST_FILE && key < FIRST_FILE + FILE_COUNT) files[key - FIRST_FILE].put(m);
+    default: {
+        const fw_cfg_file *file = key >= FIRST_FILE ? file_at((size_t)key - FIRST_FILE) : NULL;
+        if (file) file->put(m);
+    }
     }
 }
 

@@ -1,6 +1,6 @@
-/* The keyboard controller that the board has a socket for, with --keyboard: an 8042, and a keyboard on which nobody types.
- * It does its tests, restarts the processor, and has the gate of A20 at its output port and at port 92h; the gate is kept
- * and does nothing, since the board has none. */
+/* The keyboard controller that the board has a socket for, with --keyboard: an 8042, and a keyboard, on which nobody
+ * types without --type-keys (typed.c). It does its tests, restarts the processor, and has the gate of A20 at its output
+ * port and at port 92h; the gate is kept and does nothing, since the board has none. */
 #include "machine.h"
 #include <string.h>
 
@@ -38,10 +38,15 @@ static void move_line(machine *m) {
     machine_step(m, &(board_event){.what = BOARD_IRQ, .addr = KEYBOARD_LINE, .value = level}, &reply);
 }
 
-static void give(machine *m, uint8_t byte) {
+void keyboard_give(machine *m, uint8_t byte) {
     keyboard *k = &m->keyboard;
     if (k->count < sizeof k->queue) k->queue[k->count++] = byte;
     move_line(m);
+}
+
+bool keyboard_has_room(const machine *m, size_t bytes) {
+    const keyboard *k = &m->keyboard;
+    return sizeof k->queue - k->count >= bytes && !(k->command_byte & KEYBOARD_OFF);
 }
 
 static uint8_t take(machine *m) {
@@ -72,17 +77,17 @@ static void command(machine *m, uint8_t value) {
     keyboard *k = &m->keyboard;
     k->awaits = 0;
     switch (value) {
-    case 0x20: give(m, k->command_byte); return;
+    case 0x20: keyboard_give(m, k->command_byte); return;
     case 0x60: case 0xD1: case 0xD2: case 0xD3: case 0xD4: k->awaits = value; return; /* a byte at port 60h follows */
     case 0xAA:
         k->tested = true;
-        give(m, CONTROLLER_WELL);
+        keyboard_give(m, CONTROLLER_WELL);
         return;
-    case 0xAB: give(m, 0); return; /* the keyboard's wires are well */
+    case 0xAB: keyboard_give(m, 0); return; /* the keyboard's wires are well */
     case 0xAD: k->command_byte |= KEYBOARD_OFF; return;
     case 0xAE: k->command_byte &= (uint8_t)~KEYBOARD_OFF; return;
-    case 0xC0: give(m, INPUT_PINS); return;
-    case 0xD0: give(m, OTHER_PINS | k->a20 | PROCESSOR_RUNS); return;
+    case 0xC0: keyboard_give(m, INPUT_PINS); return;
+    case 0xD0: keyboard_give(m, OTHER_PINS | k->a20 | PROCESSOR_RUNS); return;
     default:
         if (value >= 0xF0 && !(value & PROCESSOR_RUNS)) restart(m); /* a pulse of the output port: FEh */
     }
@@ -95,7 +100,7 @@ static void follow(machine *m, uint8_t value) {
     k->awaits = 0;
     if (of == 0x60) k->command_byte = value;
     else if (of == 0xD1) write_output_port(m, value);
-    else if (of == 0xD2) give(m, value);
+    else if (of == 0xD2) keyboard_give(m, value);
     move_line(m);
 }
 
@@ -104,16 +109,21 @@ static void tell_keyboard(machine *m, uint8_t value) {
     keyboard *k = &m->keyboard;
     if (k->keyboard_awaits) {
         k->keyboard_awaits = false;
-        give(m, TAKEN);
+        keyboard_give(m, TAKEN);
         return;
     }
     switch (value) {
-    case 0xED: case 0xF0: case 0xF3: k->keyboard_awaits = true; give(m, TAKEN); return; /* lights, codes, rate: a byte follows */
-    case 0xEE: give(m, value); return;
-    case 0xF2: give(m, TAKEN), give(m, 0xAB), give(m, 0x41); return; /* what it is, translated */
-    case 0xF4: case 0xF5: case 0xF6: give(m, TAKEN); return;
-    case 0xFF: give(m, TAKEN), give(m, KEYBOARD_WELL); return;
-    default: give(m, AGAIN);
+    case 0xED: case 0xF0: case 0xF3: /* lights, codes, rate: a byte follows */
+        k->keyboard_awaits = true;
+        keyboard_give(m, TAKEN);
+        return;
+    case 0xEE: keyboard_give(m, value); return;
+    case 0xF2: /* what it is, translated */
+        keyboard_give(m, TAKEN), keyboard_give(m, 0xAB), keyboard_give(m, 0x41);
+        return;
+    case 0xF4: case 0xF5: case 0xF6: keyboard_give(m, TAKEN); return;
+    case 0xFF: keyboard_give(m, TAKEN), keyboard_give(m, KEYBOARD_WELL); return;
+    default: keyboard_give(m, AGAIN);
     }
 }
 

@@ -271,7 +271,8 @@ static const char *run_guest(void) {
             fail("KVM_RUN");
         }
     }
-    return console_ended() ? "ended" : "the time is up";
+    save_where_asked();
+    return console_ended() ? console_why() : "the time is up";
 }
 
 int main(int count, char **words) {

@@ -24,8 +24,7 @@ enum {
     XBCS_BIOS = 0xC3, /* the clock, the keyboard controller, and the BIOS from FFF80000h and from E0000h on */
     CMOS_INDEX = 0x70,
     CMOS_DATA = 0x71,
-    CMOS_MOST_MIB = 64, /* what the clock's bytes of KiB can say */
-    SECTOR = 512
+    CMOS_MOST_MIB = 64  /* what the clock's bytes of KiB can say */
 };
 #define CONFIG_ENABLE 0x80000000u
 
@@ -98,6 +97,11 @@ static void prepare_cmos(machine *m) {
     }
 }
 
+static void reset_devices(machine *m) {
+    for (EACH_DEVICE(d))
+        if (d->reset) d->reset(m);
+}
+
 /* A board as it is when its processor starts. */
 static void power_on(machine *m) {
     const options *o = &m->options;
@@ -118,6 +122,7 @@ static void power_on(machine *m) {
     if (o->fw_cfg) fw_cfg_reset(m);
     else prepare_cmos(m);
     if (o->keyboard) keyboard_reset(m);
+    reset_devices(m);
     clock_start(m);
 }
 
@@ -129,6 +134,7 @@ void machine_open(machine *m, const options *wanted) {
     else power_on(m);
     m->explain.has_keyboard = m->options.keyboard;
     if (m->options.virtio) virtio_open(&m->virtio, m->options.virtio);
+    if (m->options.keep_disk) kept_disk_open(m);
     slots_follow_map(m);
     console_open();
 }
@@ -163,6 +169,7 @@ static void stepped(machine *m, const board_event *event, const board_reply *rep
     m->counts.steps++;
     record_step(&m->record, event, reply);
     if (m->options.explain) explain_step(&m->explain, event, reply);
+    if (m->options.keep_disk && m->kept_disk.file) kept_disk_see(m, event, 1);
     see(m, reply);
 }
 
@@ -181,9 +188,10 @@ size_t machine_steps(machine *m, uint8_t kind, uint16_t port, uint8_t bytes, uin
     uint32_t status = kind == BOARD_READ ? board_in_many(&m->board, port, bytes, values, count, &done, &reply)
                                          : board_out_many(&m->board, port, bytes, values, count, &done, &reply);
     end_call(m, from);
-    if (status != BOARD_OK)
-        refused(&(board_event){.what = BOARD_PORT, .kind = kind, .addr = port, .bytes = bytes, .value = *values}, status);
+    board_event event = {.what = BOARD_PORT, .kind = kind, .addr = port, .bytes = bytes, .value = *values};
+    if (status != BOARD_OK) refused(&event, status);
     m->counts.steps += done;
+    if (m->options.keep_disk) kept_disk_see(m, &event, done);
     see(m, &reply);
     return done;
 }
@@ -205,6 +213,7 @@ uint32_t machine_take_reset(machine *m) {
         if (m->options.keyboard) keyboard_reset(m);
         if (m->options.virtio) virtio_reset(m);
         if (m->options.fw_cfg) fw_cfg_reset(m);
+        reset_devices(m);
         clock_plan(m);
     }
     return reset;
@@ -215,15 +224,6 @@ uint8_t machine_acknowledge(machine *m) {
     machine_step(m, &(board_event){.what = BOARD_ACK}, &reply);
     m->counts.interrupts++;
     return (uint8_t)reply.value;
-}
-
-static void keep_disk(machine *m) {
-    uint8_t sector[SECTOR];
-    FILE *file = fopen(m->options.keep_disk, "wb");
-    if (!file) fail(m->options.keep_disk);
-    for (uint32_t k = 0; board_disk_read(&m->board, k, sector, SECTOR) == BOARD_OK; k++)
-        if (fwrite(sector, 1, SECTOR, file) != SECTOR) fail(m->options.keep_disk);
-    if (fclose(file)) fail(m->options.keep_disk);
 }
 
 void machine_tell(const machine *m, const char *why) {
@@ -239,7 +239,7 @@ void machine_tell(const machine *m, const char *why) {
 
 void machine_close(machine *m, const char *why) {
     fflush(stdout);
-    if (m->options.keep_disk) keep_disk(m);
+    if (m->options.keep_disk) kept_disk_close(m);
     record_close(&m->record);
     if (m->options.explain) explain_close(&m->explain);
     machine_tell(m, why);

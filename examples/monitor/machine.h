@@ -3,6 +3,7 @@
 #ifndef MACHINE_H
 #define MACHINE_H
 #include "board.h"
+#include "device.h"
 #include "explain.h"
 #include "options.h"
 #include "record.h"
@@ -17,6 +18,9 @@ enum {
     GUEST_PAGE = 4096,
     MOST_SLOTS = BOARD_MOST_RANGES
 };
+
+/* Ports of the disk; that of status is device control when it is written. */
+enum { DISK_DATA = 0x1F0, DISK_COUNT = 0x1F2, DISK_DEVICE = 0x1F6, DISK_COMMAND = 0x1F7, DISK_STATUS = 0x3F6 };
 
 #define NANOSECONDS 1000000000ull
 
@@ -57,12 +61,15 @@ typedef struct keyboard {
 
 /* QEMU's fw_cfg (fw_cfg.c). */
 typedef struct fw_cfg {
-    uint8_t item[160]; /* the bytes of the selected item; the longest is the directory, of 132 */
+    uint8_t item[2048]; /* the bytes of the selected item; the longest is what acpi.c has for the loader, of 1408 */
     size_t bytes;
     size_t next;       /* the byte that is read next */
 } fw_cfg;
 
-/* A legacy virtio block card (virtio_blk.c). */
+/* Of the virtio card's queue how many requests it holds at most, and the feature that a cache can be flushed. */
+enum { VIRTIO_RING = 128, VIRTIO_FLUSH = 1 << 9 };
+
+/* A virtio block card (virtio_blk.c), which a guest drives by the legacy registers, or those of virtio 1.0. */
 typedef struct virtio_blk {
     int file;
     uint64_t sectors;
@@ -73,7 +80,20 @@ typedef struct virtio_blk {
     uint8_t status, isr;
     bool line;         /* the level of INTA# */
     bool broken;       /* its ring is none: nothing is done until the guest resets it */
+    uint8_t is_modern; /* 1 where the queue is that of virtio 1.0 (virtio_modern.c), which has the next fields */
+    uint8_t feature_selects[2];
+    uint16_t queue_size;
+    uint32_t high_features;
+    uint64_t ring[3];  /* descriptors, the available ring, the used ring */
 } virtio_blk;
+
+/* The disk's file of --keep-disk (kept_disk.c). */
+typedef struct kept_disk {
+    int file;
+    uint32_t sector;   /* that is being written, and how many words of it came */
+    uint32_t words;
+    uint32_t is_writing; /* 1 from a WRITE SECTORS to the next command */
+} kept_disk;
 
 typedef struct machine {
     board board;
@@ -96,6 +116,7 @@ typedef struct machine {
     keyboard keyboard;
     virtio_blk virtio;
     fw_cfg fw_cfg;
+    kept_disk kept_disk;
     uint32_t identify;    /* words that were read since IDENTIFY DEVICE (identify.c) */
     machine_counts counts;
     record record;
@@ -118,7 +139,7 @@ uint8_t *machine_file(const char *name, size_t *bytes);
 void machine_file_free(uint8_t *file, size_t bytes);
 /* Tells the figures: exits, steps. */
 void machine_tell(const machine *m, const char *why);
-/* Keeps the disk where that was asked, closes log and board, and tells the figures. */
+/* Closes the disk's file, log and board, and tells the figures. */
 void machine_close(machine *m, const char *why);
 /* Does one event on the board: every step goes through here, but for seconds of the clock and strings. */
 void machine_step(machine *m, const board_event *event, board_reply *reply);
@@ -163,6 +184,9 @@ size_t machine_string(machine *m, uint8_t kind, uint16_t port, unsigned bytes, u
 /* An access outside the slots, kind BOARD_READ or BOARD_WRITE, of any number of bytes. At 4 GiB and above it reaches nobody. */
 void machine_memory(machine *m, uint8_t kind, uint64_t addr, size_t bytes, uint8_t *data);
 
+/* Function and register of a cycle at the ports of configuration data, as CONFADD has them, to the byte; else 0. */
+uint32_t machine_config(machine *m, const port_cycle *cycle);
+
 /* ---- slots.c */
 
 /* Makes the slots anew where the map has changed. */
@@ -186,10 +210,21 @@ void clock_plan(machine *m);
 void keyboard_reset(machine *m);
 uint8_t keyboard_read(machine *m, uint32_t port);
 void keyboard_write(machine *m, uint32_t port, uint8_t value);
+/* A byte from the keyboard to port 60h, and whether there is room for so many of them and the keyboard is on. */
+void keyboard_give(machine *m, uint8_t byte);
+bool keyboard_has_room(const machine *m, size_t bytes);
+
+/* ---- typed.c: with options.type_keys */
+
+/* Whether a key may be typed, and the key of a character. */
+bool typed_has_room(const machine *m);
+void typed_key(machine *m, uint8_t key);
 
 /* ---- fw_cfg.c: ports 510h and 511h with options.fw_cfg */
 
 void fw_cfg_reset(machine *m);
+/* Puts bytes into the file that is being made. */
+void fw_cfg_put(machine *m, const void *from, size_t bytes);
 /* Whether such an access is one that the device hears. */
 bool fw_cfg_hears(uint8_t kind, uint32_t port, uint8_t bytes);
 uint8_t fw_cfg_read(machine *m);
@@ -212,8 +247,31 @@ void virtio_reset(machine *m);
 /* A read and a write at an offset in the card's base. */
 uint32_t virtio_read(machine *m, uint32_t offset, unsigned bytes);
 void virtio_write(machine *m, uint32_t offset, uint32_t value);
+/* Does the requests that wait; how many the queue holds; and what has happened, which takes the interrupt away. */
+void virtio_do_queue(machine *m);
+uint16_t virtio_queue_size(const virtio_blk *v);
+uint8_t virtio_take_isr(machine *m);
 
-/* ---- identify.c: with options.bochs_bios */
+/* ---- kept_disk.c: with options.keep_disk */
+
+/* Makes the file, with all sectors as they stand. Ends the process where it cannot, here and below. */
+void kept_disk_open(machine *m);
+/* Sees an event that the board has done so many times. */
+void kept_disk_see(machine *m, const board_event *event, size_t times);
+void kept_disk_close(machine *m);
+
+/* ---- task_file.c */
+
+/* A register of the disk as it reads, FFh where nobody answers; the sector that the registers name; and whether words
+ * are to move. No step of the guest's. */
+uint8_t task_file(machine *m, uint16_t port);
+uint32_t task_file_sector(machine *m);
+bool task_file_wants_words(machine *m);
+
+/* ---- identify.c: with options.bochs_bios, or a device that changes words */
+
+/* Whether words of IDENTIFY DEVICE are being read, of which some are others than the board's. */
+bool identify_awaits(const machine *m);
 
 /* Sees an access that the disk answered, with the value that is written or was read: the value that the guest reads. */
 uint32_t identify_see(machine *m, uint8_t kind, uint32_t port, uint8_t bytes, uint32_t value);
@@ -226,8 +284,10 @@ void console_put(uint8_t byte);
 void console_listen(machine *m);
 /* Takes the terminal byte by byte from now on, and gives it back as it was at the end of the process. */
 void console_open(void);
-/* Whether Ctrl-A and x were typed, or the process was asked to end. */
+/* Whether Ctrl-A and x were typed, the process was asked to end, or a device ends it; and why. */
 bool console_ended(void);
+const char *console_why(void);
+void console_end(const char *why);
 /* Whether Ctrl-A and s were typed, or the signal USR1 came, since this was asked last. */
 bool console_save_asked(void);
 

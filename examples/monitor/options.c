@@ -1,3 +1,4 @@
+#include "device.h"
 #include "options.h"
 #include <errno.h>
 #include <stdio.h>
@@ -10,7 +11,7 @@ static const char usage[] =
     "usage: monitor-PROCESSOR [OPTION VALUE | FLAG]..\n"
     "  --rom FILE        the BIOS (/usr/share/seabios/bios.bin)\n"
     "  --disk FILE       the disk as it begins; none without this\n"
-    "  --keep-disk FILE  writes the disk as it ends\n"
+    "  --keep-disk FILE  the disk as the guest has written it, at any moment; it may be that of --disk\n"
     "  --virtio FILE     a virtio block card over a file of any size, written through\n"
     "  --card rom=FILE   a card with this expansion ROM, which it is by the ROM's PCI data; up to four\n"
     "  --save FILE       where Ctrl-A s, or the signal USR1, writes the guest as it runs\n"
@@ -20,6 +21,7 @@ static const char usage[] =
     "  --log NAME        writes NAME.script and NAME.log, for `board check`, with NAME.rom and NAME.disk\n"
     "  --explain         tells each access that nobody answered, an empty socket or a register denied, and which\n"
     "  --keyboard        a keyboard controller at ports 60h and 64h, and port 92h\n"
+    "  --type-keys       with --keyboard what is typed are its keys, and not bytes for COM1\n"
     "  --fw-cfg          QEMU's fw_cfg at ports 510h and 511h, and nothing of memory in the clock's bytes\n"
     "  --text            with --fw-cfg SeaBIOS takes COM1 for its screen and keyboard\n"
     "  --bochs-bios      what Bochs's BIOS wants: the disk is decoded, and words 4 and 5 of IDENTIFY DEVICE are not 0\n"
@@ -27,10 +29,12 @@ static const char usage[] =
     "  --timing          measures the board's steps\n"
     "  --speed N         Bochs: instructions a microsecond (50)\n"
     "  --nothing         answers every exit with nothing, to see what the board's answers cost\n"
-    "Ctrl-A x ends it, Ctrl-A f tells its figures.\n";
+    "and, where they were built in:\n";
 
 static _Noreturn void refuse(const char *word) {
     fprintf(stderr, "monitor: %s\n%s", word, usage);
+    for (const device *d = device_first(); d; d = d->next) fprintf(stderr, "  %-17s %s\n", d->flag, d->usage);
+    fprintf(stderr, "Ctrl-A x ends it, Ctrl-A f tells its figures.\n");
     exit(2);
 }
 
@@ -44,8 +48,11 @@ static uint32_t number(const char *word, uint32_t most) {
 
 /* A flag of one word. */
 static bool take_flag(options *o, const char *word) {
-    if (!strcmp(word, "--explain")) o->explain = true;
+    device *d = device_find(word);
+    if (d) d->is_used = true;
+    else if (!strcmp(word, "--explain")) o->explain = true;
     else if (!strcmp(word, "--keyboard")) o->keyboard = true;
+    else if (!strcmp(word, "--type-keys")) o->type_keys = true;
     else if (!strcmp(word, "--fw-cfg")) o->fw_cfg = true;
     else if (!strcmp(word, "--bochs-bios")) o->bochs_bios = true;
     else if (!strcmp(word, "--text")) o->text = true;
@@ -86,6 +93,7 @@ void options_read(options *o, int count, char **words) {
         if (k + 1 == count || !take_option(o, words[k], words[k + 1])) refuse(words[k]);
         k++;
     }
+    if (o->type_keys && !o->keyboard) refuse("--type-keys: only with --keyboard");
     if (o->text && !o->fw_cfg) refuse("--text: only with --fw-cfg");
     if (o->log && (o->virtio || o->rom_cards)) refuse("--log: not with a card: a script knows none that says what it is");
     if (o->log && o->load) refuse("--log: not with --load: a log begins at power-on");

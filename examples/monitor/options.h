@@ -18,13 +18,14 @@ typedef struct options {
     uint32_t rom_cards;
     const char *save;      /* where a guest that runs is written on Ctrl-A s, or NULL */
     const char *load;      /* the file of such a guest, which goes on, or NULL */
-    const char *keep_disk; /* where the disk is written at the end, or NULL */
+    const char *keep_disk; /* the file that has the disk as the guest has written it, or NULL */
     const char *log;       /* the front of the names of script and log, or NULL */
     uint32_t mib;
     uint32_t seconds; /* of the host's time after which the monitor ends; 0: none */
     uint32_t speed;   /* instructions a microsecond, where the processor's own pace is the time (Bochs) */
     bool explain;
     bool keyboard; /* an 8042 stands in the board's socket */
+    bool type_keys; /* what is typed are keys of its keyboard, and not bytes for COM1 */
     bool fw_cfg; /* QEMU's fw_cfg tells of memory and disk, and the clock's bytes do not */
     bool bochs_bios; /* what Bochs's BIOS takes for given: the disk is decoded, words 4 and 5 of IDENTIFY DEVICE are not 0 */
     bool text;   /* fw_cfg says that there is no picture */

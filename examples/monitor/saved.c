@@ -1,15 +1,16 @@
-/* A guest that runs, as a file: --save FILE and --load FILE. After a head stand four parts: what of the machine stands beside
- * board and processor, the board as board_save gives it, the processor's state, and the memory by its pages, of which one of
- * zeros is a byte. The ROM, those of cards and the file of a virtio card are not in it: ROMs have to be the same, by their
- * sums, and the file as it was. The parts of machine and processor are read by the monitor that wrote them alone. */
+/* A guest that runs, as a file: --save FILE and --load FILE. After a head stand five parts: what of the machine stands
+ * beside board and processor, the board as board_save gives it, the processor's state, the memory by its pages, of
+ * which one of zeros is a byte, and what devices keep. The ROM, those of cards and the file of a virtio card are not in
+ * it: ROMs have to be the same, by their sums, and the file as it was. The parts of machine and processor are read by
+ * the monitor that wrote them alone. */
 #include "machine.h"
 #include <errno.h>
 #include <stdio.h>
 #include <stdlib.h>
 #include <string.h>
 
-enum { VERSION = 1, MOST_NAME = 4096 };
-enum { MACHINE, BOARD, PROCESSOR, MEMORY, PARTS };
+enum { VERSION = 2, MOST_NAME = 4096 };
+enum { MACHINE, BOARD, PROCESSOR, MEMORY, DEVICES, PARTS };
 #define MOST_LAG (3600 * NANOSECONDS)    /* an hour, as of a monitor that was stopped */
 #define MOST_TIME (1000000 * MOST_LAG)   /* of a guest, some hundred years */
 static const char mark[8] = "MONITOR";
@@ -30,6 +31,7 @@ typedef struct saved_machine {
     keyboard keyboard;
     fw_cfg fw_cfg;
     virtio_blk virtio; /* without its file */
+    kept_disk kept_disk; /* the same */
 } saved_machine;
 
 typedef struct stretch {
@@ -113,7 +115,8 @@ static saved_machine machine_of(const machine *m) {
     s.interrupt = m->interrupt, s.serial_room = m->serial_room;
     s.has_disk = o->disk, s.has_keyboard = o->keyboard, s.has_fw_cfg = o->fw_cfg, s.has_virtio = o->virtio, s.text = o->text, s.bochs_bios = o->bochs_bios;
     s.keyboard = m->keyboard, s.fw_cfg = m->fw_cfg, s.virtio = m->virtio;
-    s.virtio.file = 0;
+    s.kept_disk = m->kept_disk;
+    s.virtio.file = s.kept_disk.file = 0;
     return s;
 }
 
@@ -126,7 +129,8 @@ static bool is_sound_time(const saved_machine *s) {
 
 static bool is_sound(const saved_machine *s) {
     if (s->mib < 1 || s->mib > MOST_MIB || s->speed < 1 || !is_sound_time(s)) return false;
-    return s->keyboard.count <= sizeof s->keyboard.queue && s->fw_cfg.bytes <= sizeof s->fw_cfg.item;
+    if (s->keyboard.count > sizeof s->keyboard.queue || s->fw_cfg.bytes > sizeof s->fw_cfg.item) return false;
+    return s->kept_disk.words < 256; /* of a sector, as far as it is written */
 }
 
 /* The machine goes on as it was; names of files are those of the command line. */
@@ -134,7 +138,7 @@ static void take_machine(machine *m, const saved_machine *s) {
     options *o = &m->options;
     m->loaded_at = s->now, m->time = s->time, m->pulses = s->pulses, m->second = s->second;
     m->interrupt = s->interrupt, m->serial_room = s->serial_room, m->identify = s->identify;
-    m->keyboard = s->keyboard, m->fw_cfg = s->fw_cfg, m->virtio = s->virtio;
+    m->keyboard = s->keyboard, m->fw_cfg = s->fw_cfg, m->virtio = s->virtio, m->kept_disk = s->kept_disk;
     o->mib = s->mib, o->speed = s->speed, o->keyboard = s->has_keyboard, o->fw_cfg = s->has_fw_cfg, o->text = s->text, o->bochs_bios = s->bochs_bios;
     o->disk = s->has_disk ? o->load : NULL; /* which has it */
 }
@@ -186,9 +190,12 @@ void machine_save(machine *m) {
     }
     fflush(stdout);
     saved_machine s = machine_of(m);
-    size_t bytes = processor_bytes();
-    stretch part[PARTS] = {{(uint8_t *)&s, sizeof s}, write_board(m), {room(bytes), bytes}, write_memory(m)};
+    size_t bytes = processor_bytes(), kept = devices_bytes();
+    stretch part[PARTS] = {
+        {(uint8_t *)&s, sizeof s}, write_board(m), {room(bytes), bytes}, write_memory(m), {room(kept), kept},
+    };
     processor_save(part[PROCESSOR].at);
+    devices_save(part[DEVICES].at);
     if (part[BOARD].at) save_parts(m, part);
     for (size_t k = BOARD; k < PARTS; k++) free(part[k].at);
 }
@@ -222,9 +229,24 @@ static void read_head(const char *name, uint8_t *file, size_t bytes, stretch *pa
     if (!cut(&h, file + sizeof h, bytes - sizeof h, part)) refuse(name, "a saved guest that is cut short or damaged");
 }
 
+#define FLAG(field) offsetof(saved_machine, field)
+
+/* Whether each byte that is a flag is 0 or 1: of another no bool may be read. */
+static bool are_flags(const uint8_t *at) {
+    static const size_t places[] = {
+        FLAG(interrupt), FLAG(serial_room), FLAG(has_disk), FLAG(has_keyboard), FLAG(has_fw_cfg), FLAG(has_virtio),
+        FLAG(text), FLAG(bochs_bios), FLAG(keyboard.keyboard_awaits), FLAG(keyboard.was_command), FLAG(keyboard.tested),
+        FLAG(keyboard.line), FLAG(virtio.line), FLAG(virtio.broken),
+    };
+    for (size_t k = 0; k < sizeof places / sizeof *places; k++)
+        if (at[places[k]] > 1) return false;
+    return true;
+}
+
 static void load_machine(machine *m, const char *name, stretch from) {
     saved_machine s;
     if (from.bytes != sizeof s) refuse(name, "a guest that another monitor saved");
+    if (!are_flags(from.at)) refuse(name, "a saved guest that is damaged");
     memcpy(&s, from.at, sizeof s);
     if (!is_sound(&s)) refuse(name, "a saved guest that is damaged");
     if (s.rom_sum != rom_sum(m)) refuse(name, "a guest with another ROM (--rom)");
@@ -241,6 +263,8 @@ void machine_load(machine *m) {
     uint8_t *file = machine_file(name, &bytes);
     read_head(name, file, bytes, part);
     load_machine(m, name, part[MACHINE]);
+    bool are_here = devices_load(part[DEVICES].at, part[DEVICES].bytes);
+    if (!are_here) refuse(name, "a guest with devices that this monitor has not");
     uint32_t status = board_load(&m->board, part[BOARD].at, part[BOARD].bytes);
     if (status != BOARD_OK) refuse(name, board_status_text(status));
     m->memory = machine_pages((size_t)m->options.mib << 20);

@@ -1,5 +1,7 @@
-/* The guest's processor is Unicorn, QEMU's translator as a library, for hosts without KVM. It raises no interrupts, so the
- * monitor enters them itself, in real mode and where the guest halts: enough for firmware and a boot sector, and no more. */
+/* The guest's processor is Unicorn, QEMU's translator as a library, for hosts without KVM. It raises no interrupts, so
+ * the monitor enters them itself, in real mode and where the guest halts: enough for firmware and a boot sector, and no
+ * more. The guest's time is that of the processor which the monitor had, and its rests: so a guest on a busy host is
+ * none the wiser. RDTSC is the host's and knows nothing of that, so CPUID says that there is none. */
 #define _GNU_SOURCE
 #include "machine.h"
 #include <signal.h>
@@ -20,7 +22,7 @@ enum {
     HALT = 0xF4,          /* the instruction HLT */
     INT_N = 0xCD,         /* the instruction INT n, of two bytes */
     FRAME = 6,            /* bytes of a real-mode interrupt's frame */
-    REST = 1000,          /* microseconds between two looks at a halted guest */
+    REST = 10000000,      /* nanoseconds between two looks at a halted guest, or less where the clock runs before */
     WATCH = 100000        /* and between two looks whether the time is up */
 };
 
@@ -35,7 +37,7 @@ static machine m;
 static uc_engine *uc;
 static uc_context *at_power_on;
 static region regions[MOST_REGIONS];
-static uint64_t began;
+static uint64_t began, rested, host_began;
 static const char *failure;
 
 static void check(uc_err error, const char *what) {
@@ -44,13 +46,15 @@ static void check(uc_err error, const char *what) {
     exit(1);
 }
 
-static uint64_t host_time(void) {
+static uint64_t time_by(clockid_t clock) {
     struct timespec t;
-    clock_gettime(CLOCK_MONOTONIC, &t);
+    clock_gettime(clock, &t);
     return (uint64_t)t.tv_sec * NANOSECONDS + (uint64_t)t.tv_nsec;
 }
 
-uint64_t processor_time(void) { return host_time() - began; }
+static uint64_t had_time(void) { return time_by(CLOCK_PROCESS_CPUTIME_ID) + rested; }
+
+uint64_t processor_time(void) { return had_time() - began; }
 
 static uint32_t get(int reg) {
     uint32_t value = 0;
@@ -199,7 +203,18 @@ static void on_out(uc_engine *u, uint32_t port, int bytes, uint32_t value, void 
     (void)u, (void)x;
     if (!m.reset) machine_out(&m, (uint16_t)port, (unsigned)bytes, value);
     if (m.slots_moved) move_slots();
-    if (m.reset) uc_emu_stop(uc); /* the engine goes on to the end of its block, and nothing of that counts */
+    if (m.reset || console_ended()) uc_emu_stop(uc); /* it goes on to the end of its block: after a reset in vain */
+}
+
+/* A processor of family 6 with a coprocessor alone: no TSC, and no APIC. */
+static int on_cpuid(uc_engine *u, void *x) {
+    static const uint32_t first[] = {1, 0x756E6547, 0x6C65746E, 0x49656E69}; /* GenuineIntel */
+    static const uint32_t features[] = {0x611, 0, 0, 1};
+    static const int into[] = {UC_X86_REG_EAX, UC_X86_REG_EBX, UC_X86_REG_ECX, UC_X86_REG_EDX};
+    uint32_t leaf = get(UC_X86_REG_EAX);
+    (void)u, (void)x;
+    for (size_t k = 0; k < 4; k++) set(into[k], leaf == 0 ? first[k] : leaf == 1 ? features[k] : 0);
+    return 1; /* it is done */
 }
 
 /* ---- the guest */
@@ -218,7 +233,10 @@ static void keep_time(void) {
     console_listen(&m);
 }
 
-static bool is_over(void) { return console_ended() || (m.options.seconds && processor_time() - m.loaded_at > m.options.seconds * NANOSECONDS); }
+static bool is_over(void) {
+    uint64_t ran = time_by(CLOCK_MONOTONIC) - host_began;
+    return console_ended() || (m.options.seconds && ran > m.options.seconds * NANOSECONDS);
+}
 
 /* The engine does not come back by itself while the guest does not halt. */
 static void on_alarm(int number) {
@@ -234,13 +252,14 @@ static void watch_time(void) {
 }
 
 static void open_unicorn(void) {
-    static uc_hook hooks[4];
+    static uc_hook hooks[5];
     check(uc_open(UC_ARCH_X86, UC_MODE_16, &uc), "open");
     check(uc_context_alloc(uc, &at_power_on), "context");
     check(uc_context_save(uc, at_power_on), "context");
     check(uc_hook_add(uc, &hooks[0], UC_HOOK_INSN, (void *)(uintptr_t)on_in, NULL, 1, 0, UC_X86_INS_IN), "hook");
     check(uc_hook_add(uc, &hooks[1], UC_HOOK_INSN, (void *)(uintptr_t)on_out, NULL, 1, 0, UC_X86_INS_OUT), "hook");
     check(uc_hook_add(uc, &hooks[2], UC_HOOK_MEM_WRITE_PROT, (void *)(uintptr_t)on_write_protected, NULL, 1, 0), "hook");
+    check(uc_hook_add(uc, &hooks[4], UC_HOOK_INSN, (void *)(uintptr_t)on_cpuid, NULL, 1, 0, UC_X86_INS_CPUID), "hook");
     check(uc_hook_add(uc, &hooks[3], UC_HOOK_INTR, (void *)(uintptr_t)on_int, NULL, 1, 0), "hook");
 }
 
@@ -251,6 +270,14 @@ static void save_where_asked(void) {
     else machine_save(&m);
 }
 
+static void rest(void) {
+    uint64_t now = processor_time(), left = m.wake > now ? m.wake - now : 0, time = left < REST ? left : REST;
+    nanosleep(&(struct timespec){0, (long)time}, NULL);
+    rested += time;
+    keep_time();
+    save_where_asked();
+}
+
 /* Where the engine stopped: at a halt until an interrupt comes, which a board's INT makes. NULL, or why it is over. */
 static const char *wait_halted(void) {
     uint8_t instruction = 0;
@@ -258,11 +285,7 @@ static const char *wait_halted(void) {
     uc_mem_read(uc, base + get(UC_X86_REG_EIP) - 1, &instruction, 1);
     if (instruction != HALT) return NULL;
     if (!(get(UC_X86_REG_EFLAGS) & FLAG_INTERRUPT)) return "halted with interrupts off";
-    while (!m.interrupt && !is_over()) {
-        usleep(REST);
-        keep_time();
-        save_where_asked();
-    }
+    while (!m.interrupt && !is_over()) rest();
     if (m.interrupt) enter(machine_acknowledge(&m), (uint16_t)get(UC_X86_REG_EIP));
     return NULL;
 }
@@ -283,7 +306,7 @@ static const char *run_guest(void) {
         if (m.reset) reset_processor();
         else if ((why = wait_halted())) return why;
     }
-    return console_ended() ? "ended" : "the time is up";
+    return console_ended() ? console_why() : "the time is up";
 }
 
 int main(int count, char **words) {
@@ -292,7 +315,8 @@ int main(int count, char **words) {
     machine_open(&m, &wanted);
     open_unicorn();
     move_slots();
-    began = host_time() - m.loaded_at;
+    host_began = time_by(CLOCK_MONOTONIC);
+    began = had_time() - m.loaded_at;
     watch_time();
     const char *why = run_guest();
     uint32_t cs = get(UC_X86_REG_CS), ip = get(UC_X86_REG_EIP);

@@ -1,6 +1,7 @@
-/* A legacy virtio block card (virtio 0.9.5, "Appendix D: Block Device") with --virtio FILE, which may have any size and is
- * written through: one base of ports, INTA#. The board says what the card is, decodes its base and has its interrupt, and
- * says where the card may move memory; here is what answers at its ports. */
+/* A legacy virtio block card (virtio 0.9.5, "Appendix D: Block Device") with --virtio FILE, which may have any size and
+ * is written through: one base of ports, INTA#. The board says what the card is, decodes its base and has its
+ * interrupt, and says where the card may move memory; here is what answers at its ports, and what requests do.
+ * virtio_modern.c adds the registers of virtio 1.0. */
 #define _GNU_SOURCE
 #include "machine.h"
 #include <errno.h>
@@ -11,10 +12,10 @@
 #include <sys/stat.h>
 #include <unistd.h>
 
-enum { SECTOR_BITS = 9, RING_BITS = 7, RING = 1 << RING_BITS, PAGE_BITS = 12, MOST_CHAIN = RING, ID_BYTES = 20 };
+enum { SECTOR_BITS = 9, RING = VIRTIO_RING, PAGE_BITS = 12, MOST_CHAIN = RING, ID_BYTES = 20 };
 /* Registers at base 0, and behind them the device's own: its capacity in sectors. */
 enum { HOST_FEATURES = 0, GUEST_FEATURES = 4, QUEUE_PAGE = 8, QUEUE_SIZE = 12, QUEUE_SELECT = 14, QUEUE_NOTIFY = 16, STATUS = 18, ISR = 19, CAPACITY = 20, CAPACITY_HIGH = 24 };
-enum { FEATURE_FLUSH = 1 << 9 };
+enum { FEATURE_FLUSH = VIRTIO_FLUSH };
 enum { NEXT = 1, WRITTEN_BY_CARD = 2 };                    /* flags of a descriptor */
 enum { NO_INTERRUPT = 1 };                                 /* flags of the available ring */
 enum { DO_READ = 0, DO_WRITE = 1, DO_FLUSH = 4, DO_ID = 8 };
@@ -32,8 +33,15 @@ typedef struct header {
     uint64_t sector;
 } header;
 
+/* The queue in the guest's memory. */
+typedef struct ring {
+    const uint8_t *descriptors, *available;
+    uint8_t *used;
+    uint16_t size;
+} ring;
+
 board_card virtio_card(void) {
-    return (board_card){
+    board_card card = {
         .device = VIRTIO_DEVICE,
         .bases = 1,
         .base = {{BOARD_IO_BASE, VIRTIO_BASE_BITS}},
@@ -44,6 +52,9 @@ board_card virtio_card(void) {
         .subsystem_id = 2, /* a block device */
         .interrupt_pin = 1,
     };
+    for (EACH_DEVICE(d))
+        if (d->card) d->card(&card);
+    return card;
 }
 
 void virtio_open(virtio_blk *v, const char *name) {
@@ -119,7 +130,7 @@ static uint8_t do_stretch(machine *m, uint32_t what, const descriptor *d, uint64
 }
 
 /* Does a request: a header, its data, and a byte for its status. Returns how many bytes of memory it wrote. */
-static uint32_t do_chain(machine *m, const uint8_t *ring, uint16_t first) {
+static uint32_t do_chain(machine *m, const ring *r, uint16_t first) {
     descriptor d;
     header asked = {0};
     uint64_t place = 0;
@@ -127,7 +138,7 @@ static uint32_t do_chain(machine *m, const uint8_t *ring, uint16_t first) {
     uint8_t status = DONE;
     uint16_t at = first;
     for (unsigned k = 0; k < MOST_CHAIN && !console_ended(); k++) {
-        memcpy(&d, ring + sizeof d * (at % RING), sizeof d);
+        memcpy(&d, r->descriptors + sizeof d * (at % r->size), sizeof d);
         const uint8_t *here = memory_at(m, d.addr, k == 0 ? sizeof asked : 1, false);
         if (!here || (k == 0 && d.bytes < sizeof asked)) return written;
         if (k == 0) {
@@ -151,37 +162,61 @@ static uint32_t do_chain(machine *m, const uint8_t *ring, uint16_t first) {
 }
 
 /* How many requests wait; more than the ring holds are no ring, and the card does no more until it is reset. */
-static uint16_t waiting(virtio_blk *v, uint16_t newest) {
+static uint16_t waiting(virtio_blk *v, const ring *r, uint16_t newest) {
     uint16_t count = (uint16_t)(newest - v->seen);
-    if (count <= RING) return count;
+    if (count <= r->size) return count;
     v->broken = true;
-    fprintf(stderr, "\nmonitor: virtio: %u requests in a ring of %u: the card waits for its reset\n", count, RING);
+    fprintf(stderr, "\nmonitor: virtio: %u requests in a ring of %u: the card waits for its reset\n", count, r->size);
     return 0;
+}
+
+/* Where the queue lies in the guest's memory: whether the card reaches all of it, and may write the used ring. */
+static bool find_ring(machine *m, ring *r) {
+    const virtio_blk *v = &m->virtio;
+    uint64_t used_at = ((sizeof(descriptor) * RING + 6 + 2 * RING) + (1 << PAGE_BITS) - 1) >> PAGE_BITS << PAGE_BITS;
+    uint64_t page = (uint64_t)v->page << PAGE_BITS, at[] = {page, page + sizeof(descriptor) * RING, page + used_at};
+    r->size = RING;
+    if (v->is_modern) r->size = virtio_queue_size(v), memcpy(at, v->ring, sizeof at);
+    if (!page && !v->is_modern) return false;
+    r->descriptors = memory_at(m, at[0], sizeof(descriptor) * r->size, false);
+    r->available = memory_at(m, at[1], 6 + 2u * r->size, false);
+    r->used = written_at(m, at[2], 6 + 8u * r->size);
+    return r->descriptors && r->available && r->used;
 }
 
 /* Does what the guest has put into the available ring, and gives it back by the used ring. A monitor that is asked to
  * end does so before the next request. */
-static void do_queue(machine *m) {
+void virtio_do_queue(machine *m) {
     virtio_blk *v = &m->virtio;
-    size_t used_at = ((sizeof(descriptor) * RING + 6 + 2 * RING) + (1 << PAGE_BITS) - 1) >> PAGE_BITS << PAGE_BITS;
-    uint8_t *ring = written_at(m, (uint64_t)v->page << PAGE_BITS, used_at + 6 + 8 * RING);
-    if (!ring || !v->page || v->broken) return;
-    uint8_t *available = ring + sizeof(descriptor) * RING, *used = ring + used_at;
+    ring r;
+    if (v->broken || !find_ring(m, &r)) return;
     uint16_t flags, newest, done;
-    memcpy(&flags, available, 2);
-    memcpy(&newest, available + 2, 2);
-    memcpy(&done, used + 2, 2);
-    uint16_t count = waiting(v, newest);
+    memcpy(&flags, r.available, 2);
+    memcpy(&newest, r.available + 2, 2);
+    memcpy(&done, r.used + 2, 2);
+    uint16_t count = waiting(v, &r, newest);
     bool any = count > 0;
     for (; count > 0 && !console_ended(); count--, v->seen++, done++) {
         uint16_t first;
-        memcpy(&first, available + 4 + 2 * (v->seen % RING), 2);
-        uint32_t entry[2] = {first, do_chain(m, ring, first)};
-        memcpy(used + 4 + 8 * (done % RING), entry, sizeof entry);
+        memcpy(&first, r.available + 4 + 2 * (v->seen % r.size), 2);
+        uint32_t entry[2] = {first, do_chain(m, &r, first)};
+        memcpy(r.used + 4 + 8 * (done % r.size), entry, sizeof entry);
     }
-    memcpy(used + 2, &done, 2);
+    memcpy(r.used + 2, &done, 2);
     if (any) v->isr |= ISR_QUEUE;
     if (any && !(flags & NO_INTERRUPT)) set_line(m, true);
+}
+
+uint16_t virtio_queue_size(const virtio_blk *v) {
+    bool is_size = v->queue_size && v->queue_size <= RING && !(v->queue_size & (v->queue_size - 1));
+    return is_size ? v->queue_size : RING;
+}
+
+uint8_t virtio_take_isr(machine *m) {
+    uint8_t isr = m->virtio.isr;
+    m->virtio.isr = 0;
+    set_line(m, false);
+    return isr;
 }
 
 uint32_t virtio_read(machine *m, uint32_t offset, unsigned bytes) {
@@ -193,12 +228,7 @@ uint32_t virtio_read(machine *m, uint32_t offset, unsigned bytes) {
     case QUEUE_SIZE: return v->selected ? 0 : RING;
     case QUEUE_SELECT: return v->selected;
     case STATUS: return v->status;
-    case ISR: {
-        uint8_t isr = v->isr;
-        v->isr = 0;
-        set_line(m, false);
-        return isr;
-    }
+    case ISR: return virtio_take_isr(m);
     }
     if (offset < CAPACITY || offset >= CAPACITY + 8) return 0;
     uint64_t rest = v->sectors >> 8 * (offset - CAPACITY);
@@ -215,7 +245,7 @@ void virtio_write(machine *m, uint32_t offset, uint32_t value) {
         v->seen = 0;
         break;
     case QUEUE_SELECT: v->selected = (uint16_t)value; break;
-    case QUEUE_NOTIFY: do_queue(m); break;
+    case QUEUE_NOTIFY: virtio_do_queue(m); break;
     case STATUS:
         v->status = (uint8_t)value;
         if (!value) virtio_reset(m);

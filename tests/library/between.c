@@ -107,7 +107,7 @@ static void clock_runs(void) {
         for (int n = 0; n < 6; n++) expect(none[k].what, cmos(at[n]), none[k].from[n]);
         expect("a refused second told something", memcmp(&before, &r, sizeof r) || memcmp(&event_before, &event, sizeof event), 0);
     }
-    expect("a second of a closed handle", board_second(&closed, &event, &r), BOARD_CLOSED);
+    expect("a second of a closed handle", board_second(&closed, &event, &r), BOARD_BAD_HANDLE);
 }
 
 /* Register C: the update's flag, with IRQF where it interrupts; a look leaves it, a guest's read clears it. */
@@ -135,7 +135,7 @@ static void flags(void) {
 
 static void lines_stand(void) {
     uint16_t lines = 0xA5A5;
-    expect("lines of a closed handle", board_lines(&closed, &lines), BOARD_CLOSED);
+    expect("lines of a closed handle", board_lines(&closed, &lines), BOARD_BAD_HANDLE);
     expect("a refused call told lines", lines, 0xA5A5);
     board_out(&b, 0x43, 1, 0x36, &r); /* counter 0 in mode 3: OUT is high */
     board_irq(&b, 3, true, &r), board_irq(&b, 15, true, &r);
@@ -150,7 +150,7 @@ static void lines_stand(void) {
 static void com1(void) {
     board_com1 s;
     memset(&s, 0xA5, sizeof s);
-    expect("COM1 of a closed handle", board_serial_state(&closed, &s), BOARD_CLOSED);
+    expect("COM1 of a closed handle", board_serial_state(&closed, &s), BOARD_BAD_HANDLE);
     expect("a refused call told a state", s.count, 0xA5);
     expect("COM1", board_serial_state(&b, &s), BOARD_OK);
     expect("its registers", s.count == 0 && s.ier == 0 && s.iir == 1 && s.lsr == 0x60 && s.msr == 0xB0 && s.emptied == 0, 1);
@@ -182,7 +182,7 @@ static void strings(void) {
     uint32_t words[300];
     size_t done = 77;
     memset(words, 0xA5, sizeof words);
-    expect("of a closed handle", board_in_many(&closed, 0x1F0, 2, words, 256, &done, &r), BOARD_CLOSED);
+    expect("of a closed handle", board_in_many(&closed, 0x1F0, 2, words, 256, &done, &r), BOARD_BAD_HANDLE);
     expect("three bytes", board_in_many(&b, 0x1F0, 3, words, 256, &done, &r), BOARD_NO_EVENT);
     expect("not aligned", board_in_many(&b, 0xCF9, 4, words, 256, &done, &r), BOARD_ALIGNMENT);
     expect("a refused call told something", done == 77 && words[0] == 0xA5A5A5A5, 1);

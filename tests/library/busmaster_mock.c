@@ -205,7 +205,7 @@ static void refusals(void) {
     expect("a beginning that was refused", 0, (uint64_t)memcmp(&t, &before, sizeof t), 0);
     expect("the last sector", 0, board_transfer_begin(&good, 0xFFFFFFFC, 0x0FFFFFFF, 256, UINT32_MAX, true), BOARD_OK);
     expect("a beginning", 0, board_transfer_begin(&good, TABLE, 3, 2, 2, true), BOARD_OK);
-    expect("a closed handle", 0, board_transfer_next(&closed, &good, &p), BOARD_CLOSED);
+    expect("a closed handle", 0, board_transfer_next(&closed, &good, &p), BOARD_BAD_HANDLE);
     t = good, t.table = 2, refused("a table at 2", t);
     t = good, t.addr = 1, refused("an odd address", t);
     t = good, t.left = 1, refused("an odd count", t);

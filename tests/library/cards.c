@@ -100,7 +100,7 @@ static void masters(void) {
     board_part p, untouched;
     memset(&p, 0xA5, sizeof p), untouched = p;
     open_board(&b);
-    expect("of a closed handle", 0, board_decode_master(&closed, 0, 4, false, &p), BOARD_CLOSED);
+    expect("of a closed handle", 0, board_decode_master(&closed, 0, 4, false, &p), BOARD_BAD_HANDLE);
     for (size_t k = 0; k < sizeof none / sizeof *none; k++)
         expect("no cycle", none[k].addr, board_decode_master(&b, none[k].addr, none[k].bytes, false, &p), BOARD_NO_CYCLE);
     expect("a part that was refused", 0, (uint64_t)memcmp(&p, &untouched, sizeof p), 0);
@@ -169,8 +169,8 @@ static void refused(board *b) {
         expect("bytes that are not there", k, board_card_read(b, past[k].device, past[k].base, past[k].offset, bytes, past[k].bytes), BOARD_PAST_END);
         expect("a place that is not there", k, board_card_write(b, past[k].device, past[k].base, past[k].offset, bytes, past[k].bytes), BOARD_PAST_END);
     }
-    expect("bytes of a closed handle", 0, board_card_read(&closed, DISK, 0, 0, bytes, 1), BOARD_CLOSED);
-    expect("bytes into a closed handle", 0, board_card_write(&closed, DISK, 0, 0, bytes, 1), BOARD_CLOSED);
+    expect("bytes of a closed handle", 0, board_card_read(&closed, DISK, 0, 0, bytes, 1), BOARD_BAD_HANDLE);
+    expect("bytes into a closed handle", 0, board_card_write(&closed, DISK, 0, 0, bytes, 1), BOARD_BAD_HANDLE);
     expect("bytes after refusals", 0, bytes[0] << 16 | bytes[1] << 8 | bytes[2], 0xA5A5A5);
     expect("no bytes of a base", 0, board_card_read(b, DISK, 0, 0x1000, bytes, 0), BOARD_OK);
     expect("no bytes of no card", 0, board_card_write(b, NONE, 9, 0, bytes, 0), BOARD_OK);

@@ -73,7 +73,7 @@ def main():
     root = pathlib.Path(sys.argv[1])
     crates = root / "crates"
     sources = [crates / "board_c/src/handle.rt"]
-    for crate in ("board_records", "piece_records"):
+    for crate in ("machine_records", "transfer_records"):
         sources += sorted((crates / crate / "src").glob("*.rt"))
     texts = [source.read_text() for source in sources]
     records = {name: fields for text in texts for name, fields in structs(text)}
@@ -89,7 +89,7 @@ def main():
                 c = FIELDS.get((name, field), field)
                 print(f'_Static_assert(offsetof({struct}, {c}) == {at} && sizeof((({struct} *)0)->{c}) == {size}, "{struct}.{c}");')
     count = 0
-    for source in ("board_records/src/numbers.rt", "board_records/src/status.rt", "piece_records/src/piece.rt"):
+    for source in ("machine_records/src/numbers.rt", "machine_records/src/status.rt", "transfer_records/src/piece.rt"):
         is_status = source.endswith("status.rt")
         for constant, value in re.findall(r"^pub const (\w+): u\d+ = (\d+);", (crates / source).read_text(), re.M):
             if is_status and constant in NOT_GIVEN:

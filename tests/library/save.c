@@ -157,7 +157,7 @@ static void load(board *b, image it, unsigned long which) {
     memcpy(at, it.at, it.bytes);
     uint32_t status = board_load(b, at, it.bytes);
     if (status) fail("load", which, status);
-    if (board_load(b, at, it.bytes) != BOARD_CLOSED) fail("a load over an open board", which, 0);
+    if (board_load(b, at, it.bytes) != BOARD_BAD_HANDLE) fail("a load over an open board", which, 0);
     memset(at, 0, it.bytes);
 }
 
@@ -289,7 +289,7 @@ static bool is_refused(image it, unsigned long which) {
     for (int k = 0; k < STEPS; k++) {
         board_event event = any();
         status = board_step(&b, &event, &r);
-        if (status > BOARD_OTHER_VERSION || status == BOARD_CLOSED) fail("a step of a changed image", which, status);
+        if (status > BOARD_OTHER_VERSION || status == BOARD_BAD_HANDLE) fail("a step of a changed image", which, status);
     }
     free(back.at);
     board_close(&b);
@@ -323,7 +323,7 @@ int main(int argc, char **argv) {
     board closed = {0};
     uint8_t byte = 0xA5;
     size_t bytes = 0xA5;
-    if (board_save(&closed, &byte, 1, &bytes) != BOARD_CLOSED || byte != 0xA5 || bytes != 0xA5) fail("save of a closed handle", 0, 0);
+    if (board_save(&closed, &byte, 1, &bytes) != BOARD_BAD_HANDLE || byte != 0xA5 || bytes != 0xA5) fail("save of a closed handle", 0, 0);
     if (board_load(&closed, &byte, 0) != BOARD_BAD_IMAGE || closed.open) fail("load of no bytes", 0, 0);
     if (board_load(&closed, (const uint8_t *)"BOARDRUN\xFF\xFF", 10) != BOARD_OTHER_VERSION) fail("another version", 0, 0);
     state = 1;

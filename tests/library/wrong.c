@@ -65,7 +65,7 @@ static void ranges(board *b, board *closed) {
     memset(&map, 0xA5, sizeof map);
     memset(range, 0xA5, sizeof range);
     memset(window, 0xA5, sizeof window);
-    expect("ranges of a closed handle", board_ranges(closed, &map, range, 6, window, 1), BOARD_CLOSED);
+    expect("ranges of a closed handle", board_ranges(closed, &map, range, 6, window, 1), BOARD_BAD_HANDLE);
     must("a closed handle told a map", is_untouched(&map, 0, sizeof map) && is_untouched(range, 0, sizeof range) && is_untouched(window, 0, sizeof window));
     expect("ranges without room", board_ranges(b, &map, range, 0, window, 0), BOARD_OK);
     must("counts without room", map.ranges == 6 && map.windows == 0 && map.version == 0 && map.mib == 8);
@@ -104,20 +104,20 @@ static void asked(board *b, board *closed) {
     board_part part;
     uint32_t pulses = 0xA5A5A5A5;
     uint8_t bytes[513], byte = 0xA5;
-    expect("decode of a closed handle", board_decode(closed, &places[0].event, &part), BOARD_CLOSED);
+    expect("decode of a closed handle", board_decode(closed, &places[0].event, &part), BOARD_BAD_HANDLE);
     for (size_t k = 0; k < sizeof places / sizeof *places; k++) {
         memset(&part, 0xA5, sizeof part);
         expect(places[k].name, board_decode(b, &places[k].event, &part), places[k].status);
         if (places[k].status) must("a refused decode told a part", is_untouched(&part, 0, sizeof part));
         else must(places[k].name, part.target == places[k].target && part.denial == places[k].denial);
     }
-    expect("pulses of a closed handle", board_pulses_to_rise(closed, &pulses), BOARD_CLOSED);
+    expect("pulses of a closed handle", board_pulses_to_rise(closed, &pulses), BOARD_BAD_HANDLE);
     must("a closed handle told pulses", pulses == 0xA5A5A5A5);
     expect("pulses", board_pulses_to_rise(b, &pulses), BOARD_OK);
     memset(bytes, 0xA5, sizeof bytes);
-    expect("DRAM of a closed handle", board_dram_read(closed, 0, bytes, 512), BOARD_CLOSED);
-    expect("sector of a closed handle", board_disk_read(closed, 0, bytes, 512), BOARD_CLOSED);
-    expect("byte of a closed handle", board_cmos_read(closed, 0, &byte), BOARD_CLOSED);
+    expect("DRAM of a closed handle", board_dram_read(closed, 0, bytes, 512), BOARD_BAD_HANDLE);
+    expect("sector of a closed handle", board_disk_read(closed, 0, bytes, 512), BOARD_BAD_HANDLE);
+    expect("byte of a closed handle", board_cmos_read(closed, 0, &byte), BOARD_BAD_HANDLE);
     expect("no such sector", board_disk_read(b, 1, bytes, 512), BOARD_NO_SECTOR);
     expect("half of no such sector", board_disk_read(b, 1, bytes, 256), BOARD_NO_SECTOR);
     expect("half a sector", board_disk_read(b, 0, bytes, 256), BOARD_BAD_LENGTH);
@@ -226,8 +226,8 @@ static void inline_calls(board *b, board *closed) {
     for (size_t k = 0; k < sizeof rows / sizeof *rows; k++) {
         expect("in", board_in(b, rows[k].port, rows[k].bytes, &r), rows[k].status);
         expect("out", board_out(b, rows[k].port, rows[k].bytes, 0, &r), rows[k].status);
-        expect("in of a closed handle", board_in(closed, rows[k].port, rows[k].bytes, &r), BOARD_CLOSED);
-        expect("out of a closed handle", board_out(closed, rows[k].port, rows[k].bytes, 0, &r), BOARD_CLOSED);
+        expect("in of a closed handle", board_in(closed, rows[k].port, rows[k].bytes, &r), BOARD_BAD_HANDLE);
+        expect("out of a closed handle", board_out(closed, rows[k].port, rows[k].bytes, 0, &r), BOARD_BAD_HANDLE);
     }
     expect("a byte of 9 bits out", board_out(b, 0x80, 1, 256, &r), BOARD_VALUE);
     expect("a word of 17 bits out", board_out(b, 0x81, 2, 0x10000, &r), BOARD_VALUE);
@@ -237,7 +237,7 @@ static void inline_calls(board *b, board *closed) {
         expect("a date", board_time(b, d[0], d[1], d[2], d[3], d[4], d[5], &r), BOARD_NO_EVENT);
         must("a refused date told a reply", is_untouched(&r, 0, sizeof r));
     }
-    expect("a date of a closed handle", board_time(closed, 2028, 2, 29, 0, 0, 0, &r), BOARD_CLOSED);
+    expect("a date of a closed handle", board_time(closed, 2028, 2, 29, 0, 0, 0, &r), BOARD_BAD_HANDLE);
 }
 
 static void versions(void) {
@@ -307,7 +307,7 @@ static void opening(board *b) {
     expect("half a sector", board_open(b, 8, &no_card, 0, rom, bytes, rom, 256), BOARD_BAD_DISK);
     must("a refused open made a board", !b->open);
     expect("open", board_open(b, 8, &no_card, 0, rom, bytes, rom, 512), BOARD_OK);
-    expect("open twice", board_open(b, 8, &no_card, 0, rom, bytes, rom, 0), BOARD_CLOSED);
+    expect("open twice", board_open(b, 8, &no_card, 0, rom, bytes, rom, 0), BOARD_BAD_HANDLE);
 }
 
 /* ---- bytes in, and the serial port */
@@ -316,8 +316,8 @@ static void written(board *b, board *closed) {
     const uint8_t four[4] = {1, 2, 3, 4};
     uint8_t bytes[4] = {0}, byte = 0;
     board_reply r;
-    expect("DRAM of a closed handle", board_dram_write(closed, 0, four, 4), BOARD_CLOSED);
-    expect("a byte of a closed handle", board_cmos_write(closed, 0x20, 7), BOARD_CLOSED);
+    expect("DRAM of a closed handle", board_dram_write(closed, 0, four, 4), BOARD_BAD_HANDLE);
+    expect("a byte of a closed handle", board_cmos_write(closed, 0x20, 7), BOARD_BAD_HANDLE);
     expect("past the memory", board_dram_write(b, 0x7FFFFE, four, 4), BOARD_PAST_END);
     expect("past the last address", board_dram_write(b, 0xFFFFFFFE, four, 4), BOARD_PAST_END);
     expect("byte 128", board_cmos_write(b, 128, 7), BOARD_NO_BYTE);
@@ -335,7 +335,7 @@ static void written(board *b, board *closed) {
 
 static void serial(board *b, board *closed) {
     board_reply r;
-    expect("a byte for a closed handle", board_receive(closed, 'a', &r), BOARD_CLOSED);
+    expect("a byte for a closed handle", board_receive(closed, 'a', &r), BOARD_BAD_HANDLE);
     expect("a byte sent", board_out(b, 0x3F8, 1, 'x', &r), BOARD_OK);
     must("a byte sent", r.has_sent == 1 && r.sent == 'x' && r.part[0].target == BOARD_IS_DEVICE && r.part[0].unit == BOARD_UART);
     expect("no byte sent", board_in(b, 0x3FD, 1, &r), BOARD_OK);
@@ -367,7 +367,7 @@ int main(void) {
     board_reply before, reply;
     rom_bytes = rom;
     board_close(&b);
-    expect("step of a closed handle", board_step(&b, &(board_event){.what = BOARD_ACK}, &reply), BOARD_CLOSED);
+    expect("step of a closed handle", board_step(&b, &(board_event){.what = BOARD_ACK}, &reply), BOARD_BAD_HANDLE);
     opening(&b);
     cards();
     no_disk();

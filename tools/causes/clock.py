@@ -5,7 +5,7 @@ from typing import TYPE_CHECKING
 from .row import CHOICE, DATASHEET, DATE, Row
 
 if TYPE_CHECKING:
-    from difference_state import Byte
+    from traces.difference_state import Byte
 
 INDEX, DATA = 0x70, 0x71
 REGISTER_A, REGISTER_B, REGISTER_C, REGISTER_D = 0x0A, 0x0B, 0x0C, 0x0D

@@ -5,7 +5,7 @@ from typing import TYPE_CHECKING, Optional
 from .row import ABSENT, CHOICE, DATASHEET, EITHER, OTHER, Row
 
 if TYPE_CHECKING:
-    from difference_state import Byte
+    from traces.difference_state import Byte
 
 DATA, ERROR, COUNT, SECTOR, CYLINDER_LOW, CYLINDER_HIGH, DEVICE, STATUS, OTHER_STATUS = *range(0x1F0, 0x1F8), 0x3F6
 READ, WRITE, VERIFY, DIAGNOSTIC, GEOMETRY, FLUSH, IDENTIFY, FEATURES = 0x20, 0x30, 0x40, 0x90, 0x91, 0xE7, 0xEC, 0xEF
@@ -14,6 +14,7 @@ MOVERS, TRANSFER_MODE = (READ, WRITE, IDENTIFY), 0x03
 WORDS_OF_A_SECTOR, HEADS, SECTORS_OF_A_TRACK = 256, 16, 63
 DRIVE_1, LBA, HELD_RESET = 0x10, 0x40, 0x04
 BSY, DRQ, DSC, INDEX_MARK, ERR = 0x80, 0x08, 0x10, 0x02, 0x01
+IDNF, ABRT = 0x10, 0x04  # of the error register
 TASK_FILE = range(COUNT, DEVICE + 1)
 
 
@@ -118,6 +119,17 @@ def is_bad_mode(byte: "Byte") -> bool:
 
 def is_error(byte: "Byte") -> bool:
     return byte.place == ERROR
+
+
+def is_aborted_address(byte: "Byte") -> bool:
+    """Whether a sector that is not there ends the command with IDNF here, and with ABRT there."""
+    return is_error(byte) and byte.ours == IDNF and byte.given == ABRT
+
+
+def is_error_of_none(byte: "Byte") -> bool:
+    """Whether the error register is read after a command that was taken and ended without an error."""
+    disk = byte.state.disk
+    return is_error(byte) and disk.command is not None and disk.takes and not (byte.ours or byte.given & ABRT)
 
 
 def is_absent(byte: "Byte") -> bool:
@@ -250,6 +262,22 @@ ROWS = [
         when=is_command(GEOMETRY),
     ),
     Row(
+        "disk-not-there",
+        EITHER,
+        "ATA/ATAPI-4, READ SECTOR(S): Error outputs",
+        "an address outside the drive ends the command with IDNF, or with ABRT, in the error register",
+        "ata",
+        when=is_aborted_address,
+    ),
+    Row(
+        "disk-error-kept",
+        CHOICE,
+        "Disk",
+        "a command that is taken clears the error register, which tells nothing while ERR is 0",
+        "ata",
+        when=is_error_of_none,
+    ),
+    Row(
         "disk-diagnostic",
         DATASHEET,
         "ATA/ATAPI-4, EXECUTE DEVICE DIAGNOSTIC",
@@ -334,7 +362,7 @@ ROWS = [
         "disk-error",
         DATASHEET,
         "ATA/ATAPI-4, Error register",
-        "a command that is taken clears it, and one that is not sets " "ABRT",
+        "ABRT tells of a command that is not taken, and of no other",
         "ata",
         when=is_error,
     ),

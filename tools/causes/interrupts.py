@@ -5,7 +5,7 @@ from typing import TYPE_CHECKING, Callable, Optional
 from .row import CHOICE, DATASHEET, OTHER, Row
 
 if TYPE_CHECKING:
-    from difference_state import Byte
+    from traces.difference_state import Byte
 
 ICW1, NEEDS_ICW4, SINGLE = 0x10, 0x01, 0x02
 ICW4_AUTO, ICW4_NESTED = 0x02, 0x10

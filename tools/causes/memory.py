@@ -4,7 +4,7 @@ from typing import TYPE_CHECKING
 from .row import ABSENT, CHOICE, DATASHEET, QTEST, VIEW, Row
 
 if TYPE_CHECKING:
-    from difference_state import Byte
+    from traces.difference_state import Byte
 
 PAM = "82441FX, PAM: Programmable Attribute Map Registers"
 SMRAM = "82441FX, SMRAM: System Management RAM Control Register"

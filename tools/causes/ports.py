@@ -4,7 +4,7 @@ from typing import TYPE_CHECKING
 from .row import ABSENT, CHOICE, DATASHEET, Row
 
 if TYPE_CHECKING:
-    from difference_state import Byte
+    from traces.difference_state import Byte
 
 RC = "82371SB, RC: Reset Control Register"
 NMISC = "82371SB, NMISC: NMI Status and Control Register"

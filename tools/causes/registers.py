@@ -4,7 +4,7 @@ from typing import TYPE_CHECKING
 from .row import ABSENT, CHOICE, DATASHEET, EITHER, Row
 
 if TYPE_CHECKING:
-    from difference_state import Byte
+    from traces.difference_state import Byte
 
 CHIP = "0[01][.][01]"  # a function of the chipset
 CARD = "0[2-9][.]0"

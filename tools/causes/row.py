@@ -4,7 +4,7 @@ from dataclasses import dataclass, field
 from typing import TYPE_CHECKING, Callable, Optional
 
 if TYPE_CHECKING:
-    from difference_state import Byte
+    from traces.difference_state import Byte
 
 DATASHEET = "by a datasheet"  # the section says what this board answers
 CHOICE = "a choice of this board"  # no datasheet is known to ask for it; the heading is of docs/DECISIONS.md

@@ -5,7 +5,7 @@ from typing import TYPE_CHECKING
 from .row import CHOICE, DATASHEET, EITHER, OTHER, Row
 
 if TYPE_CHECKING:
-    from difference_state import Byte
+    from traces.difference_state import Byte
 
 COM1 = 0x3F8
 RBR, IER, IIR, LCR, MCR, LSR, MSR, SCR = range(8)

@@ -5,7 +5,7 @@ from typing import TYPE_CHECKING
 from .row import CHOICE, DATASHEET, EITHER, Row
 
 if TYPE_CHECKING:
-    from difference_state import Byte
+    from traces.difference_state import Byte
 
 CONTROL, FIRST_COUNTER = 0x43, 0x40
 READ_BACK, NO_COUNT, NO_STATUS, SELECT_BIT = 3, 0x20, 0x10, 0x02

@@ -1,5 +1,10 @@
-"""The BIOS of the agent, agent.asm: its bytes are kept in agent.hex, so that nobody needs nasm to use it."""
+"""The BIOS of the agent, agent.asm: its bytes are kept in agent.hex, so that nobody needs nasm to use it. And the
+adapter of a monitor that boots it."""
 import pathlib
+import shlex
+import sys
+
+from shared.board_texts import ROOT
 
 SOURCE, KEPT = (pathlib.Path(__file__).resolve().parent / f"agent.{kind}" for kind in ("asm", "hex"))
 SIZE = 1 << 16
@@ -27,3 +32,9 @@ def build(file: pathlib.Path) -> pathlib.Path:
     """Writes it to a file."""
     file.write_bytes(bios())
     return file
+
+
+def adapter_of(monitor: str, folder: pathlib.Path) -> tuple[str, pathlib.Path]:
+    """The command of the adapter that asks a monitor, by the monitor's own, and the BIOS that stands for each ROM."""
+    command = shlex.join([sys.executable, str(ROOT / "tools/adapters/agent"), monitor])
+    return command, build(folder / "agent.bin")

@@ -28,7 +28,7 @@ one step.
 import re
 from typing import Callable
 
-from .scripts import WIDTHS, is_statement
+from .scripts import WIDTHS, why_none
 
 CONFADD, CONFDATA, ENABLE = "0CF8", 0xCFC, 0x8000_0000
 PORTS = {"master": 0x20, "slave": 0xA0}
@@ -210,7 +210,8 @@ def statements_of(line: str) -> Statements:
         found = WORDS[word](*fields) if word in WORDS else [line]
     except (TypeError, KeyError, ValueError) as fault:
         raise CaseFault(f"{line}: {fault}") from None
-    bad = next((it for it in found if not is_statement(it)), None)
-    if bad is not None:
-        raise CaseFault(f"{line}: `{bad}` is no statement")
+    for statement in found:
+        why = why_none(statement)
+        if why:
+            raise CaseFault(f"{line}: `{statement}` is no statement: {why}")
     return found

@@ -1,11 +1,11 @@
 """What another monitor answers otherwise than the board: each byte of each value, with the row of
-tools/differences.py that tells it, and the place that tells two of one row apart."""
+tools/traces/differences.py that tells it, and the place that tells two of one row apart."""
 from dataclasses import dataclass
 from typing import Callable, Iterator, Optional, Sequence
 
-from board_texts import Entry
-from difference_state import Byte, State, differing
-from differences import DATASHEET, Reason, reason_of
+from shared.board_texts import Entry
+from traces.difference_state import Byte, State, differing
+from traces.differences import DATASHEET, Reason, reason_of
 
 from .protocol import CANNOT, DONE, Adapter, is_dead
 from .reference import answers_of, image_of

@@ -5,6 +5,7 @@ import shlex
 import signal
 import socket
 import subprocess
+import tempfile
 import time
 from typing import Optional
 
@@ -18,7 +19,9 @@ WIDTH_NUMBERS = {"b": 0, "w": 1, "d": 2}
 ANSWER_BYTES = 4
 COM1 = range(0x3F8, 0x400)
 RESET_CONTROL, RESETS = 0xCF9, 0x04
-DISK, ALTERNATE_STATUS, BUSY, NOBODY, MOST_POLLS = (*range(0x1F0, 0x1F8), 0x3F6), 0x3F6, 0x80, 0xFF, 500
+DATA, COMMAND, DEVICE_CONTROL, SOFTWARE_RESET, SECTOR = 0x1F0, 0x1F7, 0x3F6, 0x04, 512
+DISK = (*range(DATA, COMMAND + 1), DEVICE_CONTROL)
+ALTERNATE_STATUS, BUSY, NOBODY, MOST_POLLS = DEVICE_CONTROL, 0x80, 0xFF, 500
 SECONDS_TO_START, SECONDS_TO_ANSWER, SECONDS_TO_RESET, SECONDS_TO_END, TICK = 60.0, 30.0, 0.5, 2.0, 0.5
 
 
@@ -51,6 +54,37 @@ def asks_disk(statement: str) -> bool:
     return words[0] in ("in", "out") and int(words[2], 16) in DISK
 
 
+class NotBegun(MonitorEnded):
+    """The monitor did not begin: its command does not start, or COM1 does not call."""
+
+
+class DiskWaits:
+    """Where a disk is waited for, since here a command is done when it is written: before the first access of a machine
+    that begins, and after a command, after the last word of a sector, and after a software reset, as it is let go."""
+
+    def __init__(self) -> None:
+        self.is_new, self.is_held, self.moved = True, False, 0
+
+    def before(self) -> bool:
+        """Whether to wait before an access to the disk."""
+        is_new, self.is_new = self.is_new, False
+        return is_new
+
+    def after(self, statement: str) -> bool:
+        """Whether to wait after it."""
+        word, width, port, *value = statement.split(" ")
+        first, size = int(port, 16), WIDTHS[width]
+        if first == DATA:
+            self.moved += size
+            return not self.is_held and self.moved % SECTOR == 0
+        if word == "out" and first == DEVICE_CONTROL:
+            self.is_held = bool(int(value[0], 16) & SOFTWARE_RESET)
+        if word == "out" and first + size > COMMAND:
+            self.moved = 0
+            return not self.is_held
+        return False
+
+
 class Guest:
     """A monitor that was started by its command line, with {memory}, {rom}, {disk}, and the {port} on 127.0.0.1 that
     its COM1 calls."""
@@ -58,6 +92,8 @@ class Guest:
     def __init__(self, command: str, setup: Setup) -> None:
         self.link: Optional[socket.socket] = None
         self.has_smm: Optional[bool] = None
+        self.waits = DiskWaits()
+        self.errors = tempfile.TemporaryFile()
         with socket.create_server(("127.0.0.1", 0)) as server:
             server.settimeout(TICK)
             words = {
@@ -71,16 +107,16 @@ class Guest:
                     [it.format(**words) for it in shlex.split(command)],
                     stdin=subprocess.DEVNULL,
                     stdout=subprocess.DEVNULL,
-                    stderr=subprocess.DEVNULL,
+                    stderr=self.errors,
                     start_new_session=True,
                 )
             except (OSError, KeyError, IndexError, ValueError) as fault:
-                raise MonitorEnded(f"{command} does not start: {fault}") from None
+                raise NotBegun(f"it does not start: {fault}") from None
             self.link = self.called(server)
         if self.link is None:
-            status = self.process.poll()
+            why = f"COM1 does not call, status {self.process.poll()}{self.said()}"
             self.close()
-            raise MonitorEnded(f"COM1 does not call, status {status}")
+            raise NotBegun(why)
         self.link.setsockopt(socket.IPPROTO_TCP, socket.TCP_NODELAY, 1)
         self.link.settimeout(SECONDS_TO_ANSWER)
         if self.answer() != HELLO:
@@ -97,6 +133,12 @@ class Guest:
                     break
         return None
 
+    def said(self) -> str:
+        """The last line that the monitor wrote of its errors."""
+        self.errors.seek(0)
+        lines = self.errors.read().decode("utf-8", "replace").splitlines()
+        return f": {lines[-1]}" if lines else ""
+
     def close(self) -> None:
         for number in (signal.SIGTERM, signal.SIGKILL):
             try:
@@ -110,6 +152,7 @@ class Guest:
                 continue
         if self.link:
             self.link.close()
+        self.errors.close()
 
     def answer(self) -> int:
         assert self.link
@@ -144,6 +187,7 @@ class Guest:
     def reset_by(self, asked: bytes) -> None:
         """A write that resets some monitors at once, some after its answer, and some not."""
         assert self.link
+        self.waits = DiskWaits()
         if self.ask(asked) == HELLO:
             return
         self.link.settimeout(SECONDS_TO_RESET)
@@ -157,7 +201,7 @@ class Guest:
         self.link.settimeout(SECONDS_TO_ANSWER)
 
     def wait_for_disk(self) -> None:
-        """Waits while the disk is busy: here a command is done when it is written. A held reset stays busy."""
+        """Waits while the disk is busy."""
         for _ in range(MOST_POLLS):
             status = self.ask(question(IN, ALTERNATE_STATUS))
             if status == NOBODY or not status & BUSY:

@@ -5,7 +5,7 @@ import time
 from dataclasses import dataclass, field
 from typing import Iterator, Optional, Sequence
 
-from differences import Reason
+from traces.differences import Reason
 
 from .areas import Area
 from .compare import Asked, Difference, ask_again

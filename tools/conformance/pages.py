@@ -6,7 +6,7 @@ import shutil
 import subprocess
 import sys
 
-from board_texts import ROOT
+from shared.board_texts import ROOT
 
 from .report import Report, cases_named, right_by, script_texts
 from .run import Found

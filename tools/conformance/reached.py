@@ -3,7 +3,7 @@ import pathlib
 from dataclasses import dataclass
 from typing import Iterable, Sequence
 
-from board_texts import WIDTHS, Entry, register_name
+from shared.board_texts import WIDTHS, Entry, register_name
 
 from .case_files import Case
 from .reference import answers_of

@@ -6,7 +6,7 @@ import pathlib
 import sys
 import threading
 
-from board_texts import ROOT, Entry, entry_of, stop
+from shared.board_texts import ROOT, Entry, entry_of, stop
 
 from .scripts import Script, Setup
 

@@ -5,7 +5,7 @@ import re
 from dataclasses import dataclass
 from typing import Iterator, Optional, Sequence
 
-from differences import ABSENT, CHOICE, DATASHEET, DATE, EITHER, KINDS, OTHER, VIEW, Reason
+from traces.differences import ABSENT, CHOICE, DATASHEET, DATE, EITHER, KINDS, OTHER, VIEW, Reason
 
 from .run import Found, Result
 from .shrink import Shown

@@ -5,7 +5,7 @@ import pathlib
 from dataclasses import dataclass
 from typing import Iterable, Iterator, Optional, Sequence
 
-from differences import Reason
+from traces.differences import Reason
 
 from .case_files import Case
 from .compare import Asked, Difference, ask_again

@@ -7,11 +7,12 @@ A statement is one of docs/FORMATS.md without the processor's number, or one of 
     bus_master in 00002000 5 1          1 sector from sector 5 on goes to memory by the table at 2000h; `out`: to the disk
 """
 import pathlib
-import re
 from dataclasses import dataclass, field
-from typing import Iterable, Sequence
+from typing import Iterable, Optional, Sequence
 
-WIDTHS = {"b": 1, "w": 2, "d": 4, "q": 8}
+from shared import grammar
+from shared.grammar import WIDTHS, Field, Form, number
+
 ACCESSES_THAT_READ = ("r", "f", "in")
 BUS_MASTER_DIGITS = VECTOR_DIGITS = 2
 BEGIN, PHASE, END = "board 2", "phase", "end"
@@ -90,25 +91,26 @@ def reads(statement: str) -> bool:
     return digits_of(statement) > 0
 
 
-_HEX = "[0-9A-Fa-f]"
-_NUMBER = "(?:0|[1-9][0-9]{0,8})"
-_BYTES = {"b": 2, "w": 4, "d": 8, "q": 16}
-_ADDRESS = f"{_HEX}{{8}}"
-_FORMS = re.compile(
-    "|".join(
-        [
-            rf"[rf] [bwdq] {_ADDRESS}(?: smm)?",
-            *(rf"w {width} {_ADDRESS} {_HEX}{{{count}}}(?: smm)?" for width, count in _BYTES.items()),
-            rf"in [bwd] {_HEX}{{4}}",
-            *(rf"out {width} {_HEX}{{4}} {_HEX}{{{count}}}" for width, count in _BYTES.items() if width != "q"),
-            rf"ack|second|pulse {_NUMBER}|wire [2-9] [01]|irq {_NUMBER} [01]|bad {_NUMBER}|receive {_HEX}{{2}}",
-            r"moment [0-9]{4}-[0-9]{2}-[0-9]{2}T[0-9]{2}:[0-9]{2}:[0-9]{2}",
-            rf"bus_master (?:in|out) {_ADDRESS} {_NUMBER} {_NUMBER}",
-        ]
-    )
-)
+def direction(field: str, fields: list[str], version: int) -> Optional[str]:
+    return None if field in ("in", "out") else f"a transfer is in or out, and not `{field}`"
 
 
-def is_statement(text: str) -> bool:
-    """Whether it has the form of a statement. A look is none: it is a question to this board alone."""
-    return _FORMS.fullmatch(text) is not None
+# Beside those of a script, and without its look, which is a question to this board alone.
+MORE = {
+    "second": Form("second", "second"),
+    "receive": grammar.RECEIVE,
+    "bus_master": Form("bus_master in|out TABLE LBA COUNT", "bus_master in 00002000 5 1", (
+        Field("its direction", direction), Field("its table", grammar.address),
+        Field("its first sector", number("the sector")), Field("how many sectors", number("the number of sectors")))),
+}
+LOOK = "look"
+
+
+def why_none(text: str) -> Optional[str]:
+    """Why a text is no statement, or None."""
+    word, *fields = text.split(" ")
+    if word in MORE:
+        return grammar.wrong_fields(word, fields, form=MORE[word])
+    if word not in grammar.STATEMENTS or word == LOOK:
+        return f"`{word}` is no word of a statement"
+    return grammar.wrong_fields(word, fields) or grammar.out_of_range(["0", word, *fields])

@@ -7,7 +7,7 @@ import re
 from dataclasses import dataclass, replace
 from typing import Callable, Optional
 
-from differences import Reason
+from traces.differences import Reason
 
 from .compare import Asked, Difference, ask_both, first_difference
 from .protocol import Adapter

@@ -18,7 +18,7 @@ from .replies import Answer, Denial, Look, Part, Register, Reset, Target, Value
 from .script import Line, Script, ScriptError, replay
 from .transfers import Descriptor, Ended, Transfer, Words
 
-__version__ = "7.1.0"  # the first number is INTERFACE
+__version__ = "8.0.0"  # the first number is INTERFACE
 
 __all__ = [
     "INTERFACE", "Answer", "Board", "BoardError", "Card", "Denial", "Descriptor", "Ended", "Event", "Identity",

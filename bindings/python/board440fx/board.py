@@ -77,7 +77,7 @@ class Board:
     # ---- its end
 
     def close(self) -> None:
-        """Frees the board. What is asked of it from then on raises Closed."""
+        """Frees the board. What is asked of it from then on raises BadHandle."""
         with self._lock:
             self._library.board_close(self._handle)
 

@@ -2,11 +2,11 @@
 import re
 from dataclasses import dataclass
 
+from . import grammar
 from .errors import BadCards
 from .records import MOST_BASES, BaseNumber, BaseRecord, CardRecord
 
 _BASES = {"m": BaseNumber.MEMORY_BASE, "i": BaseNumber.IO_BASE, "o": BaseNumber.OUTSIDE}
-_FORM = re.compile(r"([0-9]{1,3}) (vga|plain)((?: [mio][0-9]{1,2})*)(?: x([0-9]{1,2}))?")
 
 
 @dataclass(frozen=True)
@@ -45,10 +45,11 @@ class Card:
     @staticmethod
     def parse(text: str) -> "Card":
         """Of the line of a script, without the word `card`: `2 vga m24 x15`."""
-        found = _FORM.fullmatch(text)
-        if not found:
+        device, *rest = text.split(" ")
+        if grammar.wrong_fields("card", [device, *(re.sub("^o", "m", it) for it in rest)]):
             raise BadCards(text)
-        return Card(int(found[1]), found[2] == "vga", tuple(found[3].split()), int(found[4] or 0))
+        roms = [int(it[1:]) for it in rest[1:] if it[0] == "x"]
+        return Card(int(device), rest[0] == "vga", tuple(it for it in rest[1:] if it[0] != "x"), sum(roms))
 
     def record(self) -> CardRecord:
         """As board.h has it."""

@@ -12,13 +12,21 @@ class BoardError(Exception):
         cls.status = status
         BoardError.by_status[status] = cls
 
-    def __init__(self, about: object = None) -> None:
+    def __init__(self, about: object = None, why: str | None = None) -> None:
         text = type(self).__doc__ or type(self).__name__
         super().__init__(text if about is None else f"{about}: {text}")
+        self.why = why
+
+    def __str__(self) -> str:
+        return f"{super().__str__()}: {self.why}" if self.why else super().__str__()
 
 
-class Closed(BoardError, status=1):
-    """the handle holds no board"""
+# made by tools/make-names: statuses
+class BadHandle(BoardError, status=1):
+    """the handle holds no board; or, where one is opened, it holds one"""
+
+
+Closed = BadHandle  # its name before this interface; it goes with the next
 
 
 class NoMemory(BoardError, status=2):
@@ -30,7 +38,7 @@ class BadSize(BoardError, status=3):
 
 
 class BadCards(BoardError, status=4):
-    """the cards are none that a board can be fitted with"""
+    """a record says no card, or no board can be fitted with the cards"""
 
 
 class BadRom(BoardError, status=5):
@@ -44,24 +52,17 @@ class BadDisk(BoardError, status=6):
 class NoEvent(BoardError, status=7):
     """that is no event"""
 
-    def __init__(self, about: object = None, why: str | None = None) -> None:
-        super().__init__(about)
-        self.why = why
-
-    def __str__(self) -> str:
-        return f"{super().__str__()}: {self.why}" if self.why else super().__str__()
-
 
 class Alignment(BoardError, status=8):
     """a port is no multiple of the width"""
 
 
 class BadValue(BoardError, status=9):
-    """a value does not fit the width"""
+    """a value does not fit the width, or is not 0 where nothing is written"""
 
 
 class PastLastAddress(BoardError, status=12):
-    """an access to memory ends past the last address"""
+    """an access to memory ends past FFFFFFFFh"""
 
 
 class BadPulses(BoardError, status=13):
@@ -85,7 +86,7 @@ class NoSector(BoardError, status=18):
 
 
 class PastEnd(BoardError, status=19):
-    """the bytes do not all lie in the memory or the base"""
+    """the bytes do not all lie in the installed memory, or in the card's base"""
 
 
 class NoByte(BoardError, status=20):
@@ -101,7 +102,7 @@ class NoReply(BoardError, status=22):
 
 
 class NoRoom(BoardError, status=23):
-    """what is told does not fit"""
+    """the text, or the saved board, does not fit"""
 
 
 class SerialFull(BoardError, status=24):
@@ -109,7 +110,7 @@ class SerialFull(BoardError, status=24):
 
 
 class NoTime(BoardError, status=25):
-    """the clock stands, or shows no date and time"""
+    """the clock stands: SET is 1, or its registers say no date or time"""
 
 
 class BadImage(BoardError, status=26):
@@ -121,7 +122,8 @@ class OtherVersion(BoardError, status=27):
 
 
 class NoTransfer(BoardError, status=28):
-    """the numbers are those of no transfer"""
+    """the numbers are those of no transfer of a bus master"""
+# end of what is made
 
 
 class OtherStatus(BoardError, status=-1):

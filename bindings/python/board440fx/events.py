@@ -1,17 +1,17 @@
 """Events: what is asked of a board."""
 import datetime
-import re
 from dataclasses import dataclass
 from typing import Callable, Literal
 
+from . import grammar
 from .errors import NoEvent
+from .grammar import WIDTHS
 from .records import EventRecord, KindNumber, What
 
 Kind = Literal["f", "r", "w"]
 
-KINDS: dict[str, KindNumber] = {"f": KindNumber.FETCH, "r": KindNumber.READ, "w": KindNumber.WRITE}
+KINDS = {letter: KindNumber(number) for letter, number in grammar.KINDS.items()}
 LETTERS = {number: letter for letter, number in KINDS.items()}
-WIDTHS = {"b": 1, "w": 2, "d": 4, "q": 8}
 WIDTH_LETTERS = {width: letter for letter, width in WIDTHS.items()}
 
 _FIELDS = {"value": 64, "addr": 32, "bytes": 8}  # and how many bits a record has for each
@@ -155,87 +155,40 @@ _TEXTS: dict[What, Callable[[Event], str]] = {
 # ---- the statements of scripts
 
 
-@dataclass(frozen=True)
-class _Field:
-    """A field of a statement: what it is called, how it is written, in a form and in words, and what it says."""
-
-    name: str
-    form: str
-    in_words: str
-    says: Callable[[str], int] = int
-
-
-_WIDTH = _Field("width", "[bwdq]", "b, w, d or q", WIDTHS.__getitem__)
-_PORT_WIDTH = _Field("width", "[bwd]", "b, w or d", WIDTHS.__getitem__)
-_ADDRESS = _Field("address", "[0-9A-Fa-f]{8}", "8 hexadecimal digits", lambda text: int(text, 16))
-_PORT = _Field("port", "[0-9A-Fa-f]{4}", "4 hexadecimal digits", lambda text: int(text, 16))
-_VALUE = _Field("value", "[0-9A-Fa-f]+", "hexadecimal digits, two for each byte", lambda text: int(text, 16))
-_BYTE = _Field("byte", "[0-9A-Fa-f]{2}", "2 hexadecimal digits", lambda text: int(text, 16))
-_KIND = _Field("kind", "[frw]", "f, r or w", KINDS.__getitem__)
-_LEVEL = _Field("level", "[01]", "0 or 1")
-_DATE = "[0-9]{4}-[0-9]{2}-[0-9]{2}T[0-9]{2}:[0-9]{2}:[0-9]{2}"
-_MOMENT = _Field("moment", _DATE, "YYYY-MM-DDTHH:MM:SS", lambda text: int(re.sub("[-T:]", "", text)))
-
-
-def _number(name: str) -> _Field:
-    return _Field(name, "0|[1-9][0-9]{0,8}", "a decimal number of at most nine digits, without a leading zero")
-
-
-@dataclass(frozen=True)
-class _Form:
-    """The form of a statement: the fields behind its first word, whether `smm` may follow, and the event that it is."""
-
-    fields: tuple[_Field, ...]
-    make: Callable[..., Event]
-    has_mode: bool = False
-
-
-# Each by its first word.
-_FORMS = {
-    "f": _Form((_WIDTH, _ADDRESS), lambda width, addr, smm: Event.fetch(addr, width, smm=smm), True),
-    "r": _Form((_WIDTH, _ADDRESS), lambda width, addr, smm: Event.read(addr, width, smm=smm), True),
-    "w": _Form((_WIDTH, _ADDRESS, _VALUE), lambda width, addr, value, smm: Event.write(addr, width, value, smm=smm),
-               True),
-    "in": _Form((_PORT_WIDTH, _PORT), lambda width, port: Event.in_(port, width)),
-    "out": _Form((_PORT_WIDTH, _PORT, _VALUE), lambda width, port, value: Event.out(port, width, value)),
-    "look": _Form((_KIND, _ADDRESS), lambda kind, addr, smm: Event(What.LOOK, kind, addr, smm=smm), True),
-    "ack": _Form((), Event.acknowledge),
-    "pulse": _Form((_number("count"),), Event.pulse),
-    "moment": _Form((_MOMENT,), lambda digits: Event(What.TIME, value=digits)),
-    "wire": _Form((_number("device"), _LEVEL), lambda device, level: Event.wire(device, bool(level))),
-    "irq": _Form((_number("line"), _LEVEL), lambda line, level: Event.irq(line, bool(level))),
-    "bad": _Form((_number("sector"),), Event.bad_sector),
-    "receive": _Form((_BYTE,), Event.receive),
+# Each by its first word, of what its fields say.
+_MAKERS: dict[str, Callable[..., Event]] = {
+    "f": Event.fetch,
+    "r": Event.read,
+    "w": Event.write,
+    "in": Event.in_,
+    "out": Event.out,
+    "look": lambda kind, addr, smm: Event(What.LOOK, KindNumber(kind), addr, smm=smm),
+    "ack": Event.acknowledge,
+    "pulse": Event.pulse,
+    "moment": lambda digits: Event(What.TIME, value=digits),
+    "wire": lambda device, level: Event(What.WIRE, addr=device, value=level),
+    "irq": lambda line, level: Event(What.IRQ, addr=line, value=level),
+    "bad": Event.bad_sector,
+    "receive": Event.receive,
 }
-
-
-def _none_why(form: _Form, fields: list[str]) -> str | None:
-    """What is wrong with the fields of a statement."""
-    for field, text in zip(form.fields, fields):
-        if not re.fullmatch(field.form, text):
-            return f"the {field.name} is {field.in_words}, not {text!r}"
-    if len(fields) < len(form.fields):
-        return f"the {form.fields[len(fields)].name} is missing"
-    if len(fields) > len(form.fields):
-        return f"the word {fields[len(form.fields)]!r} is too many"
-    if _VALUE in form.fields and len(fields[2]) != 2 * WIDTHS[fields[0]]:
-        return f"a value of width {fields[0]} has {2 * WIDTHS[fields[0]]} hexadecimal digits, not {len(fields[2])}"
-    return None
+_PLACE_FIRST = ("f", "r", "w", "in", "out")  # where a script has the width first
 
 
 def _parsed(statement: str) -> Event:
     """The event of a statement, or why it is none."""
-    first, *fields = statement.split(" ")
-    form = _FORMS.get(first)
-    if form is None:
-        raise NoEvent(repr(statement), f"a statement begins with {', '.join(_FORMS)}, not {first!r}")
-    smm = form.has_mode and fields[-1:] == ["smm"]
-    fields = fields[:-1] if smm else fields
-    why = _none_why(form, fields)
+    word, *fields = statement.split(" ")
+    form = grammar.FORMS.get(word, grammar.RECEIVE)
+    if word not in _MAKERS:
+        raise NoEvent(repr(statement), f"a statement begins with {', '.join(_MAKERS)}, not {word!r}")
+    why = grammar.wrong_fields(word, fields, form=form)
     if why:
         raise NoEvent(repr(statement), why)
-    said = [field.says(text) for field, text in zip(form.fields, fields)]
-    return form.make(*said, smm=smm) if form.has_mode else form.make(*said)
+    numbers = grammar.numbers_of(form, fields)
+    if grammar.LEVEL in form.fields and numbers[-1] > 1:
+        raise NoEvent(repr(statement), f"the level is 0 or 1, not {numbers[-1]}")
+    if word in _PLACE_FIRST:
+        numbers[:2] = reversed(numbers[:2])
+    return _MAKERS[word](*numbers, **({"smm": grammar.has_smm(form, fields)} if form.is_smm else {}))
 
 
 # ---- why the board takes none

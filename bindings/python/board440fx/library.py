@@ -16,7 +16,7 @@ import threading
 from .errors import LibraryError
 from .records import CALLS
 
-INTERFACE = 7
+INTERFACE = 8
 LIBRARY = "libboard.so"
 HEADER = "board.h"
 RELEASE = pathlib.Path(__file__).resolve().parents[3] / "release"

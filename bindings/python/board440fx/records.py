@@ -4,10 +4,12 @@ from enum import IntEnum
 
 U8, U16, U32, U64, SIZE = c.c_uint8, c.c_uint16, c.c_uint32, c.c_uint64, c.c_size_t
 
-MOST_RANGES = 142
-MOST_WINDOWS = 64
 MOST_BASES = 6
 SECTOR = 512
+
+# made by tools/make-names: numbers
+MOST_RANGES = 142
+MOST_WINDOWS = 64
 
 
 class What(IntEnum):
@@ -98,6 +100,12 @@ class EndNumber(IntEnum):
     MISSING = 5
 
 
+NUMBERS: list[type[IntEnum]] = [
+    What, KindNumber, TargetNumber, DeviceNumber, DenialNumber, Form, ResetNumber, BaseNumber, PieceNumber, EndNumber,
+]
+# end of what is made
+
+
 class HandleRecord(c.Structure):
     _fields_ = [("at", c.c_void_p), ("open", c.c_bool)]
 
@@ -165,10 +173,6 @@ RECORDS: dict[str, type[c.Structure]] = {
     "board_com1": Com1Record, "board_base": BaseRecord, "board_card": CardRecord,
     "board_transfer": TransferRecord, "board_piece": PieceRecord,
 }
-
-NUMBERS: list[type[IntEnum]] = [
-    What, KindNumber, TargetNumber, DeviceNumber, DenialNumber, Form, ResetNumber, BaseNumber, PieceNumber, EndNumber,
-]
 
 _HANDLE, _BYTES, _SIZE = c.POINTER(HandleRecord), c.POINTER(U8), c.c_size_t
 

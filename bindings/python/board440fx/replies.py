@@ -9,25 +9,62 @@ from .records import DenialNumber, DeviceNumber, Form, PartRecord, ReplyRecord, 
 
 # The registers of the 82441FX and the 82371SB by name, and those that each function has by PCI Local Bus 2.1, section
 # 6.2: function, or none, first offset, last offset.
+# made by tools/make-names: names
 REGISTERS: list[tuple[str, tuple[int, int] | None, int, int]] = [
-    *((f"PAM{k}", (0, 0), 0x59 + k, 0x59 + k) for k in range(7)),
-    *((f"DRB{k}", (0, 0), 0x60 + k, 0x60 + k) for k in range(8)),
+    ("PAM0", (0, 0), 0x59, 0x59),
+    ("PAM1", (0, 0), 0x5A, 0x5A),
+    ("PAM2", (0, 0), 0x5B, 0x5B),
+    ("PAM3", (0, 0), 0x5C, 0x5C),
+    ("PAM4", (0, 0), 0x5D, 0x5D),
+    ("PAM5", (0, 0), 0x5E, 0x5E),
+    ("PAM6", (0, 0), 0x5F, 0x5F),
+    ("DRB0", (0, 0), 0x60, 0x60),
+    ("DRB1", (0, 0), 0x61, 0x61),
+    ("DRB2", (0, 0), 0x62, 0x62),
+    ("DRB3", (0, 0), 0x63, 0x63),
+    ("DRB4", (0, 0), 0x64, 0x64),
+    ("DRB5", (0, 0), 0x65, 0x65),
+    ("DRB6", (0, 0), 0x66, 0x66),
+    ("DRB7", (0, 0), 0x67, 0x67),
     ("FDHC", (0, 0), 0x68, 0x68),
     ("SMRAM", (0, 0), 0x72, 0x72),
     ("XBCS", (1, 0), 0x4E, 0x4F),
-    *((f"PIRQRC{letter}", (1, 0), 0x60 + k, 0x60 + k) for k, letter in enumerate("ABCD")),
+    ("PIRQRCA", (1, 0), 0x60, 0x60),
+    ("PIRQRCB", (1, 0), 0x61, 0x61),
+    ("PIRQRCC", (1, 0), 0x62, 0x62),
+    ("PIRQRCD", (1, 0), 0x63, 0x63),
     ("IDETIM", (1, 1), 0x40, 0x41),
     ("command", None, 0x04, 0x05),
     ("expansion ROM base", None, 0x30, 0x33),
 ]
-
 DEVICES = {
-    DeviceNumber.CONFADD: "confadd", DeviceNumber.RESET_CONTROL: "reset", DeviceNumber.PIC0: "pic0",
-    DeviceNumber.PIC1: "pic1", DeviceNumber.PIT: "pit", DeviceNumber.SYSTEM: "sys", DeviceNumber.KEYBOARD: "kbd",
-    DeviceNumber.CLOCK: "clock", DeviceNumber.ELCR: "elcr", DeviceNumber.ATA: "ata", DeviceNumber.WIRES: "wires",
-    DeviceNumber.VECTOR0: "vec0", DeviceNumber.VECTOR1: "vec1", DeviceNumber.SPURIOUS0: "spur0",
-    DeviceNumber.SPURIOUS1: "spur1", DeviceNumber.UART: "uart",
+    DeviceNumber.CONFADD: "confadd",
+    DeviceNumber.RESET_CONTROL: "reset",
+    DeviceNumber.PIC0: "pic0",
+    DeviceNumber.PIC1: "pic1",
+    DeviceNumber.PIT: "pit",
+    DeviceNumber.SYSTEM: "sys",
+    DeviceNumber.KEYBOARD: "kbd",
+    DeviceNumber.CLOCK: "clock",
+    DeviceNumber.ELCR: "elcr",
+    DeviceNumber.ATA: "ata",
+    DeviceNumber.WIRES: "wires",
+    DeviceNumber.VECTOR0: "vec0",
+    DeviceNumber.VECTOR1: "vec1",
+    DeviceNumber.SPURIOUS0: "spur0",
+    DeviceNumber.SPURIOUS1: "spur1",
+    DeviceNumber.UART: "uart",
 }
+TARGETS: dict[int, str] = {
+    TargetNumber.DRAM: "dram:{unit}",
+    TargetNumber.SHADOW: "shadow:{unit}",
+    TargetNumber.SMRAM: "smram",
+    TargetNumber.ROM: "rom:{offset:05X}",
+    TargetNumber.CARD: "card:{unit}.{base}:{offset:08X}",
+    TargetNumber.CONFIG: "config:{unit:02X}.{base}.{offset:02X}",
+    TargetNumber.ABORT: "abort",
+}
+# end of what is made
 
 
 class Reset(IntEnum):
@@ -115,35 +152,23 @@ class Look:
         return f"{self.version} {self.lo:08X} {self.hi:08X} {self.area}"
 
 
+# Of an area, which has no offset.
+_AREAS = {number: text.partition(":{offset")[0] for number, text in TARGETS.items() if number != TargetNumber.CONFIG}
+
+
 def area_text(number: int, unit: int, base: int) -> str:
     """An area as in a map."""
-    match number:
-        case TargetNumber.DRAM:
-            return f"dram:{unit}"
-        case TargetNumber.SHADOW:
-            return f"shadow:{unit}"
-        case TargetNumber.SMRAM:
-            return "smram"
-        case TargetNumber.ROM:
-            return "rom"
-        case TargetNumber.CARD:
-            return f"card:{unit}.{base}"
-        case TargetNumber.ABORT:
-            return "abort"
-    raise NoReply(number)
+    if number not in _AREAS:
+        raise NoReply(number)
+    return _AREAS[number].format(unit=unit, base=base)
 
 
 def _target_text(part: PartRecord) -> str:
-    match part.target:
-        case TargetNumber.ROM:
-            return f"rom:{part.offset:05X}"
-        case TargetNumber.CARD:
-            return f"card:{part.unit}.{part.base}:{part.offset:08X}"
-        case TargetNumber.IS_DEVICE:
-            return DEVICES[DeviceNumber(part.unit)]
-        case TargetNumber.CONFIG:
-            return f"config:{Register(part.unit, part.base, part.offset)}"
-    return area_text(part.target, part.unit, part.base)
+    if part.target == TargetNumber.IS_DEVICE:
+        return DEVICES[DeviceNumber(part.unit)]
+    if part.target not in TARGETS:
+        raise NoReply(part.target)
+    return TARGETS[part.target].format(unit=part.unit, base=part.base, offset=part.offset)
 
 
 def _denial(part: PartRecord) -> Denial | None:

@@ -3,11 +3,15 @@ import pathlib
 from dataclasses import dataclass
 from typing import Iterator
 
+from . import grammar
 from .board import Board
 from .cards import Card
 from .errors import BoardError
 from .events import Event
 from .replies import Answer
+
+
+_CHECKED = set(grammar.SETUP) - {"board", "card"}  # whose fields are looked at here
 
 
 class ScriptError(ValueError):
@@ -52,21 +56,24 @@ class Script:
         in_phase = False
         for number, line in enumerate(text.removesuffix("\n").split("\n"), 1):
             word, _, rest = line.partition(" ")
+            if number > 1 and (not line or line.startswith("#")):
+                continue
             try:
-                if number > 1 and (not line or line.startswith("#")):
-                    continue
-                if line == "phase":
+                wrong = grammar.wrong_fields(word, line.split(" ")[1:]) if word in _CHECKED else None
+                if wrong:
+                    raise ScriptError(wrong)
+                if word == "phase":
                     in_phase = True
                 elif in_phase:
                     statements.append((int(word), Event.parse(rest)))
                 elif word == "card":
                     cards.append(Card.parse(rest))
-                elif word in setup or (word == "board") != (number == 1) or word not in _SETUP:
-                    raise ScriptError(f"line {number}: {line}")
+                elif word in setup or (word == "board") != (number == 1) or word not in grammar.SETUP:
+                    raise ScriptError("it stands where no such line can")
                 else:
                     setup[word] = rest
             except (ValueError, BoardError) as fault:
-                raise ScriptError(f"line {number}: {line}") from fault
+                raise ScriptError(f"line {number}: {line}: {fault}") from fault
         return Script._of(setup, tuple(cards), tuple(statements))
 
     @staticmethod
@@ -92,9 +99,6 @@ class Script:
             for number, (processor, event) in enumerate(self.statements, 1):
                 counts[processor] += 1
                 yield Line(number, processor, counts[processor], event, board.step(event))
-
-
-_SETUP = ("board", "cpus", "memory", "rom", "disk")
 
 
 def replay(path: str | pathlib.Path) -> Iterator[Line]:

@@ -17,16 +17,16 @@ from hypothesis import strategies as st
 from hypothesis.strategies import SearchStrategy
 
 from .events import Event
+from .replies import REGISTERS
 
 Step = Event | Literal["second"]
 
 _BYTE = st.integers(0, 0xFF)
 _CONFIG_ADDRESS, _CONFIG_DATA = 0xCF8, 0xCFC
 _ENABLE = 1 << 31
-# PAM0 to PAM6, DRB0 to DRB7, FDHC and SMRAM of the 82441FX; XBCS, PIRQRCA and PIRQRCB of the 82371SB: each by device
-# and function, as CONFADD has them, and offset.
-_HOST_OFFSETS = (*range(0x59, 0x60), *range(0x60, 0x68), 0x68, 0x72)
-_MAP_REGISTERS = [(0x000, offset) for offset in _HOST_OFFSETS] + [(0x800, offset) for offset in (0x4E, 0x60, 0x61)]
+# The registers of the chips, by device and function as CONFADD has them, and offset.
+_MAP_REGISTERS = [(place[0] << 11 | place[1] << 8, offset) for _, place, first, last in REGISTERS if place is not None
+                  for offset in range(first, last + 1)]
 # Where the map of memory may change, and the ends of what may lie there.
 _PLACES = (0x00000, 0x80000, 0x9FFFF, 0xA0000, 0xBFFFF, 0xC0000, 0xCC000, 0xDFFFF, 0xE0000, 0xEFFFF, 0xF0000, 0xFFFFF,
            0x100000, 0x7FFFFF, 0x800000, 0xF00000, 0xFFFE0000, 0xFFFFFFFF)
@@ -58,7 +58,7 @@ def _counter(number: int, mode: int, count: int) -> list[Step]:
 
 
 def config_writes() -> SearchStrategy[list[Step]]:
-    """A byte is written to a register that the memory map or the routing of interrupts depends on."""
+    """A byte is written to a register that the memory map, the ports or the routing of interrupts depend on."""
     return st.builds(_config, st.sampled_from(_MAP_REGISTERS), _BYTE)
 
 

@@ -263,6 +263,6 @@ def test_a_board_is_not_copied_and_not_used_after_its_end(board):
     board.close()
     board.close()
     for call in (lambda: board.read(0), lambda: board.map, lambda: board.cmos_read(0)):
-        with pytest.raises(errors.Closed):
+        with pytest.raises(errors.BadHandle):
             call()
     assert repr(board) == "<Board closed>"

@@ -70,8 +70,8 @@ def made(folder, source, header=None):
 
 
 @pytest.mark.parametrize("source, header, fault", [
-    ("unsigned board_version(void) { return 1; }", None, "has the interface 1, and this module is for 7"),
-    ("int nothing;", "#define BOARD_INTERFACE 8u\n", "has the interface 8, and this module is for 7"),
+    ("unsigned board_version(void) { return 1; }", None, "has the interface 1, and this module is for 8"),
+    ("int nothing;", "#define BOARD_INTERFACE 9u\n", "has the interface 9, and this module is for 8"),
     ("int nothing;", "int nothing;\n", "has no BOARD_INTERFACE"),
     ("int nothing;", None, "does not say its interface"),
 ])

@@ -75,5 +75,5 @@ def test_each_byte_too_few_or_too_many_is_refused():
 def test_a_closed_board_is_not_saved():
     board = Board()
     board.close()
-    with pytest.raises(errors.Closed):
+    with pytest.raises(errors.BadHandle):
         board.save()

@@ -32,9 +32,16 @@ const PORTS: u32 = 0x10000;
 /// assert_eq!(board.last().and_then(|answer| answer.denied_by()), Some(Denial::NoRegister));
 /// # Ok::<(), board_440fx::Error>(())
 /// ```
+///
+/// Without a lock it is not shared, as it is not [`Sync`]:
+///
+/// ```compile_fail
+/// fn is_sync<T: Sync>() {}
+/// is_sync::<board_440fx::Board>();
+/// ```
 pub struct Board {
     handle: UnsafeCell<raw::Handle>,
-    last: Option<Answer>,
+    pub(crate) last: Option<Answer>,
 }
 
 // SAFETY: the handle holds no thread's own things, and the library lets a board move between two calls.

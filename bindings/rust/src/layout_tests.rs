@@ -57,6 +57,7 @@ fn records() -> Vec<String> {
 
 fn devices() -> Vec<String> {
     let named = [
+        // made by tools/make-names: devices
         ("CONFADD", Device::ConfigAddress),
         ("RESET_CONTROL", Device::ResetControl),
         ("PIC0", Device::Pic0),
@@ -73,6 +74,7 @@ fn devices() -> Vec<String> {
         ("SPURIOUS0", Device::Spurious0),
         ("SPURIOUS1", Device::Spurious1),
         ("UART", Device::Uart),
+        // end of what is made
     ];
     named.iter().map(|(name, device)| format!("BOARD_{name} {}", device.number())).collect()
 }
@@ -80,10 +82,16 @@ fn devices() -> Vec<String> {
 fn here() -> BTreeSet<String> {
     let interface = vec![format!("BOARD_INTERFACE {INTERFACE}")];
     let same = numbers!(
-        MEMORY PORT LOOK ACK PULSE TIME WIRE IRQ BAD_SECTOR SERIAL FETCH READ WRITE
-        DRAM SHADOW SMRAM ROM CARD IS_DEVICE CONFIG ABORT NOT_DENIED BY_REGISTER BY_CONFADD BY_NO_REGISTER
-        BUS_REPLY PARTS_REPLY LOOK_REPLY NO_RESET SOFT_RESET HARD_RESET MEMORY_BASE IO_BASE OUTSIDE
-        MOST_RANGES MOST_WINDOWS DESCRIPTOR WORDS ENDED EXACT LONGER SHORTER ABORTED MISSING
+        // made by tools/make-names: numbers
+        MEMORY PORT LOOK ACK PULSE TIME
+        WIRE IRQ BAD_SECTOR SERIAL FETCH READ
+        WRITE DRAM SHADOW SMRAM ROM CARD
+        IS_DEVICE CONFIG ABORT NOT_DENIED BY_REGISTER BY_CONFADD
+        BY_NO_REGISTER BUS_REPLY PARTS_REPLY LOOK_REPLY NO_RESET SOFT_RESET
+        HARD_RESET MEMORY_BASE IO_BASE OUTSIDE DESCRIPTOR WORDS
+        ENDED EXACT LONGER SHORTER ABORTED MISSING
+        MOST_RANGES MOST_WINDOWS
+        // end of what is made
     );
     [interface, records(), same, devices()].concat().into_iter().collect()
 }

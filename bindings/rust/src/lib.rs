@@ -32,9 +32,12 @@ mod event;
 mod layout_tests;
 mod log;
 mod map;
+mod monitor;
+mod pages;
 mod raw;
 mod reply;
 mod serial;
+mod slots;
 mod statement;
 mod target;
 mod transfer;
@@ -47,11 +50,14 @@ pub use error::Error;
 pub use event::Event;
 pub use log::Line;
 pub use map::{is_installed, Area, Map, Range, Ranges, Window};
+pub use monitor::{Clocks, Memory};
+pub use pages::Pages;
 pub use reply::{Answer, Look, Parts, Reply, Reset};
 pub use serial::Com1;
+pub use slots::{Slot, SlotChange, Slots};
 pub use statement::NoStatement;
 pub use target::{Denial, Device, Part, Register, Target};
 pub use transfer::{End, Piece, Transfer};
 
 /// The version of `board.h` that this crate is for: `build.rs` refuses a library of another.
-pub const INTERFACE: u32 = 7;
+pub const INTERFACE: u32 = 8;

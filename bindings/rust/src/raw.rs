@@ -2,6 +2,7 @@
 
 use std::os::raw::c_void;
 
+// made by tools/make-names: numbers
 pub(crate) const MEMORY: u8 = 1;
 pub(crate) const PORT: u8 = 2;
 pub(crate) const LOOK: u8 = 3;
@@ -55,6 +56,8 @@ pub(crate) const MISSING: u8 = 5;
 
 pub(crate) const MOST_RANGES: usize = 142;
 pub(crate) const MOST_WINDOWS: usize = 64;
+// end of what is made
+
 pub(crate) const MOST_BASES: usize = 6;
 pub(crate) const MOST_PARTS: usize = 4;
 pub(crate) const MOST_RECEIVED: usize = 16;

@@ -54,6 +54,7 @@ const fn of_any(first: u8, last: u8) -> Place {
 
 /// The registers of the 82441FX and the 82371SB, and those that each function has by PCI Local Bus 2.1, section 6.2.
 const REGISTERS: &[(Place, &str)] = &[
+    // made by tools/make-names: registers
     (at(0, 0, 0x59, 0x59), "PAM0"),
     (at(0, 0, 0x5A, 0x5A), "PAM1"),
     (at(0, 0, 0x5B, 0x5B), "PAM2"),
@@ -79,6 +80,7 @@ const REGISTERS: &[(Place, &str)] = &[
     (at(1, 1, 0x40, 0x41), "IDETIM"),
     (of_any(0x04, 0x05), "command"),
     (of_any(0x30, 0x33), "expansion ROM base"),
+    // end of what is made
 ];
 
 /// As in a log, `00.0.59`; with `{:#}` its name follows.
@@ -169,22 +171,24 @@ macro_rules! devices {
 }
 
 devices! {
+    // made by tools/make-names: devices
     1 ConfigAddress "confadd" "The configuration address."
     2 ResetControl "reset" "The reset control register."
     3 Pic0 "pic0" "The 8259A that is the master."
     4 Pic1 "pic1" "The 8259A that is the slave."
-    5 Pit "pit" "The 8254."
+    5 Pit "pit" "The 8254; also of `pulse`."
     6 System "sys" "Port 61h."
-    7 Keyboard "kbd" "The empty socket of the keyboard controller."
-    8 Clock "clock" "The MC146818."
+    7 Keyboard "kbd" "The socket of the keyboard controller, which is empty: a read gives FFh, a write is lost."
+    8 Clock "clock" "The MC146818; also of `moment`."
     9 Elcr "elcr" "Edge and level control."
-    10 Ata "ata" "The disk."
-    11 Wires "wires" "The lines from outside."
-    12 Vector0 "vec0" "A vector of the master."
-    13 Vector1 "vec1" "A vector of the slave."
-    14 Spurious0 "spur0" "A spurious vector of the master."
-    15 Spurious1 "spur1" "A spurious vector of the slave."
-    16 Uart "uart" "The 16550 of COM1; a log has no line for it."
+    10 Ata "ata" "The disk; also of `bad`."
+    11 Wires "wires" "The lines from outside: of `wire` and `irq`."
+    12 Vector0 "vec0" "Of `ack`: a vector that the master gave."
+    13 Vector1 "vec1" "Of `ack`: a vector that the slave gave."
+    14 Spurious0 "spur0" "Of `ack`: a spurious vector of the master."
+    15 Spurious1 "spur1" "Of `ack`: a spurious vector of the slave."
+    16 Uart "uart" "The 16550 of COM1, accesses of one byte at 3F8h to 3FFh before any card; a log has no line for it."
+    // end of what is made
 }
 
 /// What answered an access.

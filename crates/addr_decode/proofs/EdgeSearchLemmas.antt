@@ -7,8 +7,8 @@ use Rattle.board_prelude.proofs.Common.{IsCard, boundary_unit, Bytes, base_value
 use Rattle.board_prelude.proofs.Common.{address_count, ext_get_or}
 use Rattle.std.proofs.lemmas.List.Elements.{Contains-append_cases, Contains-append_left, Contains-append_right}
 use Rattle.std.proofs.lemmas.List.Sums.{fold-append}
-use Rattle.pmc_regs.specs.Pmc.{IsRowsOf}
-use Rattle.pmc_regs.proofs.Common.{row_bytes, rows_are}
+use Rattle.host_bridge.specs.Pmc.{IsRowsOf}
+use Rattle.host_bridge.proofs.RowNames.{row_bytes, rows_are}
 use Rattle.pci_bars.specs.Cards.{CardBytes, HoldsRom, DecodesAs, AreCards, AreDecoded, cards_of}
 use Rattle.addr_decode.specs.Common.{fixed_edges, row_edges, window_edges, card_edges, edges_of, IsNextEdge}
 use Rattle.addr_decode.specs.Common.{NoEdgeAbove, nearer, nearest, ends_from, ends_of_rom, ends_of_card}

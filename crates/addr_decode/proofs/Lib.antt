@@ -11,3 +11,6 @@ pub mod EdgeLaws
 pub mod EdgeSearchLemmas
 pub mod StateFormat
 pub mod Common
+pub mod AddressLemmas
+pub mod SpaceLemmas
+pub mod AddressFormat

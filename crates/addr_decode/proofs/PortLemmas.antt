@@ -7,8 +7,8 @@ use Rattle.board_prelude.proofs.Common.{ide_command as command_register, idetim_
 use Rattle.board_prelude.proofs.Common.{config_port, device_port, port_target_of, card_function, function_exists}
 use Rattle.board_prelude.proofs.Common.{position}
 use Rattle.pci_bars.specs.Cards.{CardBytes, cards_of}
-use Rattle.cfg_ports.specs.declared.conf_add.Selected.{Selected}
-use Rattle.cfg_ports.specs.Selection.{existing}
+use Rattle.addr_decode.specs.declared.conf_add.Selected.{Selected}
+use Rattle.addr_decode.specs.Selection.{existing}
 use Rattle.addr_decode.specs.declared.onboard.Onboard.{Onboard}
 use Rattle.addr_decode.proofs.CardLemmas.{fitted_is}
 use Rattle.addr_decode.proofs.NameLemmas.{is_named}

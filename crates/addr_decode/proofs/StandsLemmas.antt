@@ -4,9 +4,9 @@ use Rattle.std.proofs.Common.{slice_index}
 use Rattle.board_prelude.proofs.Common.{get_or-set_other, get_or-set_same, cases_eq, nat_tests, Width, bytes_of, One}
 use Rattle.board_prelude.proofs.Common.{Reg, Store, FittedCard, Setup, byte, reset_byte, changed_byte, Bytes, bridge}
 use Rattle.board_prelude.proofs.Common.{drb, card_register, reg_after, after_stores, byte_by_byte}
-use Rattle.pmc_regs.proofs.Common.{row_bytes, rows_are, rows_after_store}
-use Rattle.pam_windows.specs.Pam.{IsPamOffset, IsPamOf}
-use Rattle.pam_windows.proofs.PamLemmas.{pam_bytes, pam_are}
+use Rattle.host_bridge.proofs.RowNames.{row_bytes, rows_are, rows_after_store}
+use Rattle.host_bridge.specs.Pam.{IsPamOffset, IsPamOf}
+use Rattle.host_bridge.proofs.PamLemmas.{pam_bytes, pam_are}
 use Rattle.pci_bars.specs.Cards.{CardBytes, AreCards, AreCardsOf, AreDecoded, cards_of, AreFitted, AreReset}
 use Rattle.addr_decode.specs.Common.{map_register, MapBytes, StandsFor, stored, AreSinglesOf, single, single_count}
 use Rattle.addr_decode.specs.Common.{single_number}

@@ -10,3 +10,6 @@ pub mod Singles
 pub mod State
 pub mod Master
 pub mod Common
+pub mod Selection
+pub mod Space
+pub mod AddressState

@@ -2,8 +2,8 @@
 use Rattle.std.specs.Prelude.{◌≡◌, ℕ, ◌/◌, List}
 use Rattle.board_prelude.specs.Common.{One, Reg, Store, changed_byte, Setup, Bytes}
 use Rattle.board_prelude.specs.Common.{ide_command as command_register, idetim_high}
-use Rattle.pmc_regs.specs.Pmc.{IsRowsOf}
-use Rattle.pam_windows.specs.Pam.{IsPamOf}
+use Rattle.host_bridge.specs.Pmc.{IsRowsOf}
+use Rattle.host_bridge.specs.Pam.{IsPamOf}
 use Rattle.pci_bars.specs.Cards.{CardBytes, AreDecoded}
 use Rattle.addr_decode.specs.declared.regs.MapRegs.{MapRegs}
 use Rattle.addr_decode.specs.Singles.{AreSinglesOf}

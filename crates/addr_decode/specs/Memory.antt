@@ -5,7 +5,7 @@ use Rattle.board_prelude.specs.Common.{Area, Denial, Register, NoRegister, Setup
 use Rattle.board_prelude.specs.Common.{expansion_range, largest_top, Bytes, Window, line_where, is_smram_range}
 use Rattle.board_prelude.specs.Common.{is_shadow_range, card_area, memory_claim, pam_register, drb}
 use Rattle.board_prelude.specs.Common.{smram, xbcs, card_command, expansion_rom}
-use Rattle.board_prelude.specs.Common.{is_bios_selected}
+use Rattle.board_prelude.specs.Common.{is_bios_selected, is_in_hole, row_of, upper_memory}
 use Rattle.board_base.specs.declared.target.Area.TheVariants.{Dram, Shadow, Smram, Rom, Card, Abort}
 use Rattle.addr_decode.specs.Singles.{hole_denial}
 
@@ -18,6 +18,11 @@ row_area row opened shadowed hole addr =
 abbrev pub dram_area : (row : Option ℕ) → (opened shadowed hole : Bool) → ℕ → Option Area
 dram_area None opened shadowed hole addr = None
 dram_area (Some row) opened shadowed hole addr = row_area row opened shadowed hole addr
+
+-- the row of ordinary DRAM at an address: outside upper memory and the hole
+abbrev pub plain_row : Bytes → ℕ → Option ℕ
+plain_row bytes addr =
+    if lies_in upper_memory addr then None else if is_in_hole bytes addr then None else row_of bytes addr
 
 -- what answers where DRAM does not
 abbrev pub above_dram : (dram : Option Area) → (rom : Bool) → (claim : Option Window) → Area

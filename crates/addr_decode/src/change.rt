@@ -14,7 +14,7 @@ use crate::singles::single_after;
 use board_base::{Reg, Width};
 use board_spec::MapChange;
 use board_spec::offset::{PAM0, SOUTH_BRIDGE};
-use pam_windows::store_pam;
+use host_bridge::store_pam;
 use pci_bars::{CardRegs, card_at};
 
 /// Whether a store covers a byte that the address map depends on, whether or not it changes it. Bytes past

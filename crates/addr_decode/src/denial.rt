@@ -13,10 +13,9 @@ use crate::singles::{chip_selects, hole_denial};
 use board_base::{Area, Denial, Kind};
 use board_spec::offset::{DRB7, SMRAM, XBCS};
 use board_spec::range::{EXPANSION_RANGE, LARGEST_TOP, SELECTABLE_BIOS, SMRAM_RANGE};
-use pam_windows::window_of;
+use host_bridge::{top_of, window_of};
 use pci_bars::{shut_mem, unselected_rom};
-use pmc_regs::top_of;
-use xbus_select::sends_bios_writes;
+use south_bridge::sends_bios_writes;
 
 /// What denies an access that reaches this area. None where it is not denied.
 #[inline(always)]

@@ -13,9 +13,8 @@ use board_spec::range::{
     BOUNDARY_UNIT, EXPANSION_RANGE, EXTENDED_BIOS, HIGH_BIOS, HOLE_AT_15_MIB, HOLE_AT_512_KIB,
     LARGEST_TOP, LOWER_HIGH_BIOS, SMRAM_RANGE, SYSTEM_BIOS,
 };
-use pam_windows::WINDOW_SIZE;
+use host_bridge::{WINDOW_SIZE, end_of};
 use pci_bars::{BASE_COUNT, BaseSpec, CardRegs};
-use pmc_regs::end_of;
 
 /// The edges that no register moves: the ends of the hole at 512 KiB, of SMRAM, of the shadow windows, of the hole
 /// at 15 MiB, and of the ranges of the ROM below 4 GiB.

@@ -4,16 +4,14 @@ ghost use Rattle.board_prelude.specs.Common.{Setup, Bytes, row_of as row_by, is_
 ghost use Rattle.board_prelude.specs.Common.{is_in_hole};
 ghost use Rattle.pci_bars.specs.Cards.{AreFitted};
 ghost use Rattle.addr_decode.specs.MapRegs.{StandsFor, map_bytes};
-ghost use Rattle.addr_decode.specs.Memory.{dram_area, row_area};
+ghost use Rattle.addr_decode.specs.Memory.{dram_area};
 ghost use Rattle.addr_decode.specs.Master.{master_area, master_denial};
 
 use crate::denial::denial_in;
-use crate::memory::{area_beside_dram, is_shadowed};
+use crate::memory::{area_beside_dram, plain_row, shadow_area};
 use crate::regs::MapRegs;
-use crate::singles::is_in_hole;
 use board_base::{Area, Denial, Kind};
-use board_spec::range::{SHADOW_RANGE, SMRAM_RANGE};
-use pmc_regs::row_of;
+use board_spec::range::SHADOW_RANGE;
 
 /// The area that an access of a bus master reaches, and what denies it: None where the area answers, unless it is the
 /// ROM and the access writes.
@@ -42,28 +40,17 @@ fn master_area(regs: &MapRegs, addr: u32, kind: Kind) -> Area
 }
 
 /// Where such an access reaches DRAM. None where it does not.
+#[tactic(auto, using(std::proofs::lemmas::Bool::Decides::nat_tests))]
 fn master_dram(regs: &MapRegs, addr: u32, kind: Kind) -> Option<Area>
     ensures dram { (setup : Setup) (bytes : Bytes) → StandsFor setup bytes (map_bytes regs.now)
         → result ≡ dram_area (row_by bytes addr) false
         (is_shadowed bytes addr kind) (is_in_hole bytes addr) addr }
 {
-    match row_of(&regs.drb, addr) {
-        Some(row) => master_row(regs, row, addr, kind),
+    if SHADOW_RANGE.contains(addr) {
+        return shadow_area(regs, addr, kind);
+    }
+    match plain_row(regs, addr) {
+        Some(row) => Some(Area::Dram(row)),
         None => None,
     }
-}
-
-/// Where such an access at an address of a row reaches DRAM.
-fn master_row(regs: &MapRegs, row: u8, addr: u32, kind: Kind) -> Option<Area>
-    ensures dram { (setup : Setup) (bytes : Bytes) → StandsFor setup bytes (map_bytes regs.now)
-        → result ≡ row_area row false
-        (is_shadowed bytes addr kind) (is_in_hole bytes addr) addr }
-{
-    if SMRAM_RANGE.contains(addr) {
-        return None;
-    }
-    if SHADOW_RANGE.contains(addr) {
-        return is_shadowed(&regs.pam, addr, kind).then_some(Area::Shadow(row));
-    }
-    (!is_in_hole(&regs.singles, addr)).then_some(Area::Dram(row))
 }

@@ -1,28 +1,26 @@
 //! The memory map of the 82441FX and the 82371SB: which area an access reaches, and what denies it.
-ghost use Rattle.std.specs.Prelude.{◌≡◌, Bool, true, false, Some, None, IfSome, unwrap_or};
+ghost use Rattle.std.specs.Prelude.{◌≡◌, Bool, true, false, None, IfSome, if◌then◌else◌, unwrap_or};
 ghost use Rattle.board_prelude.specs.Common.{Kind, Read, Write, Setup, Bytes, line_where};
-ghost use Rattle.board_prelude.specs.Common.{row_of as row_by, is_shadow_range, is_shadowed, area_of};
+ghost use Rattle.board_prelude.specs.Common.{row_of as row_by, is_shadow_range, is_smram_range, is_shadowed, area_of};
 ghost use Rattle.board_prelude.specs.Common.{denial_of, denial_in as denial_by, abort_denial, rom_denial, top_of};
 ghost use Rattle.board_prelude.specs.Common.{memory_shut, rom_unselected, xbcs as select_register};
 ghost use Rattle.board_prelude.specs.Common.{is_in_hole, is_smram_open};
 ghost use Rattle.board_base.specs.declared.target.Area.TheVariants.{Dram, Shadow};
-ghost use Rattle.pam_windows.specs.Pam.{IsPamOf};
+ghost use Rattle.host_bridge.specs.Pam.{IsPamOf};
 ghost use Rattle.pci_bars.specs.Cards.{AreFitted};
 ghost use Rattle.addr_decode.specs.MapRegs.{StandsFor, map_bytes};
-ghost use Rattle.addr_decode.specs.Memory.{beside_dram, dram_area, row_area};
+ghost use Rattle.addr_decode.specs.Memory.{beside_dram, dram_area, plain_row};
 
 use crate::denial::denial_in;
 use crate::regs::MapRegs;
 use crate::singles::{is_bios_selected, is_in_hole, is_smram_open};
 use board_base::{Area, Denial, Kind};
-use board_spec::offset::PAM0;
 use board_spec::range::{AddressRange, SHADOW_RANGE, SMRAM_RANGE};
-use pam_windows::window_of;
+use host_bridge::{opens, row_of, top_of, window_of};
 use pci_bars::claim_mem;
-use pmc_regs::row_of;
 
 /// SMRAM and all shadow windows of PAM: no address here is one of ordinary DRAM.
-const UPPER_MEMORY: AddressRange = AddressRange {
+pub(crate) const UPPER_MEMORY: AddressRange = AddressRange {
     first: SMRAM_RANGE.first,
     last: SHADOW_RANGE.last,
 };
@@ -30,6 +28,7 @@ const UPPER_MEMORY: AddressRange = AddressRange {
 /// The area that a memory access reaches, and what denies it: None where the area answers, unless it is the ROM
 /// and the access writes. Nothing denies an access that reaches DRAM.
 #[inline(always)]
+#[tactic(auto, using(crate::proofs::MemoryLemmas::memory_map))]
 pub fn decode(regs: &MapRegs, addr: u32, kind: Kind, smm: bool) -> (Area, Option<Denial>)
     requires cards { AreFitted regs.now.cards.items }
     ensures area { (setup : Setup) (bytes : Bytes) → StandsFor setup bytes (map_bytes regs.now)
@@ -37,9 +36,9 @@ pub fn decode(regs: &MapRegs, addr: u32, kind: Kind, smm: bool) -> (Area, Option
     ensures denial { (setup : Setup) (bytes : Bytes) → StandsFor setup bytes (map_bytes regs.now)
         → result.1 ≡ denial_of setup bytes addr kind smm }
 {
-    match dram_area(regs, addr, kind, smm) {
-        Some(area) => (area, None),
-        None => decode_beside_dram(regs, addr, kind),
+    match plain_row(regs, addr) {
+        Some(row) => (Area::Dram(row), None),
+        None => decode_elsewhere(regs, addr, kind, smm),
     }
 }
 
@@ -52,11 +51,42 @@ pub fn plain_row(regs: &MapRegs, addr: u32) -> Option<u8>
         → StandsFor setup bytes (map_bytes regs.now) → area_of setup bytes addr kind smm ≡ Dram row) }
     ensures denial { IfSome result (λ row. (setup : Setup) (bytes : Bytes) (kind : Kind) (smm : Bool)
         → StandsFor setup bytes (map_bytes regs.now) → denial_of setup bytes addr kind smm ≡ None) }
+    ensures row { (setup : Setup) (bytes : Bytes) → StandsFor setup bytes (map_bytes regs.now)
+        → result ≡ plain_row bytes addr }
 {
-    if UPPER_MEMORY.contains(addr) || is_in_hole(&regs.singles, addr) {
+    if UPPER_MEMORY.contains(addr) {
+        return None;
+    }
+    row_beside_hole(regs, addr)
+}
+
+/// The row of DRAM at an address outside SMRAM and the shadow windows, unless the hole has the address.
+#[inline(always)]
+pub(crate) fn row_beside_hole(regs: &MapRegs, addr: u32) -> Option<u8>
+    ensures row { (setup : Setup) (bytes : Bytes) → StandsFor setup bytes (map_bytes regs.now)
+        → result ≡ (if is_in_hole bytes addr then None else row_by bytes addr) }
+{
+    if is_in_hole(&regs.singles, addr) {
         return None;
     }
     row_of(&regs.drb, addr)
+}
+
+/// What `decode` gives at an address at which `plain_row` finds none.
+#[tactic(auto, using(crate::proofs::MemoryLemmas::memory_map))]
+pub fn decode_elsewhere(regs: &MapRegs, addr: u32, kind: Kind, smm: bool) -> (Area, Option<Denial>)
+    requires cards { AreFitted regs.now.cards.items }
+    requires elsewhere { (setup : Setup) (bytes : Bytes) → StandsFor setup bytes (map_bytes regs.now)
+        → plain_row bytes addr ≡ None }
+    ensures area { (setup : Setup) (bytes : Bytes) → StandsFor setup bytes (map_bytes regs.now)
+        → result.0 ≡ area_of setup bytes addr kind smm }
+    ensures denial { (setup : Setup) (bytes : Bytes) → StandsFor setup bytes (map_bytes regs.now)
+        → result.1 ≡ denial_of setup bytes addr kind smm }
+{
+    match upper_area(regs, addr, kind, smm) {
+        Some(area) => (area, None),
+        None => decode_beside_dram(regs, addr, kind),
+    }
 }
 
 /// The area that an access reaches where DRAM does not answer, and what denies it.
@@ -71,28 +101,6 @@ fn decode_beside_dram(regs: &MapRegs, addr: u32, kind: Kind) -> (Area, Option<De
 {
     let area = area_beside_dram(regs, addr);
     (area, denial_in(regs, area, addr, kind))
-}
-
-/// The area that an access reaches.
-pub(crate) fn area_of(regs: &MapRegs, addr: u32, kind: Kind, smm: bool) -> Area
-    requires cards { AreFitted regs.now.cards.items }
-    ensures area { (setup : Setup) (bytes : Bytes) → StandsFor setup bytes (map_bytes regs.now)
-        → result ≡ area_of setup bytes addr kind smm }
-{
-    match dram_area(regs, addr, kind, smm) {
-        Some(area) => area,
-        None => area_beside_dram(regs, addr),
-    }
-}
-
-/// The area that an access reaches, where what answers beside DRAM is known.
-pub(crate) fn area_or(regs: &MapRegs, addr: u32, kind: Kind, smm: bool, beside: Area) -> Area
-    requires beside { (setup : Setup) (bytes : Bytes) → StandsFor setup bytes (map_bytes regs.now)
-        → beside ≡ beside_dram setup bytes addr }
-    ensures area { (setup : Setup) (bytes : Bytes) → StandsFor setup bytes (map_bytes regs.now)
-        → result ≡ area_of setup bytes addr kind smm }
-{
-    dram_area(regs, addr, kind, smm).unwrap_or(beside)
 }
 
 /// What answers at an address where DRAM does not: the ROM, a card or nothing, whatever the kind of access.
@@ -112,32 +120,44 @@ pub(crate) fn area_beside_dram(regs: &MapRegs, addr: u32) -> Area
     }
 }
 
-/// Where an access reaches DRAM: in SMRAM, through a shadow window or directly. None where it does not.
-#[inline(always)]
-fn dram_area(regs: &MapRegs, addr: u32, kind: Kind, smm: bool) -> Option<Area>
+/// Where an access in upper memory reaches DRAM: in SMRAM, or through a shadow window. None where it does not, and
+/// outside upper memory.
+fn upper_area(regs: &MapRegs, addr: u32, kind: Kind, smm: bool) -> Option<Area>
     ensures dram { (setup : Setup) (bytes : Bytes) → StandsFor setup bytes (map_bytes regs.now)
         → result ≡ dram_area (row_by bytes addr) (is_smram_open bytes kind smm)
-        (is_shadowed bytes addr kind) (is_in_hole bytes addr) addr }
-{
-    match row_of(&regs.drb, addr) {
-        Some(row) => row_area(regs, row, addr, kind, smm),
-        None => None,
-    }
-}
-
-/// Where an access at an address of a row reaches DRAM.
-fn row_area(regs: &MapRegs, row: u8, addr: u32, kind: Kind, smm: bool) -> Option<Area>
-    ensures dram { (setup : Setup) (bytes : Bytes) → StandsFor setup bytes (map_bytes regs.now)
-        → result ≡ row_area row (is_smram_open bytes kind smm)
-        (is_shadowed bytes addr kind) (is_in_hole bytes addr) addr }
+        (is_shadowed bytes addr kind) true addr }
 {
     if SMRAM_RANGE.contains(addr) {
-        return is_smram_open(&regs.singles, kind, smm).then_some(Area::Smram);
+        return smram_area(regs, addr, kind, smm);
     }
     if SHADOW_RANGE.contains(addr) {
-        return is_shadowed(&regs.pam, addr, kind).then_some(Area::Shadow(row));
+        return shadow_area(regs, addr, kind);
     }
-    (!is_in_hole(&regs.singles, addr)).then_some(Area::Dram(row))
+    None
+}
+
+/// SMRAM, where an access at an address in its range reaches it.
+fn smram_area(regs: &MapRegs, addr: u32, kind: Kind, smm: bool) -> Option<Area>
+    requires range { is_smram_range addr ≡ true }
+    ensures dram { (setup : Setup) (bytes : Bytes) (shadowed hole : Bool) → StandsFor setup bytes (map_bytes regs.now)
+        → result ≡ dram_area (row_by bytes addr) (is_smram_open bytes kind smm) shadowed hole addr }
+{
+    if addr < top_of(&regs.drb) {
+        return is_smram_open(&regs.singles, kind, smm).then_some(Area::Smram);
+    }
+    None
+}
+
+/// The row behind a shadow window at an address, where the window is open.
+pub(crate) fn shadow_area(regs: &MapRegs, addr: u32, kind: Kind) -> Option<Area>
+    requires window { is_shadow_range addr ≡ true }
+    ensures dram { (setup : Setup) (bytes : Bytes) (opened hole : Bool) → StandsFor setup bytes (map_bytes regs.now)
+        → result ≡ dram_area (row_by bytes addr) opened (is_shadowed bytes addr kind) hole addr }
+{
+    match row_of(&regs.drb, addr) {
+        Some(row) => is_shadowed(&regs.pam, addr, kind).then_some(Area::Shadow(row)),
+        None => None,
+    }
 }
 
 /// What a read and a write reach at an address of a shadow window, where what answers beside DRAM is known.
@@ -177,11 +197,8 @@ fn shadows(pam: &[u8; 7], addr: u32) -> (bool, bool)
 {
     match window_of(addr) {
         Some(window) => {
-            let byte = pam[usize::from(window.off - PAM0)];
-            (
-                window.is_opened_by(byte, Kind::Read),
-                window.is_opened_by(byte, Kind::Write),
-            )
+            let reads = opens(pam, &window, Kind::Read);
+            (reads, opens(pam, &window, Kind::Write))
         }
         None => (false, false),
     }
@@ -192,7 +209,7 @@ pub(crate) fn is_shadowed(pam: &[u8; 7], addr: u32, kind: Kind) -> bool
     ensures shadowed { (bytes : Bytes) → IsPamOf bytes pam.now → result ≡ is_shadowed bytes addr kind }
 {
     match window_of(addr) {
-        Some(window) => window.is_opened_by(pam[usize::from(window.off - PAM0)], kind),
+        Some(window) => opens(pam, &window, kind),
         None => false,
     }
 }

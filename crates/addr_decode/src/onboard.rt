@@ -8,7 +8,7 @@ use crate::ports::PortRegs;
 use board_base::{Denial, Dev, Width};
 use board_spec::offset::{COMMAND, IDETIM, XBCS};
 use device_spec::port::{Select, device_at, select_of};
-use xbus_select::{decodes_ide_channel, enables_ide_ports, selects_clock, selects_keyboard};
+use south_bridge::{decodes_ide_channel, enables_ide_ports, selects_clock, selects_keyboard};
 
 /// How the board's own devices respond to a port access.
 #[derive(Clone, Copy, PartialEq, Eq)]

@@ -8,13 +8,13 @@ ghost use Rattle.addr_decode.specs.Found.{IsFoundIn, decoded_as, register_answer
 ghost use Rattle.addr_decode.specs.MapRegs.{IsChannelOf, StandsFor, map_bytes};
 ghost use Rattle.addr_decode.specs.Ports.{as_decoded, IsDenied};
 
+use crate::conf_add::{Selected, kept, select};
 use crate::denied_by::card_command;
 use crate::found::{ConfigRegister, Found, function_of};
 use crate::onboard::{Onboard, onboard_at};
 use crate::regs::MapRegs;
 use crate::singles::chip_selects;
 use board_base::{Denial, Target, Width};
-use cfg_ports::{Selected, kept, select};
 use device_spec::port::{CONFIG_DATA, CONFIG_DATA_END};
 use pci_bars::{CardRegs, claim_io, offset_in, shut_io};
 

@@ -118,6 +118,29 @@ impl MapRegs {
         names
     }
 
+    /// The names of the registers that a store covers from one on that its function has.
+    #[inline(always)]
+    pub fn names_at(&self, register: &ConfigRegister, width: Width) -> Names
+        requires function { HasRegister self.now.cards.items register.now.function register.now.reg }
+        ensures named { result.items ≡ names_from (cards_of self.now.cards.items) register.now.reg width }
+    {
+        match width {
+            Width::One => self.name_at(register),
+            Width::Two | Width::Four => self.names_from(register.reg, width),
+        }
+    }
+
+    /// The name of a register that its function has, as a list.
+    #[inline(always)]
+    fn name_at(&self, register: &ConfigRegister) -> Names
+        requires function { HasRegister self.now.cards.items register.now.function register.now.reg }
+        ensures named { result.items ≡ names_from (cards_of self.now.cards.items) register.now.reg One }
+    {
+        let mut names = ArrayVec::new();
+        names.push(self.name_of(register));
+        names
+    }
+
     /// The name of the one register to which a store of one byte goes.
     #[inline(always)]
     pub fn name_alone(&self, reg: Reg) -> Option<MapRegister>
@@ -129,7 +152,7 @@ impl MapRegs {
     /// The name of a register that its function has: that of the one register to which a store of one byte goes. None
     /// where the address map does not depend on it.
     #[tactic(auto, using(std::proofs::lemmas::Bool::Decides::nat_tests), unfolding(crate::specs::MapRegister::map_register))]
-    pub fn name_of(&self, register: &ConfigRegister) -> Option<MapRegister>
+    fn name_of(&self, register: &ConfigRegister) -> Option<MapRegister>
         requires function { HasRegister self.now.cards.items register.now.function register.now.reg }
         ensures named { result ∷ [] ≡ names_from (cards_of self.now.cards.items) register.now.reg One }
     {

@@ -6,9 +6,8 @@ ghost use Rattle.addr_decode.specs.MapRegs.{StandsFor, map_bytes};
 
 use crate::singles::{Singles, reset_singles};
 use arrayvec::ArrayVec;
-use pam_windows::PAM_RESET;
+use host_bridge::{DRB_RESET, PAM_RESET};
 use pci_bars::{CARD_COUNT, CardRegs, CardSpec, push_card};
-use pmc_regs::DRB_RESET;
 
 /// The registers that the address map depends on: DRB0 to DRB7 and PAM0 to PAM6 of the host bridge, the registers of
 /// one byte each by their numbers, and the cards in rising order of device.

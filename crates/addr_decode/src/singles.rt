@@ -9,9 +9,8 @@ ghost use Rattle.addr_decode.specs.Singles.{AreSinglesOf, hole_denial, single, s
 use crate::denied_by::host_bridge;
 use board_base::{Denial, Kind};
 use board_spec::offset::{FDHC, SMRAM, XBCS};
-use pmc_regs::{FDHC_RESET, fdhc_after, hole_of};
-use smram_ctl::{SMRAM_RESET, smram_after, smram_reaches};
-use xbus_select::{XBCS_RESET, rom_selected, xbcs_after};
+use host_bridge::{FDHC_RESET, SMRAM_RESET, fdhc_after, hole_of, smram_after, smram_reaches};
+use south_bridge::{XBCS_RESET, rom_selected, xbcs_after};
 
 /// The number of FDHC, the hole in DRAM.
 pub const HOLE: usize = 0;

@@ -3,10 +3,10 @@
 ghost use Rattle.std.specs.Prelude.{IsTrue};
 ghost use Rattle.board_prelude.specs.Common.{is_config_port};
 
+use addr_decode::{ConfAdd, Selected, Space};
 use board_base::NoMemory;
 use board_spec::port::CONFIG_DATA;
 use call_words::{byte, number, word};
-use cfg_ports::{ConfAdd, Selected, Space};
 use std::alloc::AllocError;
 
 /// `59=FF` writes a byte of 256 that all have this value after a reset and this mask; told are that byte before, after

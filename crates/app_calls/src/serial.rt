@@ -10,7 +10,7 @@ use board_base::{NoMemory, PortAccess, Width};
 use board_core::{Board, Setup};
 use board_spec::Event;
 use call_words::{byte, port};
-use logs_and_maps::{push_heading, push_line};
+use logs::{push_heading, push_line};
 use std::alloc::{AllocError, Global};
 use uart_16550::{SerialBoard, SerialReply};
 

@@ -18,7 +18,7 @@
 mod files;
 mod in_memory;
 mod lines;
-mod logs;
+mod log_rows;
 mod longest_log;
 mod made;
 mod shaken;

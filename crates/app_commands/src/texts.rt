@@ -11,13 +11,11 @@
 //!     made ROUNDS FROM COUNT        how many lines the script of `make` has, whether it ends, and some of them
 //!     rom PLACE.. · disk PLACE..    how many bytes its images have, and some of them
 
-use crate::{logs, made};
+use crate::{log_rows, made};
 use board_base::NoMemory;
 use call_words::decimal;
-use log_lines::parse_entry;
-use logs_and_maps::{LogFault, read_log};
-use script_lines::parse_item;
-use script_text::{ScriptFault, read_script};
+use logs::{LogFault, parse_entry, read_log};
+use scripts::{ScriptFault, parse_item, read_script};
 use std::alloc::Global;
 
 /// More bytes than a text here has.
@@ -110,9 +108,9 @@ fn answer_of_line(call: &str, line: &[u8], text: &mut String) -> Result<(), NoMe
 /// Appends what a log answers, or what is made.
 fn answer_of_made(alloc: Global, call: &str, row: &str, text: &mut String) -> Result<(), NoMemory> {
     match call {
-        "again" => logs::tell_again(alloc, row, text),
-        "numbered" => logs::tell_numbered(alloc, row, text),
-        "summary" => logs::tell_summary(alloc, row, text),
+        "again" => log_rows::tell_again(alloc, row, text),
+        "numbered" => log_rows::tell_numbered(alloc, row, text),
+        "summary" => log_rows::tell_summary(alloc, row, text),
         "made" => made::tell_lines(alloc, row, text),
         "rom" => made::tell_rom(alloc, row, text),
         "disk" => made::tell_disk(alloc, row, text),

@@ -1,5 +1,5 @@
 -- Words and bytes of a sector, beside the machine: what a bus master moves.
-use Rattle.std.specs.Prelude.{ℕ, ◌+◌, ◌*◌, ◌/◌, ◌%◌, Bool, not, ◌&&◌, nat_lt, slice_set, List, ◌++◌, length, take, drop}
+use Rattle.std.specs.Prelude.{ℕ, ◌+◌, ◌*◌, ◌/◌, ◌%◌, Bool, not, ◌&&◌, nat_lt, slice_set, List}
 use Rattle.device_spec.specs.Ata.State.{Medium, sectors_of, is_bad}
 
 -- a sector exists and is not bad
@@ -13,12 +13,6 @@ with_word medium sector word value = record medium {
       slice_set (slice_set medium.bytes (512 * sector + 2 * word) (value % 256)) (512 * sector + 2 * word + 1)
       (value / 256 % 256);
 }
-
--- the sectors after some bytes were set, from a place in one sector on; no mark changes
-abbrev pub with_bytes : Medium → (sector place : ℕ) → List ℕ → Medium
-with_bytes medium sector place bytes =
-    let from = 512 * sector + place in
-    record medium { bytes = take from medium.bytes ++ (bytes ++ drop (from + length bytes) medium.bytes) }
 
 -- the sectors after the bytes of all of them were set; no mark changes
 abbrev pub with_all : Medium → List ℕ → Medium

@@ -1,10 +1,10 @@
 //! The disk as its ports show it.
 
-ghost use Rattle.std.specs.Prelude.{◌≡◌, ◌+◌, ◌*◌, ◌<◌, ◌≤◌, ◌↔◌, length, false, IsTrue, IfOk};
+ghost use Rattle.std.specs.Prelude.{◌≡◌, ◌*◌, ◌<◌, ◌↔◌, length, false, IsTrue, IfOk};
 ghost use Rattle.device_spec.specs.Common.{is_disk_length, power_on, is_interrupt, sectors_of, word_at, sector_bytes};
 ghost use Rattle.device_spec.specs.Common.{is_ata_port, read_of, after_bad, word_of, word_read, word_written};
 ghost use Rattle.device_spec.specs.Common.{register_of, register_read, byte_written};
-ghost use Rattle.ata_pio.specs.Words.{is_readable, with_word, with_bytes, with_all};
+ghost use Rattle.ata_pio.specs.Words.{is_readable, with_word, with_all};
 ghost use Rattle.device_spec.specs.Ata.Steps.{after_read, after_write, after_reset};
 
 use crate::controller::Controller;
@@ -162,16 +162,6 @@ impl Ata {
         ensures bytes { result.now ≡ sector_bytes self.now.medium lba }
     {
         self.sectors.sector(lba)
-    }
-
-    /// Sets bytes of a sector that exists, from byte `place` of it on, where they end within the sector. Nothing else
-    /// changes: a sector that is bad stays so.
-    pub fn set_bytes(&mut self, lba: u32, place: u32, bytes: &[u8])
-        requires sector { lba < sectors_of self.old.medium }
-        requires fits { place + length bytes.now ≤ 512 }
-        ensures after { self.new ≡ record self.old { medium = with_bytes self.old.medium lba place bytes.now } }
-    {
-        self.sectors.set_bytes(lba, place, bytes);
     }
 
     /// Replaces the bytes of all sectors by as many. Nothing else changes: a sector that is bad stays so.

@@ -1,9 +1,9 @@
 //! The sectors of a disk: their bytes, and which of them are bad.
 
-ghost use Rattle.std.specs.Prelude.{◌≡◌, ◌+◌, ◌*◌, ◌<◌, ◌≤◌, length, vec_len, IsTrue, IfOk};
+ghost use Rattle.std.specs.Prelude.{◌≡◌, ◌*◌, ◌<◌, ◌≤◌, length, vec_len, IsTrue, IfOk};
 ghost use Rattle.device_spec.specs.Common.{is_disk_length, power_on, sectors_of, word_at, sector_bytes, stored, marked};
 ghost use Rattle.device_spec.specs.Common.{found, readable};
-ghost use Rattle.ata_pio.specs.Words.{is_readable, with_word, with_bytes, with_all};
+ghost use Rattle.ata_pio.specs.Words.{is_readable, with_word, with_all};
 
 use crate::fault::Fault;
 use byteorder::{ByteOrder, LittleEndian};
@@ -106,16 +106,6 @@ impl Sectors {
     {
         let at = sector as usize * SECTOR_BYTES;
         &self.bytes[at..at + SECTOR_BYTES]
-    }
-
-    /// Sets bytes of a sector, from a place in it on. Nothing else changes.
-    pub fn set_bytes(&mut self, sector: u32, place: u32, bytes: &[u8])
-        requires there { sector < sectors_of (medium_of self.old) }
-        requires fits { place + length bytes.now ≤ 512 }
-        ensures set { medium_of self.new ≡ with_bytes (medium_of self.old) sector place bytes.now }
-    {
-        let at = sector as usize * SECTOR_BYTES + place as usize;
-        self.bytes[at..at + bytes.len()].copy_from_slice(bytes);
     }
 
     /// Replaces the bytes of all sectors. The marks stay.

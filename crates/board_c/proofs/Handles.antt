@@ -24,11 +24,11 @@ use Rattle.std_heap.specs.contracts.GlobalAllocator.TheImpl.{ghosts}
 use Rattle.board_c.specs.Owned.{owned_if}
 use Rattle.std_heap.specs.contracts.Global as heap
 use Rattle.std_heap.proofs.Global.TheLaws as heap_laws
-use Rattle.board_records.specs.contracts.door.Door as door_row
+use Rattle.board_c.specs.contracts.opened.Opened as opened_row
 use Rattle.board_c.specs.contracts.handle.Handle as handle
 
 abbrev pub R : RattleType
-R = door_row.the_row
+R = opened_row.the_row
 
 abbrev pub Z : RattleType
 Z = heap.the_row

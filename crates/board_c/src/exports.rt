@@ -1,15 +1,17 @@
 //! The functions that C calls. One call at a time is inside a handle, and its pointers are good: what the caller owes.
 
-ghost use Rattle.std.specs.Prelude.{◌≡◌, ◌≢◌, [], true, false, IsSomeAnd};
-ghost use Rattle.board_records.specs.Common.{IsDoorStep, IsEventRefusal, IsOpenRefusal, IsOpenedWith, OnBoard};
-ghost use Rattle.board_records.specs.Common.{asked_said, closed, identities_said, ok, setup_said};
+ghost use Rattle.std.specs.Prelude.{◌≡◌, [], false, IsSomeAnd};
+ghost use Rattle.board_c.specs.Calls.{IsCall, IsOpening, OnBoard, OnMachine, OnMachines};
+ghost use Rattle.machine_records.specs.Common.{IsEventRefusal, IsMachineStep, IsOpenRefusal, IsOpenedWith, asked_said};
+ghost use Rattle.machine_records.specs.Common.{identities_said, setup_said};
 
 use crate::handle::Handle;
-use board_records::status::{CLOSED, NO_MEMORY, OK};
-use board_records::{CardRecord, Door, EventRecord, ReplyRecord};
+use crate::opened::Opened;
+use machine_records::status::{BAD_HANDLE, NO_MEMORY, OK};
+use machine_records::{CardRecord, EventRecord, ReplyRecord, open, step};
 use std::alloc::Global;
 
-/// Opens a board with these cards over copies of these bytes. A disk of no bytes is none. `CLOSED` where the handle is
+/// Opens a board with these cards over copies of these bytes. A disk of no bytes is none. `BAD_HANDLE` where the handle is
 /// open already; a handle that is refused is as before.
 #[unsafe(no_mangle)]
 pub extern "C" fn board_open(
@@ -20,33 +22,28 @@ pub extern "C" fn board_open(
     rom: &[u8],
     disk: &[u8],
 ) -> u32
-    ensures done { result ≡ ok → (handle.new.full ≡ true) × OnBoard handle.new.held
-        (λ serial. IsSomeAnd (setup_said mib cards.now rom.now disk.now) (IsOpenedWith serial)) }
-    ensures identities { result ≡ ok → IsSomeAnd handle.new.held
-        (λ held. held.behind.identities ≡ identities_said cards.now) }
-    ensures roms { result ≡ ok → IsSomeAnd handle.new.held (λ held. held.roms ≡ []) }
-    ensures twice { handle.old.full ≡ true → result ≡ closed }
-    ensures held { handle.old.full ≡ true → handle.new.held ≡ handle.old.held }
-    ensures refused { handle.old.full ≡ false → result ≢ ok
-        → IsOpenRefusal (setup_said mib cards.now rom.now disk.now) result }
-    ensures kept { result ≢ ok → handle.new.full ≡ handle.old.full }
+    ensures opening { IsOpening handle.old handle.new result
+        (OnMachine handle.new.held (λ machine.
+        IsSomeAnd (setup_said mib cards.now rom.now disk.now) (IsOpenedWith machine.saved.serial)
+        × (machine.saved.identities ≡ identities_said cards.now) × (machine.roms ≡ [])))
+        (IsOpenRefusal (setup_said mib cards.now rom.now disk.now) result) }
 {
     if let Some(board) = handle.take(alloc) {
         handle.put(board);
-        return CLOSED;
+        return BAD_HANDLE;
     }
-    let board = match Door::open(alloc, mib, cards, rom, disk) {
-        Ok(board) => board,
+    let machine = match open(alloc, mib, cards, rom, disk) {
+        Ok(machine) => machine,
         Err(status) => return status,
     };
-    let Ok(boxed) = Box::new(alloc, board) else {
+    let Ok(boxed) = Box::new(alloc, Opened { machine }) else {
         return NO_MEMORY;
     };
     handle.put(boxed);
     OK
 }
 
-/// Does the event that a record says, and tells its reply by another. `CLOSED` exactly where the handle is closed;
+/// Does the event that a record says, and writes its reply to another. `BAD_HANDLE` exactly where the handle is closed;
 /// refused with why where the record says no event, or one that is out of range. Then nothing has changed.
 #[unsafe(no_mangle)]
 pub extern "C" fn board_step(
@@ -55,20 +52,16 @@ pub extern "C" fn board_step(
     event: &EventRecord,
     reply: &mut ReplyRecord,
 ) -> u32
-    ensures kept { handle.new.full ≡ handle.old.full }
-    ensures closed { handle.old.full ≡ false → result ≡ closed }
-    ensures open { handle.old.full ≡ true → result ≢ closed }
-    ensures done { result ≡ ok → IsSomeAnd (asked_said event.now)
-        (IsDoorStep handle.old.held handle.new.held event.now reply.new) }
-    ensures refused { handle.old.full ≡ true → result ≢ ok
-        → OnBoard handle.old.held (λ serial. IsEventRefusal serial (asked_said event.now) result) }
-    ensures unchanged { handle.old.full ≡ true → result ≢ ok → handle.new.held ≡ handle.old.held }
-    ensures untold { result ≢ ok → reply.new ≡ reply.old }
+    ensures call { IsCall handle.old handle.new result
+        (IsSomeAnd (asked_said event.now) (λ asked. OnMachines handle.old.held handle.new.held
+        (λ old new. IsMachineStep old new event.now reply.new asked)))
+        (OnBoard handle.old.held (λ serial. IsEventRefusal serial (asked_said event.now) result))
+        (reply.new ≡ reply.old) }
 {
     let Some(mut board) = handle.take(alloc) else {
-        return CLOSED;
+        return BAD_HANDLE;
     };
-    let status = board.step(event, reply);
+    let status = step(&mut board.machine, event, reply);
     handle.put(board);
     status
 }

@@ -1,17 +1,15 @@
 //! The log's line of an event and its reply.
 
 ghost use Rattle.std.specs.Prelude.{◌≡◌, ◌≢◌, ◌⊎◌, length, IsSomeAnd};
-ghost use Rattle.board_records.specs.Images.{IsWritten};
-ghost use Rattle.board_records.specs.Statuses.{ok, no_room};
-ghost use Rattle.record_text.specs.Lines.{entry_recorded, whole_line, IsLineRefusal};
+ghost use Rattle.machine.specs.Images.{IsWritten};
+ghost use Rattle.machine_records.specs.Common.{IsLineRefusal, entry_recorded, no_room, ok, whole_line};
 
-use board_records::{EventRecord, ReplyRecord};
-use record_text::tell_line;
+use machine_records::{EventRecord, ReplyRecord, write_line};
 use std::alloc::Global;
 
 /// Writes line `number` of a log, with its line feed, of the entry of a processor, the number of its statement, an
-/// event and its reply, and tells how many bytes the line has. Refused with `NO_EVENT` or `NO_REPLY` where a record
-/// says none, and with `NO_ROOM` where the line does not fit: then its count of bytes is told. `NO_MEMORY` may come
+/// event and its reply, and counts its bytes. Refused with `NO_EVENT` or `NO_REPLY` where a record
+/// says none, and with `NO_ROOM` where the line does not fit: then its bytes are counted. `NO_MEMORY` may come
 /// where both say something.
 #[unsafe(no_mangle)]
 pub extern "C" fn board_text(
@@ -34,7 +32,7 @@ pub extern "C" fn board_text(
         (λ entry. bytes.new ≡ length (whole_line number entry)) }
     ensures uncounted { result ≢ ok → result ≢ no_room → bytes.new ≡ bytes.old }
 {
-    tell_line(
+    write_line(
         alloc, event, reply, number, processor, statement, into, bytes,
     )
 }

@@ -1,14 +1,15 @@
 //! A transfer of the bus master in pieces, over memory and a disk that the caller keeps.
 
-ghost use Rattle.std.specs.Prelude.{◌≡◌, ◌≢◌, true, false};
-ghost use Rattle.board_records.specs.Common.{OnBoard, closed, no_transfer, ok};
-ghost use Rattle.piece_records.specs.Common.{IsBeginning, IsPieceTold, IsRegionFree, IsTransfer, begun_at};
-ghost use Rattle.piece_records.specs.Common.{described_by};
+ghost use Rattle.std.specs.Prelude.{◌≡◌, ◌≢◌, true};
+ghost use Rattle.board_c.specs.Calls.{IsCall, OnBoard};
+ghost use Rattle.machine_records.specs.Common.{no_transfer, ok};
+ghost use Rattle.transfer_records.specs.Common.{IsBeginning, IsNextPiece, IsRegionFree, IsTransfer, begun_at};
+ghost use Rattle.transfer_records.specs.Common.{described_by};
 
 use crate::handle::Handle;
-use board_records::status::CLOSED;
-use piece_records::{PieceRecord, TransferRecord, begin_transfer, next_piece, take_region};
+use machine_records::status::BAD_HANDLE;
 use std::alloc::Global;
+use transfer_records::{PieceRecord, TransferRecord, begin_transfer, next_piece, take_region};
 
 /// Begins a transfer of sectors, 1 to 256, from `lba` on, which is below 2^28, by the table at an address that is a
 /// multiple of 4; the first `readable` of them are there and can be read. `NO_TRANSFER` exactly where one of these is
@@ -30,8 +31,8 @@ pub extern "C" fn board_transfer_begin(
     begin_transfer(transfer, table, lba, sectors, readable, to_memory)
 }
 
-/// Tells the next piece of a transfer: a descriptor that is to be read, words that are to be moved, or its end. Words
-/// are taken as moved. `CLOSED` exactly where the handle is closed, and `NO_TRANSFER` exactly where it is open and the
+/// Writes the next piece of a transfer: a descriptor that is to be read, words that are to be moved, or its end. Words
+/// are taken as moved. `BAD_HANDLE` exactly where the handle is closed, and `NO_TRANSFER` exactly where it is open and the
 /// transfer's numbers are those of none.
 #[unsafe(no_mangle)]
 pub extern "C" fn board_transfer_next(
@@ -40,21 +41,17 @@ pub extern "C" fn board_transfer_next(
     transfer: &mut TransferRecord,
     piece: &mut PieceRecord,
 ) -> u32
-    ensures kept { handle.new.full ≡ handle.old.full }
+    ensures call { IsCall handle.old handle.new result
+        (OnBoard handle.old.held (λ serial. IsNextPiece serial.board transfer.old transfer.new piece.new)
+        × IsTransfer transfer.new)
+        ((result ≡ no_transfer) × ¬ IsTransfer transfer.old)
+        ((transfer.new ≡ transfer.old) × (piece.new ≡ piece.old)) }
     ensures same { handle.old.full ≡ true → handle.new.held ≡ handle.old.held }
-    ensures closed { handle.old.full ≡ false → result ≡ closed }
-    ensures open { handle.old.full ≡ true → result ≢ closed }
-    ensures done { result ≡ ok → OnBoard handle.old.held
-        (λ serial. IsPieceTold serial.board transfer.old transfer.new piece.new) }
-    ensures sound { result ≡ ok → IsTransfer transfer.new }
-    ensures refused { handle.old.full ≡ true → result ≢ ok → (result ≡ no_transfer) × ¬ IsTransfer transfer.old }
-    ensures unchanged { result ≢ ok → transfer.new ≡ transfer.old }
-    ensures untold { result ≢ ok → piece.new ≡ piece.old }
 {
     let Some(board) = handle.take(alloc) else {
-        return CLOSED;
+        return BAD_HANDLE;
     };
-    let status = next_piece(&board, transfer, piece);
+    let status = next_piece(board.machine.chipset(), transfer, piece);
     handle.put(board);
     status
 }

@@ -4,7 +4,7 @@ ghost use Rattle.std.specs.Prelude.{◌≡◌};
 ghost use Rattle.board_c.specs.Version.{interface};
 
 /// That of `board.h`: `BOARD_INTERFACE`.
-const INTERFACE: u32 = 7;
+const INTERFACE: u32 = 8;
 
 /// The version of the interface: `BOARD_INTERFACE` of the `board.h` that belongs to this library.
 #[unsafe(no_mangle)]

@@ -5,6 +5,7 @@ use Rattle.board_prelude.proofs.Common.{FittedCard, IsBase, IsCard, IsCardList, 
 use Rattle.pci_bars.specs.declared.spec.BaseSpec.{BaseSpec}
 use Rattle.pci_bars.specs.Bases.{base_of}
 use Rattle.board_chipset.specs.Setups.{RiseFrom}
+use Rattle.std.proofs.lemmas.Bool.Decides.{nat_tests}
 
 -- ---- cards
 
@@ -62,3 +63,6 @@ pub base_at : (bases : List BaseSpec) (i : ℕ) (d : BaseSpec) → i < length ba
 base_at bases i d within each =
     subst IsBase (get_or-map base_of bases i d (base_of d) within)
     (each i (base_of d) (omega (arith, within, length-map bases base_of)))
+
+-- `rise` is proved by these
+pub ruleset rise_rules = (rise_at, nat_tests)

@@ -6,7 +6,7 @@ use Rattle.byte_fields.specs.Fields.{within, flag_byte}
 use Rattle.byte_fields.proofs.Exactly.{exactly_format}
 use Rattle.byte_fields.proofs.Formats.{IsFormat, format_as, fields_format, ◌then◌, ◌&◌, last_field}
 use Rattle.byte_fields.proofs.Numbers.{Any, IsWide, within_format, any_byte, wide16, wide32}
-use Rattle.cfg_ports.proofs.StateFormat.{address_format}
+use Rattle.addr_decode.proofs.AddressFormat.{address_format}
 use Rattle.dram_store.proofs.StateFormats.{dram_format}
 use Rattle.pci_bars.proofs.StateFormats.{contents_format}
 use Rattle.config_regs.specs.State.{IsSouth}
@@ -14,7 +14,7 @@ use Rattle.config_regs.proofs.StateFormat.{south_format}
 use Rattle.map_builder.specs.State.{IsBare}
 use Rattle.map_builder.proofs.StateFormat.{mapped_format, most_mapped}
 use Rattle.board_devices.proofs.StateFormat.{most_of, devices_format}
-use Rattle.cfg_ports.specs.State.{IsAddress}
+use Rattle.addr_decode.specs.AddressState.{IsAddress}
 use Rattle.board_chipset.specs.declared.registers.Registers.{Registers}
 use Rattle.board_chipset.specs.declared.state.State.{State}
 use Rattle.board_chipset.specs.Chipset.{Running}

@@ -120,3 +120,6 @@ bad_within {setup} {bytes} after fits are same is =
 pub own_version : (chipset : Running) (bytes : List ℕ) → bytes ≡ chipset_bytes chipset → is_other_version bytes ≡ false
 own_version chipset bytes is =
     ap is_other_version (is ∙ sym (append-nil (chipset_bytes chipset))) ∙ of_version chipset []
+
+-- `read_alone` is proved by these
+pub ruleset read_alone_rules = (alone_is, nat_tests)

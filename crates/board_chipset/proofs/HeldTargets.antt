@@ -15,6 +15,7 @@ use Rattle.board_chipset.specs.declared.state.State.{State}
 use Rattle.board_chipset.specs.Kept.{IsSound}
 use Rattle.board_chipset.specs.Ports.{Reaching}
 use Rattle.board_chipset.proofs.PortSteps.{IsReached, IsNoDevice, IsNoRegister, reached_in}
+use Rattle.board_chipset.proofs.StateSteps.{sound_put}
 
 -- ---- memory
 
@@ -88,3 +89,6 @@ pub stored_in : {state : State} {access : PortAccess} {target : Target} → Reac
     IsNoDevice target → IsNoRegister target → IsStored state.stores.contents target access.width
 stored_in {access = access} {target} reaching =
     stored_target reaching.kept.sound access.port access.width target reaching.bus.aligned (reached_in reaching)
+
+-- `write` is proved by these
+pub ruleset write_rules = (sound_put, stored_in, nat_tests)

@@ -1,5 +1,6 @@
 pub mod AroundDram
 pub mod MapVersions
+pub mod HeldPlaces
 pub mod HeldTargets
 pub mod StateSteps
 pub mod PortSteps
@@ -12,7 +13,6 @@ pub mod LoadSteps
 pub mod MasterSteps
 pub mod CardChecks
 pub mod CardLoadSteps
-pub mod PortAccessSteps
 pub mod KeptBytes
 pub mod Marks
 pub mod LeftBytes

@@ -192,3 +192,6 @@ some_clock_entries history address byte = (
       ∷ clock_entry clock_index_port address ∷ history,
   grind (arith, nat_tests),
 )
+
+-- `write_dram` is proved by these
+pub ruleset write_dram_rules = (load_left, load_kept, nat_tests)

@@ -4,7 +4,8 @@ use Rattle.std.proofs.Common.{arith, if◌then◌else◌, option_and_then}
 use Rattle.board_prelude.proofs.Common.{option_to_list, nat_tests, Entry, MapChange, Store, Width, Reg, Setup}
 use Rattle.board_prelude.proofs.Common.{register_change, byte_of, touches_map, map_change_of, map_writes_of, version_of}
 use Rattle.board_prelude.proofs.Common.{cond_both}
-use Rattle.map_builder.specs.Common.{Changed, next_version, AreChanged}
+use Rattle.map_builder.specs.declared.range.Changed.{Changed}
+use Rattle.map_builder.specs.Common.{next_version, AreChanged}
 use Rattle.board_chipset.specs.Versions.{version_count, AreNextChanged, AreLastChanged}
 
 -- the map write that a change of the registers is, and whether it is one

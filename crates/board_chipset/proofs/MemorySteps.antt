@@ -10,6 +10,8 @@ use Rattle.board_chipset.specs.Kept.{IsState, IsSound}
 use Rattle.board_chipset.proofs.HeldTargets.{ready}
 use Rattle.board_base.specs.declared.access.Access.{Access}
 use Rattle.board_stores.specs.declared.cut.Cycle.{Cycle}
+use Rattle.board_chipset.proofs.StateSteps.{sound_put}
+use Rattle.board_stores.proofs.MemoryLemmas.{part_answered}
 
 pub writes_when : {kind : Kind} {writes known : Bool} → IsTrue writes ↔ (kind ≡ Write) → writes ≡ known →
     is_write kind ≡ known
@@ -55,3 +57,6 @@ parts_none access (part ∷ later) (reply ∷ replies) cell reads each =
     let here : is_write part.kind ≡ false = ap is_write first.kind ∙ reads in
     rw (here, parts_none access later replies cell reads (All-tail (IsPart access) part later each)) refl
 parts_none access _ _ cell reads each = refl
+
+-- `answered` is proved by these
+pub ruleset answered_rules = (sound_put, writes_when, ready_in, part_answered)

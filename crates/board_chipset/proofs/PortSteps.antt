@@ -11,7 +11,7 @@ use Rattle.board_prelude.proofs.Common.{map_change_of, device_in, device_reached
 use Rattle.board_base.specs.declared.target.Dev.TheVariants.{Confadd as AddressPort, Reset, Clock}
 use Rattle.device_spec.specs.PortTable.{first_with, port_devices}
 use Rattle.board_devices.specs.Events.{is_chip_port}
-use Rattle.cfg_ports.proofs.AddressLemmas.{kept_address-low_bits}
+use Rattle.addr_decode.proofs.AddressLemmas.{kept_address-low_bits}
 use Rattle.board_chipset.specs.declared.state.State.{State}
 use Rattle.board_chipset.specs.Ports.{reached, Reaching, IsEntryOf, Writes}
 use Rattle.addr_decode.specs.declared.found.ConfigRegister.{ConfigRegister}

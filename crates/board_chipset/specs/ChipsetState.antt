@@ -8,7 +8,7 @@ use Rattle.byte_fields.specs.declared.fault.Fault.{Fault}
 use Rattle.byte_fields.specs.declared.fault.Fault.TheVariants.{NoMemory}
 use Rattle.byte_fields.specs.Fields.{Reading, gives, ◌>>=◌, within, exactly, flag_byte, Filled}
 use Rattle.board_chipset.specs.Alone.{alone}
-use Rattle.cfg_ports.specs.State.{IsAddress, address_bytes, address_fields}
+use Rattle.addr_decode.specs.AddressState.{IsAddress, address_bytes, address_fields}
 use Rattle.dram_store.specs.State.{HasMib, dram_bytes, dram_fields}
 use Rattle.pci_bars.specs.State.{AreContents, contents_bytes, contents_fields}
 use Rattle.config_regs.specs.State.{IsSouth, south_bytes, south_fields}

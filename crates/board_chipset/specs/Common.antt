@@ -10,8 +10,6 @@ unfoldable pub use Rattle.board_chipset.specs.Loads.{WriteInTurn}
 pub use Rattle.board_chipset.specs.Masters.{IsOutsideSmram, master_part, master_target}
 pub use Rattle.board_chipset.specs.OutOfRange.{IsFault}
 pub use Rattle.board_chipset.specs.Places.{place_of, port_part}
-pub use Rattle.board_chipset.specs.PortAccesses.{AreCyclesDone, IsCycleStep, bytes_read, read_by, stronger}
-unfoldable pub use Rattle.board_chipset.specs.PortAccesses.{AnswerInTurn, strongest, value_read}
 pub use Rattle.board_chipset.specs.Ports.{IsEntryOf, Writes, reached}
 pub use Rattle.board_chipset.specs.Resets.{reset_of}
 pub use Rattle.board_chipset.specs.Setups.{HasSizes, IsMemory, IsSetupFault}

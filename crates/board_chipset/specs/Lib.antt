@@ -11,7 +11,6 @@ pub mod Kept
 pub mod Loads
 pub mod Masters
 pub mod OutOfRange
-pub mod PortAccesses
 pub mod Places
 pub mod Ports
 pub mod Resets

@@ -3,7 +3,7 @@ use Rattle.std.specs.Prelude.{ℕ, ◌≡◌, ◌%◌, ◌^◌, Bool, List, [], 
 use Rattle.board_prelude.specs.Common.{Kind, Event, Look, Reply, Entry, MapChange, Setup, byte_of, map_change_of}
 use Rattle.board_prelude.specs.Common.{version_of, IsSpan, IsAnswer, IsSeen}
 use Rattle.board_spec.specs.declared.event.Event.TheVariants.{Look as LookAt}
-use Rattle.map_builder.specs.Common.{Changed}
+use Rattle.map_builder.specs.declared.range.Changed.{Changed}
 use Rattle.map_builder.specs.Applied.{AreChanged}
 
 -- how many versions a chipset tells apart

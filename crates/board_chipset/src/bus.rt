@@ -2,11 +2,12 @@
 
 ghost use Rattle.std.specs.Prelude.{◌≡◌, List, ◌∷◌};
 ghost use Rattle.board_prelude.specs.Common.{Entry, Memory, Port, Wide, IsBusAccess, IsInRange, IsWideAccess, IsAnswer};
-ghost use Rattle.board_prelude.specs.Common.{is_write};
+ghost use Rattle.board_prelude.specs.Common.{Bytes, is_write};
 ghost use Rattle.board_spec.specs.declared.event.Event.TheVariants.{Look as LookAt};
 ghost use Rattle.board_spec.specs.declared.event.Reply.TheVariants.{Saw};
 ghost use Rattle.board_chipset.specs.BusReplies.{reply_of, wide_reply_of};
 ghost use Rattle.board_chipset.specs.Chipset.{IsLeftBy};
+ghost use Rattle.board_chipset.specs.Held.{HoldsRegisters, IsByDevice, IsHeldReply};
 ghost use Rattle.board_chipset.specs.Steps.{IsForDevices};
 ghost use Rattle.board_chipset.specs.Versions.{IsAnswerModulo};
 
@@ -28,6 +29,8 @@ impl Chipset {
             → IsAnswer self.old.setup history (Memory access.now) (reply_of result) }
         ensures left { (history : List Entry) (entry : Entry) → IsLeftBy self.old history
             → entry.event ≡ Memory access.now → entry.reply ≡ reply_of result → IsLeftBy self.new (entry ∷ history) }
+        ensures held { (bytes : Bytes) → HoldsRegisters self.old bytes
+            → IsHeldReply self.old bytes (Memory access.now) (reply_of result) }
     {
         memory::access(&mut self.state, self.setup.rom(), access)
     }
@@ -42,6 +45,8 @@ impl Chipset {
         ensures left { (history : List Entry) (entry : Entry) → IsLeftBy self.old history
             → entry.event ≡ Wide access.now → entry.reply ≡ wide_reply_of result
             → IsLeftBy self.new (entry ∷ history) }
+        ensures held { (bytes : Bytes) → HoldsRegisters self.old bytes
+            → IsHeldReply self.old bytes (Wide access.now) (wide_reply_of result) }
     {
         wide::access(&mut self.state, self.setup.rom(), access)
     }
@@ -49,6 +54,7 @@ impl Chipset {
     /// Does an access at a port of one bus cycle, which is in range, as `step` does it: the port is a multiple of the
     /// width, and the value fits.
     #[tactic(auto, unfolding(crate::specs::Chipset::IsLeftBy))]
+    #[inline(always)]
     pub fn port(&mut self, access: &PortAccess) -> BusReply
         requires bus { IsBusAccess access.now.write access.now.port access.now.width access.now.value }
         ensures setup { self.new.setup ≡ self.old.setup }
@@ -56,6 +62,8 @@ impl Chipset {
             → IsAnswer self.old.setup history (Port access.now) (reply_of result) }
         ensures left { (history : List Entry) (entry : Entry) → IsLeftBy self.old history
             → entry.event ≡ Port access.now → entry.reply ≡ reply_of result → IsLeftBy self.new (entry ∷ history) }
+        ensures held { (bytes : Bytes) → HoldsRegisters self.old bytes
+            → IsHeldReply self.old bytes (Port access.now) (reply_of result) }
     {
         ports::access(&mut self.state, access)
     }
@@ -67,6 +75,8 @@ impl Chipset {
             → IsAnswerModulo self.now.setup history (LookAt kind addr smm) (Saw result) }
         ensures left { (history : List Entry) (entry : Entry) → IsLeftBy self.now history
             → entry.event ≡ LookAt kind addr smm → IsLeftBy self.now (entry ∷ history) }
+        ensures held { (bytes : Bytes) → HoldsRegisters self.now bytes
+            → IsHeldReply self.now bytes (LookAt kind addr smm) (Saw result) }
     {
         looks::look(&self.state, kind, addr, smm)
     }
@@ -82,6 +92,7 @@ impl Chipset {
             → IsAnswer self.old.setup history event.now (reply_of result) }
         ensures left { (history : List Entry) (entry : Entry) → IsLeftBy self.old history
             → entry.event ≡ event.now → entry.reply ≡ reply_of result → IsLeftBy self.new (entry ∷ history) }
+        ensures held { IsByDevice event.now (reply_of result) }
     {
         outside::answer(&mut self.state, event)
     }

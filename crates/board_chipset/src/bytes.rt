@@ -1,7 +1,7 @@
 //! What a monitor can read of a chipset's bytes without an access on the bus.
 
 ghost use Rattle.std.specs.Prelude.{◌≡◌, ◌≤◌, ◌*◌, List, length, option_map};
-ghost use Rattle.board_prelude.specs.Common.{Entry, clock_of, disk_of, most_mib};
+ghost use Rattle.board_prelude.specs.Common.{Entry, disk_of, most_mib};
 ghost use Rattle.dram_store.specs.Bank.{bank_size};
 ghost use Rattle.dram_store.specs.Dram.{IsDramOf};
 ghost use Rattle.pci_bars.specs.Contents.{IsContentsOf};
@@ -9,7 +9,6 @@ ghost use Rattle.board_chipset.specs.Chipset.{IsLeftBy};
 
 use crate::chipset::Chipset;
 use ata_pio::Ata;
-use cmos_clock::CLOCK_BYTES;
 use dram_store::Dram;
 use pci_bars::Contents;
 
@@ -40,16 +39,8 @@ impl Chipset {
     pub fn disk(&self) -> Option<&Ata>
         ensures disk { (history : List Entry) → IsLeftBy self.now history
             → option_map (λ disk. disk.now) result ≡ disk_of self.now.setup history }
+        ensures held { option_map (λ disk. disk.now) result ≡ self.now.state.devices.disk }
     {
         self.state.devices.disk()
-    }
-
-    /// The 128 bytes of the clock by address, as they are kept. A read of the flags of register C and of register D
-    /// gives other bytes.
-    #[tactic(auto, unfolding(crate::specs::Chipset::IsLeftBy))]
-    pub fn clock_bytes(&self) -> &[u8; CLOCK_BYTES]
-        ensures bytes { (history : List Entry) → IsLeftBy self.now history → result.now ≡ (clock_of history).bytes }
-    {
-        self.state.devices.clock_bytes()
     }
 }

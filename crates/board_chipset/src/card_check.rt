@@ -26,7 +26,7 @@ pub(crate) fn are_cards(cards: &[CardSpec]) -> bool
 }
 
 /// Whether all cards are in range, each with a device number above that of the card before it.
-#[tactic(auto, using(crate::proofs::CardChecks::rise_at, std::proofs::lemmas::Bool::Decides::nat_tests), unfolding(crate::specs::Setups::RiseFrom))]
+#[tactic(auto, using(crate::proofs::CardChecks::rise_rules), unfolding(crate::specs::Setups::RiseFrom))]
 fn rise(cards: &[CardSpec]) -> bool
     ensures rise { IsTrue result ↔ RiseFrom 1 cards.now }
 {

@@ -113,7 +113,7 @@ fn test_bus(writes: bool, place: u32, width: Width, value: u32) -> Result<(), Ou
 }
 
 /// Whether a value fits the width, and is 0 where nothing is written.
-pub(crate) fn fits(writes: bool, width: Width, value: u32) -> bool
+fn fits(writes: bool, width: Width, value: u32) -> bool
     ensures fits { IsTrue result ↔ FitsAccess writes width value }
 {
     if writes {

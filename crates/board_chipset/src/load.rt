@@ -18,7 +18,7 @@ pub struct NoClockByte;
 impl Chipset {
     /// Puts bytes into the DRAM from an address on, for a loader, as if writes had put them there one after another.
     /// Refused exactly where they do not all lie in the installed memory; then nothing has changed. It takes no memory.
-    #[tactic(auto, using(crate::proofs::LoadSteps::load_left, crate::proofs::LoadSteps::load_kept, std::proofs::lemmas::Bool::Decides::nat_tests), unfolding(crate::specs::Chipset::IsLeftBy))]
+    #[tactic(auto, using(crate::proofs::LoadSteps::write_dram_rules), unfolding(crate::specs::Chipset::IsLeftBy))]
     pub fn write_dram(&mut self, addr: u32, bytes: &[u8]) -> Result<(), PastTheEnd>
         ensures refused { IsErr result ↔ installed self.old.setup < addr + length bytes.now }
         ensures unchanged { OnErr result (self.new ≡ self.old) }

@@ -1,7 +1,8 @@
 //! Looks at the memory map. A look is no access: it goes to no bus and changes nothing.
 
 ghost use Rattle.std.specs.Prelude.{◌≡◌, List, ◌∷◌};
-ghost use Rattle.board_prelude.specs.Common.{Entry, Setup};
+ghost use Rattle.board_prelude.specs.Common.{Bytes, Entry, IsSpan, Setup};
+ghost use Rattle.addr_decode.specs.Common.{StandsFor};
 ghost use Rattle.board_spec.specs.declared.event.Event.TheVariants.{Look as LookAt};
 ghost use Rattle.board_spec.specs.declared.event.Reply.TheVariants.{Saw};
 ghost use Rattle.board_chipset.specs.Kept.{IsStateOf};
@@ -18,6 +19,9 @@ pub fn look(state: &State, kind: Kind, addr: u32, smm: bool) -> Look
         → IsAnswerModulo setup history (LookAt kind addr smm) (Saw result) }
     ensures board { (setup : Setup) (history : List Entry) (entry : Entry) → IsStateOf setup history state.now
         → entry.event ≡ LookAt kind addr smm → IsStateOf setup (entry ∷ history) state.now }
+    ensures version { result.version ≡ state.now.registers.map.version }
+    ensures span { (setup : Setup) (bytes : Bytes) → StandsFor setup bytes state.now.registers.map.regs
+        → IsSpan setup bytes addr kind smm result.lo result.hi result.area }
 {
     let map = &state.registers.map;
     let span = map.find(addr, kind, smm);

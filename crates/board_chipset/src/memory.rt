@@ -5,6 +5,7 @@ ghost use Rattle.board_prelude.specs.Common.{Bytes, Entry, Memory, Setup, IsBusA
 ghost use Rattle.addr_decode.specs.Common.{StandsFor};
 ghost use Rattle.board_stores.specs.Common.{part_in};
 ghost use Rattle.board_chipset.specs.BusReplies.{reply_of};
+ghost use Rattle.board_chipset.specs.Held.{memory_reply_in};
 ghost use Rattle.board_chipset.specs.Kept.{IsState, IsStateOf, StaysSound};
 
 use crate::bus_reply::BusReply;
@@ -12,7 +13,7 @@ use crate::state::State;
 use addr_decode::plain_row;
 use board_base::{Access, Target};
 use board_spec::Part;
-use board_stores::{decoded, read, write};
+use board_stores::{decoded_elsewhere, read, write};
 
 /// Does an access to memory of one bus cycle, and returns the reply.
 #[inline(always)]
@@ -27,8 +28,11 @@ pub fn access(state: &mut State, rom: &[u8], access: &Access) -> BusReply
         → IsStateOf setup history state.old → setup.rom ≡ rom.now
         → entry.event ≡ Memory access.now → entry.reply ≡ reply_of result
         → IsStateOf setup (entry ∷ history) state.new }
+    ensures held { (setup : Setup) (bytes : Bytes) → StandsFor setup bytes state.old.registers.map.regs
+        → setup.rom ≡ rom.now → reply_of result ≡ memory_reply_in state.old.stores setup bytes access.now }
 {
-    match plain_row(state.registers.regs(), access.addr) {
+    let regs = state.registers.regs();
+    match plain_row(regs, access.addr) {
         Some(row) => {
             let answer = Part {
                 target: Target::Dram(row),
@@ -37,14 +41,14 @@ pub fn access(state: &mut State, rom: &[u8], access: &Access) -> BusReply
             answered(state, rom, access, &answer)
         }
         None => {
-            let answer = decoded(state.registers.regs(), rom, access);
+            let answer = decoded_elsewhere(regs, rom, access);
             answered(state, rom, access, &answer)
         }
     }
 }
 
 /// Does an access to memory of one bus cycle where what it reaches is known, and what denies it.
-#[tactic(auto, using(crate::proofs::StateSteps::sound_put, crate::proofs::MemorySteps::writes_when, crate::proofs::MemorySteps::ready_in, board_stores::proofs::MemoryLemmas::part_answered), unfolding(board_spec::specs::Answer::memory_answer, board_spec::specs::Answer::part_answer))]
+#[tactic(auto, using(crate::proofs::MemorySteps::answered_rules), unfolding(board_spec::specs::Answer::memory_answer, board_spec::specs::Answer::part_answer))]
 #[inline(always)]
 fn answered(state: &mut State, rom: &[u8], access: &Access, answer: &Part) -> BusReply
     requires bus { IsBusAccess (is_write access.now.kind) access.now.addr access.now.width access.now.value }
@@ -59,6 +63,8 @@ fn answered(state: &mut State, rom: &[u8], access: &Access, answer: &Part) -> Bu
         → IsStateOf setup history state.old → setup.rom ≡ rom.now
         → entry.event ≡ Memory access.now → entry.reply ≡ reply_of result
         → IsStateOf setup (entry ∷ history) state.new }
+    ensures held { (setup : Setup) (bytes : Bytes) → StandsFor setup bytes state.old.registers.map.regs
+        → setup.rom ≡ rom.now → reply_of result ≡ memory_reply_in state.old.stores setup bytes access.now }
 {
     let (target, denial) = (answer.target, answer.denial);
     if access.kind.is_write() {

@@ -1,9 +1,9 @@
 //! What a monitor asks of a chipset between two steps; and `ask`, which takes any event and refuses one out of range.
 
 ghost use Rattle.std.specs.Prelude.{◌≡◌, ◌≤◌, ◌<◌, ◌↔◌, true, false, List, ◌∷◌, IfSome, IfOk, IfErr, OnErr, IsTrue};
-ghost use Rattle.std.specs.Prelude.{IsErr, MatchResult};
+ghost use Rattle.std.specs.Prelude.{IsErr, MatchResult, is_some};
 ghost use Rattle.board_prelude.specs.Common.{Spurious, Entry, Port, IsInRange, IsAnswer, timer_of, acknowledged_by};
-ghost use Rattle.board_prelude.specs.Common.{version_of, is_hard_reset};
+ghost use Rattle.board_prelude.specs.Common.{version_of, is_hard_reset, interrupt};
 ghost use Rattle.pit_8254.specs.NextRise.{IsNextRise};
 ghost use Rattle.board_devices.specs.Outside.{is_interrupting};
 ghost use Rattle.board_chipset.specs.Chipset.{IsLeftBy};
@@ -57,6 +57,7 @@ impl Chipset {
     /// Whether the master 8259A asserts INT, so that a processor may acknowledge an interrupt.
     #[tactic(auto, unfolding(crate::specs::Chipset::IsLeftBy))]
     pub fn interrupt(&self) -> bool
+        ensures held { result ≡ is_some (interrupt self.now.state.devices.pair.master) }
         ensures interrupt { (history : List Entry) → IsLeftBy self.now history
             → result ≡ is_interrupting self.now.setup history }
         ensures spurious { (history : List Entry) → IsLeftBy self.now history
@@ -100,6 +101,7 @@ impl Chipset {
     /// never rises unless something is written first.
     #[tactic(auto, unfolding(crate::specs::Chipset::IsLeftBy))]
     pub fn pulses_to_rise(&self) -> Option<u32>
+        ensures held { IsNextRise self.now.state.devices.timer result }
         ensures rise { (history : List Entry) → IsLeftBy self.now history → IsNextRise (timer_of history) result }
         ensures bound { IfSome result (λ n. n ≤ 131_073) }
     {

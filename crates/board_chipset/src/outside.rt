@@ -3,6 +3,7 @@
 ghost use Rattle.std.specs.Prelude.{◌≡◌, ℕ, List, ◌∷◌, None};
 ghost use Rattle.board_prelude.specs.Common.{Device, Bus, Entry, Setup, IsAnswer};
 ghost use Rattle.board_chipset.specs.BusReplies.{reply_of};
+ghost use Rattle.board_chipset.specs.Held.{IsByDevice};
 ghost use Rattle.board_chipset.specs.Kept.{CanDo, IsStateOf, StaysSound};
 ghost use Rattle.board_chipset.specs.Steps.{IsForDevices};
 
@@ -21,6 +22,7 @@ pub fn answer(state: &mut State, event: &Event) -> BusReply
         → IsAnswer setup history event.now (reply_of result) }
     ensures board { (setup : Setup) (history : List Entry) (entry : Entry) → IsStateOf setup history state.old
         → entry.event ≡ event.now → IsStateOf setup (entry ∷ history) state.new }
+    ensures held { IsByDevice event.now (reply_of result) }
 {
     let routes = &state.registers.south.routes;
     let devices = &mut state.devices;

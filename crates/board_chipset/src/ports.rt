@@ -1,11 +1,13 @@
 //! Accesses at ports.
 
-ghost use Rattle.std.specs.Prelude.{◌≡◌, ℕ, true, false, List, ◌∷◌, Some, None, if◌then◌else◌};
+ghost use Rattle.std.specs.Prelude.{◌≡◌, ℕ, true, false, List, ◌∷◌, Some, None, if◌then◌else◌, is_some};
 ghost use Rattle.board_prelude.specs.Common.{Entry, Port, Reg, Device, Config, Abort, Setup, IsBusAccess, port_answer};
-ghost use Rattle.board_prelude.specs.Common.{port_value, value_at};
+ghost use Rattle.board_prelude.specs.Common.{port_value, value_at, Bytes};
 ghost use Rattle.board_base.specs.declared.target.Dev.TheVariants.{Reset};
 ghost use Rattle.addr_decode.specs.Common.{HasRegister, as_decoded};
 ghost use Rattle.board_chipset.specs.BusReplies.{reply_of};
+ghost use Rattle.config_regs.specs.Config.{AreKeptOf};
+ghost use Rattle.board_chipset.specs.Held.{part_told, port_part_in};
 ghost use Rattle.board_chipset.specs.Kept.{IsState, IsStateOf, StaysSound};
 ghost use Rattle.board_chipset.specs.Ports.{IsEntryOf, Reaching, reached};
 
@@ -15,6 +17,7 @@ use addr_decode::{ConfigRegister, Found};
 use board_base::{Denial, Dev, PortAccess, Target};
 
 /// Does an access at a port, and returns the reply: the value where it reads, what answered, and what denied it.
+#[inline(always)]
 pub fn access(state: &mut State, access: &PortAccess) -> BusReply
     requires bus { IsBusAccess access.now.write access.now.port access.now.width access.now.value }
     requires kept { (rom : List ℕ) × IsState state.old rom }
@@ -23,6 +26,10 @@ pub fn access(state: &mut State, access: &PortAccess) -> BusReply
         → reply_of result ≡ port_answer setup history access.now }
     ensures board { (setup : Setup) (history : List Entry) (entry : Entry) → IsStateOf setup history state.old
         → entry.event ≡ Port access.now → entry.reply ≡ reply_of result → IsStateOf setup (entry ∷ history) state.new }
+    ensures held { (setup : Setup) (bytes : Bytes)
+        → AreKeptOf setup bytes state.old.registers.map.regs state.old.registers.south
+        → is_some setup.disk ≡ is_some state.old.devices.disk
+        → part_told result ≡ port_part_in setup bytes state.old.registers.address access.now }
 {
     let disk = state.devices.has_disk();
     match state.registers.find_port(access.port, access.width, disk) {
@@ -37,6 +44,7 @@ pub fn access(state: &mut State, access: &PortAccess) -> BusReply
 
 /// Does an access at a port that reaches a device.
 #[tactic(auto, unfolding(board_spec::specs::Answer::port_answer))]
+#[inline(always)]
 fn at_device(state: &mut State, dev: Dev, access: &PortAccess) -> BusReply
     requires reaching { Reaching state.old access.now (Device dev) }
     ensures sound { StaysSound state.old state.new }
@@ -46,6 +54,7 @@ fn at_device(state: &mut State, dev: Dev, access: &PortAccess) -> BusReply
     ensures board { (setup : Setup) (history : List Entry) (entry : Entry) → IsStateOf setup history state.old
         → as_decoded (Device dev, None) ≡ reached setup history access.now
         → entry.event ≡ Port access.now → entry.reply ≡ reply_of result → IsStateOf setup (entry ∷ history) state.new }
+    ensures told { part_told result ≡ record { target = Device dev; denial = None } }
 {
     BusReply {
         value: device_value(state, dev, access),
@@ -74,6 +83,7 @@ fn device_value(state: &mut State, dev: Dev, access: &PortAccess) -> Option<u32>
 
 /// Does an access at a port that reaches a register in configuration space, which its function has.
 #[tactic(auto, unfolding(board_spec::specs::Answer::port_answer))]
+#[inline(always)]
 fn at_register(state: &mut State, register: &ConfigRegister, access: &PortAccess) -> BusReply
     requires reaching { Reaching state.old access.now (Config register.now.reg) }
     requires function { HasRegister state.old.registers.map.regs.cards register.now.function register.now.reg }
@@ -84,6 +94,7 @@ fn at_register(state: &mut State, register: &ConfigRegister, access: &PortAccess
     ensures board { (setup : Setup) (history : List Entry) (entry : Entry) → IsStateOf setup history state.old
         → as_decoded (Config register.now.reg, None) ≡ reached setup history access.now
         → entry.event ≡ Port access.now → entry.reply ≡ reply_of result → IsStateOf setup (entry ∷ history) state.new }
+    ensures told { part_told result ≡ record { target = Config register.now.reg; denial = None } }
 {
     BusReply {
         value: register_value(state, register, access),
@@ -125,6 +136,7 @@ fn at_card(state: &mut State, target: Target, access: &PortAccess) -> BusReply
     ensures board { (setup : Setup) (history : List Entry) (entry : Entry) → IsStateOf setup history state.old
         → as_decoded (target, None) ≡ reached setup history access.now
         → entry.event ≡ Port access.now → entry.reply ≡ reply_of result → IsStateOf setup (entry ∷ history) state.new }
+    ensures told { part_told result ≡ record { target = target; denial = None } }
 {
     BusReply {
         value: stored_value(state, target, access),
@@ -144,6 +156,7 @@ fn at_nobody(state: &mut State, denial: Denial, access: &PortAccess) -> BusReply
     ensures board { (setup : Setup) (history : List Entry) (entry : Entry) → IsStateOf setup history state.old
         → as_decoded (Abort, Some denial) ≡ reached setup history access.now
         → entry.event ≡ Port access.now → entry.reply ≡ reply_of result → IsStateOf setup (entry ∷ history) state.new }
+    ensures told { part_told result ≡ record { target = Abort; denial = Some denial } }
 {
     BusReply {
         value: stored_value(state, Target::Abort, access),
@@ -212,7 +225,7 @@ fn read_device(state: &mut State, dev: Dev, access: &PortAccess) -> u32
 }
 
 /// Does a write at a port that `target` answers.
-#[tactic(auto, using(crate::proofs::StateSteps::sound_put, crate::proofs::HeldTargets::stored_in, std::proofs::lemmas::Bool::Decides::nat_tests))]
+#[tactic(auto, using(crate::proofs::HeldTargets::write_rules))]
 fn write(state: &mut State, target: Target, access: &PortAccess)
     requires reaching { Reaching state.old access.now target }
     requires device { (dev : Dev) → target ≡ Device dev → ⊥ }

@@ -14,9 +14,10 @@ ghost use Rattle.board_chipset.specs.Kept.{AreSound, HasRegisters, IsFlat};
 ghost use Rattle.board_chipset.specs.Ports.{Writes};
 
 use crate::reset_control::ResetControl;
-use addr_decode::{ConfigRegister, Found, MapChange, MapRegs, PortRegs, find_port, touches};
+use addr_decode::{
+    ConfAdd, ConfigRegister, Found, MapChange, MapRegs, PortRegs, find_port, touches,
+};
 use board_base::{Denial, Dev, PortAccess, Reg, Target, Width};
-use cfg_ports::ConfAdd;
 use config_regs::South;
 use map_builder::FlatMap;
 use pci_bars::CardSpec;
@@ -120,7 +121,7 @@ impl Registers {
         ensures routing { result ≡ true → register.now.reg.dev ≡ 1 }
         ensures other { result ≡ false → register.now.reg.dev ≢ 1 }
     {
-        self.map.store_from(register, width, value);
+        self.map.store(register, width, value);
         self.south.store(register.reg, width, value)
     }
 

@@ -94,7 +94,7 @@ fn read_whole(alloc: Global, setup: &Setup, fields: &mut Fields) -> Result<State
 }
 
 /// The chipset of this setup whose state is all that is left of the bytes.
-#[tactic(auto, using(crate::proofs::ChipsetLoads::alone_is, std::proofs::lemmas::Bool::Decides::nat_tests), unfolding(crate::specs::Alone::alone))]
+#[tactic(auto, using(crate::proofs::ChipsetLoads::read_alone_rules), unfolding(crate::specs::Alone::alone))]
 fn read_alone(alloc: Global, setup: Setup, fields: &mut Fields) -> Result<Chipset, Fault>
     requires fits { IsSetup setup }
     ensures loaded { IfOk result (λ chipset. (chipset.setup ≡ setup) × IsChipset chipset

@@ -12,6 +12,7 @@ impl Chipset {
     /// The clock: what a read of port 71h would give, and the second after the one that it shows.
     #[tactic(auto, unfolding(crate::specs::Chipset::IsLeftBy))]
     pub fn clock(&self) -> &Cmos
+        ensures held { result.now ≡ self.now.state.devices.clock }
         ensures clock { (history : List Entry) → IsLeftBy self.now history → result.now ≡ clock_of history }
     {
         self.state.devices.clock()

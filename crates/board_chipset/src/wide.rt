@@ -1,9 +1,11 @@
 //! Wide accesses to memory: those that take two to four bus cycles.
 
 ghost use Rattle.std.specs.Prelude.{◌≡◌, ◌≤◌, List, ◌∷◌, length};
-ghost use Rattle.board_prelude.specs.Common.{Entry, Wide, Setup, IsWideAccess, parts_list, IsAnswer};
+ghost use Rattle.board_prelude.specs.Common.{Bytes, Entry, Wide, Setup, IsWideAccess, parts_list, IsAnswer};
+ghost use Rattle.addr_decode.specs.Common.{StandsFor};
 ghost use Rattle.board_stores.specs.Cycles.{answers};
 ghost use Rattle.board_chipset.specs.BusReplies.{wide_reply_of};
+ghost use Rattle.board_chipset.specs.Held.{ArePartsIn};
 ghost use Rattle.board_chipset.specs.Kept.{IsState, IsStateOf, StaysSound};
 
 use crate::bus_reply::WideReply;
@@ -27,6 +29,8 @@ pub fn access(state: &mut State, rom: &[u8], access: &WideAccess) -> WideReply
         → IsStateOf setup history state.old → setup.rom ≡ rom.now
         → entry.event ≡ Wide access.now → entry.reply ≡ wide_reply_of result
         → IsStateOf setup (entry ∷ history) state.new }
+    ensures held { (setup : Setup) (bytes : Bytes) → StandsFor setup bytes state.old.registers.map.regs
+        → setup.rom ≡ rom.now → ArePartsIn setup bytes access.now result.parts }
 {
     law_parts();
     let cut = cycles_of(state.registers.regs(), rom, access);

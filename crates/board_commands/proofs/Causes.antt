@@ -12,6 +12,8 @@ use Rattle.command_words.specs.Words.{Command}
 use Rattle.board_commands.specs.Common.{IsCommandText, AppendsFront, SinkCall, OfCommand, PutsTextFront, IsCaused}
 use Rattle.command_files.specs.Common.{ShelfCall, OfFiles, status_of_put_fault, IsRefusal, IsRefused}
 use Rattle.command_files.proofs.Refusals.{of_files, at_files}
+use Rattle.board_commands.proofs.PutLemmas.{nothing_put, put_refused}
+use Rattle.command_files.proofs.CallLemmas.{none_made, calls_hold}
 
 abbrev HidesNoFault : ShelfCall → Status → Type 0
 HidesNoFault shelf status = ((which : Which) → status ≢ ReadFault which) → shelf.faults_now ≡ shelf.faults_before
@@ -48,3 +50,16 @@ module _ (command : Command) (shelf : ShelfCall) (sink : SinkCall) where
 pub refusal_of : (command : Command) (shelf : ShelfCall) (status : Status) → IsRefused command shelf status
     → IsRefusal status
 refusal_of command shelf status refused = grind (arith, nat_tests)
+
+-- `run_command` is proved by these
+pub ruleset run_command_rules = (
+  caused_done,
+  refusal_of,
+  caused_refusal,
+  caused_put_fault,
+  nothing_put,
+  put_refused,
+  none_made,
+  calls_hold,
+  nat_tests,
+)

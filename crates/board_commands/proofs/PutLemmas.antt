@@ -9,6 +9,7 @@ use Rattle.command_files.specs.declared.status.Status.{Status}
 use Rattle.command_files.specs.Common.{status_of_put_fault, ShelfCall, IsRefused, OfCalls}
 use Rattle.command_files.proofs.CallLemmas.{calls_hold, call_more, calls_both}
 use Rattle.board_commands.specs.Puts.{AllTook, LatestRefused, ArePutsOf, PutsBy}
+use Rattle.board_commands.proofs.SentLemmas.{then_sent}
 
 module _ (before between now : Option (List Put)) (so_far : OfCalls before between AllTook) where
   pub took_more :
@@ -43,3 +44,6 @@ nothing_put command shelf status refused = grind (arith, nat_tests)
 
 pub put_refused : (fault : PutFault) (made : List Put) → LatestRefused made → ArePutsOf (status_of_put_fault fault) made
 put_refused fault made is = grind (arith, nat_tests)
+
+-- `put_piece` is proved by these
+pub ruleset put_piece_rules = (then_sent, took_more, then_refused, puts_failed)

@@ -4,7 +4,7 @@ use Rattle.std.proofs.Common.{append_assoc, append-nil, Vec, Result, OnErr}
 use Rattle.std.proofs.lemmas.Bool.Decides.{nat_tests}
 use Rattle.board_prelude.proofs.Common.{Global, take-append-drop, flat_map-cons, Appends}
 use Rattle.std.proofs.lemmas.List.{at_drop_more}
-use Rattle.log_pieces.specs.Text.{bytes_in, joined}
+use Rattle.logs.specs.Text.{bytes_in, joined}
 use Rattle.board_commands.specs.Output.{Sent, AppendsFront}
 
 pub more_taken : (before now later : Option (List ℕ)) (front piece : List ℕ) → Appends before now front →

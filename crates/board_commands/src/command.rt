@@ -15,7 +15,7 @@ use board_outside::{Gate, Shelf, Sink};
 use command_files::laws::law_one_status;
 use command_files::{Status, read_files};
 use command_words::{Command, command_of};
-use log_pieces::Text;
+use logs::Text;
 use std::alloc::Global;
 use std::sync::Wait;
 use std::thread::Threads;
@@ -41,7 +41,7 @@ fn answer<R: Threads + Wait + Sync, S: Shelf, G: Gate>(
 }
 
 /// Makes the text of a command from its files, and puts it to the sink.
-#[tactic(auto, using(crate::proofs::Causes::caused_done, crate::proofs::Causes::refusal_of, crate::proofs::Causes::caused_refusal, crate::proofs::Causes::caused_put_fault, crate::proofs::PutLemmas::nothing_put, crate::proofs::PutLemmas::put_refused, command_files::proofs::CallLemmas::none_made, command_files::proofs::CallLemmas::calls_hold, std::proofs::lemmas::Bool::Decides::nat_tests))]
+#[tactic(auto, using(crate::proofs::Causes::run_command_rules))]
 fn run_command<R: Threads + Wait + Sync, S: Shelf, K: Sink, G: Gate>(
     rt: &R,
     alloc: Global,

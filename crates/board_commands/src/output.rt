@@ -8,7 +8,7 @@ ghost use Rattle.command_files.specs.Calls.{OfCalls};
 ghost use Rattle.board_commands.specs.Puts.{PutsBy};
 
 use board_outside::{PutFault, Sink};
-use log_pieces::Text;
+use logs::Text;
 
 /// The bytes that are left after the first `count`.
 fn after(bytes: &[u8], count: usize) -> &[u8]
@@ -20,7 +20,7 @@ fn after(bytes: &[u8], count: usize) -> &[u8]
 
 /// Puts a whole piece, in as many calls as the sink needs, none for an empty piece. Where the sink refuses, what it
 /// took before is a front of the piece.
-#[tactic(auto, using(crate::proofs::SentLemmas::then_sent, crate::proofs::PutLemmas::took_more, crate::proofs::PutLemmas::then_refused, crate::proofs::PutLemmas::puts_failed))]
+#[tactic(auto, using(crate::proofs::PutLemmas::put_piece_rules))]
 fn put_piece<K: Sink>(out: &mut K, piece: &[u8]) -> Result<(), PutFault>
     ensures whole { OnOk result (Appends (K.taken out.old) (K.taken out.new) piece.now) }
     ensures front { OnErr result (AppendsFront (K.taken out.old) (K.taken out.new) piece.now) }

@@ -1,7 +1,7 @@
 //! The board of the script that a command read.
 
 ghost use Rattle.std.specs.Prelude.{◌≡◌, ◌≤◌, Some, IfOk};
-ghost use Rattle.script_text.specs.Script.{said_of};
+ghost use Rattle.scripts.specs.Script.{said_of};
 ghost use Rattle.command_texts.specs.Fresh.{IsFreshFor};
 ghost use Rattle.command_files.specs.Known.{HasBoard, board_of};
 
@@ -9,7 +9,7 @@ use board_base::NoMemory;
 use board_core::{Board, BoardOpen};
 use command_files::Read;
 use command_texts::open_board;
-use script_text::Script;
+use scripts::Script;
 use std::alloc::Global;
 
 /// A script that was read, its board as after power-on, and the log or the input that was read with it.

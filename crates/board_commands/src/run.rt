@@ -1,19 +1,19 @@
 //! Runs of scripts on threads.
 
 ghost use Rattle.std.specs.Prelude.{◌≡◌, [], reverse, IfOk};
-ghost use Rattle.board_prelude.specs.Common.{IsLegal, IsCompleteFor, log_text};
+ghost use Rattle.board_prelude.specs.Common.{IsLegal, IsCompleteFor};
 ghost use Rattle.run_order.specs.Places.{AreAllInPlace};
 ghost use Rattle.script_spec.specs.ScriptRange.{IsInRangeScript};
-ghost use Rattle.script_text.specs.Script.{said_of};
+ghost use Rattle.scripts.specs.Script.{said_of};
 ghost use Rattle.board_commands.specs.Texts.{IsRunText};
 
 use board_base::NoMemory;
 use board_core::Board;
 use board_outside::Gate;
 use board_spec::laws::law_lock;
-use log_pieces::{Text, log_by, run_log_by};
+use logs::Text;
 use phase_threads::{EndedRun, run_phases};
-use script_text::Script;
+use scripts::Script;
 use std::alloc::Global;
 use std::sync::Wait;
 use std::thread::Threads;
@@ -39,22 +39,6 @@ pub fn run_script<R: Threads + Wait + Sync, G: Gate>(
     run_phases(rt, alloc, board, script.cpus, script.phases, gate)
 }
 
-/// The log of a run that has ended, written by `workers` threads.
-fn log_of_ended<R: Threads + Sync>(
-    rt: &R,
-    alloc: Global,
-    workers: u8,
-    version: u8,
-    run: &EndedRun,
-) -> Result<Text, NoMemory>
-    ensures text { IfOk result (λ text. text ≡ log_text version run.now.entries) }
-{
-    match run.order() {
-        None => log_by(rt, alloc, workers, version, &run.bus()),
-        Some(order) => run_log_by(rt, alloc, workers, version, &run.bus(), order),
-    }
-}
-
 /// The log of a run of a script. As many threads write it as the script has processors.
 #[tactic(auto, using(std::proofs::lemmas::Bool::Decides::nat_tests))]
 pub(crate) fn log_of_run<R: Threads + Wait + Sync, G: Gate>(
@@ -71,7 +55,7 @@ pub(crate) fn log_of_run<R: Threads + Wait + Sync, G: Gate>(
 {
     let (version, cpus) = (script.version, script.cpus);
     let ended = run_script(rt, alloc, board, script, gate)?;
-    let text = log_of_ended(rt, alloc, cpus, version, &ended)?;
+    let text = ended.log(rt, alloc, cpus, version)?;
     law_lock();
     Ok(text)
 }

@@ -18,7 +18,7 @@ use command_texts::{
     map_after_replay, sent_in_replay, summary_of_made, transfer_after_replay, verdict_on_log,
 };
 use command_words::{Alone, Command, Transfer};
-use log_pieces::Text;
+use logs::Text;
 use std::alloc::Global;
 use std::sync::Wait;
 use std::thread::Threads;
@@ -37,8 +37,8 @@ fn map(alloc: Global, read: Read) -> Result<Text, NoMemory>
     requires board { HasBoard read }
     ensures text { IfOk result (OnBoard read IsMapText) }
 {
-    let mut prepared = prepare(alloc, read)?;
-    map_after_replay(alloc, &mut prepared.board, &prepared.script)
+    let Prepared { script, board, .. } = prepare(alloc, read)?;
+    map_after_replay(alloc, board, &script)
 }
 
 /// How a transfer of the bus master ends that is done after the replay of a script.
@@ -79,8 +79,8 @@ fn blame(alloc: Global, read: Read) -> Result<Text, NoMemory>
     requires board { HasBoard read }
     ensures text { IfOk result (OnBoard read IsBlameText) }
 {
-    let mut prepared = prepare(alloc, read)?;
-    blame_after_replay(alloc, &mut prepared.board, &prepared.script)
+    let Prepared { script, board, .. } = prepare(alloc, read)?;
+    blame_after_replay(alloc, board, &script)
 }
 
 /// How many entries a log has, where it is that of a legal and complete history of a script.
@@ -89,9 +89,13 @@ fn verdict(alloc: Global, read: Read) -> Result<Text, Status>
     ensures text { IfOk result (OnBoard read (λ setup script. IsLegalText setup script read.log)) }
     ensures stops { (script log : List ℕ) → IfErr result (HasNoText (Check script log) read) }
 {
-    let mut prepared = prepare(alloc, read)?;
-    let log = &prepared.log;
-    let text = verdict_on_log(alloc, &mut prepared.board, &prepared.script, log)?;
+    let Prepared {
+        script,
+        board,
+        log,
+        ..
+    } = prepare(alloc, read)?;
+    let text = verdict_on_log(alloc, board, &script, &log)?;
     Ok(text)
 }
 

@@ -78,22 +78,6 @@ impl Board {
         self.history.reserve(n)
     }
 
-    /// Does an event of a processor, and returns the entry that it adds to the history. It takes no memory.
-    pub fn play(&mut self, actor: u8, event: &Event) -> Entry
-        requires in_range { IsInRange self.old.setup event.now }
-        requires spare { 1 ≤ self.old.spare }
-        ensures answer { IsAnswer self.old.setup self.old.entries event.now result.reply }
-        ensures next { result ≡ next_entry self.old.entries actor event.now result.reply }
-        ensures entry { self.new ≡ record self.old {
-          entries = result ∷ self.old.entries;
-          spare = self.old.spare - 1;
-        } }
-    {
-        let entry = self.replay.step(actor, event);
-        self.history.push(&entry);
-        entry
-    }
-
     /// Does an event of a processor, and returns the reply. It takes no memory.
     pub fn step(&mut self, actor: u8, event: &Event) -> Reply
         requires in_range { IsInRange self.old.setup event.now }

@@ -3,10 +3,16 @@
 #![tactic(auto)]
 
 mod board;
+mod past;
 mod replay;
+mod steps;
+mod unrecorded;
 
 pub use board::Board;
 pub use board_chipset::{
     BoardOpen, Setup, Store, is_base, is_disk_size, is_expansion_rom, is_rom_size,
 };
+pub use past::Past;
 pub use replay::Replay;
+pub use steps::Steps;
+pub use unrecorded::UnrecordedBoard;

@@ -4,8 +4,9 @@ use Rattle.std.proofs.Common.{◌≡◌, ℕ, ◌+◌, List, Option, Some, None,
 use Rattle.byte_fields.proofs.Formats.{IsFormat, fields_format, ◌then◌, ◌&◌, last_field}
 use Rattle.pic_pair.proofs.StateFormat.{pair_format, lines_format}
 use Rattle.pit_8254.proofs.StateFormat.{pit_format}
+use Rattle.pit_8254.proofs.Saved.{joined}
 use Rattle.cmos_clock.proofs.StateFormat.{clock_format}
-use Rattle.pirq_router.proofs.StateFormats.{triggers_format}
+use Rattle.south_bridge.proofs.RoutingFormats.{triggers_format}
 use Rattle.ata_pio.specs.State.{IsDisk as IsDiskOver}
 use Rattle.ata_pio.proofs.StateFormats.{most_bytes, disk_format}
 use Rattle.board_devices.specs.Devices.{DevicesValue}
@@ -13,6 +14,9 @@ use Rattle.board_devices.specs.State.{IsSystem, system_bytes, system_fields, IsP
 use Rattle.board_devices.specs.State.{AreMachines, machines_bytes, machines_fields, IsFittedDisk, fitted_bytes}
 use Rattle.board_devices.specs.State.{fitted_fields, AreDevices, devices_bytes, devices_fields}
 use Rattle.board_devices.proofs.DeviceLemmas.{disk_length}
+
+-- what is added in two parts is added in one
+pub ruleset saving = (joined, nat_tests)
 
 -- ---- port 61h
 

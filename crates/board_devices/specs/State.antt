@@ -6,7 +6,7 @@ use Rattle.board_prelude.specs.Common.{Disk, SystemPort, PlainPorts}
 use Rattle.pic_pair.specs.State.{IsPair, pair_bytes, pair_fields, AreLines, lines_bytes, lines_fields}
 use Rattle.pit_8254.specs.State.{IsPit, pit_bytes, pit_fields}
 use Rattle.cmos_clock.specs.State.{IsClock, clock_bytes, clock_fields}
-use Rattle.pirq_router.specs.State.{AreTriggers, triggers_bytes, triggers_fields}
+use Rattle.south_bridge.specs.RoutingState.{AreTriggers, triggers_bytes, triggers_fields}
 use Rattle.ata_pio.specs.State.{IsDisk as IsDiskOver, disk_bytes, disk_fields}
 use Rattle.board_devices.specs.Devices.{DevicesValue}
 

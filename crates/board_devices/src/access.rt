@@ -16,7 +16,7 @@ use board_base::bits::is_set;
 use board_base::{Dev, PortAccess};
 use device_spec::port::ELCR_HIGH;
 use pic_pair::Ack;
-use pirq_router::Pirq;
+use south_bridge::Pirq;
 
 /// The bit of port 61h that is the gate of counter 2.
 const GATE_2: u32 = 0;

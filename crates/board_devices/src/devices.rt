@@ -11,8 +11,8 @@ use crate::plain::PlainPorts;
 use ata_pio::{Ata, AtaOpen};
 use cmos_clock::Cmos;
 use pic_pair::{Lines, PicPair};
-use pirq_router::{Elcr, Pirq};
 use pit_8254::Pit;
+use south_bridge::{Elcr, Pirq};
 use std::alloc::Global;
 use std::marker::Model;
 
@@ -79,6 +79,7 @@ impl Devices {
     /// Whether a disk is fitted.
     #[tactic(auto, using(std::proofs::lemmas::Bool::Decides::nat_tests))]
     pub fn has_disk(&self) -> bool
+        ensures value { result ≡ is_some self.now.disk }
         ensures fitted { (setup : Setup) (history : List Entry) → AreDevicesOf setup history self.now
             → result ≡ is_some setup.disk }
     {

@@ -11,7 +11,7 @@ ghost use Rattle.board_devices.specs.Laws.{AccessLeavesLines, StillLeavesLines, 
 use crate::devices::Devices;
 use board_base::Dev;
 use pic_pair::Lines;
-use pirq_router::Pirq;
+use south_bridge::Pirq;
 
 /// The line of the timer, that of the clock, and that of the disk.
 pub(crate) const TIMER_LINE: u8 = 0;

@@ -1,9 +1,9 @@
 //! What a monitor asks of the devices between two events, and what it writes to them from outside the bus.
 
-ghost use Rattle.std.specs.Prelude.{◌≡◌, ◌+◌, ◌*◌, ◌<◌, ◌≤◌, ◌↔◌, ◌∷◌, List, length, option_map, IfSome, true, false};
+ghost use Rattle.std.specs.Prelude.{◌≡◌, ◌+◌, ◌*◌, ◌<◌, ◌≤◌, ◌↔◌, ◌∷◌, List, length, option_map, IfSome, true, false, is_some};
 ghost use Rattle.board_base.specs.declared.target.Dev.TheVariants.{Clock as ClockChip};
 ghost use Rattle.board_prelude.specs.Common.{Spurious, Entry, Setup, timer_of, clock_of, disk_of, acknowledged_by};
-ghost use Rattle.board_prelude.specs.Common.{after_write};
+ghost use Rattle.board_prelude.specs.Common.{after_write, interrupt};
 ghost use Rattle.pit_8254.specs.Common.{most_count, IsNextRise};
 ghost use Rattle.cmos_clock.specs.Outside.{with_byte};
 ghost use Rattle.board_devices.specs.Devices.{AreDevicesOf, HasDisk, sectors_fitted, sectors_in, with_sectors};
@@ -15,12 +15,13 @@ use ata_pio::Ata;
 use board_base::{Dev, PortAccess, Width};
 use cmos_clock::CLOCK_BYTES;
 use device_spec::port::{CLOCK_DATA, CLOCK_INDEX};
-use pirq_router::Pirq;
+use south_bridge::Pirq;
 
 impl Devices {
     /// Whether the pair requests an interrupt: its INT is 1, and an acknowledge would not be the master's spurious one.
     #[tactic(auto, using(crate::proofs::OutsideLemmas::spurious_is))]
     pub fn interrupt(&self) -> bool
+        ensures value { result ≡ is_some (interrupt self.now.pair.master) }
         ensures interrupt { (setup : Setup) (history : List Entry) → AreDevicesOf setup history self.now
             → result ≡ is_interrupting setup history }
         ensures spurious { (setup : Setup) (history : List Entry) → AreDevicesOf setup history self.now
@@ -32,6 +33,7 @@ impl Devices {
     /// How many pulses of the timer's clock until line 0 next rises, which OUT of counter 0 drives. None where it never
     /// does unless something is written before.
     pub fn pulses_to_rise(&self) -> Option<u32>
+        ensures value { IsNextRise self.now.timer result }
         ensures rise { (setup : Setup) (history : List Entry) → AreDevicesOf setup history self.now
             → IsNextRise (timer_of history) result }
         ensures bound { IfSome result (λ n. n ≤ 2 * most_count + 1) }

@@ -14,8 +14,8 @@ use crate::lines::TIMER_LINE;
 use board_base::Moment;
 use board_spec::Stimulus;
 use pic_pair::{Lines, PicPair};
-use pirq_router::Pirq;
 use pit_8254::Rises;
+use south_bridge::Pirq;
 
 impl Devices {
     /// Runs the timer for `count` pulses of its clock input. The lines reach the pair as if after each single one, and

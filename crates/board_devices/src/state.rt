@@ -7,7 +7,7 @@ ghost use Rattle.byte_fields.specs.Loads.{LoadsWith, OneSpelling};
 ghost use Rattle.pic_pair.specs.State.{pair_fields, lines_fields};
 ghost use Rattle.pit_8254.specs.State.{pit_fields};
 ghost use Rattle.cmos_clock.specs.State.{clock_fields};
-ghost use Rattle.pirq_router.specs.State.{triggers_fields};
+ghost use Rattle.south_bridge.specs.RoutingState.{triggers_fields};
 ghost use Rattle.ata_pio.specs.State.{IsDisk as IsDiskOver, disk_bytes, disk_fields};
 ghost use Rattle.board_devices.specs.Devices.{HasDisk};
 ghost use Rattle.board_devices.specs.State.{AreMachines, machines_bytes};
@@ -21,8 +21,8 @@ use board_base::NoMemory;
 use byte_fields::{Bad, Fault, Fields};
 use cmos_clock::Cmos;
 use pic_pair::{Lines, PicPair};
-use pirq_router::Elcr;
 use pit_8254::Pit;
+use south_bridge::Elcr;
 use std::alloc::Global;
 
 /// Reads the pair.
@@ -101,7 +101,7 @@ fn save_over(disk: &Ata, fitted: &[u8], into: &mut Vec<u8>) -> Result<(), NoMemo
 impl Devices {
     /// Adds the state. `fitted` are the bytes of the disk as it was fitted, where there is one: of its sectors those
     /// that differ are in the state.
-    #[tactic(auto, using(pit_8254::proofs::Saved::joined, std::proofs::lemmas::Bool::Decides::nat_tests), unfolding(crate::specs::State::devices_bytes))]
+    #[tactic(auto, using(crate::proofs::StateFormat::saving), unfolding(crate::specs::State::devices_bytes))]
     pub fn save_state(&self, fitted: Option<&[u8]>, into: &mut Vec<u8>) -> Result<(), NoMemory>
         requires disk { HasDisk (option_map (λ bytes. bytes.now) fitted) self.now.disk }
         ensures saved { OnOk result (into.new.items

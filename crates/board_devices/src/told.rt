@@ -7,11 +7,12 @@ ghost use Rattle.board_devices.specs.Devices.{AreDevicesOf, AreRoutesOf};
 use crate::devices::Devices;
 use cmos_clock::Cmos;
 use pic_pair::Lines;
-use pirq_router::Pirq;
+use south_bridge::Pirq;
 
 impl Devices {
     /// The clock.
     pub fn clock(&self) -> &Cmos
+        ensures value { result.now ≡ self.now.clock }
         ensures clock { (setup : Setup) (history : List Entry) → AreDevicesOf setup history self.now
             → result.now ≡ clock_of history }
     {

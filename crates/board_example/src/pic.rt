@@ -5,7 +5,7 @@ ghost use Rattle.std.specs.Prelude.{◌<◌};
 use board_spec::offset::PIRQRCA;
 use board_spec::port::{MASTER, MASTER_ODD, SLAVE, SLAVE_ODD};
 use pic_pair::{Ack, Lines, PicPair};
-use pirq_router::{Elcr, Pirq};
+use south_bridge::{Elcr, Pirq};
 
 /// ICW1: edge triggered, more than one chip, and ICW4 is to come.
 const CASCADED: u8 = 0x11;

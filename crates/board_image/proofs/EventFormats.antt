@@ -7,11 +7,11 @@ use Rattle.board_base.specs.declared.access.Access.{Access}
 use Rattle.board_image.specs.Common.{kind_byte, tag_byte, memory_bytes, port_bytes, wide_bytes, kind_field, width_field}
 use Rattle.board_image.specs.Common.{tag_of, most_value, is_wide_size, is_wide_place, memory_fields, port_fields}
 use Rattle.board_image.specs.Common.{wide_fields, Reading}
-use Rattle.image_writer.specs.declared.tag.Tag.{Tag}
+use Rattle.board_image.specs.declared.tag.Tag.{Tag}
 use Rattle.byte_fields.proofs.Formats.{IsFormat, format_as, fields_format, ◌then◌, ◌&◌, last_field}
 use Rattle.byte_fields.proofs.Numbers.{Any, flag_format, wide16, wide32, wide64, byte_format, byte_where, Tells}
 use Rattle.byte_fields.proofs.Numbers.{where_format, within_format}
-use Rattle.image_writer.specs.declared.tag.Tag.TheVariants as tags
+use Rattle.board_image.specs.declared.tag.Tag.TheVariants as tags
 
 pub kind_format : IsFormat 1 kind_field (λ kind. kind_byte kind ∷ []) Any
 kind_format = grind (arith, nat_tests, byte_format)

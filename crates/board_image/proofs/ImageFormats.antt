@@ -241,3 +241,6 @@ image_bad bytes left are is =
           ap length told.0 ∙ length-append (saved_spelled late.0.0) late.0.1 in
           (omega (arith, same, whole), omega (arith, same, whole, few))
     ]
+
+-- `read_image` is proved by these
+pub ruleset read_image_rules = (image_same, image_never, image_taken, image_bad, nat_tests)

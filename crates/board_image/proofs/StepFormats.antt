@@ -7,8 +7,8 @@ use Rattle.board_prelude.proofs.Common.{applied_again, event_applied}
 use Rattle.board_base.specs.declared.access.Access.{Access}
 use Rattle.board_spec.specs.declared.event.Event.TheVariants.{Look as LookAt}
 use Rattle.board_spec.specs.declared.stimulus.Stimulus.TheVariants as stimuli
-use Rattle.image_writer.specs.declared.tag.Tag.{Tag}
-use Rattle.image_writer.specs.declared.tag.Tag.TheVariants as tags
+use Rattle.board_image.specs.declared.tag.Tag.{Tag}
+use Rattle.board_image.specs.declared.tag.Tag.TheVariants as tags
 use Rattle.board_image.specs.Common.{tag_of_event, look_bytes, moment_bytes, field_bytes, step_bytes, FitsField}
 use Rattle.board_image.specs.Common.{IsImageStep, can_have, look_fields, moment_fields, applied_fields, event_fields}
 use Rattle.board_image.specs.Common.{step_fields, tag_byte}

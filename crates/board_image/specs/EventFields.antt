@@ -9,8 +9,8 @@ use Rattle.board_base.specs.declared.access.Width.TheVariants.{Two, Four}
 use Rattle.board_base.specs.declared.access.Access.{Access}
 use Rattle.board_spec.specs.declared.event.Event.TheVariants.{Look as LookAt}
 use Rattle.board_spec.specs.declared.stimulus.Stimulus.TheVariants.{Wire}
-use Rattle.image_writer.specs.declared.tag.Tag.{Tag}
-use Rattle.image_writer.specs.declared.tag.Tag.TheVariants as tags
+use Rattle.board_image.specs.declared.tag.Tag.{Tag}
+use Rattle.board_image.specs.declared.tag.Tag.TheVariants as tags
 use Rattle.byte_fields.specs.Fields.{Reading, gives, ◌>>=◌, number, number_where, within, flag_field}
 
 abbrev pub kind_of : ℕ → Option Kind

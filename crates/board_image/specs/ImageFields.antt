@@ -5,7 +5,7 @@ use Rattle.board_prelude.specs.Common.{w8, w16, w32, Statement, Base, MemoryBase
 use Rattle.board_prelude.specs.Common.{Setup, is_base_in_range, is_rom_in_range, is_rom_size, is_disk_length}
 use Rattle.board_prelude.specs.Common.{memory_of_cards, memory_size, most_statements, most_card_memory}
 use Rattle.board_image.specs.declared.head.Head.{Head}
-use Rattle.image_writer.specs.ImageBytes.{Saved, magic, image_version, io_base, keeps_bytes, outside_base}
+use Rattle.board_image.specs.ImageBytes.{Saved, magic, image_version, io_base, keeps_bytes, outside_base}
 use Rattle.byte_fields.specs.Fields.{Reading, gives, ◌>>=◌, number, number_where, within, where_true, plain, exactly}
 use Rattle.byte_fields.specs.Fields.{ended, flag_field}
 use Rattle.board_image.specs.EventFields.{step_fields}

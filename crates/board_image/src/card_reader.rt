@@ -4,13 +4,13 @@ ghost use Rattle.std.specs.Prelude.{◌≡◌, ◌≤◌, ◌-◌, ◌<◌, ◌�
 ghost use Rattle.board_prelude.specs.Common.{w8, most_card_memory, IsBase, memory_of_cards, memory_size};
 ghost use Rattle.pci_bars.specs.Bases.{base_of};
 ghost use Rattle.byte_fields.specs.Fields.{Took, Filled, number};
-ghost use Rattle.image_writer.specs.ImageBytes.{keeps_bytes};
+ghost use Rattle.board_image.specs.ImageBytes.{keeps_bytes};
 ghost use Rattle.board_image.specs.ImageFields.{base_in, base_of_byte, rom_of, bases_fields, card_fields, cards_fields};
 
+use crate::format::{IO_BASE, OUTSIDE_BASE};
 use arrayvec::ArrayVec;
 use board_core::{is_base, is_expansion_rom};
 use byte_fields::{Bad, Fault, Fields};
-use image_writer::{IO_BASE, OUTSIDE_BASE};
 use pci_bars::{BASE_COUNT, BaseSpec, CardSpec};
 use std::alloc::Global;
 

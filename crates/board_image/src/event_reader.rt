@@ -3,17 +3,17 @@
 ghost use Rattle.std.specs.Prelude.{◌≡◌, ◌≤◌, ◌-◌, ◌^◌, ◌%◌, ◌==◌, true, false, find, is_some, IfOk};
 ghost use Rattle.board_prelude.specs.Common.{w8, w16, w32, w64, bytes_of, Setup, days_in_month, stimulus_form};
 ghost use Rattle.board_prelude.specs.Common.{stimulus_of_code, option_map};
-ghost use Rattle.image_writer.specs.declared.tag.Tag.TheVariants as tags;
+ghost use Rattle.board_image.specs.declared.tag.Tag.TheVariants as tags;
 ghost use Rattle.byte_fields.specs.Fields.{Took, number_where, within};
 ghost use Rattle.board_image.specs.EventFields.{kind_of, kind_field, width_of, width_field, tag_of, tag_field};
 ghost use Rattle.board_image.specs.EventFields.{is_wide_size, is_wide_place, most_value, memory_fields, port_fields};
 ghost use Rattle.board_image.specs.EventFields.{wide_fields, look_fields, moment_fields, can_have, applied_fields};
 ghost use Rattle.board_image.specs.EventFields.{event_fields, step_fields};
 
+use crate::tag::Tag;
 use board_base::{Access, Kind, Moment, PortAccess, WideAccess, Width};
 use board_spec::{Event, Statement, Stimulus};
 use byte_fields::{Bad, Fields};
-use image_writer::Tag;
 use pci_bars::CardSpec;
 
 /// The highest number of a processor.

@@ -12,7 +12,7 @@ pub struct Image {
 }
 
 impl Model for Image {
-    ghost use Rattle.image_writer.specs.ImageBytes.{Saved};
+    ghost use Rattle.board_image.specs.ImageBytes.{Saved};
 
     ghost Value = { Saved };
 

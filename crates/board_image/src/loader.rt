@@ -2,7 +2,7 @@
 
 ghost use Rattle.std.specs.Prelude.{◌≡◌, List, [], IfOk};
 ghost use Rattle.board_prelude.specs.Common.{Entry, IsSetup, IsLegal, IsReplayOf, statements_of};
-ghost use Rattle.image_writer.specs.ImageBytes.{IsImage};
+ghost use Rattle.board_image.specs.ImageBytes.{IsImage};
 
 use crate::image::Image;
 use board_base::NoMemory;

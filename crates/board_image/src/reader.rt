@@ -3,7 +3,7 @@
 ghost use Rattle.std.specs.Prelude.{◌≡◌, ◌≤◌, ◌⊎◌, ℕ, List, Ok, Err, IfOk, length};
 ghost use Rattle.board_prelude.specs.Common.{w32, is_rom_size, Statement, Setup as Fitting};
 ghost use Rattle.board_image.specs.declared.fault.ImageFault.{ImageFault};
-ghost use Rattle.image_writer.specs.ImageBytes.{Saved, image_bytes, IsImage};
+ghost use Rattle.board_image.specs.ImageBytes.{Saved, image_bytes, IsImage};
 ghost use Rattle.byte_fields.specs.Fields.{Took, Filled, number_where, plain};
 ghost use Rattle.board_image.specs.ImageFields.{has_disk_size, head_fields, setup_fields, steps_fields, saved_fields};
 ghost use Rattle.board_image.specs.ImageFields.{image_fields, IsBadAt};
@@ -11,13 +11,13 @@ ghost use Rattle.board_image.specs.ImageFields.{image_fields, IsBadAt};
 use crate::card_reader::cards;
 use crate::event_reader::step;
 use crate::fault::ImageFault;
+use crate::format::{MAGIC, VERSION};
 use crate::head::Head;
 use crate::image::Image;
 use board_core::{Setup, is_disk_size, is_rom_size};
 use board_spec::Statement;
 use board_spec::limits::MOST_STATEMENTS;
 use byte_fields::{Bad, Fault, Fields};
-use image_writer::{MAGIC, VERSION};
 use pci_bars::CardSpec;
 use std::alloc::Global;
 
@@ -143,7 +143,7 @@ fn image(alloc: Global, fields: &mut Fields) -> Result<Image, Fault>
 
 /// The image that bytes are, or the offset of the first field that is not whole or out of range, or of the first byte
 /// too many. Exactly the bytes that `save` writes of some setup and history are an image.
-#[tactic(auto, using(crate::proofs::ImageFormats::image_same, crate::proofs::ImageFormats::image_never, crate::proofs::ImageFormats::image_taken, crate::proofs::ImageFormats::image_bad, std::proofs::lemmas::Bool::Decides::nat_tests))]
+#[tactic(auto, using(crate::proofs::ImageFormats::read_image_rules))]
 pub fn read_image(alloc: Global, bytes: &[u8]) -> Result<Image, ImageFault>
     ensures image { IfOk result (λ image. IsImage image.setup image.steps
         × (bytes.now ≡ image_bytes image.setup image.steps)) }

@@ -10,3 +10,6 @@ mod PicLaws
 mod PitCounts
 mod PitLatches
 mod ClockLaws
+mod CardWindows
+mod RomReads
+mod SaidReads

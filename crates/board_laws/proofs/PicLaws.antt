@@ -267,3 +267,9 @@ other-slave pair slave is quiet = grind (arith, nat_tests)
 
 pub reads_leave : ReadsLeaveTheOther
 reads_leave pair port = grind (arith, nat_tests, settled_slave, chip_after_read, other-slave, interrupt, still-quiet)
+
+-- `acknowledged_is_in_service` is proved by these
+pub ruleset acknowledged_is_in_service_rules = (nat_tests, settled_slave, with_level_has, interrupt_small)
+
+-- `spurious_leaves_alone` is proved by these
+pub ruleset spurious_leaves_alone_rules = (nat_tests, settled_slave)

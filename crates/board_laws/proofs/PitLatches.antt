@@ -99,3 +99,6 @@ of_both true true true p = (refl, grind (arith, nat_tests, commute))
 of_both a true true p = (refl, grind (arith, nat_tests, commute))
 of_both a b true p = (refl, grind (arith, nat_tests, commute))
 of_both a b c p = (refl, grind (arith, nat_tests, commute))
+
+-- `read_back_is_single_latches` is proved by these
+pub ruleset read_back_is_single_latches_rules = (one_by_one, is_latch, of_both)

@@ -12,3 +12,5 @@ pub mod PicLaws
 pub mod PitLaws
 pub mod PitCounts
 pub mod ClockLaws
+pub mod RomReads
+pub mod StepReads

@@ -14,6 +14,7 @@ ghost use Rattle.board_laws.specs.SmramLaw.{SmramByBits};
 pub mod devices;
 pub mod machines;
 pub mod orders;
+pub mod roms;
 
 /// The registers that the address map depends on are those after the map writes alone.
 #[tactic(auto, using(board_spec::proofs::MapWriteLaws::map_writes_decide))]

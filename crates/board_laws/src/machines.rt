@@ -45,7 +45,7 @@ pub fn masked_levels_wait()
 {}
 
 /// A level that is acknowledged without automatic end of interrupt is in service.
-#[tactic(auto, using(std::proofs::lemmas::Bool::Decides::nat_tests, crate::proofs::PicLaws::settled_slave, crate::proofs::PicLaws::with_level_has, crate::proofs::PicLaws::interrupt_small), unfolding(device_spec::specs::Pair::pair_after_acknowledge))]
+#[tactic(auto, using(crate::proofs::PicLaws::acknowledged_is_in_service_rules), unfolding(device_spec::specs::Pair::pair_after_acknowledge))]
 pub fn acknowledged_is_in_service()
     ensures master { AcknowledgedIsInService }
     ensures slave { AcknowledgedSlaveIsInService }
@@ -63,7 +63,7 @@ pub fn non_specific_end_ends_first()
 {}
 
 /// A spurious answer leaves the chip that gives it alone.
-#[tactic(auto, using(std::proofs::lemmas::Bool::Decides::nat_tests, crate::proofs::PicLaws::settled_slave), unfolding(device_spec::specs::Pair::answer_of, device_spec::specs::Pair::pair_after_acknowledge))]
+#[tactic(auto, using(crate::proofs::PicLaws::spurious_leaves_alone_rules), unfolding(device_spec::specs::Pair::answer_of, device_spec::specs::Pair::pair_after_acknowledge))]
 pub fn spurious_leaves_alone()
     ensures { SpuriousLeavesAlone }
 {}
@@ -90,7 +90,7 @@ pub fn latched_count_stays()
 {}
 
 /// A read-back of several counters, or of count and status, equals the single latches.
-#[tactic(auto, using(crate::proofs::PitLatches::one_by_one, crate::proofs::PitLatches::is_latch, crate::proofs::PitLatches::of_both))]
+#[tactic(auto, using(crate::proofs::PitLatches::read_back_is_single_latches_rules))]
 pub fn read_back_is_single_latches()
     ensures counters { ReadBackIsOneByOne }
     ensures latch { ReadBackIsLatch }

@@ -1,3 +1,5 @@
 pub mod Standing
-pub mod Turns
+pub mod CallerTurns
 pub mod Opening
+pub mod Histories
+pub mod Limits

@@ -3,3 +3,8 @@ pub mod Callers
 pub mod Bus
 pub mod Joins
 pub mod Common
+pub mod Known
+pub mod Props
+pub mod Origins
+pub mod Steps
+pub mod Passes

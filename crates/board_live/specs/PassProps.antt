@@ -2,7 +2,7 @@
 use Rattle.std.specs.Prelude.{ℕ}
 use Rattle.std.proofs.Props.{props}
 use Rattle.logbook.specs.Pages.{Book}
-use Rattle.shared_board.specs.Passes.{SharedPass, IsPassOf}
+use Rattle.board_live.specs.Passes.{SharedPass, IsPassOf}
 
-pub IsPassOf-prop : (number : ℕ) (book : Book) (pass : SharedPass) → IsProp (IsPassOf number book pass)
+pub IsPassOf-prop : {T : Type 0} (number : ℕ) (book : Book) (pass : SharedPass T) → IsProp (IsPassOf number book pass)
 IsPassOf-prop number book pass = hlevel props

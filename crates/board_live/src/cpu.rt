@@ -3,38 +3,42 @@ ghost use Rattle.std.specs.Prelude.{◌≡◌, ◌+◌, ◌<◌, length, IfOk, O
 ghost use Rattle.board_spec.specs.InRange.{IsInRange};
 ghost use Rattle.bus_turn.specs.Common.{IsIdle, number_of, splits_of};
 ghost use Rattle.map_publish.specs.Lists.{opened_of};
-ghost use Rattle.shared_board.specs.Known.{IsMapOpened};
-ghost use Rattle.shared_board.specs.Passes.{IsPassOf, IsFresh, IsViewerFor, callers_in, setup_in, opened_in};
-ghost use Rattle.shared_board.specs.Props.{Opens-prop};
+ghost use Rattle.board_live.specs.Known.{IsMapOpened};
+ghost use Rattle.board_live.specs.Passes.{IsPassOf, IsFresh, IsViewerFor, callers_in, setup_in, opened_in};
+ghost use Rattle.board_live.specs.Props.{Opens-prop};
 ghost use Rattle.board_live.specs.PassProps.{IsPassOf-prop};
 
 use crate::live::Live;
+use crate::shared::{Answered, Shared};
+use crate::turns::{enter, leave};
 use board_base::{Kind, NoMemory};
+use board_core::{Board, Steps};
 use board_spec::{Event, Look};
 use bus_turn::Pass;
 use map_publish::Viewer;
-use shared_board::{Answered, Shared, enter, leave};
 use std::sync::Wait;
 
 /// A caller: its number, its pass of the turn, and its viewer of the published map. It is not `Drop`: `Live::close`
 /// ends it.
-pub struct Cpu {
+pub struct Cpu<B: Steps = Board> {
     pub number: u8,
-    pub pass: Pass<Shared>,
+    pub pass: Pass<Shared<B>>,
     pub viewer: Viewer,
-    pub ghost passed: { IsPassOf number viewer.front.seen.book pass } by { IsPassOf-prop number viewer.front.seen.book pass },
+    pub ghost passed: { IsPassOf number viewer.front.seen.book pass } by { IsPassOf-prop number
+        viewer.front.seen.book pass },
     pub ghost idle: { IsIdle pass },
-    pub ghost opens: { IsMapOpened (setup_in pass) (opened_in pass) (opened_of viewer.front.seen.log) } by { Opens-prop (setup_in pass) (opened_in pass) (opened_of viewer.front.seen.log) },
+    pub ghost opens: { IsMapOpened (setup_in pass) (opened_in pass) (opened_of viewer.front.seen.log) } by { Opens-prop
+        (setup_in pass) (opened_in pass) (opened_of viewer.front.seen.log) },
 }
 
-impl Cpu {
+impl<B: Steps> Cpu<B> {
     ghost use Rattle.board_live.specs.Callers.{IsCallerOf, IsNewOf, IsSameCaller, setup_of, mine_of, known_of};
     ghost use Rattle.board_live.specs.Bus.{AddsByBus, AddsNone, IsNoLook};
     ghost use Rattle.map_publish.specs.Laws.{IsLookAfter};
-    ghost use Rattle.shared_board.specs.Known.{Extends, most_each};
+    ghost use Rattle.board_live.specs.Known.{Extends, most_each};
 
     /// A caller that has seen what was opened.
-    pub(crate) fn new(number: u8, pass: Pass<Shared>, viewer: Viewer) -> Cpu
+    pub(crate) fn new(number: u8, pass: Pass<Shared<B>>, viewer: Viewer) -> Cpu<B>
         requires idle { IsIdle pass }
         requires number { number_of pass ≡ number }
         requires caller { number < callers_in pass }
@@ -55,7 +59,12 @@ impl Cpu {
     /// Does an event at the shared board, in one turn. It waits for the turn, and for viewers that look at an older
     /// map. The event is in range and is no look, and the caller has fewer than 250,000 entries. Refused for want of
     /// memory; then no entry was added, and nothing was published.
-    pub fn bus<R: Wait>(&mut self, live: &Live, rt: &R, event: &Event) -> Result<Answered, NoMemory>
+    pub fn bus<R: Wait>(
+        &mut self,
+        live: &Live<B>,
+        rt: &R,
+        event: &Event,
+    ) -> Result<Answered, NoMemory>
         requires own { IsCallerOf live.now self.old }
         requires event { IsInRange (setup_of self.old) event.now }
         requires no_look { IsNoLook event.now }
@@ -97,7 +106,7 @@ impl Cpu {
     }
 
     /// Takes a turn without an event, after which the caller knows all that is published.
-    pub(crate) fn catch_up<R: Wait>(&mut self, live: &Live, rt: &R)
+    pub(crate) fn catch_up<R: Wait>(&mut self, live: &Live<B>, rt: &R)
         requires own { IsCallerOf live.now self.old }
         ensures own { IsCallerOf live.now self.new }
         ensures same { IsSameCaller self.old self.new }

@@ -2,36 +2,35 @@
 ghost use Rattle.std.specs.Prelude.{◌≡◌, ◌+◌, ◌<◌, ◌≤◌, [], length, map, slice_index_or, vec_capacity, All, IfOk};
 ghost use Rattle.std.specs.Prelude.{IfErr};
 ghost use Rattle.std.specs.List.{Any, range_with_len};
-ghost use Rattle.board_live.specs.declared.cpu.Cpu.{Cpu};
 ghost use mathlib.Core.List.{IsPrefix};
 ghost use Rattle.bus_turn.specs.Common.{IsIdle, IsSameCaller as IsSamePass, number_of, splits_of, seen_of as seen_in};
 ghost use Rattle.bus_turn.specs.Common.{mine_of as mine_in, joined_of, IsOf};
-ghost use Rattle.shared_board.specs.Known.{AreFew};
-ghost use Rattle.shared_board.specs.Passes.{IsFresh, IsViewerFor, callers_in};
+ghost use Rattle.board_live.specs.Known.{AreFew};
+ghost use Rattle.board_live.specs.Passes.{IsFresh, IsViewerFor, callers_in};
 
 use crate::cpu::Cpu;
-use board_core::Board;
+use crate::shared::Shared;
+use crate::sharing::{shared, unshared};
+use board_core::{Board, Steps};
 use bus_turn::{Pass, Turn, TurnOpen};
 use map_publish::Viewer;
-use shared_board::Shared;
-use shared_board::sharing::{shared, unshared};
 use std::alloc::{AllocFailed, Global};
 use std::sync::Wait;
 
 /// A board that callers share by turns. `board_example::live` has an example.
-pub struct Live {
-    pub turn: Turn<Shared>,
+pub struct Live<B: Steps = Board> {
+    pub turn: Turn<Shared<B>>,
 }
 
 /// There was no memory. The board comes back.
 #[derive(Drop)]
-pub struct LiveOpen {
-    pub board: Board,
+pub struct LiveOpen<B = Board> {
+    pub board: B,
 }
 
-impl LiveOpen {
+impl<B> LiveOpen<B> {
     /// Gives the board back from the heap.
-    fn of(board: Box<Board>) -> LiveOpen
+    fn of(board: Box<B>) -> LiveOpen<B>
         ensures board { result.board ≡ board.value }
     {
         LiveOpen {
@@ -41,10 +40,10 @@ impl LiveOpen {
 }
 
 /// The place of the caller that has number 0.
-fn place_of_first(cpus: &[Cpu]) -> usize
+fn place_of_first<B: Steps>(cpus: &[Cpu<B>]) -> usize
     requires first { Any (λ cpu. cpu.number ≡ 0) cpus.now }
     ensures place { result < length cpus.now }
-    ensures first { (d : Cpu) → (slice_index_or cpus.now result d).number ≡ 0 }
+    ensures first { (d : _) → (slice_index_or cpus.now result d).number ≡ 0 }
 {
     for place in 0..cpus.len() {
         if cpus[place].number == 0 {
@@ -54,7 +53,7 @@ fn place_of_first(cpus: &[Cpu]) -> usize
     unreachable!()
 }
 
-impl Live {
+impl<B: Steps> Live<B> {
     ghost use Rattle.board_live.specs.Callers.{IsCallerOf, IsNewOf, AreOpened, AreAllOf, ClosesBoard};
     ghost use Rattle.board_live.specs.Joins.{IsJoined};
 
@@ -63,11 +62,11 @@ impl Live {
     pub fn open<R: Wait>(
         rt: &R,
         alloc: Global,
-        board: Board,
+        board: B,
         n: u8,
-    ) -> Result<(Live, Vec<Cpu>), LiveOpen>
-        requires few { AreFew n board.entries }
-        ensures opened { IfOk result (λ opened. AreOpened board n opened.0 opened.1.items) }
+    ) -> Result<(Live<B>, Vec<Cpu<B>>), LiveOpen<B>>
+        requires few { AreFew n (B.standing board).entries }
+        ensures opened { IfOk result (λ opened. AreOpened (B.standing board) n opened.0 opened.1.items) }
         ensures refused { IfErr result (λ refused. refused.board ≡ board) }
     {
         let board = match Box::new(alloc, board) {
@@ -105,7 +104,7 @@ impl Live {
     }
 
     /// The callers of a turn that was just opened: one for each viewer. There is room for them.
-    fn callers(&self, pass: Pass<Shared>, viewers: Vec<Viewer>, cpus: Vec<Cpu>) -> Vec<Cpu>
+    fn callers(&self, pass: Pass<Shared<B>>, viewers: Vec<Viewer>, cpus: Vec<Cpu<B>>) -> Vec<Cpu<B>>
         requires own { IsOf self.now.turn pass }
         requires idle { IsIdle pass }
         requires first { (number_of pass ≡ 0) × (splits_of pass ≡ 0) }
@@ -130,10 +129,11 @@ impl Live {
     }
 
     /// Ends the sharing, with all callers, and gives the board. It may wait for the turn.
-    pub fn close<R: Wait>(self, rt: &R, cpus: Vec<Cpu>) -> Board
+    pub fn close<R: Wait>(self, rt: &R, cpus: Vec<Cpu<B>>) -> B
         requires cpus { AreAllOf self cpus.items }
-        ensures cpus { All (ClosesBoard result) cpus.items }
-        ensures entries { All (λ entry. Any (λ cpu. cpu.number ≡ entry.actor) cpus.items) result.entries }
+        ensures cpus { All (ClosesBoard (B.standing result)) cpus.items }
+        ensures entries { All (λ entry. Any (λ cpu. cpu.number ≡ entry.actor) cpus.items)
+            (B.standing result).entries }
     {
         let mut cpus = cpus;
         let place = place_of_first(&cpus);
@@ -150,7 +150,7 @@ impl Live {
     }
 
     /// Joins the passes of callers into another, after each has learnt what is published.
-    fn join<R: Wait>(&self, rt: &R, pass: &mut Pass<Shared>, cpus: Vec<Cpu>)
+    fn join<R: Wait>(&self, rt: &R, pass: &mut Pass<Shared<B>>, cpus: Vec<Cpu<B>>)
         requires own { IsOf self.now.turn pass.old }
         requires idle { IsIdle pass.old }
         requires cpus { All (IsCallerOf self.now) cpus.items }

@@ -3,6 +3,7 @@ ghost use Rattle.std.specs.Prelude.{◌≡◌};
 
 use crate::cpu::Cpu;
 use crate::live::Live;
+use board_core::Steps;
 
 /// The value itself, of a type that may go to another thread.
 fn sent<X: Send>(x: X) -> X
@@ -19,21 +20,21 @@ fn lent<X: Sync>(x: &X) -> &X
 }
 
 /// A caller may go to another thread.
-fn send_cpu(cpu: Cpu) -> Cpu
+fn send_cpu<B: Steps + Send>(cpu: Cpu<B>) -> Cpu<B>
     ensures same { result ≡ cpu }
 {
     sent(cpu)
 }
 
 /// A shared board may go to another thread.
-fn send_live(live: Live) -> Live
+fn send_live<B: Steps + Send>(live: Live<B>) -> Live<B>
     ensures same { result ≡ live }
 {
     sent(live)
 }
 
 /// Threads may share a shared board.
-fn share_live(live: &Live) -> &Live
+fn share_live<B: Steps + Send>(live: &Live<B>) -> &Live<B>
     ensures same { result.now ≡ live.now }
 {
     lent(live)

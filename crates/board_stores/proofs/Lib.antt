@@ -3,4 +3,3 @@ pub mod CutLemmas
 pub mod PutLemmas
 pub mod ValueLemmas
 pub mod JoinLemmas
-pub mod PortLemmas

@@ -3,5 +3,4 @@ pub mod Puts
 pub mod Ready
 pub mod Cycles
 pub mod Values
-pub mod PortCycles
 pub mod Common

@@ -67,7 +67,7 @@ pub fn cycles_of(regs: &MapRegs, rom: &[u8], access: &WideAccess) -> ArrayVec<Cy
 
 /// The part that begins `done` bytes after the first.
 #[tactic(auto, using(crate::proofs::CutLemmas::part_cut))]
-pub(crate) fn part_at(access: &WideAccess, done: u8) -> Access
+fn part_at(access: &WideAccess, done: u8) -> Access
     requires inside { done < access.now.bytes }
     requires bytes { access.now.bytes ≤ 8 }
     requires ends { access.now.addr + access.now.bytes ≤ 0x1_0000_0000 }

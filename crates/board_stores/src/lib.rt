@@ -4,11 +4,9 @@
 mod cut;
 mod join;
 mod memory;
-mod ports;
 mod stores;
 
 pub use cut::{Cycle, cycles_of};
 pub use join::{read_cycles, write_cycles};
-pub use memory::{decoded, read, target_in, write};
-pub use ports::{PortCycle, port_cycles};
+pub use memory::{decoded, decoded_elsewhere, read, target_in, write};
 pub use stores::Stores;

@@ -1,15 +1,16 @@
 //! Accesses to memory: what each reaches, and its bytes read or written there.
-ghost use Rattle.std.specs.Prelude.{◌≡◌, ℕ, true, List, length};
+ghost use Rattle.std.specs.Prelude.{◌≡◌, ℕ, true, List, None, length};
 ghost use Rattle.board_prelude.specs.Common.{Entry, Setup, IsRomSize, is_write, memory_put, target_at, value_at, Bytes};
 ghost use Rattle.pci_bars.specs.Cards.{AreCards, AreFitted, cards_of};
 ghost use Rattle.addr_decode.specs.MapRegs.{StandsFor, map_bytes};
+ghost use Rattle.addr_decode.specs.Memory.{plain_row};
 ghost use Rattle.board_stores.specs.Puts.{HasStores, ArePut};
 ghost use Rattle.board_stores.specs.Ready.{IsReady};
 ghost use Rattle.board_stores.specs.Targets.{part_in};
 ghost use Rattle.board_stores.specs.Values.{value_with};
 
 use crate::stores::Stores;
-use addr_decode::{MapRegs, decode};
+use addr_decode::{MapRegs, decode, decode_elsewhere};
 use board_base::{Access, Area, Target};
 use board_spec::Part;
 use board_spec::wide::read_at;
@@ -24,6 +25,23 @@ pub fn decoded(map: &MapRegs, rom: &[u8], access: &Access) -> Part
         → setup.rom ≡ rom.now → result ≡ part_in setup bytes access.now }
 {
     let (area, denial) = decode(map, access.addr, access.kind, access.smm);
+    Part {
+        target: target_in(map, rom, area, access.addr),
+        denial,
+    }
+}
+
+/// What an access to memory reaches as `decoded` says it, at an address at which `plain_row` finds none.
+#[inline(always)]
+pub fn decoded_elsewhere(map: &MapRegs, rom: &[u8], access: &Access) -> Part
+    requires cards { AreFitted map.now.cards.items }
+    requires rom { IsRomSize (length rom.now) }
+    requires elsewhere { (setup : Setup) (bytes : Bytes) → StandsFor setup bytes (map_bytes map.now)
+        → plain_row bytes access.now.addr ≡ None }
+    ensures decoded { (setup : Setup) (bytes : Bytes) → StandsFor setup bytes (map_bytes map.now)
+        → setup.rom ≡ rom.now → result ≡ part_in setup bytes access.now }
+{
+    let (area, denial) = decode_elsewhere(map, access.addr, access.kind, access.smm);
     Part {
         target: target_in(map, rom, area, access.addr),
         denial,

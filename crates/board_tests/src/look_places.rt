@@ -8,7 +8,7 @@ use access_history::{Entries, History};
 use arrayvec::ArrayVec;
 use board_base::{Area, Dev, Kind, PortAccess, Target, Width};
 use board_spec::{Entry, Event, Look, Reply};
-use run_order::{Done, RunEntry, RunOrder, Works};
+use run_order::{Actors, Done, RunEntry, RunOrder, Works};
 use std::alloc::{AllocError, Global};
 use std::process::Abort;
 
@@ -159,12 +159,12 @@ fn works_of<'a>(rt: &impl Abort, lists: &'a [Vec<Done>]) -> Works<'a> {
     works
 }
 
-fn have_callers(bus: &Entries<'_>, works: &Works) -> bool
-    ensures callers { IsTrue result → All (λ entry. entry.actor < length works.now.items) bus.now }
+fn have_callers<A: Actors>(actors: &A, works: &Works) -> bool
+    ensures callers { IsTrue result → All (λ actor. actor < length works.now.items) (A.actors actors.now) }
 {
     let count = works.len();
-    for i in 0..bus.len() {
-        if usize::from(bus.entry(i).actor) >= count {
+    for i in 0..actors.len() {
+        if usize::from(actors.actor(i)) >= count {
             return false;
         }
     }

@@ -4,7 +4,7 @@ ghost use Rattle.std.specs.Prelude.{◌≡◌, [], OnOk, IfOk};
 ghost use Rattle.board_spec.specs.Setup.{IsCardList};
 ghost use Rattle.board_core.specs.Steps.{AreInRange};
 ghost use Rattle.script_spec.specs.ScriptRange.{IsInRangeScript};
-ghost use Rattle.script_text.specs.Script.{said_of};
+ghost use Rattle.scripts.specs.Script.{said_of};
 
 use board_core::{Board, Setup};
 use board_spec::Statement;
@@ -12,7 +12,7 @@ use board_spec::limits::MOST_STATEMENTS;
 use make_script::{make_disk, make_rom, make_text};
 use map_builder::FlatMap;
 use pci_bars::CardSpec;
-use script_text::{Script, read_script};
+use scripts::{Script, read_script};
 use std::alloc::Global;
 use std::process::Abort;
 use std::test::Fail;

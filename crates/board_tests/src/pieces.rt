@@ -1,102 +1,104 @@
-//! Logs that are written in pieces.
+//! Logs that are put together in pieces.
 
-ghost use Rattle.std.specs.Prelude.{All, IfOk, length};
-ghost use Rattle.run_order.specs.Over.{IsPlacedBelow};
+ghost use Rattle.std.specs.Prelude.{◌≡◌, ◌<◌, [], IfOk, OnOk, length};
+ghost use Rattle.run_log.specs.Lines.{AreLinesOf};
 
-use access_history::{Entries, History};
-use board_base::{Access, Area, Kind, Target, Width};
+use board_base::{Access, Area, Kind, NoMemory, Target, Width};
 use board_spec::{Entry, Event, Look, Reply};
-use log_pieces::{Text, log_by, run_log_by};
-use logs_and_maps::push_log;
-use run_order::RunEntry;
-use std::alloc::{AllocError, Global};
+use logs::{Text, push_log};
+use run_log::{Lines, log_of_lines};
+use std::alloc::Global;
 use std::process::Abort;
 
-/// How many entries a history has at most.
-const MOST: u32 = 10_000;
+/// How many processors there are.
+const PROCESSORS: u8 = 3;
 
-/// A history of reads, by three processors in turn.
-fn reads(rt: &impl Abort, alloc: Global, count: u32) -> History {
-    let mut history = History::new(alloc);
-    history.reserve(MOST).expect(rt, "room");
-    for i in 0..count {
-        let access = Access {
-            kind: Kind::Read,
-            addr: i,
-            width: Width::One,
-            smm: false,
-            value: 0,
+/// A read by each processor in turn, and now and then a look at an address where nobody answers.
+fn entry_of(i: u32) -> Entry
+    ensures actor { result.actor < 3 }
+{
+    let actor = (i % u32::from(PROCESSORS)) as u8;
+    let seq = i / u32::from(PROCESSORS) + 1;
+    if i % 5 == 4 {
+        return Entry {
+            actor,
+            seq,
+            event: Event::Look {
+                kind: Kind::Fetch,
+                addr: 0xFFFF_FFFF,
+                smm: true,
+            },
+            reply: Reply::Saw(Look {
+                version: 5,
+                lo: 0xE000_0000,
+                hi: 0xFFFF_FFFF,
+                area: Area::Abort,
+            }),
         };
-        let reply = Reply::Bus {
+    }
+    let access = Access {
+        kind: Kind::Read,
+        addr: i,
+        width: Width::One,
+        smm: false,
+        value: 0,
+    };
+    Entry {
+        actor,
+        seq,
+        event: Event::Memory(access),
+        reply: Reply::Bus {
             value: Some(i % 256),
             target: Target::Dram(0),
             denial: None,
-        };
-        if history.spare() > 0 {
-            history.push(&Entry {
-                actor: (i % 3) as u8,
-                seq: i / 3 + 1,
-                event: Event::Memory(access),
-                reply,
-            });
-        }
+        },
     }
-    history
 }
 
-/// A look at an address where nobody answers.
-const LOOK: RunEntry = RunEntry::Look {
-    actor: 7,
-    seq: 1,
-    kind: Kind::Fetch,
-    smm: true,
-    addr: 0xFFFF_FFFF,
-    look: Look {
-        version: 5,
-        lo: 0xE000_0000,
-        hi: 0xFFFF_FFFF,
-        area: Area::Abort,
-    },
-};
-
-/// The order of a run in which a look comes after each entry of the bus.
-fn with_looks<R: Abort>(
-    rt: &R,
-    alloc: Global,
-    bus: &Entries<'_>,
-) -> Result<Vec<RunEntry>, AllocError>
-    ensures within { IfOk result (λ order. All (IsPlacedBelow (length bus.now)) order.items) }
+/// The lines of no entries, of each processor.
+fn no_lines(alloc: Global) -> Result<Vec<Lines>, NoMemory>
+    ensures lines { IfOk result (λ lines. AreLinesOf lines.items [] []) }
+    ensures all { IfOk result (λ lines. length lines.items ≡ 3) }
 {
-    let mut order = Vec::new(alloc);
-    for place in 0..bus.len() {
-        let entry = bus.entry(place);
-        order.push(RunEntry::Bus {
-            actor: entry.actor,
-            seq: entry.seq,
-            place: u32::try_from(place).expect(rt, "fewer than 2^32 entries"),
-        })?;
-        order.push(LOOK)?;
-    }
-    Ok(order)
+    let mut lines = Vec::new(alloc);
+    lines.push(Lines::new(alloc))?;
+    lines.push(Lines::new(alloc))?;
+    lines.push(Lines::new(alloc))?;
+    Ok(lines)
 }
 
-/// The entries of a history.
-fn entries_of(alloc: Global, history: &Entries<'_>) -> Result<Vec<Entry>, AllocError> {
-    let mut entries = Vec::new(alloc);
-    for i in 0..history.len() {
-        entries.push(history.entry(i))?;
-    }
-    Ok(entries)
+/// Adds an entry: its line to those of its processor, and the processor to the order.
+fn write_entry(
+    lines: &mut [Lines],
+    order: &mut Vec<u8>,
+    entries: &mut Vec<Entry>,
+    entry: Entry,
+) -> Result<(), NoMemory>
+    requires actor { entry.actor < length lines.old }
+    requires are { AreLinesOf lines.old order.old.items entries.old.items }
+    ensures are { OnOk result (AreLinesOf lines.new order.new.items entries.new.items) }
+{
+    lines[usize::from(entry.actor)].push(&entry)?;
+    order.push(entry.actor)?;
+    entries.push(entry)?;
+    Ok(())
 }
 
-/// The whole entries of that run.
-fn whole_entries(alloc: Global, bus: &Entries<'_>) -> Result<Vec<Entry>, AllocError> {
-    let mut entries = Vec::new(alloc);
-    for i in 0..bus.len() {
-        entries.push(bus.entry(i))?;
-        entries.push(LOOK.over(bus))?;
+/// Adds so many entries.
+fn write_entries(
+    lines: &mut [Lines],
+    order: &mut Vec<u8>,
+    entries: &mut Vec<Entry>,
+    count: u32,
+) -> Result<(), NoMemory>
+    requires all { length lines.old ≡ 3 }
+    requires are { AreLinesOf lines.old order.old.items entries.old.items }
+    ensures are { OnOk result (AreLinesOf lines.new order.new.items entries.new.items) }
+{
+    for i in 0..count {
+        write_entry(lines, order, entries, entry_of(i))?;
     }
-    Ok(entries)
+    Ok(())
 }
 
 /// Expects the log of entries in so many pieces.
@@ -117,32 +119,18 @@ fn expect_log<R: Abort>(rt: &R, alloc: Global, text: &Text, entries: &[Entry], p
 fn a_log_in_pieces_is_the_log(rt: HostRuntime) {
     let alloc = rt.alloc();
     for (count, workers, pieces) in [
-        (10_000, 1, 1),
+        (10_000, 1, 2),
         (10_000, 2, 3),
         (10_000, 3, 4),
         (10_000, 8, 9),
         (9_000, 255, 251),
-        (100, 8, 1),
-        (0, 8, 1),
+        (100, 8, 2),
+        (0, 8, 2),
     ] {
-        let history = reads(&rt, alloc, count);
-        let entries = history.entries();
-        let text = log_by(&rt, alloc, workers, 2, &entries).expect(&rt, "a log");
-        let entries = entries_of(alloc, &entries).expect(&rt, "entries");
-        expect_log(&rt, alloc, &text, &entries, pieces);
-    }
-}
-
-// Twice as many entries as the bus has.
-#[test]
-fn the_log_of_a_run_has_the_looks(rt: HostRuntime) {
-    let alloc = rt.alloc();
-    for (count, workers, pieces) in [(5_000, 1, 1), (5_000, 3, 4), (4_500, 255, 251), (50, 8, 1)] {
-        let history = reads(&rt, alloc, count);
-        let bus = history.entries();
-        let order = with_looks(&rt, alloc, &bus).expect(&rt, "an order");
-        let text = run_log_by(&rt, alloc, workers, 2, &bus, &order).expect(&rt, "a log");
-        let entries = whole_entries(alloc, &bus).expect(&rt, "entries");
+        let mut lines = no_lines(alloc).expect(&rt, "lines");
+        let (mut order, mut entries) = (Vec::new(alloc), Vec::new(alloc));
+        write_entries(&mut lines, &mut order, &mut entries, count).expect(&rt, "entries");
+        let text = log_of_lines(&rt, alloc, workers, 2, &lines, &order).expect(&rt, "a log");
         expect_log(&rt, alloc, &text, &entries, pieces);
     }
 }

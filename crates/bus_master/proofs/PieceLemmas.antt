@@ -194,3 +194,6 @@ pub comes_to_the_transfer : ComesToTheTransfer
 unfolding outcome transferred
 comes_to_the_transfer setup bytes master lba count cells medium pieces end next ended =
     rw (sym (all_same _ _ _ _ next)) at ended
+
+-- `next_piece` is proved by these
+pub ruleset next_piece_rules = (begins_readable, ends_after_all, ends_missing, ends_over, of_any_move)

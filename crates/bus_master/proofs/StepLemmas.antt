@@ -82,3 +82,6 @@ module _ {store : Store} {place : TransferPlace} {moving : Moving} (is : StandsA
         (moving and_then region_found setup bytes) ≡ descriptor_read setup bytes moving
     unfolding region_found
     found_used_up used = grind (arith, nat_tests)
+
+-- `test_sector` is proved by these
+pub ruleset test_sector_rules = (sector_within, sector_readable, sector_missing)

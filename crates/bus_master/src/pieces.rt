@@ -152,7 +152,7 @@ fn is_readable(disk: Option<&Ata>, sector: u32) -> bool
 
 impl UnderWay {
     /// What comes next, where so many words are to move.
-    #[tactic(auto, using(crate::proofs::PieceLemmas::begins_readable, crate::proofs::PieceLemmas::ends_after_all, crate::proofs::PieceLemmas::ends_missing, crate::proofs::PieceLemmas::ends_over, crate::proofs::PieceLemmas::of_any_move))]
+    #[tactic(auto, using(crate::proofs::PieceLemmas::next_piece_rules))]
     fn next_piece(
         &self,
         regs: &MapRegs,

@@ -264,7 +264,7 @@ impl UnderWay {
     }
 
     /// Refused where the next word is the first of a sector that does not exist or is bad.
-    #[tactic(auto, using(crate::proofs::StepLemmas::sector_within, crate::proofs::StepLemmas::sector_readable, crate::proofs::StepLemmas::sector_missing))]
+    #[tactic(auto, using(crate::proofs::StepLemmas::test_sector_rules))]
     fn test_sector(&self, store: &Store, lba: u32) -> Result<(), End>
         requires lba { lba < 2 ^ 28 }
         requires moved { self.now.moved < 0x2_0000 }

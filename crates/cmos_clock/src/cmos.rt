@@ -4,7 +4,7 @@ ghost use Rattle.device_spec.specs.Common.{after_moment, after_read, after_reset
 ghost use Rattle.device_spec.specs.Common.{control_of, data_byte, flags_byte, interrupt_line, put, read_value, store};
 ghost use Rattle.device_spec.specs.Common.{time_bytes, without_flags, IsMoment, civil_time};
 ghost use Rattle.device_spec.specs.Clock.{power_on};
-ghost use Rattle.cmos_clock.specs.Outside.{peeked, with_byte};
+ghost use Rattle.cmos_clock.specs.Outside.{peeked};
 
 use crate::control::Control;
 use crate::register::{
@@ -177,18 +177,6 @@ impl Cmos {
         self.index
     }
 
-    /// Writes the byte at an address below 128, as a processor would, and leaves the index. So registers A and B take
-    /// what a write changes of them, and C and D nothing.
-    pub fn set_byte(&mut self, address: u8, byte: u8)
-        requires address { address < 128 }
-        ensures state { self.new ≡ with_byte self.old address byte }
-    {
-        let index = self.index;
-        self.index = address;
-        self.write_data(byte);
-        self.index = index;
-    }
-
     /// Clears the flags of register C.
     fn clear_flags(&mut self)
         ensures state { self.new ≡ without_flags self.old }
@@ -249,7 +237,7 @@ impl Cmos {
 }
 
 /// Stores the time and the calendar in the format of register B.
-#[tactic(auto, using(board_base::proofs::CalendarLemmas::weekday_of_bound, board_base::proofs::CalendarLemmas::days_in_month_bound))]
+#[tactic(auto, using(crate::proofs::Following::calendar_bounds))]
 fn put_time(bytes: &mut [u8; CLOCK_BYTES], control: Control, m: Moment)
     requires { IsMoment m }
     ensures bytes { bytes.new ≡ put (time_bytes control.byte (civil_time m)) bytes.old }

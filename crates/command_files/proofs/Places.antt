@@ -17,7 +17,7 @@ use Rattle.command_files.specs.Common.{FailsAt, IsNotTaken, IsRefused, OfCalls, 
 use Rattle.command_files.specs.Common.{FetchesOf, IsPassed, IsNotPassed, ReadsNamed}
 use Rattle.command_files.proofs.CallLemmas.{Both, calls_both, calls_hold}
 use Rattle.command_files.proofs.Refusals.{of_files, at_files, at_file, any_file}
-use Rattle.logs_and_maps.proofs.Lines.{reverse-take_more}
+use Rattle.logs.proofs.Lines.{reverse-take_more}
 
 -- ---- the files before a place
 

@@ -2,8 +2,8 @@
 use Rattle.std.specs.Prelude.{Result, Ok, Err}
 use Rattle.board_outside.specs.declared.fault.PutFault.{PutFault}
 use Rattle.board_outside.specs.declared.fault.PutFault.TheVariants.{Failed as SinkFailed, NoMemory as NoMemoryForPut}
-use Rattle.script_text.specs.declared.fault.ScriptFault.{ScriptFault}
-use Rattle.script_text.specs.declared.fault.ScriptFault.TheVariants.{Bad as BadLine, NoMemory as NoMemoryForScript}
+use Rattle.scripts.specs.declared.fault.ScriptFault.{ScriptFault}
+use Rattle.scripts.specs.declared.fault.ScriptFault.TheVariants.{Bad as BadLine, NoMemory as NoMemoryForScript}
 use Rattle.log_check.specs.declared.fault.CheckFault.{CheckFault}
 use Rattle.log_check.specs.declared.fault.CheckFault.TheVariants.{Differs as DiffersAtLine}
 use Rattle.log_check.specs.declared.fault.CheckFault.TheVariants.{NoMemory as NoMemoryForCheck}

@@ -3,7 +3,7 @@
 ghost use Rattle.std.specs.Prelude.{◌≡◌, ◌≤◌, length, IfOk, IfErr};
 ghost use Rattle.board_spec.specs.Setup.{IsRomSize, IsDiskSize};
 ghost use Rattle.script_spec.specs.Common.{IsScriptText, IsInRangeScript};
-ghost use Rattle.script_text.specs.Script.{said_of};
+ghost use Rattle.scripts.specs.Script.{said_of};
 ghost use Rattle.board_image.specs.Common.{IsImage, image_bytes};
 ghost use Rattle.command_files.specs.declared.status.Which.{Which};
 ghost use Rattle.command_files.specs.Table.{limit_of};
@@ -12,7 +12,7 @@ ghost use Rattle.command_files.specs.Steps.{IsBad};
 use crate::status::{Status, Which};
 use board_core::{is_disk_size, is_rom_size};
 use board_image::{Image, read_image};
-use script_text::{Script, read_script};
+use scripts::{Script, read_script};
 use std::alloc::Global;
 
 /// The script that these bytes spell, which are within the limit of a script. BadScript, with the first bad line, where

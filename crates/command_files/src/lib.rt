@@ -11,7 +11,7 @@ mod status;
 mod table;
 mod walk;
 
-pub use logs_and_maps::Line;
+pub use logs::Line;
 pub use message::fault_text;
 pub use read::Read;
 pub use status::{Status, Which, exit_code};

@@ -6,7 +6,7 @@ ghost use Rattle.command_files.specs.FaultText.{kind_text, text_of};
 use crate::status::{Status, Which};
 use board_base::NoMemory;
 use command_words::USAGE;
-use logs_and_maps::Line;
+use logs::Line;
 use std::alloc::{AllocError, Global};
 
 fn kind_text(which: Which) -> &'static str

@@ -1,7 +1,7 @@
 //! What is known of the files that a command has read.
 
 ghost use Rattle.std.specs.Prelude.{◌≡◌, option_map};
-ghost use Rattle.script_text.specs.Script.{said_of};
+ghost use Rattle.scripts.specs.Script.{said_of};
 ghost use Rattle.command_files.specs.Known.{rom_name, disk_name};
 
 use crate::good::{good_disk, good_image, good_rom, good_script};
@@ -9,7 +9,7 @@ use crate::status::{Status, Which};
 use crate::table::name_in_words;
 use board_image::Image;
 use command_words::Command;
-use script_text::Script;
+use scripts::Script;
 use std::alloc::Global;
 use std::marker::Model;
 
@@ -48,7 +48,7 @@ pub struct Read {
 
 impl Model for Read {
     ghost use Rattle.std.specs.Prelude.{option_map};
-    ghost use Rattle.script_text.specs.Script.{said_of};
+    ghost use Rattle.scripts.specs.Script.{said_of};
     ghost use Rattle.command_files.specs.Known.{Known};
 
     ghost Value = { Known };

@@ -8,7 +8,7 @@ use board_core::BoardOpen;
 use board_image::ImageFault;
 use board_outside::PutFault;
 use log_check::CheckFault;
-use script_text::ScriptFault;
+use scripts::ScriptFault;
 
 /// A file that a command reads.
 #[derive(Clone, Copy, PartialEq, Eq, Debug)]

@@ -46,7 +46,7 @@ fn read_next<S: Shelf>(
 
 /// Reads the files of a command in their order, each once. Refused at the first that cannot be read or is bad, with its
 /// status; those after it are not read.
-#[tactic(auto, using(crate::proofs::CallLemmas::none_made, crate::proofs::Refusals::holds_of_error, crate::proofs::Places::are_read, crate::proofs::Places::taken_next, crate::proofs::Places::fetches_next, crate::proofs::Places::stops, crate::proofs::Places::fetches_last, crate::proofs::Places::fetches_all, crate::proofs::GoodLemmas::has_read, std::proofs::lemmas::List::take_all, std::proofs::lemmas::Bool::Decides::nat_tests))]
+#[tactic(auto, using(crate::proofs::GoodLemmas::read_files_rules))]
 pub fn read_files<S: Shelf>(alloc: Global, shelf: &mut S, command: &Command) -> Result<Read, Status>
     ensures read { IfOk result (λ read. OfFiles (S.files shelf.old)
         (λ files. AllRead (said_by command.now) files read)) }

@@ -18,3 +18,6 @@ card_same one other dev vga rom bases = λ k. record { dev = dev k; vga = vga k;
 
 pub rom_same : (one other : Option ℕ) → false ≡ not (option_eq nat_eq one other) → one ≡ other
 rom_same one other same = grind (arith, nat_tests)
+
+-- `is_same_card` is proved by these
+pub ruleset is_same_card_rules = (bases_eq, card_same, rom_same, nat_tests)

@@ -9,3 +9,4 @@ pub mod Happenings
 pub mod SerialReplays
 pub mod TransferTexts
 pub mod ReplayLogs
+pub mod PlayLemmas

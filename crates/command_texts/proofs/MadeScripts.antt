@@ -4,6 +4,7 @@ use Rattle.board_prelude.proofs.Common.{Entry, IsReplayOf, Setup, flat_map-appen
 use Rattle.script_spec.specs.Common.{statements_in, text_of_lines, Script as Said, IsScriptText}
 use Rattle.make_script.specs.Common.{setup_lines, opening_lines, round_lines, lines_of_rounds, make_text}
 use Rattle.command_texts.specs.Common.{HasSummary, IsMakeText, made_setup_of}
+use Rattle.script_spec.proofs.ReadingLaws.{not_both}
 
 -- ---- how long the text is
 
@@ -30,3 +31,6 @@ pub made_result : {E : Type 0} (rounds : ℕ) (script : Said) (setup : Setup) (h
     IsReplayOf setup (statements_in script) history → IfOk result (λ text. HasSummary setup history text) →
     IfOk result (λ text. IsMakeText rounds text)
 made_result rounds script setup history result says same replay summary = grind (arith, nat_tests)
+
+-- `made_script` is proved by these
+pub ruleset made_script_rules = (text_is_short, not_both, nat_tests)

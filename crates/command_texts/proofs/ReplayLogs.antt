@@ -4,7 +4,7 @@ use Rattle.std.proofs.Common.{append_assoc, append-nil, add-one, slice_index}
 use Rattle.board_prelude.proofs.Common.{take_more, Entry, Statement, line_feed, line_text, log_text, statements-newest}
 use Rattle.board_spec.specs.declared.event.Reply.{Reply}
 use Rattle.board_core.specs.Kept.{Playing, HasPlayed, entry_of}
-use Rattle.logs_and_maps.specs.LinesFrom.{entry_with}
+use Rattle.logs.specs.LinesFrom.{entry_with}
 use Rattle.log_check.proofs.LogLines.{log-newest as newest_line}
 use Rattle.command_texts.specs.ReplayLog.{HasLog}
 

@@ -95,3 +95,6 @@ pub abort_added : {T E : Type 0} (result : Result T E) (old one two three new fi
     one ≡ old ++ first → two ≡ one ++ second → three ≡ two ++ space ∷ [] → OnOk result (new ≡ three ++ last) →
     OnOk result (new ≡ old ++ (first ++ second ++ space ∷ last))
 abort_added result old one two three new first second last a b c d = grind (arith, nat_tests, append_assoc)
+
+-- `dram_sum` is proved by these
+pub ruleset dram_sum_rules = (part_added, nat_tests)

@@ -11,3 +11,4 @@ pub mod Transfers
 pub mod Serial
 pub mod SerialSteps
 pub mod Common
+pub mod Plays

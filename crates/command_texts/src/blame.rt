@@ -2,21 +2,20 @@
 
 ghost use Rattle.std.specs.Prelude.{◌≡◌, ◌++◌, ◌≤◌, List, All, length, flat_map, IfOk, OnOk};
 ghost use Rattle.board_prelude.specs.Common.{Entry, Setup, range_text};
-ghost use Rattle.logs_and_maps.specs.Adds.{AddsWords};
+ghost use Rattle.logs.specs.Adds.{AddsWords};
 ghost use Rattle.map_builder.specs.Map.{range_of};
-ghost use Rattle.script_text.specs.Script.{said_of};
+ghost use Rattle.scripts.specs.Script.{said_of};
 ghost use Rattle.command_texts.specs.Blame.{version_text, blamed_text, keep_text, IsBlameText};
 ghost use Rattle.command_texts.specs.Fresh.{IsFreshFor};
 ghost use Rattle.command_texts.specs.Writes.{AreWritesOf};
 
 use crate::writes::{MapWrites, replay_noting};
 use board_base::NoMemory;
-use board_core::Board;
-use log_pieces::Text;
-use logs_and_maps::{push_decimal, push_range, push_words};
+use board_core::{Board, UnrecordedBoard};
+use logs::{Text, push_decimal, push_range, push_words};
 use map_blame::{BlameReport, Blamed, blame};
 use map_builder::Range;
-use script_text::Script;
+use scripts::Script;
 use std::alloc::Global;
 
 /// Appends the line of a range as `map` writes it, without its line feed.
@@ -100,17 +99,22 @@ fn report_text(alloc: Global, writes: &MapWrites, report: &BlameReport) -> Resul
     Text::whole(alloc, text)
 }
 
-/// The address map after a script's replay on its board: each range with the map write since which it stands, and then
-/// the map writes on which the map rests, each with its entry.
-pub fn blame_after_replay(
-    alloc: Global,
-    board: &mut Board,
-    script: &Script,
-) -> Result<Text, NoMemory>
+/// The text of `blame`, from the replay of a script on its board.
+fn blame_on(alloc: Global, board: &mut UnrecordedBoard, script: &Script) -> Result<Text, NoMemory>
     requires fresh { IsFreshFor (said_of script.now) board.old }
     ensures text { IfOk result (λ text. IsBlameText board.old.setup (said_of script.now) text) }
 {
     let writes = replay_noting(alloc, board, script)?;
-    let report = blame(alloc, &board.setup().cards, &writes.changes)?;
+    let report = blame(alloc, &script.cards, &writes.changes)?;
     report_text(alloc, &writes, &report)
+}
+
+/// The address map after a script's replay on its board: each range with the map write since which it stands, and then
+/// the map writes on which the map rests, each with its entry. The board keeps no history meanwhile.
+pub fn blame_after_replay(alloc: Global, board: Board, script: &Script) -> Result<Text, NoMemory>
+    requires fresh { IsFreshFor (said_of script.now) board }
+    ensures text { IfOk result (λ text. IsBlameText board.setup (said_of script.now) text) }
+{
+    let mut board = UnrecordedBoard::new(alloc, board.into_replay());
+    blame_on(alloc, &mut board, script)
 }

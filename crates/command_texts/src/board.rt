@@ -3,14 +3,14 @@
 ghost use Rattle.std.specs.Prelude.{◌≡◌, [], length, option_map, IfOk, IfErr, OnOk};
 ghost use Rattle.board_spec.specs.Setup.{IsRomSize, IsDisk, IsCardList};
 ghost use Rattle.script_spec.specs.ScriptRange.{IsInRangeScript};
-ghost use Rattle.script_text.specs.Script.{said_of};
+ghost use Rattle.scripts.specs.Script.{said_of};
 ghost use Rattle.command_texts.specs.Fitted.{IsNotOpened};
 ghost use Rattle.script_spec.specs.Boards.{fitted};
 
 use board_base::NoMemory;
 use board_core::{Board, BoardOpen, Setup};
 use pci_bars::CardSpec;
-use script_text::Script;
+use scripts::Script;
 use std::alloc::Global;
 
 /// A copy of these cards, for a board to keep.

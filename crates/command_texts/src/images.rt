@@ -3,7 +3,7 @@
 ghost use Rattle.std.specs.Prelude.{◌≡◌, ◌≤◌, ◌↔◌, ◌++◌, true, IfOk};
 ghost use Rattle.board_spec.specs.Orders.{IsReplayOf};
 ghost use Rattle.script_spec.specs.ScriptRange.{IsInRangeScript, statements_in};
-ghost use Rattle.script_text.specs.Script.{said_of};
+ghost use Rattle.scripts.specs.Script.{said_of};
 ghost use Rattle.board_image.specs.Common.{IsImage};
 ghost use Rattle.command_texts.specs.Fresh.{IsFreshFor};
 ghost use Rattle.command_texts.specs.Images.{IsSaveText, IsResumeText};
@@ -14,9 +14,9 @@ use board_base::NoMemory;
 use board_core::{Board, Setup};
 use board_image::{Image, ImageBytes, load, save};
 use board_spec::laws::law_lock;
-use log_pieces::Text;
+use logs::Text;
 use pci_bars::CardSpec;
-use script_text::Script;
+use scripts::Script;
 use std::alloc::Global;
 
 /// The version of the log of a resumed board, whatever the version of the script: version 2 has all kinds of
@@ -24,7 +24,7 @@ use std::alloc::Global;
 const LOG_VERSION: u8 = 2;
 
 /// Whether two cards are equal.
-#[tactic(auto, using(crate::proofs::Cards::bases_eq, crate::proofs::Cards::card_same, crate::proofs::Cards::rom_same, std::proofs::lemmas::Bool::Decides::nat_tests))]
+#[tactic(auto, using(crate::proofs::Cards::is_same_card_rules))]
 fn is_same_card(card: &CardSpec, other: &CardSpec) -> bool
     ensures same { (result ≡ true) ↔ (card.now ≡ other.now) }
 {

@@ -6,6 +6,7 @@ mod board;
 mod images;
 pub mod laws;
 mod made;
+mod plays;
 mod replay;
 mod replay_log;
 mod serial;

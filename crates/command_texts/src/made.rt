@@ -2,7 +2,7 @@
 
 ghost use Rattle.std.specs.Prelude.{◌≡◌, ◌≤◌, [], IfOk};
 ghost use Rattle.script_spec.specs.Common.{IsScriptText, IsInRangeScript};
-ghost use Rattle.script_text.specs.Script.{said_of};
+ghost use Rattle.scripts.specs.Script.{said_of};
 ghost use Rattle.make_script.specs.Common.{make_text, most_rounds};
 ghost use Rattle.command_texts.specs.Replays.{HasSummary, IsMakeText, made_setup_of};
 
@@ -10,14 +10,14 @@ use crate::board::open_board;
 use crate::replay::replay_script;
 use board_base::NoMemory;
 use board_core::{Board, BoardOpen};
-use log_pieces::Text;
+use logs::Text;
 use make_script::laws::{law_made_script, law_make_text};
 use make_script::{make_disk, make_rom, make_text, push_summary};
-use script_text::{Script, ScriptFault, read_script};
+use scripts::{Script, ScriptFault, read_script};
 use std::alloc::Global;
 
 /// The made script of so many rounds, read from its text.
-#[tactic(auto, using(crate::proofs::MadeScripts::text_is_short, script_spec::proofs::ReadingLaws::not_both, std::proofs::lemmas::Bool::Decides::nat_tests))]
+#[tactic(auto, using(crate::proofs::MadeScripts::made_script_rules))]
 fn made_script(alloc: Global, rounds: u32) -> Result<Script, NoMemory>
     requires most { rounds ≤ most_rounds }
     ensures says { IfOk result (λ script. IsScriptText (make_text rounds) (said_of script)) }

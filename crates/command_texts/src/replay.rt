@@ -6,20 +6,20 @@ ghost use Rattle.board_prelude.specs.Common.{IsLegal, most_statements, log_text,
 ghost use Rattle.board_prelude.specs.Common.{map_text};
 ghost use Rattle.map_builder.specs.Map.{range_of};
 ghost use Rattle.script_spec.specs.Common.{IsInRangeScript, statements_in, IsLogOf, DiffersAt};
-ghost use Rattle.script_text.specs.Script.{said_of};
+ghost use Rattle.scripts.specs.Script.{said_of};
 ghost use Rattle.log_check.specs.declared.fault.CheckFault.{CheckFault};
 ghost use Rattle.log_check.specs.Checked.{IsCheckedLog, StandsAfter};
 ghost use Rattle.command_texts.specs.Done.{DidStatements};
 ghost use Rattle.command_texts.specs.Fresh.{IsFreshFor};
 ghost use Rattle.command_texts.specs.Replays.{IsMapText, IsLegalText};
 
+use crate::plays::played;
 use board_base::NoMemory;
-use board_core::Board;
+use board_core::{Board, Steps, UnrecordedBoard};
 use log_check::{CheckFault, statement_count};
-use log_pieces::{Text, log_alone};
-use logs_and_maps::{push_decimal, push_range, push_words};
+use logs::{Text, log_alone, push_decimal, push_range, push_words};
 use map_builder::Range;
-use script_text::Script;
+use scripts::Script;
 use std::alloc::Global;
 
 /// Does the statements of a script in the order of its file, after what the board did before. One thread does all, and
@@ -51,25 +51,27 @@ pub fn replay_script(board: &mut Board, script: &Script) -> Result<(), NoMemory>
 }
 
 /// Checks line by line whether bytes are the log of a legal and complete history of a script, on a fresh board of the
-/// script. Returns the number of entries, or the first line that no such log has after the lines before it. The board
-/// does the statements of the lines before that one, and perhaps the statement of that line too.
-pub fn check_log(
+/// script, which may keep its history or not. Returns the number of entries, or the first line that no such log has
+/// after the lines before it. The board does the statements of the lines before that one, and perhaps the statement of
+/// that line too.
+pub fn check_log<B: Steps>(
     alloc: Global,
-    board: &mut Board,
+    board: &mut B,
     script: &Script,
     bytes: &[u8],
 ) -> Result<u32, CheckFault>
-    requires fresh { IsFreshFor (said_of script.now) board.old }
-    ensures log { IfOk result (λ count. IsCheckedLog board.old.setup (said_of script.now).version
-        (said_of script.now).phases bytes.now board.new.entries count) }
+    requires fresh { IsFreshFor (said_of script.now) (B.standing board.old) }
+    ensures log { IfOk result (λ count. IsCheckedLog (B.standing board.old).setup (said_of script.now).version
+        (said_of script.now).phases bytes.now (B.standing board.new).entries count) }
     ensures differs { (line : ℕ) → result ≡ Err (CheckFault.Differs line)
-        → DiffersAt board.old.setup (said_of script.now).version (said_of script.now).phases bytes.now line }
-    ensures exactly { (log : IsLogOf board.old.setup (said_of script.now).version (said_of script.now).phases bytes.now)
+        → DiffersAt (B.standing board.old).setup (said_of script.now).version (said_of script.now).phases bytes.now
+        line }
+    ensures exactly { (log : IsLogOf (B.standing board.old).setup (said_of script.now).version (said_of script.now).phases bytes.now)
         → (result ≡ Ok (length log.history)) ⊎ (result ≡ Err CheckFault.NoMemory) }
-    ensures setup { board.new.setup ≡ board.old.setup }
-    ensures legal { IsLegal board.new.setup board.new.entries }
-    ensures begun { IsBegunFor (said_of script.now).phases board.new.entries }
-    ensures stands { IfErr result (StandsAfter (said_of script.now).version bytes.now board.new.entries) }
+    ensures setup { (B.standing board.new).setup ≡ (B.standing board.old).setup }
+    ensures legal { IsLegal (B.standing board.new).setup (B.standing board.new).entries }
+    ensures begun { IsBegunFor (said_of script.now).phases (B.standing board.new).entries }
+    ensures stands { IfErr result (StandsAfter (said_of script.now).version bytes.now (B.standing board.new).entries) }
 {
     log_check::check_log(alloc, board, script.version, &script.phases, bytes)
 }
@@ -92,15 +94,22 @@ fn push_map(text: &mut String, ranges: &[Range]) -> Result<(), NoMemory>
     Ok(())
 }
 
-/// The address map after a script's replay on its board.
-pub fn map_after_replay(alloc: Global, board: &mut Board, script: &Script) -> Result<Text, NoMemory>
-    requires fresh { IsFreshFor (said_of script.now) board.old }
-    ensures text { IfOk result (λ text. IsMapText board.old.setup (said_of script.now) text) }
+/// The lines of the ranges of a map.
+fn text_of_map(alloc: Global, ranges: &[Range]) -> Result<Text, NoMemory>
+    ensures text { IfOk result (λ text. text ≡ map_text (map range_of ranges.now)) }
 {
-    replay_script(board, script)?;
     let mut text = String::new(alloc);
-    push_map(&mut text, board.map().ranges())?;
+    push_map(&mut text, ranges)?;
     Text::whole(alloc, text)
+}
+
+/// The address map after a script's replay on its board.
+pub fn map_after_replay(alloc: Global, board: Board, script: &Script) -> Result<Text, NoMemory>
+    requires fresh { IsFreshFor (said_of script.now) board }
+    ensures text { IfOk result (λ text. IsMapText board.setup (said_of script.now) text) }
+{
+    let replay = played(board, script);
+    text_of_map(alloc, replay.map().ranges())
 }
 
 /// The text `legal` with a number of entries.
@@ -114,21 +123,34 @@ fn legal_text(alloc: Global, count: u32) -> Result<Text, NoMemory>
     Text::whole(alloc, text)
 }
 
+/// How many entries a log has, where it is that of a legal and complete history of a script, by a board that keeps no
+/// history meanwhile.
+fn count_of_log(alloc: Global, board: Board, script: &Script, log: &[u8]) -> Result<u32, CheckFault>
+    requires fresh { IsFreshFor (said_of script.now) board }
+    ensures log { IfOk result (λ count. (log : IsLogOf board.setup (said_of script.now).version
+        (said_of script.now).phases log.now) × (count ≡ length log.history)) }
+    ensures differs { (line : ℕ) → result ≡ Err (CheckFault.Differs line)
+        → DiffersAt board.setup (said_of script.now).version (said_of script.now).phases log.now line }
+{
+    let mut board = UnrecordedBoard::new(alloc, board.into_replay());
+    check_log(alloc, &mut board, script, log)
+}
+
 /// The text `legal` with the number of a log's entries, where the log is that of a legal and complete history of a
 /// script.
 #[tactic(auto, using(std::proofs::lemmas::Bool::Decides::nat_tests))]
 pub fn verdict_on_log(
     alloc: Global,
-    board: &mut Board,
+    board: Board,
     script: &Script,
     log: &[u8],
 ) -> Result<Text, CheckFault>
-    requires fresh { IsFreshFor (said_of script.now) board.old }
-    ensures text { IfOk result (λ text. IsLegalText board.old.setup (said_of script.now) log.now text) }
+    requires fresh { IsFreshFor (said_of script.now) board }
+    ensures text { IfOk result (λ text. IsLegalText board.setup (said_of script.now) log.now text) }
     ensures differs { (line : ℕ) → result ≡ Err (CheckFault.Differs line)
-        → DiffersAt board.old.setup (said_of script.now).version (said_of script.now).phases log.now line }
+        → DiffersAt board.setup (said_of script.now).version (said_of script.now).phases log.now line }
 {
-    let count = check_log(alloc, board, script, log)?;
+    let count = count_of_log(alloc, board, script, log)?;
     let text = legal_text(alloc, count)?;
     Ok(text)
 }

@@ -4,7 +4,7 @@ ghost use Rattle.std.specs.Prelude.{◌≡◌, ◌+◌, ◌++◌, ◌<◌, ℕ, 
 ghost use Rattle.board_prelude.specs.Common.{Statement as AStatement, entry_limit};
 ghost use Rattle.board_core.specs.Common.{AreInRange, HasPlayed};
 ghost use Rattle.script_spec.specs.Common.{IsInRangeScript, statements_in};
-ghost use Rattle.script_text.specs.Script.{said_of};
+ghost use Rattle.scripts.specs.Script.{said_of};
 ghost use Rattle.command_texts.specs.Fresh.{IsFreshFor};
 ghost use Rattle.command_texts.specs.Replays.{IsReplayText};
 ghost use Rattle.command_texts.specs.ReplayLog.{HasLog};
@@ -14,9 +14,8 @@ use board_core::{Board, Replay};
 use board_spec::Statement;
 use board_spec::laws::law_lock;
 use log_check::statement_count;
-use log_pieces::Text;
-use logs_and_maps::{push_heading, push_parts_line};
-use script_text::Script;
+use logs::{Text, push_heading, push_parts_line};
+use scripts::Script;
 use std::alloc::Global;
 
 /// The room for a line, in bytes. Most have fewer.

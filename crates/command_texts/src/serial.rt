@@ -3,7 +3,7 @@
 ghost use Rattle.std.specs.Prelude.{◌≡◌, ◌++◌, ◌∷◌, ◌+◌, ◌*◌, ◌≤◌, ℕ, [], All, length, map, IfOk, OnOk};
 ghost use Rattle.board_prelude.specs.Common.{most_statements, in_file_order};
 ghost use Rattle.script_spec.specs.Phases.{lists_of};
-ghost use Rattle.script_text.specs.Script.{said_of};
+ghost use Rattle.scripts.specs.Script.{said_of};
 ghost use Rattle.uart_16550.specs.Common.{com1_at_reset, sent_by};
 ghost use Rattle.uart_16550.specs.declared.com1.Happening.TheVariants.{Comes, Happens};
 ghost use Rattle.command_texts.specs.Fresh.{IsFreshFor};
@@ -15,8 +15,8 @@ use board_core::Board;
 use board_spec::Statement;
 use board_spec::laws::law_lock;
 use log_check::statement_count;
-use log_pieces::Text;
-use script_text::Script;
+use logs::Text;
+use scripts::Script;
 use std::alloc::Global;
 use uart_16550::{SerialBoard, SerialReply};
 

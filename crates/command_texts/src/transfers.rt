@@ -1,24 +1,25 @@
 //! The command `dma`: a transfer of the bus master after a replay.
 
-ghost use Rattle.std.specs.Prelude.{◌≡◌, ◌++◌, ◌*◌, ◌≤◌, Some, length, slice_index, IfOk, OnOk};
-ghost use Rattle.script_text.specs.Script.{said_of};
+ghost use Rattle.std.specs.Prelude.{◌≡◌, ◌++◌, ◌*◌, ◌≤◌, List, Some, length, slice_index, IfOk, OnOk};
+ghost use Rattle.board_prelude.specs.Common.{Entry};
+ghost use Rattle.board_core.specs.Common.{HasPlayed};
+ghost use Rattle.scripts.specs.Script.{said_of};
 ghost use Rattle.dram_store.specs.Bank.{bank_size};
-ghost use Rattle.logs_and_maps.specs.Adds.{AddsWords};
+ghost use Rattle.logs.specs.Adds.{AddsWords};
 ghost use Rattle.command_words.specs.Words.{IsTransfer};
 ghost use Rattle.command_texts.specs.Fresh.{IsFreshFor};
 ghost use Rattle.command_texts.specs.Transfers.{HasTransferText, IsTransferText, started, sum_below, disk_sum};
 ghost use Rattle.command_texts.specs.Transfers.{end_text, ended_line, sums_line};
 
-use crate::replay::replay_script;
+use crate::plays::played;
 use ata_pio::Ata;
 use board_base::{Denial, NoMemory};
-use board_core::Board;
+use board_core::{Board, Replay};
 use bus_master::{BusMaster, COMMAND, DIRECTION, Done, End, START, STATUS, TABLE};
 use command_words::Transfer;
 use dram_store::Dram;
-use log_pieces::Text;
-use logs_and_maps::{push_decimal, push_denial, push_hex_byte, push_hex_long, push_words};
-use script_text::Script;
+use logs::{Text, push_decimal, push_denial, push_hex_byte, push_hex_long, push_words};
+use scripts::Script;
 use std::alloc::Global;
 
 /// A bus master that was started: as after a program's writes of the table pointer, byte by byte, and then of the
@@ -54,7 +55,7 @@ fn sum_of(bytes: &[u8]) -> u64
 }
 
 /// The sum of all bytes of a DRAM of so many MiB. Those that are not kept are 0.
-#[tactic(auto, using(crate::proofs::TransferTexts::part_added, std::proofs::lemmas::Bool::Decides::nat_tests), unfolding(crate::specs::Transfers::sum_below))]
+#[tactic(auto, using(crate::proofs::TransferTexts::dram_sum_rules), unfolding(crate::specs::Transfers::sum_below))]
 fn dram_sum(dram: &Dram, mib: u32) -> u64
     requires size { length dram.now ≡ mib * bank_size }
     ensures sum { result ≡ sum_below (length dram.now) (slice_index dram.now) }
@@ -162,12 +163,13 @@ fn transfer_text(
 }
 
 /// Ends a board, does the transfer on its store, and gives the text of how it ended.
-fn transfer_on(alloc: Global, board: Board, transfer: &Transfer) -> Result<Text, NoMemory>
+fn transfer_on(alloc: Global, replay: Replay, transfer: &Transfer) -> Result<Text, NoMemory>
     requires asked { IsTransfer transfer.now }
-    ensures text { IfOk result (HasTransferText board.setup board.entries transfer.now) }
+    ensures text { (history : List Entry) → HasPlayed replay history
+        → IfOk result (HasTransferText replay.chipset.setup history transfer.now) }
 {
-    let mib = board.setup().mib;
-    let mut store = board.into_store();
+    let mib = replay.setup().mib;
+    let mut store = replay.into_store();
     let mut master = start(transfer);
     let done = master.transfer(&mut store, transfer.lba, transfer.count);
     let status = master.port_read(STATUS);
@@ -184,7 +186,7 @@ fn transfer_on(alloc: Global, board: Board, transfer: &Transfer) -> Result<Text,
 /// bytes of the DRAM and of the disk after it.
 pub fn transfer_after_replay(
     alloc: Global,
-    mut board: Board,
+    board: Board,
     script: &Script,
     transfer: &Transfer,
 ) -> Result<Text, NoMemory>
@@ -192,6 +194,5 @@ pub fn transfer_after_replay(
     requires asked { IsTransfer transfer.now }
     ensures text { IfOk result (IsTransferText board.setup (said_of script.now) transfer.now) }
 {
-    replay_script(&mut board, script)?;
-    transfer_on(alloc, board, transfer)
+    transfer_on(alloc, played(board, script), transfer)
 }

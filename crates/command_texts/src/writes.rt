@@ -4,17 +4,17 @@ ghost use Rattle.std.specs.Prelude.{◌≡◌, ◌-◌, ◌++◌, ◌≤◌, ◌
 ghost use Rattle.board_prelude.specs.Common.{Entry, Setup, IsInRange, IsReplayOf};
 ghost use Rattle.board_core.specs.Steps.{AreInRange};
 ghost use Rattle.script_spec.specs.ScriptRange.{statements_in};
-ghost use Rattle.script_text.specs.Script.{said_of};
+ghost use Rattle.scripts.specs.Script.{said_of};
 ghost use Rattle.command_texts.specs.Blame.{entry_of_version};
 ghost use Rattle.command_texts.specs.Done.{DidStatements};
 ghost use Rattle.command_texts.specs.Fresh.{IsFreshFor};
 ghost use Rattle.command_texts.specs.Writes.{AreWritesOf};
 
 use board_base::NoMemory;
-use board_core::Board;
+use board_core::{Steps, UnrecordedBoard};
 use board_spec::{MapChange, Statement};
 use log_check::statement_count;
-use script_text::Script;
+use scripts::Script;
 use std::alloc::Global;
 
 /// The map writes of a history, the oldest first.
@@ -63,7 +63,7 @@ impl MapWrites {
 
 /// Does a statement, and notes it where it is a map write.
 fn step_noting(
-    board: &mut Board,
+    board: &mut UnrecordedBoard,
     writes: &mut MapWrites,
     statement: &Statement,
 ) -> Result<(), NoMemory>
@@ -74,17 +74,18 @@ fn step_noting(
     ensures spare { OnOk result (board.new.spare ≡ board.old.spare - 1) }
     ensures writes { OnOk result (AreWritesOf board.new.setup board.new.entries writes.new) }
 {
-    if let Some(change) = board.map_change(&statement.event) {
-        writes.add(change, board.history().len() + 1)?;
-    }
+    let change = board.map_change(&statement.event);
     board.step(statement.actor, &statement.event);
+    if let Some(change) = change {
+        writes.add(change, board.count())?;
+    }
     Ok(())
 }
 
 /// Does statements in their order, and notes the map writes among them.
 #[tactic(auto, using(crate::proofs::Done::done_none, crate::proofs::Done::done_next))]
 fn steps_noting(
-    board: &mut Board,
+    board: &mut UnrecordedBoard,
     writes: &mut MapWrites,
     statements: &[Statement],
 ) -> Result<(), NoMemory>
@@ -104,7 +105,7 @@ fn steps_noting(
 /// Replays a script on its fresh board, and gives the map writes of the replay.
 pub(crate) fn replay_noting(
     alloc: Global,
-    board: &mut Board,
+    board: &mut UnrecordedBoard,
     script: &Script,
 ) -> Result<MapWrites, NoMemory>
     requires fresh { IsFreshFor (said_of script.now) board.old }

@@ -9,7 +9,7 @@ ghost use Rattle.command_words.specs.Commands.{said_by};
 
 use crate::transfer::Transfer;
 use board_spec::stimulus::LAST_SECTOR;
-use script_lines::{parse_decimal, parse_hex};
+use scripts::{parse_decimal, parse_hex};
 
 /// The usage text: the form of each command. Standard error gets it where the words are no command.
 pub const USAGE: &str =

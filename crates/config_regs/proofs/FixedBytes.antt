@@ -2,9 +2,9 @@
 use Rattle.std.proofs.Common.{◌≡◌, ◌<◌, ℕ, lit<, List, [], ◌∷◌, false, Option, Some, None, refl, arith}
 use Rattle.board_prelude.proofs.Common.{nat_tests, ne_eqb, Reg, Entry, MapChange, Store, Reset, Setup, smram, is_same}
 use Rattle.board_prelude.proofs.Common.{reset_byte, byte_with, register_change, byte_of}
-use Rattle.pmc_regs.specs.Pmc.{IsFixedOffset}
-use Rattle.pmc_regs.proofs.Common.{writable_bits-fixed, reset_byte-small}
-use Rattle.xbus_select.proofs.Common.{IsFixedAt, kept_byte, fixed_at}
+use Rattle.host_bridge.specs.Pmc.{IsFixedOffset}
+use Rattle.host_bridge.proofs.RowNames.{writable_bits-fixed, reset_byte-small}
+use Rattle.south_bridge.proofs.SelectLemmas.{IsFixedAt, kept_byte, fixed_at}
 use Rattle.addr_decode.proofs.StandsLemmas.{IsBeside}
 use Rattle.config_regs.specs.Config.{HasFixed}
 

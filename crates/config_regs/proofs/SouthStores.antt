@@ -1,7 +1,7 @@
 -- What a store leaves of the registers of the 82371SB.
 use Rattle.std.proofs.Common.{◌≡◌, ℕ, sym, ◌∙◌}
 use Rattle.board_prelude.proofs.Common.{Bytes}
-use Rattle.xbus_select.specs.Piix.{piix_register}
+use Rattle.south_bridge.specs.Piix.{piix_register}
 use Rattle.config_regs.specs.declared.south.South.{South}
 use Rattle.config_regs.specs.Config.{IsSouthOf}
 

@@ -1,8 +1,8 @@
 -- The state of the registers is spelled and read back.
 use Rattle.std.proofs.Common.{refl}
 use Rattle.byte_fields.proofs.Formats.{IsFormat, fields_format, ◌then◌, ◌&◌, last_field}
-use Rattle.pirq_router.proofs.StateFormats.{routes_format}
-use Rattle.xbus_select.proofs.StateFormat.{ide_format}
+use Rattle.south_bridge.proofs.RoutingFormats.{routes_format}
+use Rattle.south_bridge.proofs.IdeFormat.{ide_format}
 use Rattle.config_regs.specs.State.{IsSouth, south_bytes, south_fields}
 
 pub south_format : IsFormat 7 south_fields south_bytes IsSouth

@@ -1,9 +1,9 @@
 -- The registers in configuration space, among the register bytes of a board.
 use Rattle.std.specs.Prelude.{ℕ, ◌≡◌}
 use Rattle.board_prelude.specs.Common.{Setup, bridge, isa, reset_byte, Bytes}
-use Rattle.pmc_regs.specs.Pmc.{IsFixedOffset}
-use Rattle.pirq_router.specs.Routes.{AreRoutesIn}
-use Rattle.xbus_select.specs.Common.{IsIdeOf, IsIsaFixed}
+use Rattle.host_bridge.specs.Pmc.{IsFixedOffset}
+use Rattle.south_bridge.specs.Routes.{AreRoutesIn}
+use Rattle.south_bridge.specs.SelectNames.{IsIdeOf, IsIsaFixed}
 use Rattle.pci_bars.specs.Cards.{AreCardsOf}
 use Rattle.addr_decode.specs.MapRegs.{MapBytes, StandsFor}
 use Rattle.config_regs.specs.declared.south.South.{South}

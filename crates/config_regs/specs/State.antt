@@ -2,8 +2,8 @@
 -- interrupts, and the IDE function.
 use Rattle.std.specs.Prelude.{ℕ, List, ◌++◌}
 use Rattle.byte_fields.specs.Fields.{Reading, gives, ◌>>=◌}
-use Rattle.pirq_router.specs.State.{IsRoutes, routes_bytes, routes_fields}
-use Rattle.xbus_select.specs.State.{IsIde, ide_bytes, ide_fields}
+use Rattle.south_bridge.specs.RoutingState.{IsRoutes, routes_bytes, routes_fields}
+use Rattle.south_bridge.specs.IdeState.{IsIde, ide_bytes, ide_fields}
 use Rattle.config_regs.specs.declared.south.South.{South}
 
 pub record IsSouth (south : South) : Type 0 where

@@ -72,7 +72,7 @@ fn bridge_byte(regs: &MapRegs, off: u8) -> u8
         off,
     }) {
         Some(register) => regs.byte(register),
-        None => pmc_regs::fixed_byte(off),
+        None => host_bridge::fixed_byte(off),
     }
 }
 
@@ -95,7 +95,7 @@ fn isa_byte_beside(south: &South, off: u8) -> u8
 {
     match off {
         PIRQRCA..=PIRQRCD => south.routes.read(off),
-        _ => xbus_select::isa_fixed_byte(off),
+        _ => south_bridge::isa_fixed_byte(off),
     }
 }
 

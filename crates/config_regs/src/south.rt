@@ -1,13 +1,12 @@
 //! The registers of the 82371SB on which the memory map does not depend.
 ghost use Rattle.std.specs.Prelude.{◌≡◌, ◌≢◌, ◌+◌, ◌≤◌, true, false};
 ghost use Rattle.board_prelude.specs.Common.{bytes_of, One, Store, Setup, reset_byte, changed_byte, Bytes};
-ghost use Rattle.xbus_select.specs.Piix.{piix_register};
+ghost use Rattle.south_bridge.specs.Piix.{piix_register};
 ghost use Rattle.config_regs.specs.Config.{IsSouthOf};
 
 use board_base::{Reg, Width};
 use board_spec::offset::{IDE, ISA_BRIDGE, SOUTH_BRIDGE};
-use pirq_router::Pirq;
-use xbus_select::Ide;
+use south_bridge::{Ide, Pirq};
 
 /// The routes of the PCI interrupts in 01.0, and the IDE function 01.1.
 #[derive(Drop)]

@@ -8,8 +8,7 @@ ghost use Rattle.config_regs.specs.State.{IsSouth, south_bytes, south_fields};
 use crate::south::South;
 use board_base::NoMemory;
 use byte_fields::{Bad, Fields};
-use pirq_router::Pirq;
-use xbus_select::Ide;
+use south_bridge::{Ide, Pirq};
 
 impl South {
     /// Adds the 7 bytes of the state: those of the routes, and those of the IDE function.

@@ -150,7 +150,11 @@ abbrev pub words_after_icw1 : ℕ → List Word
 words_after_icw1 byte =
     Icw2 ∷ ((if is_bit byte 1 then [] else Icw3 ∷ []) ++ (if is_bit byte 0 then Icw4 ∷ [] else []))
 
--- what ICW1 clears (8259A, Initialization Command Words 1 and 2, points a to f)
+-- What ICW1 clears (8259A, Initialization Command Words 1 and 2): the edge sense circuit is reset (a), the mask is
+-- cleared (b), IR7 has the lowest priority (c), special mask mode is cleared and a read gives the IRR (e), and what
+-- ICW4 selects is zero where IC4 is 0 (f). The datasheet does not say what becomes of the levels in service, of
+-- rotation and of a poll, nor of automatic EOI and special fully nested mode until an awaited ICW4 is written. That
+-- they are cleared too is this board's choice (docs/DECISIONS.md, Interrupt controllers).
 abbrev pub chip_after_icw1 : Chip → ℕ → Chip
 chip_after_icw1 chip byte =
     record chip {

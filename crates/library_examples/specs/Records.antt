@@ -5,8 +5,8 @@ use Rattle.board_prelude.specs.Common.{BadSector}
 use Rattle.board_base.specs.declared.access.Width.TheVariants.{Two, Four}
 use Rattle.board_spec.specs.declared.event.Event.TheVariants.{Look as LookAt}
 use Rattle.uart_16550.specs.declared.com1.Happening.TheVariants.{Comes}
-use Rattle.board_records.specs.declared.event.EventRecord.{EventRecord}
-use Rattle.board_records.specs.Events.{event_said, asked_said}
+use Rattle.machine_records.specs.declared.event.EventRecord.{EventRecord}
+use Rattle.machine_records.specs.Events.{event_said, asked_said}
 
 -- a record of what is asked, with a value, and with neither SMM nor anything reserved
 abbrev pub asks : (what kind bytes addr value : ℕ) → EventRecord

@@ -3,7 +3,7 @@
 use Rattle.std.specs.Prelude.{ℕ, ◌≡◌, ◌≢◌, ◌<◌, ◌≤◌, List, length, Option, Some, None}
 use Rattle.board_prelude.specs.Common.{Disk, sectors_of, sector_bytes, Entry, disk_of}
 use Rattle.board_chipset.specs.Common.{Running, IsLeftBy}
-use Rattle.board_records.specs.Bytes.{IsSectorRefusal}
+use Rattle.machine_records.specs.Bytes.{IsSectorRefusal}
 
 -- a history left a chipset with this disk, or with none, and a sector of it was refused
 pub record IsRefused (disk : Option Disk) (sector room status : ℕ) : Type 0 where

@@ -10,7 +10,7 @@ use Rattle.script_spec.proofs.Common.{log_lines}
 use Rattle.log_check.specs.Common.{GoesOnWithNone, StopsAt}
 use Rattle.log_check.proofs.LogLines.{log-newest, lines_in, lines_are, lines_each, lines_count, stand_first, StandFirst}
 use Rattle.log_check.proofs.Histories.{Known, Runs, same_history, no_longer}
-use Rattle.logs_and_maps.specs.Reading.{heading}
+use Rattle.logs.specs.Reading.{heading}
 
 module _ {setup : Setup} {version : ℕ} {phases : List (List Statement)} (known : Known setup phases) where
   -- lines that begin the log of a begun history begin a log: as many entries as are left complete it

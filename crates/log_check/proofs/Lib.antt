@@ -5,4 +5,5 @@ pub mod Histories
 pub mod Differences
 pub mod PhaseLists
 pub mod LineSteps
+pub mod Counting
 pub mod LogChecks

@@ -195,3 +195,6 @@ pub handed_on : {T : Type 0} (result : Result T CheckFault) (fault : CheckFault)
     (Q : CheckFault → Type 0) → IsErrAnd result (λ given. given ≡ fault) → Q fault → MatchResult result P Q
 handed_on (Ok value) fault P Q is holds = absurd is
 handed_on (Err given) fault P Q is holds = rw is holds
+
+-- `check_phase` is proved by these
+pub ruleset check_phase_rules = (handed_on, within_start, within_whole, nat_tests)

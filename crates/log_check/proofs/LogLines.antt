@@ -6,7 +6,7 @@ use Rattle.board_prelude.proofs.Common.{line_text, lines_text, log_text}
 use Rattle.script_spec.specs.Lines.{text_of_lines, IsOneLine}
 use Rattle.script_spec.proofs.Common.{lacks-append, one_line, lacks-word, decimal_word, lines_whole, lines_joined}
 use Rattle.script_spec.proofs.Common.{log_lines, compared, nothing_more}
-use Rattle.logs_and_maps.specs.Reading.{heading}
+use Rattle.logs.specs.Reading.{heading}
 
 last_line : (head lines line rest : List ℕ) →
     (head ++ line_feed ∷ (lines ++ line ++ line_feed ∷ [])) ++ rest

@@ -1,5 +1,6 @@
 pub mod Phases
 pub mod Fronts
+pub mod Counted
 pub mod Checked
 pub mod Walks
 pub mod Common

@@ -7,6 +7,7 @@ mod fault;
 mod field;
 mod front;
 mod line;
+mod numbers;
 mod range;
 
 pub use check::check_log;

@@ -2,13 +2,13 @@
 
 ghost use Rattle.std.specs.Prelude.{◌≡◌, ◌≢◌, ◌++◌, ◌∷◌, [], ℕ, List, string_bytes, OnOk, MatchResult};
 ghost use Rattle.board_prelude.specs.Common.{line_feed, line_text, log_text};
-ghost use Rattle.logs_and_maps.specs.LinesFrom.{entry_with};
+ghost use Rattle.logs.specs.LinesFrom.{entry_with};
 ghost use Rattle.log_check.specs.declared.fault.CheckFault.{CheckFault};
 
 use crate::fault::CheckFault;
 use board_base::NoMemory;
 use board_spec::{Event, Reply};
-use logs_and_maps::{push_heading, push_parts_line};
+use logs::{push_heading, push_parts_line};
 
 /// Puts the heading of a log in place of a text, with its line feed.
 pub(crate) fn print_heading(text: &mut String, version: u8) -> Result<(), NoMemory>

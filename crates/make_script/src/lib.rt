@@ -10,6 +10,6 @@ mod script;
 mod summary;
 
 pub use images::{make_disk, make_rom};
-pub use logs_and_maps::Line;
+pub use logs::Line;
 pub use script::make_text;
 pub use summary::push_summary;

@@ -3,11 +3,11 @@
 ghost use Rattle.std.specs.Prelude.{◌≡◌, ◌+◌, ◌*◌, ◌%◌, [], ◌∷◌, ◌++◌, OnOk, OnErr, IfOk};
 ghost use Rattle.board_spec.specs.Text.{space, line_feed, hex_long};
 ghost use Rattle.script_spec.specs.Lines.{text_of_lines};
-ghost use Rattle.logs_and_maps.specs.Adds.{AddsWords, KeepsFront};
+ghost use Rattle.logs.specs.Adds.{AddsWords, KeepsFront};
 ghost use Rattle.make_script.specs.MakeText.{setup_lines, opening_lines, round_lines, make_text};
 
 use board_base::NoMemory;
-use logs_and_maps::{Line, push_hex_long, push_words};
+use logs::{Line, push_hex_long, push_words};
 use std::alloc::Global;
 
 /// The setup, and the line of the phase.
@@ -96,7 +96,7 @@ fn push_opening(text: &mut String) -> Result<(), NoMemory>
 }
 
 /// Appends words, a number in eight hexadecimal digits, and a line feed.
-#[tactic(auto, using(logs_and_maps::proofs::Joined::appended_more, logs_and_maps::proofs::Joined::appended_twice, logs_and_maps::proofs::Joined::front_more))]
+#[tactic(auto, using(logs::proofs::Joined::joined_rules))]
 fn push_numbered_line(text: &mut String, words: &str, number: u32) -> Result<(), NoMemory>
     ensures appended { OnOk result (AddsWords text.old text.new (words.now ++ hex_long number ++ line_feed ∷ [])) }
     ensures front { OnErr result (KeepsFront text.old text.new) }
@@ -107,7 +107,7 @@ fn push_numbered_line(text: &mut String, words: &str, number: u32) -> Result<(),
 }
 
 /// Appends the line of words, an address and a value.
-#[tactic(auto, using(logs_and_maps::proofs::Joined::appended_more, logs_and_maps::proofs::Joined::appended_twice, std::proofs::lemmas::List::append_assoc))]
+#[tactic(auto, using(logs::proofs::Joined::joined_rules, std::proofs::lemmas::List::append_assoc))]
 fn push_write(text: &mut String, words: &str, addr: u32, value: u32) -> Result<(), NoMemory>
     ensures appended { OnOk result (AddsWords text.old text.new
         (words.now ++ hex_long addr ++ space ∷ hex_long value ++ line_feed ∷ [])) }

@@ -3,17 +3,17 @@
 ghost use Rattle.std.specs.Prelude.{◌≡◌, ◌++◌, ◌∷◌, [], List, length, OnOk, OnErr, reverse, flat_map, decimal};
 ghost use Rattle.board_prelude.specs.Common.{Setup, version_of, line_feed, Entry as AnEntry};
 ghost use Rattle.script_spec.specs.Lines.{text_of_lines};
-ghost use Rattle.logs_and_maps.specs.Adds.{AddsWords, KeepsFront};
+ghost use Rattle.logs.specs.Adds.{AddsWords, KeepsFront};
 ghost use Rattle.make_script.specs.Summary.{entry_lines, map_lines, summary_of};
 ghost use Rattle.make_script.specs.Counts.{AreCounts};
 
 use crate::counts::Counts;
 use access_history::Entries;
 use board_base::NoMemory;
-use logs_and_maps::{push_decimal, push_words};
+use logs::{push_decimal, push_words};
 
 /// Appends the line of words and a number.
-#[tactic(auto, using(logs_and_maps::proofs::Joined::appended_more, logs_and_maps::proofs::Joined::appended_twice, logs_and_maps::proofs::Joined::front_more))]
+#[tactic(auto, using(logs::proofs::Joined::joined_rules))]
 fn push_row(text: &mut String, words: &str, number: u64) -> Result<(), NoMemory>
     ensures appended { OnOk result (AddsWords text.old text.new (words.now ++ decimal number ++ line_feed ∷ [])) }
     ensures front { OnErr result (KeepsFront text.old text.new) }

@@ -5,7 +5,9 @@ use Rattle.board_prelude.proofs.Common.{get_or_default, get_or-map, length-map, 
 use Rattle.std.proofs.Common.{◌≡◌, ℕ, suc, ◌+◌, ◌-◌, ◌<◌, ◌≤◌, ◌⊎◌, Bool, true, false, List, [], ◌∷◌, length, get_or}
 use Rattle.std.proofs.Common.{take, reverse, refl, sym, ◌∙◌, arith, set, map, All, get_or-set_same, get_or-set_other}
 use Rattle.std.proofs.Common.{ext_get_or}
-use Rattle.map_builder.specs.Common.{Changed, Range, Mapped, range_of, changed_windows, bounds_or_zero, no_range}
+use Rattle.map_builder.specs.declared.range.Changed.{Changed}
+use Rattle.map_builder.specs.declared.range.Range.{Range}
+use Rattle.map_builder.specs.Common.{Mapped, range_of, changed_windows, bounds_or_zero, no_range}
 use Rattle.addr_decode.specs.MapRegs.{StandsFor}
 use Rattle.map_builder.proofs.KeptLemmas.{top_after, bounds_hold_changes}
 use Rattle.map_blame.specs.declared.watch.Watched.{Watched}

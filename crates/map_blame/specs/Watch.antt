@@ -2,7 +2,9 @@
 use Rattle.std.specs.Prelude.{ℕ, ◌≡◌, ◌+◌, ◌-◌, ◌<◌, ◌≤◌, true, false, List, ◌∷◌, length}
 use Rattle.board_prelude.specs.Common.{MapChange, Setup, registers_after, address_count, six_areas}
 use Rattle.addr_decode.specs.MapRegs.{StandsFor}
-use Rattle.map_builder.specs.Common.{Changed, Range, Mapped, IsOutside}
+use Rattle.map_builder.specs.declared.range.Changed.{Changed}
+use Rattle.map_builder.specs.declared.range.Range.{Range}
+use Rattle.map_builder.specs.Common.{Mapped, IsOutside}
 use Rattle.map_blame.specs.declared.watch.Watched.{Watched}
 use Rattle.map_blame.specs.Since.{IsRightAfter, StandsFrom}
 use Rattle.map_blame.specs.Report.{map_range_of}

@@ -5,7 +5,7 @@ use Rattle.board_prelude.proofs.Common.{Setup, Bytes, Window, reg_after, ne_eqb,
 use Rattle.std.proofs.Common.{◌≡◌, ℕ, zero, suc, ◌≤◌, List, [], ◌∷◌, ◌++◌, map, Option, Some, None, refl, arith}
 use Rattle.std.proofs.Common.{flat_map, get_or, take, ◌<◌, ◌⊎◌, inl, inr, Bool, false, ◌&&◌, IfSome, find}
 use Rattle.std.proofs.ByRecursion.{All-append}
-use Rattle.map_ranges.specs.declared.range.Changed.{Changed}
+use Rattle.map_builder.specs.declared.range.Changed.{Changed}
 use Rattle.addr_decode.specs.declared.register.MapRegister.{MapRegister}
 use Rattle.addr_decode.specs.declared.register.MapRegister.TheVariants.{Pam, RowBoundary, Single, Card}
 use Rattle.addr_decode.specs.MapRegister.{map_register}

@@ -10,7 +10,7 @@ use Rattle.map_builder.specs.Common.{most_ranges, ContinuesAt, range_of, IsOfSom
 use Rattle.std.proofs.lemmas.List.{map_push}
 use Rattle.pci_bars.specs.Cards.{AreFitted}
 use Rattle.addr_decode.proofs.Common.{contains_cases, no_more, few_edges_after, areas_change_at_edges}
-use Rattle.map_ranges.specs.declared.range.Range.{Range}
+use Rattle.map_builder.specs.declared.range.Range.{Range}
 
 pub ruleset build_steps = (nat_tests, common_steps, length-map)
 

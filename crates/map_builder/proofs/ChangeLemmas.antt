@@ -1,24 +1,23 @@
 -- After a change the ranges of a map are right again for each address outside the bounds of the changed windows.
-use Rattle.std.proofs.Common.{◌≡◌, ℕ, ◌<◌, ◌≤◌, Bool, true, false, List, [], ◌∷◌, ◌++◌, Option, Some, refl, sym, ◌∙◌}
-use Rattle.std.proofs.Common.{ap, arith, IfSome, ◌||◌, not, is_some, map, subst, append-nil}
-use Rattle.board_prelude.proofs.Common.{list_any, Width, One, Reg, MapChange, Store, FittedCard, Setup, touches_map}
+use Rattle.std.proofs.Common.{◌≡◌, ℕ, ◌<◌, ◌≤◌, Bool, true, false, List, [], ◌++◌, Option, refl, sym, ◌∙◌}
+use Rattle.std.proofs.Common.{ap, arith, IfSome, ◌||◌, not, is_some, subst}
+use Rattle.board_prelude.proofs.Common.{list_any, Width, Reg, MapChange, Store, Setup, touches_map}
 use Rattle.board_prelude.proofs.Common.{Bytes, address_count, six_areas, MapRange, nat_tests, false≢true}
 use Rattle.pci_bars.specs.Cards.{CardBytes, AreFitted, cards_of}
 use Rattle.addr_decode.proofs.Common.{no_low_card, names_touch}
 use Rattle.addr_decode.specs.declared.register.MapRegister.{MapRegister}
-use Rattle.addr_decode.specs.Common.{is_of_card, names_from, names_of, MapBytes, StandsFor, edges_after}
+use Rattle.addr_decode.specs.Common.{names_from, names_of, MapBytes, StandsFor, edges_after}
 use Rattle.map_builder.specs.Common.{Changed, IsOfSomeBoard, IsMapOf, IsMapWhere, IsBeside, sorted, Rise, rows_in}
 use Rattle.map_builder.specs.Common.{AreChanged, after, rest_on_registers, name_windows, windows_covered}
 use Rattle.map_builder.specs.Common.{changed_windows, most_rows, AreMoved, IsHeldAt, IsSameByte, Mapped}
-use Rattle.map_builder.specs.Changed.{is_card_name, register_windows}
+use Rattle.map_builder.specs.Changed.{is_card_name}
 use Rattle.map_builder.proofs.BoundsLemmas.{covered_ordered, changed_ordered}
 use Rattle.map_builder.proofs.SortedLemmas.{rise_sorted, outside_sorted, beside_sorted, rows_few, sorted_twice}
 use Rattle.map_builder.proofs.MovedRows.{CoversRows, rows_keep, moved_within}
 use Rattle.map_builder.proofs.KeptLemmas.{same_bytes, top_after, changes_keep}
-use Rattle.map_builder.proofs.WindowLemmas.{covered_by_names}
 use Rattle.map_builder.proofs.SameBoards.{boards_same, untouched_areas}
 use Rattle.map_builder.proofs.RebuildLemmas.{all_right, range_below}
-use Rattle.map_builder.specs.Applied.{IsChangedBy, IsStored}
+use Rattle.map_builder.specs.Applied.{IsApplied, IsStored}
 
 -- the registers of a board before a change and after it
 abbrev pub Next : (old new : MapBytes) → MapChange → Type 0
@@ -124,14 +123,6 @@ module _ (setup : Setup) (bytes : Bytes) (change : MapChange) where
   pushed_found false true keeps same_is is once twice =
       found_once (once refl ∙ is) (fixed_same setup (after setup change bytes) bytes change (grind (arith, nat_tests)))
 
--- so they are the same on each board, before the change and after
-pub bridge_found : (setup setup' : Setup) (bytes bytes' : Bytes) (reg : Reg) (value : ℕ) (register : MapRegister)
-    (cards : List FittedCard) →
-    is_of_card register ≡ false → setup'.cards ≡ cards → Some register ∷ [] ≡ names_of cards (Store reg One value) →
-    sorted (register_windows setup bytes register) ≡ sorted (changed_windows setup' bytes' (Store reg One value))
-bridge_found setup setup' bytes bytes' reg value register cards bridge same named =
-    grind (arith, nat_tests, name_fixed, covered_by_names, found_once, append-nil, fixed_same)
-
 -- ---- the windows that are built anew
 
 -- they rise and lie in those that change, and beside them each address keeps its areas
@@ -210,7 +201,7 @@ names_touched setup cards reg width value names fitted same named =
     (no_low_card setup cards 1 (omega arith) fitted.each same))
 
 -- a change that touches the map of each board with its cards is a store
-pub stored_if : {old new : Mapped} {store : MapChange} → IsChangedBy old new store →
+pub stored_if : {old new : Mapped} {store : MapChange} {told : Changed} → IsApplied old new store told →
     ((setup : Setup) → setup.cards ≡ cards_of old.regs.cards → touches_map setup store ≡ true) → IsStored old new store
 stored_if changed touched = record {
   stands = changed.stands;

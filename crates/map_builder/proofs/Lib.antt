@@ -11,3 +11,6 @@ pub mod SameBoards
 pub mod ChangeLemmas
 pub mod MovedRows
 pub mod Common
+pub mod AreaLemmas
+pub mod FindLemmas
+pub mod OneWindow

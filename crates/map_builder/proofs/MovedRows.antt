@@ -11,7 +11,7 @@ use Rattle.addr_decode.specs.declared.register.MapRegister.TheVariants.{RowBound
 use Rattle.addr_decode.specs.Common.{map_register, names_of, MapBytes, StandsFor, edges_of, edges_after}
 use Rattle.addr_decode.proofs.Common.{is_name}
 use Rattle.std.proofs.lemmas.List.Folds.{list_all-map}
-use Rattle.map_ranges.specs.declared.range.Changed.{Changed}
+use Rattle.map_builder.specs.declared.range.Changed.{Changed}
 use Rattle.map_builder.specs.Common.{from_to, name_windows, windows_of, windows_covered, after, changed_windows}
 use Rattle.map_builder.specs.Common.{is_inside, edges_inside, count_of, IsOutside, is_row_name, stores_rows, is_below}
 use Rattle.map_builder.specs.Common.{IsHidden, StaysOrHidden, RowStays, IsInRows, AreMoved, Rise, rows_in}

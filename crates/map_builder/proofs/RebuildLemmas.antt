@@ -12,7 +12,7 @@ use Rattle.map_builder.specs.Common.{IsBuilt, IsRightWhere, IsMapWhere, IsBelow,
 use Rattle.map_builder.specs.Common.{Rise, rows_in, IsOfSomeBoard, IsWhole}
 use Rattle.map_builder.proofs.BuildLemmas.{range, AreasAt, one_address, same_at_each, is_built_first, built_step}
 use Rattle.map_builder.proofs.BuildLemmas.{built_over, built_range, is_whole}
-use Rattle.map_ranges.proofs.FindLemmas.{Placed, placed}
+use Rattle.map_builder.proofs.FindLemmas.{Placed, placed}
 
 -- ---- ranges by their indices
 

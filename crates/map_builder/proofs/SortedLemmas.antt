@@ -1,14 +1,13 @@
 -- Windows in rising order hold the addresses of those that were sorted, and are no more than there are different ones.
 use Rattle.board_prelude.proofs.Common.{common_steps, AllByRecursion, list_any, false≢true, nat_tests, Setup, Bytes}
-use Rattle.board_prelude.proofs.Common.{each_below}
 use Rattle.std.proofs.Common.{◌≡◌, ℕ, ◌+◌, ◌<◌, ◌≤◌, inl, inr, Bool, true, false, List, [], ◌∷◌, ◌++◌, length, refl}
-use Rattle.std.proofs.Common.{arith, nat_lt, min, max, filter, rules, Some}
+use Rattle.std.proofs.Common.{arith, nat_lt, min, max, filter, Some}
 use Rattle.addr_decode.specs.Edges.{edges_of, edges_after}
-use Rattle.addr_decode.specs.Common.{single_count, map_register, fixed_edges}
+use Rattle.addr_decode.specs.Common.{map_register, fixed_edges}
 use Rattle.map_builder.specs.Common.{Changed, both, is_inside, edges_inside, is_window, count_of, IsOutside, bounds}
 use Rattle.map_builder.specs.Common.{with_window, sorted, AreAbove, Rise, rows_in, windows_covered, RowsAreFew}
 use Rattle.addr_decode.proofs.Common.{no_more}
-use Rattle.map_builder.specs.Changed.{joined, single_windows}
+use Rattle.map_builder.specs.Changed.{joined}
 use Rattle.map_builder.proofs.BoundsLemmas.{Outside, Misses, misses_both, Ordered}
 use Rattle.board_spec.specs.RegisterTable.{reset_byte, host_bridge}
 
@@ -225,17 +224,6 @@ rows_few setup bytes windows ordered =
     let fewer = filter_more (is_inside (sorted windows)) (is_inside windows) (edges_of setup bytes)
     (λ addr. inside_sorted addr windows) in
     omega (arith, length_sorted windows ordered)
-
--- ---- those that rise already
-
-pub one_sorted : (window : Changed) → sorted (window ∷ []) ≡ window ∷ []
-unfolding sorted with_window
-one_sorted window = refl
-
--- each row of the table of the registers of one byte rises
-pub singles_sorted : (number : ℕ) → number < single_count → sorted (single_windows number) ≡ single_windows number
-unfolding sorted with_window
-singles_sorted number below = each_below (λ k. sorted (single_windows k) ≡ single_windows k) _ _ (search rules) below
 
 -- ---- the rows that some changes look up, as they compute
 

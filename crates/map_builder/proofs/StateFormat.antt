@@ -13,7 +13,7 @@ use Rattle.byte_fields.proofs.Loops.{IsLoop}
 use Rattle.byte_fields.proofs.Numbers.{any_number, wide32, byte_to}
 use Rattle.addr_decode.specs.MapRegs.{StandsFor}
 use Rattle.addr_decode.proofs.StateFormat.{regs_format, regs_size}
-use Rattle.map_ranges.specs.declared.range.Changed.{Changed}
+use Rattle.map_builder.specs.declared.range.Changed.{Changed}
 use Rattle.map_builder.specs.Map.{Mapped, IsMapOf}
 use Rattle.map_builder.specs.State.{IsWindow, AreWindows, window_bytes, window_fields, windows_bytes, so_many_windows}
 use Rattle.map_builder.specs.State.{windows_fields, regs_of, bare, IsMapped, IsBare, mapped_bytes, mapped_fields}

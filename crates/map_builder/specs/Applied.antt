@@ -3,7 +3,7 @@ use Rattle.std.specs.Prelude.{ℕ, ◌≡◌, ◌<◌, true, false, if◌then◌
 use Rattle.board_prelude.specs.Common.{MapChange, Setup, Bytes, address_count, six_areas, IsFlatMapOf, touches_map}
 use Rattle.pci_bars.specs.Cards.{AreCardsOf, cards_of}
 use Rattle.addr_decode.specs.MapRegs.{StandsFor}
-use Rattle.map_ranges.specs.declared.range.Changed.{Changed}
+use Rattle.map_builder.specs.declared.range.Changed.{Changed}
 use Rattle.map_builder.specs.Map.{Mapped, next_version}
 use Rattle.map_builder.specs.Changed.{after, changed_windows, bounds_or_zero}
 use Rattle.map_builder.specs.Build.{IsBeside}
@@ -29,18 +29,6 @@ pub record IsApplied (old new : Mapped) (change : MapChange) (result : Changed) 
   pub map : (setup : Setup) (bytes : Bytes) → StandsFor setup bytes new.regs → IsFlatMapOf setup bytes new.ranges
   pub changed : (setup : Setup) (bytes : Bytes) → StandsFor setup bytes old.regs →
       result ≡ bounds_or_zero (changed_windows setup bytes change)
-  pub windows : (setup : Setup) (bytes : Bytes) → StandsFor setup bytes old.regs → AreChanged setup bytes change
-      new.changed
-
--- the same, of which nothing is told
-pub record IsChangedBy (old new : Mapped) (change : MapChange) : Type 0 where
-  pub stands : (setup : Setup) (bytes : Bytes) → StandsFor setup bytes old.regs → StandsFor setup
-      (after setup change bytes) new.regs
-  pub cards : (setup : Setup) (bytes : Bytes) → AreCardsOf setup bytes old.regs.cards →
-      AreCardsOf setup (after setup change bytes) new.regs.cards
-  pub same_cards : cards_of new.regs.cards ≡ cards_of old.regs.cards
-  pub version : new.version ≡ next_version old.version
-  pub map : (setup : Setup) (bytes : Bytes) → StandsFor setup bytes new.regs → IsFlatMapOf setup bytes new.ranges
   pub windows : (setup : Setup) (bytes : Bytes) → StandsFor setup bytes old.regs → AreChanged setup bytes change
       new.changed
 

@@ -3,9 +3,9 @@ use Rattle.std.specs.Prelude.{ℕ, ◌≡◌, ◌+◌, ◌-◌, ◌<◌, ◌≤�
 use Rattle.board_prelude.specs.Common.{Setup, Bytes, address_count, MapRange, six_areas, Tiles, NeighboursDiffer}
 use Rattle.board_prelude.specs.Common.{IsRight, IsFlatMapOf, AllByRecursion}
 use Rattle.addr_decode.specs.Common.{MapBytes, StandsFor, edges_after}
-use Rattle.map_ranges.specs.declared.range.Changed.{Changed}
-use Rattle.map_ranges.specs.declared.range.Range.{Range}
-pub use Rattle.map_ranges.specs.Ranges.{ContinuesAt}
+use Rattle.map_builder.specs.declared.range.Changed.{Changed}
+use Rattle.map_builder.specs.declared.range.Range.{Range}
+pub use Rattle.map_builder.specs.Ranges.{ContinuesAt}
 use Rattle.map_builder.specs.Map.{range_of, most_ranges, IsOfSomeBoard}
 use Rattle.map_builder.specs.Changed.{IsOutside}
 

@@ -11,9 +11,9 @@ use Rattle.addr_decode.specs.declared.register.MapRegister.TheVariants.{Pam, Row
 use Rattle.addr_decode.specs.declared.register.CardRegister.{CardRegister}
 use Rattle.addr_decode.specs.declared.register.CardRegister.TheVariants.{Command, Base, ExpansionRom}
 use Rattle.addr_decode.specs.Common.{is_of_card, map_register, edges_of, first_address}
-use Rattle.map_ranges.specs.declared.range.Changed.{Changed}
-pub use Rattle.map_ranges.specs.Bounds.{from_to, both, joined}
-unfoldable pub use Rattle.map_ranges.specs.Bounds.{bounds}
+use Rattle.map_builder.specs.declared.range.Changed.{Changed}
+pub use Rattle.map_builder.specs.Bounds.{from_to, both, joined}
+unfoldable pub use Rattle.map_builder.specs.Bounds.{bounds}
 
 -- every address of a range
 abbrev pub whole : ℕ × ℕ → Changed

@@ -3,7 +3,7 @@ use Rattle.std.specs.Prelude.{ℕ, ◌+◌, ◌-◌, ◌*◌, ◌/◌, ◌^◌, 
 use Rattle.std.specs.Prelude.{slice_index, find, ◌==◌, Bool, if◌then◌else◌}
 use Rattle.board_prelude.specs.Common.{option_map_or, Base, MemoryBase, IoBase, OutsideBase, smram_range}
 use Rattle.pci_bars.specs.Cards.{CardBytes}
-use Rattle.map_ranges.specs.declared.range.Changed.{Changed}
+use Rattle.map_builder.specs.declared.range.Changed.{Changed}
 use Rattle.addr_decode.specs.declared.register.CardRegister.{CardRegister}
 use Rattle.addr_decode.specs.declared.register.CardRegister.TheVariants.{Command, Base as BaseByte, ExpansionRom}
 use Rattle.map_builder.specs.Changed.{from_to, whole}

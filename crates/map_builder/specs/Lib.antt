@@ -9,3 +9,7 @@ pub mod Held
 pub mod Applied
 pub mod Laws
 pub mod Common
+pub mod Bounds
+pub mod Windows
+pub mod Ranges
+pub mod Find

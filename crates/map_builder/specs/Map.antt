@@ -4,8 +4,8 @@ use Rattle.board_prelude.specs.Common.{Setup, IsCardList, largest_top, Bytes, to
 use Rattle.pci_bars.specs.Cards.{CardBytes, AreFitted}
 use Rattle.addr_decode.specs.Edges.{most_edges}
 use Rattle.addr_decode.specs.MapRegs.{MapBytes, StandsFor}
-use Rattle.map_ranges.specs.declared.range.Changed.{Changed}
-pub use Rattle.map_ranges.specs.Ranges.{range_of}
+use Rattle.map_builder.specs.declared.range.Changed.{Changed}
+pub use Rattle.map_builder.specs.Ranges.{range_of}
 
 -- the registers that the map depends on, its ranges, how many changes it has had, modulo 2^32, and the windows that the
 -- last of them changed

@@ -4,7 +4,7 @@ use Rattle.std.specs.Prelude.{Option, Some}
 use Rattle.board_prelude.specs.Common.{AllByRecursion, list_all, list_any, boundary_unit, largest_top}
 use Rattle.addr_decode.specs.declared.register.MapRegister.{MapRegister}
 use Rattle.addr_decode.specs.declared.register.MapRegister.TheVariants.{RowBoundary}
-use Rattle.map_ranges.specs.declared.range.Changed.{Changed}
+use Rattle.map_builder.specs.declared.range.Changed.{Changed}
 use Rattle.map_builder.specs.Changed.{IsOutside}
 
 -- by the names of the registers that a change covers: some are boundaries of rows, and all are

@@ -1,8 +1,8 @@
 -- Windows in rising order, and how many rows are looked up in them.
 use Rattle.std.specs.Prelude.{ℕ, ◌+◌, ◌-◌, ◌<◌, ◌≤◌, List, [], ◌∷◌}
 use Rattle.std.specs.List.{AllByRecursion}
-use Rattle.map_ranges.specs.declared.range.Changed.{Changed}
-unfoldable pub use Rattle.map_ranges.specs.Sorted.{with_window, sorted}
+use Rattle.map_builder.specs.declared.range.Changed.{Changed}
+unfoldable pub use Rattle.map_builder.specs.Windows.{with_window, sorted}
 
 -- windows lie above an address
 abbrev pub AreAbove : ℕ → List Changed → Type 0

@@ -9,7 +9,7 @@ use Rattle.byte_fields.specs.Fields.{Reading, gives, ◌>>=◌, within, Took}
 use Rattle.addr_decode.specs.declared.regs.MapRegs.{MapRegs}
 use Rattle.addr_decode.specs.MapRegs.{MapBytes, map_bytes}
 use Rattle.addr_decode.specs.State.{any_long, AreMapRegs, regs_bytes, regs_fields}
-use Rattle.map_ranges.specs.declared.range.Changed.{Changed}
+use Rattle.map_builder.specs.declared.range.Changed.{Changed}
 use Rattle.map_builder.specs.Map.{Mapped, IsMapOf}
 
 -- ---- the windows of the last change: how many, at most 64, and then the first and the last address of each

@@ -5,15 +5,18 @@ ghost use Rattle.board_prelude.specs.Common.{Setup, Bytes, address_count, Tiles,
 ghost use Rattle.pci_bars.specs.Cards.{AreFitted};
 ghost use Rattle.addr_decode.specs.Common.{MapBytes, StandsFor, map_bytes, SameAreas, edges_after};
 ghost use Rattle.map_builder.specs.Map.{range_of, most_ranges, IsOfSomeBoard};
-ghost use Rattle.map_ranges.specs.Find.{BeginsBelow, Holds};
+ghost use Rattle.map_builder.specs.Find.{BeginsBelow, Holds};
 ghost use Rattle.map_builder.specs.Build.{IsBuilt, IsMapWhere, IsBelow, IsBetween, IsBeside, IsBuiltUpTo};
 ghost use Rattle.map_builder.specs.Build.{IsWhole};
 ghost use Rattle.map_builder.specs.Sorted.{Rise, rows_in as rows_of};
 
 use crate::changed::EVERYTHING;
+use crate::find::index_of;
+use crate::list::FixedList;
+use crate::range::{Changed, LAST_ADDRESS, Range};
+use crate::ranges::{CAPACITY, Ranges, range_at};
 use addr_decode::{MOST_EDGES, MapRegs, next_edge, row};
 use board_base::Steps;
-use map_ranges::{CAPACITY, Changed, FixedList, LAST_ADDRESS, Range, Ranges, index_of, range_at};
 use std::sync::ledger::Ledger;
 
 /// The most ranges that a map has: one begins at the first address, and one at each edge.
@@ -166,7 +169,7 @@ fn row_at<L: Ledger>(
 
 /// Builds on with the ranges of the map as it was, for the addresses above `after` up to `until`. Returns the open
 /// range. In `before`, the range at index `from` begins at `after` or below.
-#[tactic(auto, using(crate::proofs::BuildLemmas::build_steps, crate::proofs::RebuildLemmas::begins_next, map_ranges::proofs::FindLemmas::placed))]
+#[tactic(auto, using(crate::proofs::BuildLemmas::build_steps, crate::proofs::RebuildLemmas::begins_next, crate::proofs::FindLemmas::placed))]
 fn keep(
     ranges: &mut Ranges,
     last: Range,
@@ -233,7 +236,7 @@ fn finish(ranges: &mut Ranges, last: Range, before: &[Range], from: usize, after
 
 /// The index of the range that has an address, searched from index `from` on, whose range begins at the address or
 /// below.
-#[tactic(auto, using(std::proofs::lemmas::Bool::Decides::nat_tests, std::proofs::lemmas::Grind::common_steps, crate::proofs::RebuildLemmas::begins_next, map_ranges::proofs::FindLemmas::placed))]
+#[tactic(auto, using(std::proofs::lemmas::Bool::Decides::nat_tests, std::proofs::lemmas::Grind::common_steps, crate::proofs::RebuildLemmas::begins_next, crate::proofs::FindLemmas::placed))]
 fn index_from(ranges: &[Range], from: usize, addr: u32) -> usize
     requires tiles { Tiles 0 (map range_of ranges.now) }
     requires from { BeginsBelow ranges.now from addr }

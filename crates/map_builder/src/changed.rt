@@ -10,13 +10,14 @@ ghost use Rattle.map_builder.specs.Changed.{is_card_name, rest_on_registers, sin
 ghost use Rattle.map_builder.specs.Held.{block, held_by, held_from, held_at, rom_held, vga_held, card_held};
 ghost use Rattle.map_builder.specs.Held.{device_held};
 
+use crate::list::FixedList;
+use crate::range::{Changed, LAST_ADDRESS};
 use addr_decode::singles::{HOLE, SMRAM_CONTROL};
 use addr_decode::{CardRegister, MapChange, MapRegister, MapRegs};
 use board_spec::range::{
     AddressRange, EXPANSION_RANGE, HOLE_AT_15_MIB, HOLE_AT_512_KIB, LARGEST_TOP, LOWER_BIOS,
     SELECTABLE_BIOS, SMRAM_RANGE, SYSTEM_BIOS,
 };
-use map_ranges::{Changed, FixedList, LAST_ADDRESS};
 use pci_bars::{BaseSpec, CardRegs, card_at};
 
 /// Every address.
@@ -37,6 +38,7 @@ pub type Covered = FixedList<Changed, 64>;
 
 /// Adds the windows that a change covers, as the registers are now: those of each register byte that it stores to, by
 /// their names. A hard reset covers every address.
+#[inline(always)]
 #[tactic(auto, unfolding(crate::specs::Changed::windows_covered), using(addr_decode::proofs::NameLemmas::names_numbered))]
 pub fn push_covered(
     windows: &mut Covered,
@@ -59,6 +61,7 @@ pub fn push_covered(
 
 /// Adds the windows that a change covers, as the registers are after it, unless `same` says that they are those from
 /// before.
+#[inline(always)]
 pub fn push_again(
     windows: &mut Covered,
     same: bool,
@@ -105,6 +108,7 @@ fn is_card_name(name: Option<MapRegister>) -> bool
 }
 
 /// Adds the windows of the registers with these names.
+#[inline(always)]
 fn push_of_names(windows: &mut Covered, regs: &MapRegs, names: &[Option<MapRegister>])
     requires cards { AreFitted regs.now.cards.items }
     requires names { AreNumbered names.now }
@@ -119,6 +123,7 @@ fn push_of_names(windows: &mut Covered, regs: &MapRegs, names: &[Option<MapRegis
 }
 
 /// Adds the windows of the register with a name.
+#[inline(always)]
 fn push_of_name(windows: &mut Covered, regs: &MapRegs, name: Option<MapRegister>)
     requires cards { AreFitted regs.now.cards.items }
     requires number { IsNumberedName name }
@@ -134,6 +139,7 @@ fn push_of_name(windows: &mut Covered, regs: &MapRegs, name: Option<MapRegister>
 }
 
 /// Adds the windows of a register: the addresses whose areas can depend on it.
+#[inline(always)]
 fn push_of_register(windows: &mut Covered, regs: &MapRegs, register: MapRegister)
     requires cards { AreFitted regs.now.cards.items }
     requires number { IsNumbered register }
@@ -151,7 +157,7 @@ fn push_of_register(windows: &mut Covered, regs: &MapRegs, register: MapRegister
 }
 
 /// Adds the windows of the register of one byte that has a number.
-pub fn push_of_single(windows: &mut Covered, number: usize)
+fn push_of_single(windows: &mut Covered, number: usize)
     requires number { number < single_count }
     requires room { length windows.old.items ≤ 56 }
     ensures few { length windows.new.items ≤ length windows.old.items + 8 }
@@ -186,7 +192,7 @@ fn push_two(windows: &mut Covered, first: AddressRange, second: AddressRange)
 }
 
 /// The shadow windows of a PAM register: that of PAM0, and the two of PAM1 to PAM6.
-pub fn windows_of_pam(number: u8) -> Changed
+fn windows_of_pam(number: u8) -> Changed
     requires number { number < 7 }
     ensures windows { result ≡ pam_windows number }
 {

@@ -1,23 +1,25 @@
 //! The memory map as one list of ranges.
-ghost use Rattle.std.specs.Prelude.{◌≡◌, ◌≤◌, ◌<◌, ◌+◌, true, false, if◌then◌else◌, [], ◌∷◌, Some, length, map};
-ghost use Rattle.board_prelude.specs.Common.{One, Kind, Setup, Store, touches_map, changed_byte, Bytes, Tiles};
+ghost use Rattle.std.specs.Prelude.{◌≡◌, ◌≤◌, ◌<◌, ◌+◌, [], length, map};
+ghost use Rattle.board_prelude.specs.Common.{Kind, Setup, Store, Bytes, Tiles};
 ghost use Rattle.board_prelude.specs.Common.{IsFlatMapOf, IsSpan};
-ghost use Rattle.pci_bars.specs.Cards.{AreCardsOf, AreFitted, cards_of};
-ghost use Rattle.addr_decode.specs.Common.{AreNumbered, HasRegister, is_of_card, names_from, names_of, StandsFor};
+ghost use Rattle.pci_bars.specs.Cards.{AreFitted, cards_of};
+ghost use Rattle.addr_decode.specs.Common.{AreNumbered, HasRegister, names_of, StandsFor};
 ghost use Rattle.addr_decode.specs.Common.{map_bytes};
-ghost use Rattle.map_builder.specs.Map.{range_of, most_ranges, next_version, IsOfSomeBoard, IsMapOf};
+ghost use Rattle.map_builder.specs.Map.{range_of, most_ranges, IsOfSomeBoard, IsMapOf};
 ghost use Rattle.map_builder.specs.Changed.{most_rows};
-ghost use Rattle.map_builder.specs.Applied.{AreChanged, IsApplied, IsChangedBy, IsStored};
+ghost use Rattle.map_builder.specs.Applied.{IsApplied, IsStored};
 
-use crate::bridge::choose_in_bridge;
 use crate::build::{ranges_of, rebuild};
 use crate::changed::{Covered, keeps_windows, push_again, push_covered};
+use crate::list::FixedList;
+use crate::range::{Changed, Range, Span};
+use crate::ranges::{CAPACITY, Ranges};
 use crate::rows::choose_windows;
 use crate::unchanged::{byte_alone, is_same_byte};
 use crate::widths::hold_widths;
+use crate::windows::{Windows, bounds_of};
 use addr_decode::{ConfigRegister, MapChange, MapRegister, MapRegs, touch_map};
-use board_base::{Kind, Reg, Steps, Width};
-use map_ranges::{CAPACITY, Changed, FixedList, Range, Ranges, Span, Windows, bounds_of};
+use board_base::{Kind, Steps, Width};
 use std::marker::{Brand, Model};
 use std::sync::ledger::{Blank, Ledger};
 
@@ -111,18 +113,6 @@ impl FlatMap {
         }
     }
 
-    /// Becomes equal to another map. Of the ranges and windows it copies only those that there are.
-    pub fn copy_from(&mut self, other: &FlatMap)
-        ensures copied { self.new ≡ other.now }
-    {
-        self.regs = other.regs.copy();
-        self.ranges.truncate(0);
-        self.ranges.extend(other.ranges.as_slice());
-        self.chosen.truncate(0);
-        self.chosen.extend(other.chosen.as_slice());
-        self.version = other.version;
-    }
-
     /// The ranges in rising order of address.
     pub fn ranges(&self) -> &[Range]
         ensures ranges { map range_of result.now ≡ self.now.ranges }
@@ -173,25 +163,7 @@ impl FlatMap {
         ensures applied { IsApplied self.old self.new change.now result }
     {
         let names = self.regs.names(change);
-        self.apply_uncounted::<Brand>(change, names.as_slice(), Blank::new(1))
-    }
-
-    /// Makes a change as `apply` does, where the names of the registers that it stores to are known, and counts
-    /// nothing.
-    fn apply_uncounted<L: Ledger>(
-        &mut self,
-        change: &MapChange,
-        names: &[Option<MapRegister>],
-        blank: Blank,
-    ) -> Changed
-        requires names { names.now ≡ names_of (cards_of self.old.regs.cards) change.now }
-        requires name { blank.name ≡ L.name }
-        requires parts { blank.parts ≡ L.parts }
-        requires some_part { 0 < L.parts }
-        ensures applied { IsApplied self.old self.new change.now result }
-    {
-        let mut steps = Steps::<L>::new(blank);
-        self.apply_named(change, names, &mut steps)
+        uncounted::<Brand>(self, change, names.as_slice(), Blank::new(1))
     }
 
     /// Makes a change as `apply` does, and counts each row that is looked up as a step: at most one for each window,
@@ -202,12 +174,46 @@ impl FlatMap {
             → steps.new ≤ steps.old + most_rows setup bytes change.now }
     {
         let names = self.regs.names(change);
-        self.apply_named(change, names.as_slice(), steps)
+        self.change(change, names.as_slice(), steps)
+    }
+
+    /// Stores the bytes of a value in rising offset, from a register on that its function has. Where they cover a byte
+    /// that the map depends on, this is a change as `apply` makes it. Else only registers of a card change, and neither
+    /// the ranges nor the version.
+    pub fn store(&mut self, register: &ConfigRegister, width: Width, value: u32)
+        requires function { HasRegister self.old.regs.cards register.now.function register.now.reg }
+        ensures stored { IsStored self.old self.new (Store register.now.reg width value) }
+    {
+        match width {
+            Width::One => self.store_at(register, Width::One, value),
+            Width::Two | Width::Four => self.store_at(register, width, value),
+        }
+    }
+
+    /// Stores as `store` does. Where the width is known to be one byte, the compiler makes code of it that knows the
+    /// number of names.
+    #[inline(always)]
+    fn store_at(&mut self, register: &ConfigRegister, width: Width, value: u32)
+        requires function { HasRegister self.old.regs.cards register.now.function register.now.reg }
+        ensures stored { IsStored self.old self.new (Store register.now.reg width value) }
+    {
+        let change = MapChange::Store {
+            reg: register.reg,
+            width,
+            value,
+        };
+        let names = self.regs.names_at(register, width);
+        if touch_map(names.as_slice()) {
+            uncounted::<Brand>(self, &change, names.as_slice(), Blank::new(1));
+        } else {
+            self.regs.apply_named(&change, names.as_slice());
+        }
     }
 
     /// Makes a change as `apply_counted` does, where the names of the registers that it stores to are known.
+    #[inline(always)]
     #[tactic(auto, using(addr_decode::proofs::NameLemmas::names_numbered))]
-    fn apply_named<L: Ledger>(
+    fn change<L: Ledger>(
         &mut self,
         change: &MapChange,
         names: &[Option<MapRegister>],
@@ -244,172 +250,27 @@ impl FlatMap {
         self.version = self.version.wrapping_add(1);
         bounds_of(self.windows.as_slice()).unwrap_or(NOTHING)
     }
+}
 
-    /// Stores the bytes of a value in rising offset. Where they cover a byte that the map depends on, this is a change
-    /// as `apply` makes it. Else only registers of a card change, and neither the ranges nor the version.
-    pub fn store(&mut self, reg: Reg, width: Width, value: u32)
-        ensures stands { (setup : Setup) (bytes : Bytes) → StandsFor setup bytes self.old.regs
-            → StandsFor setup (λ r. changed_byte setup (Store reg width value) r (bytes r)) self.new.regs }
-        ensures cards { (setup : Setup) (bytes : Bytes) → AreCardsOf setup bytes self.old.regs.cards
-            → AreCardsOf setup (λ r. changed_byte setup (Store reg width value) r (bytes r)) self.new.regs.cards }
-        ensures same_cards { cards_of self.new.regs.cards ≡ cards_of self.old.regs.cards }
-        ensures version { (setup : Setup) → setup.cards ≡ cards_of self.old.regs.cards
-            → self.new.version
-            ≡ (if touches_map setup (Store reg width value) then next_version self.old.version else self.old.version) }
-        ensures windows { (setup : Setup) (bytes : Bytes) → StandsFor setup bytes self.old.regs
-            → touches_map setup (Store reg width value) ≡ true
-            → AreChanged setup bytes (Store reg width value) self.new.changed }
-        ensures same_windows { (setup : Setup) → setup.cards ≡ cards_of self.old.regs.cards
-            → touches_map setup (Store reg width value) ≡ false → self.new.changed ≡ self.old.changed }
-        ensures map { (setup : Setup) (bytes : Bytes) → StandsFor setup bytes self.new.regs
-            → IsFlatMapOf setup bytes self.new.ranges }
-    {
-        match width {
-            Width::One => self.store_byte(reg, value),
-            Width::Two | Width::Four => self.store_bytes(reg, width, value),
-        }
-    }
-
-    /// Stores as `store` does, from a register on that its function has.
-    pub fn store_from(&mut self, register: &ConfigRegister, width: Width, value: u32)
-        requires function { HasRegister self.old.regs.cards register.now.function register.now.reg }
-        ensures stored { IsStored self.old self.new (Store register.now.reg width value) }
-    {
-        match width {
-            Width::One => self.store_byte_of(register, value),
-            Width::Two | Width::Four => self.store_bytes(register.reg, width, value),
-        }
-    }
-
-    /// Stores one byte, the low one of a value, in a register that its function has.
-    fn store_byte_of(&mut self, register: &ConfigRegister, value: u32)
-        requires function { HasRegister self.old.regs.cards register.now.function register.now.reg }
-        ensures stored { IsStored self.old self.new (Store register.now.reg One value) }
-    {
-        let name = self.regs.name_of(register);
-        self.store_name(register.reg, value, name);
-    }
-
-    /// Stores the bytes of a value in rising offset.
-    fn store_bytes(&mut self, reg: Reg, width: Width, value: u32)
-        ensures stored { IsStored self.old self.new (Store reg width value) }
-    {
-        let names = self.regs.names_from(reg, width);
-        self.store_named(reg, width, value, names.as_slice());
-    }
-
-    /// Stores one byte, the low one of a value.
-    fn store_byte(&mut self, reg: Reg, value: u32)
-        ensures stored { IsStored self.old self.new (Store reg One value) }
-    {
-        let name = self.regs.name_alone(reg);
-        self.store_name(reg, value, name);
-    }
-
-    /// Stores one byte, the low one of a value, in the register with a name.
-    #[inline(always)]
-    fn store_name(&mut self, reg: Reg, value: u32, name: Option<MapRegister>)
-        requires fitted { AreFitted self.old.regs.cards }
-        requires name { name ∷ [] ≡ names_from (cards_of self.old.regs.cards) reg One }
-        ensures stored { IsStored self.old self.new (Store reg One value) }
-    {
-        match name {
-            Some(register) => self.store_register(reg, value, register),
-            None => self.store_named(reg, Width::One, value, &[name]),
-        }
-    }
-
-    /// Stores one byte, the low one of a value, in the register with a name.
-    #[inline(always)]
-    fn store_register(&mut self, reg: Reg, value: u32, register: MapRegister)
-        requires fitted { AreFitted self.old.regs.cards }
-        requires name { Some register ∷ [] ≡ names_from (cards_of self.old.regs.cards) reg One }
-        ensures stored { IsStored self.old self.new (Store reg One value) }
-    {
-        if register.is_of_card() {
-            self.store_named(reg, Width::One, value, &[Some(register)]);
-        } else {
-            self.store_in_bridge::<Brand>(reg, value, register, Blank::new(1));
-        }
-    }
-
-    /// Stores one byte, the low one of a value, in the register of a bridge with a name. It looks at the register's
-    /// windows once, and tells no bounds.
-    #[inline(always)]
-    fn store_in_bridge<L: Ledger>(
-        &mut self,
-        reg: Reg,
-        value: u32,
-        register: MapRegister,
-        blank: Blank,
-    )
-        requires name_of { Some register ∷ [] ≡ names_from (cards_of self.old.regs.cards) reg One }
-        requires bridge { is_of_card register ≡ false }
-        requires name { blank.name ≡ L.name }
-        requires parts { blank.parts ≡ L.parts }
-        requires some_part { 0 < L.parts }
-        ensures changed { IsChangedBy self.old self.new (Store reg One value) }
-    {
-        let mut steps = Steps::<L>::new(blank);
-        let change = MapChange::Store {
-            reg,
-            width: Width::One,
-            value,
-        };
-        let names = [Some(register)];
-        let boundaries = self.regs.drb;
-        let before = byte_alone(&self.regs, &names);
-        self.regs.apply_named(&change, &names);
-        let kept = is_same_byte(before, byte_alone(&self.regs, &names));
-        choose_in_bridge(
-            &mut self.chosen,
-            kept,
-            register,
-            &boundaries,
-            &self.regs.drb,
-        );
-        rebuild(
-            &mut self.ranges,
-            &mut self.before,
-            &self.regs,
-            self.chosen.as_slice(),
-            &mut steps,
-        );
-        self.version = self.version.wrapping_add(1);
-    }
-
-    /// Stores as `store` does, where the names of the registers that it stores to are known.
-    #[inline(always)]
-    fn store_named(&mut self, reg: Reg, width: Width, value: u32, names: &[Option<MapRegister>])
-        requires fitted { AreFitted self.old.regs.cards }
-        requires names { names.now ≡ names_from (cards_of self.old.regs.cards) reg width }
-        ensures stored { IsStored self.old self.new (Store reg width value) }
-    {
-        let change = MapChange::Store { reg, width, value };
-        if touch_map(names) {
-            self.apply_uncounted::<Brand>(&change, names, Blank::new(1));
-        } else {
-            self.set_beside(&change, names);
-        }
-    }
-
-    /// Stores to registers of which the map depends on none.
-    #[inline(always)]
-    fn set_beside(&mut self, change: &MapChange, names: &[Option<MapRegister>])
-        requires names { names.now ≡ names_of (cards_of self.old.regs.cards) change.now }
-        requires beside { (setup : Setup) (bytes : Bytes) → StandsFor setup bytes self.old.regs
-            → touches_map setup change.now ≡ false }
-        ensures stands { (setup : Setup) (bytes : Bytes) → StandsFor setup bytes self.old.regs
-            → StandsFor setup (λ r. changed_byte setup change.now r (bytes r)) self.new.regs }
-        ensures cards { (setup : Setup) (bytes : Bytes) → AreCardsOf setup bytes self.old.regs.cards
-            → AreCardsOf setup (λ r. changed_byte setup change.now r (bytes r)) self.new.regs.cards }
-        ensures same_cards { cards_of self.new.regs.cards ≡ cards_of self.old.regs.cards }
-        ensures version { self.new.version ≡ self.old.version }
-        ensures windows { self.new.changed ≡ self.old.changed }
-        ensures map { (setup : Setup) (bytes : Bytes) → StandsFor setup bytes self.new.regs
-            → IsFlatMapOf setup bytes self.new.ranges }
-    {
-        self.regs.apply_named(change, names);
+/// Makes a change of a map as `apply` does, where the names of the registers that it stores to are known, and counts
+/// nothing. Where there is one name the compiler makes code of its own of it.
+#[inline(always)]
+fn uncounted<L: Ledger>(
+    map: &mut FlatMap,
+    change: &MapChange,
+    names: &[Option<MapRegister>],
+    blank: Blank,
+) -> Changed
+    requires names { names.now ≡ names_of (cards_of map.old.regs.cards) change.now }
+    requires name { blank.name ≡ L.name }
+    requires parts { blank.parts ≡ L.parts }
+    requires some_part { 0 < L.parts }
+    ensures applied { IsApplied map.old map.new change.now result }
+{
+    let mut steps = Steps::<L>::new(blank);
+    match names {
+        [name] => map.change(change, &[*name], &mut steps),
+        _ => map.change(change, names, &mut steps),
     }
 }
 

@@ -5,9 +5,10 @@ ghost use Rattle.map_builder.specs.Changed.{IsOutside};
 ghost use Rattle.map_builder.specs.Rows.{is_row_name, stores_rows as stores_rows_by, AreMoved, IsInRows, RowStays};
 ghost use Rattle.map_builder.specs.Sorted.{sorted as sorted_by};
 
+use crate::range::Changed;
+use crate::windows::{Windows, joined, sort_into};
 use addr_decode::MapRegister;
 use board_spec::range::BOUNDARY_UNIT;
-use map_ranges::{Changed, Windows, joined, sort_into};
 
 /// The row that ends at the top of DRAM.
 const LAST_ROW: usize = 7;
@@ -16,6 +17,7 @@ const LAST_ROW: usize = 7;
 /// covers; after a store to row boundaries alone (by the `names` of the registers) the least window of all addresses
 /// whose row may change; none where the registers are known to keep what they hold (`kept`). What `chosen` held before
 /// does not matter.
+#[inline(always)]
 pub fn choose_windows(
     chosen: &mut Windows,
     kept: bool,
@@ -70,7 +72,7 @@ fn is_row_name(name: Option<MapRegister>) -> bool
 }
 
 /// Sets `chosen` to the least window of all addresses whose row may change, or to none where there are none.
-pub fn choose_moved(chosen: &mut Windows, old: &[u8; 8], new: &[u8; 8])
+fn choose_moved(chosen: &mut Windows, old: &[u8; 8], new: &[u8; 8])
     ensures moved { AreMoved old.now new.now chosen.new.items }
 {
     chosen.truncate(0);

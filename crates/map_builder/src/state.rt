@@ -12,11 +12,13 @@ ghost use Rattle.map_builder.specs.State.{windows_fields, bare, IsMapped, mapped
 ghost use Rattle.map_builder.specs.State.{SameMap};
 
 use crate::flat_map::FlatMap;
+use crate::list::FixedList;
+use crate::range::Changed;
+use crate::windows::Windows;
 use addr_decode::MapRegs;
 use board_base::NoMemory;
 use board_spec::laws::law_one_flat_map;
 use byte_fields::{Bad, Fields, push_byte, push_word};
-use map_ranges::{Changed, FixedList, Windows};
 use pci_bars::CardSpec;
 
 /// The most windows of a change.

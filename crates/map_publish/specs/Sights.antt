@@ -3,7 +3,8 @@ use Rattle.std.specs.Prelude.{ℕ, ◌≡◌, ◌≤◌, Bool, List, length, map
 use Rattle.board_prelude.specs.Common.{Kind, Setup, Bytes, MapRange, Tiles, IsFlatMapOf, IsSpan}
 use Rattle.addr_decode.specs.MapRegs.{StandsFor}
 use Rattle.map_builder.specs.Map.{most_ranges, range_of}
-use Rattle.map_builder.specs.Common.{Range, Span}
+use Rattle.map_builder.specs.declared.range.Range.{Range}
+use Rattle.map_builder.specs.declared.range.Span.{Span}
 use Rattle.map_publish.specs.declared.mark.Mark.{Mark}
 use Rattle.map_publish.specs.Changes.{bytes_after}
 use Rattle.map_publish.specs.Lists.{opened_of, changes_of, version_after}

@@ -1,16 +1,17 @@
 -- Lists of jobs and of callers, by the numbers of their processors.
 use Rattle.std.proofs.Common.{◌≡◌, ℕ, ◌+◌, ◌<◌, ◌≤◌, ◌==◌, List, [], ◌∷◌, ◌++◌, map, length, take, drop, All, refl, sym}
 use Rattle.std.proofs.Common.{◌∙◌, ap, arith, reverse, slice_index_or, filter, Bool, true, false, set, slice_index, suc}
-use Rattle.board_prelude.proofs.Common.{Any, range_with_len, nat_tests, get_or-map, get_or_default, reverse-append}
+use Rattle.std.proofs.Common.{inl, inr, subst}
+use Rattle.board_prelude.proofs.Common.{Any, cases_lt, range_with_len, nat_tests, get_or-map, get_or_default}
+use Rattle.board_prelude.proofs.Common.{reverse-append}
 use Rattle.board_prelude.proofs.Common.{append-nil, take_all, drop_all, map-append, length-map, get_or-set_at}
-use Rattle.board_prelude.proofs.Common.{get_or-set_other, length-append, Statement, events_by}
+use Rattle.board_prelude.proofs.Common.{get_or-set_other, length-append, Entry, Statement, events_by}
 use Rattle.std.proofs.lemmas.List.FromFn.{get_or-range_with_len, length-range_with_len, map-range_with_len_more}
 use Rattle.std.proofs.lemmas.List.Elements.{All-map}
-use Rattle.run_order.specs.declared.done.Done.{Done}
-use Rattle.run_order.specs.Placing.{done_by}
 use Rattle.phase_threads.specs.declared.jobs.Job.{Job}
-use Rattle.phase_work.specs.declared.worker.Work.{Work}
-use Rattle.phase_threads.specs.Jobs.{done_in, AreDue}
+use Rattle.phase_threads.specs.declared.worker.Work.{Work}
+use Rattle.phase_threads.specs.Jobs.{AreDue, AreTold, pages_in}
+use Rattle.phase_threads.specs.Works.{Page, page}
 use Rattle.std.proofs.lemmas.List.Filters.{length-filter_more}
 use Rattle.std.proofs.lemmas.List.Sums.{length-filter, count_by-le-length}
 use Rattle.run_order.proofs.Histories.{all_turned}
@@ -61,34 +62,53 @@ same_numbers f xs ys a e any =
     ∙ rw e (get_or-map f xs any.0 any.1 (f any.1) any.2 ∙ (ap f any.3 ∙ any.4)) in
     (any.0, y, less, get_or_default ys any.0 y any.1 less, number)
 
--- what holds of each job's processor and work holds by processor
-pub by_number : (W : ℕ → List Done → Type 0) (jobs : List Job) (first : ℕ) →
-    All (λ job. W job.cpu.number job.work.done.items) jobs →
-    map (λ (job : Job). job.cpu.number) jobs ≡ range_with_len first (length jobs) → (actor : ℕ) → first ≤ actor →
-    actor < first + length jobs → W actor (done_by first actor (done_in (map (λ (job : Job). job.work) jobs)))
-unfolding done_by
-by_number W [] first all numbers actor low high = grind arith
-by_number W (job ∷ jobs) first all numbers actor low high =
-    let rest = by_number W jobs (first + 1) (λ k d less. all (suc k) d (omega (arith, less))) in
-    grind (arith, nat_tests, all 0 job (omega arith), rest)
+-- what is told of each is told at the place of its number
+pub by_number : {X Y : Type 0} (number : X → ℕ) (f : X → Y) (e : Y) (xs : List X) (n : ℕ)
+    → map number xs ≡ range_with_len 0 n → All (λ x. slice_index_or (map f xs) (number x) e ≡ f x) xs
+by_number number f e xs n numbers k d less =
+    ap (λ (i : ℕ). slice_index_or (map f xs) i e) (number_at number xs n numbers k d less) ∙ get_or-map f xs k d e less
 
-pub asked_again : (most : ℕ) (works next : List Work)
+-- what holds of each one's number holds of each number
+pub all_numbered : {X : Type 0} (number : X → ℕ) (P : ℕ → Type 0) (xs : List X) (first : ℕ)
+    → All (λ x. P (number x)) xs → map number xs ≡ range_with_len first (length xs) → (n : ℕ) → first ≤ n
+    → n < first + length xs → P n
+all_numbered number P [] first all numbers n low high = absurd (omega (arith, low, high))
+all_numbered number P (x ∷ xs) first all numbers n low high =
+    let here : number x ≡ first = grind (arith, numbers) in
+    let tail : map number xs ≡ range_with_len (first + 1) (length xs) = grind (arith, numbers) in
+    elim (cases_lt first n) [
+      | inl less ↦ all_numbered number P xs (first + 1) (λ k d few. all (suc k) d (omega (arith, few))) tail n
+          (omega (arith, less)) (omega (arith, high))
+      | inr past ↦ let is : number x ≡ n = omega (arith, here, low, past) in subst P is (all 0 x (omega arith))
+    ]
+
+-- as many statements as before
+asked_by_pages : (works next : List Work) → pages_in next ≡ pages_in works
     → map (λ (work : Work). work.asked) next ≡ map (λ (work : Work). work.asked) works
+asked_by_pages works next same =
+    let count : Page → ℕ = λ p. p.1 in
+    sym (map-map count page next) ∙ (ap (map count) same ∙ map-map count page works)
+
+pub asked_again : (most : ℕ) (works next : List Work) → pages_in next ≡ pages_in works
     → All (λ work. work.asked ≤ most) works → All (λ work. work.asked ≤ most) next
-asked_again most works next e all =
+asked_again most works next same all =
     all_mapped (λ (work : Work). work.asked) (λ n. n ≤ most) next
-    (rw e (All-map (λ n. n ≤ most) (λ (work : Work). work.asked) works all))
+    (rw (asked_by_pages works next same) (All-map (λ n. n ≤ most) (λ (work : Work). work.asked) works all))
+
+pub pages_length : (works next : List Work) → pages_in next ≡ pages_in works → length next ≡ length works
+pages_length works next same = sym (length-map next page) ∙ (ap length same ∙ length-map works page)
+
+-- the workers have written what they had
+pub told_again : (own : ℕ → List Entry) (works next : List Work) → pages_in next ≡ pages_in works → AreTold own works
+    → AreTold own next
+told_again own works next same told actor less =
+    ap (λ (ps : List Page). slice_index_or ps actor ([], 0)) same
+    ∙ told actor (rw (pages_length works next same) at less)
 
 -- what a slice of a whole list leaves of it
 pub lent_back : {X : Type 0} (n : ℕ) (old now : List X) → n ≡ length old → length now ≡ length old
     → take n (now ++ drop (length now) old) ≡ now
 lent_back n old now size same = grind (arith, drop_all (length now) old, append-nil now, take_all n now)
-
--- as many as there were
-pub counted : (works old now : List Work) (count len : ℕ)
-    → map (λ (work : Work). work.asked) works ≡ map (λ (work : Work). work.asked) now → now ≡ old → count ≡ len
-    → len ≡ length works → count ≡ length old
-counted works old now count len asked is count_is len_is = grind (arith, ap length asked, length-map)
 
 -- ---- how many statements each processor has in a phase
 

@@ -1,33 +1,31 @@
 -- A phase in which one processor acts.
 use Rattle.std.proofs.Common.{set, ◌≡◌, ◌≢◌, ℕ, ◌+◌, ◌<◌, ◌≤◌, ◌==◌, not, List, [], ◌∷◌, length, All, get_or}
-use Rattle.std.proofs.Common.{slice_index_or, refl, sym, ◌∙◌, ap, arith, map, suc, false, ◌++◌, take, reverse, Bool}
-use Rattle.std.proofs.Common.{filter, true}
-use Rattle.board_prelude.proofs.Common.{nat_tests, length-map, get_or-map, All-cons, Entry, Statement, MapChange, Setup}
-use Rattle.board_prelude.proofs.Common.{entries_by, events_by, map_writes_of, ne_eqb, eq-eqb, get_or-set_at}
-use Rattle.board_prelude.proofs.Common.{get_or-set_other, length-reverse, length-set, map-append, reverse-append}
-use Rattle.board_prelude.proofs.Common.{reverse-reverse, take_more, Event, All-permutation, IsPermutation-sym}
-use Rattle.std.proofs.lemmas.List.{get_or-set_same}
-use Rattle.std.proofs.lemmas.List.Elements.{All-filter, All-map, All-append, All-weaker, filter_passes}
+use Rattle.std.proofs.Common.{slice_index_or, refl, sym, ◌∙◌, ap, arith, map, false, ◌++◌, reverse, Bool, filter, true}
+use Rattle.std.proofs.Common.{inl, inr, subst}
+use Rattle.std.proofs.lemmas.Bool.{cases_eq}
+use Rattle.board_prelude.proofs.Common.{nat_tests, length-map, get_or-map, Entry, Statement, Setup, entries_by}
+use Rattle.board_prelude.proofs.Common.{events_by, map_writes_of, ne_eqb, get_or-set_at, get_or-set_other, length-set}
+use Rattle.board_prelude.proofs.Common.{All-permutation, IsPermutation-sym, Event, Reply, next_entry}
+use Rattle.std.proofs.lemmas.List.{map-set}
+use Rattle.std.proofs.lemmas.List.Elements.{All-filter, All-map, All-append, All-set, All-weaker, filter_passes}
 use Rattle.std.proofs.lemmas.List.Sorted.{IsPermutation-filter_both}
 use Rattle.std.proofs.lemmas.List.Filters.{length-filter_both}
 use Rattle.board_core.specs.Kept.{Standing}
-use Rattle.shared_board.proofs.Histories.{writes_extend}
-use Rattle.shared_board.proofs.Limits.{few_entries}
+use Rattle.board_live.proofs.Histories.{writes_extend}
+use Rattle.board_live.proofs.Limits.{few_entries}
 use Rattle.run_order.specs.declared.done.Done.{Done}
-use Rattle.run_order.proofs.Counts.{from_first, looks_append, count_set, nobody_looked}
-use Rattle.run_order.specs.Common.{placed, IsGone, event_of, is_look, looks_in, all_looks_in, IsDone}
-use Rattle.phase_work.specs.declared.worker.Work.{Work}
-use Rattle.phase_work.specs.Works.{HasDone}
-use Rattle.phase_threads.specs.Others.{others}
-use Rattle.phase_threads.specs.Acts.{HasActed, HasGrown, CanAct}
+use Rattle.run_order.proofs.Counts.{from_first, nobody_looked}
+use Rattle.run_order.specs.Common.{IsWork, Begins, all_looks_in, done_by, written}
+use Rattle.phase_threads.specs.declared.worker.Work.{Work}
 use Rattle.phase_threads.specs.declared.run.Run.{Run}
-use Rattle.phase_threads.specs.Jobs.{CanDoPhase, GrowsBy, done_in, HasRun}
-use Rattle.phase_threads.specs.Unseen.{HasRunSo, HasAdded, HasStepped}
-use Rattle.phase_threads.proofs.Numbers.{filter_none, same_lengths, asked_again, map_reverse, filter_all}
+use Rattle.phase_threads.specs.Works.{HasDone, Page, page, page_of}
+use Rattle.phase_threads.specs.Others.{others}
+use Rattle.phase_threads.specs.Replies.{HasGone}
+use Rattle.phase_threads.specs.Acts.{HasActed, CanAct}
+use Rattle.phase_threads.specs.Jobs.{AreTold, CanDoPhase, GrowsBy, HasNoLook, HasRun, done_in, page_by, pages_in}
+use Rattle.phase_threads.proofs.Numbers.{filter_none, asked_again, pages_length}
+use Rattle.phase_threads.proofs.Told.{AreKept, lines_are, nothing_written, same_places, set_kept}
 use Rattle.phase_threads.proofs.Workers.{begins_opened}
-use Rattle.run_order.specs.declared.done.Done.TheVariants.{Went}
-use Rattle.run_order.proofs.Settled.{placed_alone}
-use Rattle.std.proofs.Math.Seq.{map-set_same}
 
 -- ---- entries
 
@@ -66,10 +64,23 @@ no_events number actor unlike phase all =
 -- ---- one statement
 
 -- an entry of its own comes directly after what it has seen
-pub gone_alone : (setup : Setup) (number : ℕ) (entry : Entry) (before : List Entry) → entry.actor ≡ number
-    → IsGone setup number before (map_writes_of setup before) entry.event (entry ∷ before)
-    (map_writes_of setup (entry ∷ before))
-gone_alone setup number entry before own = grind (arith, nat_tests)
+pub gone_alone : (setup : Setup) (number : ℕ) (before now : List Entry) (event : Event) (reply : Reply)
+    → now ≡ next_entry before number event reply ∷ before
+    → HasGone setup number before (map_writes_of setup before) event reply now (map_writes_of setup now)
+gone_alone setup number before now event reply is = record {
+  gone = record {
+    list = before;
+    entry = next_entry before number event reply;
+    begins = ([], refl);
+    mine = refl;
+    meets = ([], refl);
+    own = refl;
+    said = refl;
+    now_is = is;
+    known_is = refl;
+  };
+  reply_is = refl;
+}
 
 -- ---- the phase
 
@@ -79,44 +90,132 @@ pub theirs : (number actor : ℕ) (before now : List Entry) → actor ≢ number
 theirs number actor before now unlike same = grind (arith, by_other number actor unlike, same)
 
 -- what each processor did of a phase, where one acted and the others had nothing to do
-pub one_acted : {number : ℕ} {before now : Standing} {phase : List Statement} {old new : List Work}
-    (lists : List (List Done)) {done : List Done} {known : List MapChange} → HasGrown number before now phase old new
-    → All (λ statement. statement.actor ≡ number) phase
-    → HasDone before.setup number before.entries phase done now.entries known
-    → known ≡ map_writes_of before.setup now.entries → length lists ≡ length new → get_or lists number [] ≡ done
-    → ((actor : ℕ) → actor ≢ number → actor < length lists → get_or lists actor [] ≡ [])
-    → ((version : ℕ) (later history : List Entry)
-    → placed version later (done_in new) history ≡ placed version later lists history) → HasRunSo before now phase new
-one_acted {number} {before} {now} {phase} lists {known = known} grown only has known_is count own none same =
-    let begins = begins_opened before.setup number before.entries _ now.entries known has.trace in
-    let at = λ (actor : ℕ). (from_first lists actor).0 in
-    let writes = writes_extend before.setup before.entries now.entries begins in
-    let theirs = λ (actor : ℕ) (other : actor ≢ number). theirs number actor before.entries now.entries other
-    grown.others in
-    let quiet = λ (actor : ℕ) (other : actor ≢ number). no_events number actor other phase only in
-    grind (arith, begins, at, writes, theirs, quiet, grown, has, known_is, count, own, none, same)
+module _ {number : ℕ} {before now : Standing} {keeps : Bool} {phase : List Statement} {old new : List Work}
+    (own : ℕ → List Entry) (can : CanAct number before old keeps phase)
+    (only : All (λ statement. statement.actor ≡ number) phase) (acted : HasActed number before now keeps phase old new)
+    (told : AreTold own old) where
+  has : HasDone before.setup number before.entries (events_by number phase) (own number) keeps acted.work now.entries
+      (map_writes_of now.setup now.entries)
+  has = acted.done (own number) (told number can.within)
 
-pub alone_has_run : {number : ℕ} {before now : Standing} {phase : List Statement} {new : List Work} (old : List Work)
-    → CanAct number before old phase → All (λ statement. statement.actor ≡ number) phase
-    → HasActed number before now phase old new → HasRunSo before now phase new
-alone_has_run [] can only acted = absurd (omega (arith, can.within))
-alone_has_run {number} {before} {now} {phase} {new} (d ∷ old) can only acted =
-    let did : Work → List Done = λ work. work.done.items in
-    let count : length new ≡ length (d ∷ old) = acted.grown.count in
-    let size = length-map new did in
-    one_acted (done_in new) acted.grown only (acted.done d)
-    (ap (λ (setup : Setup). map_writes_of setup now.entries) acted.grown.setup) size
-    (get_or-map did new number d [] (omega (arith, can.within, count)))
-    (λ actor unlike less. get_or-map did new actor d [] (omega (arith, less, size))
-    ∙ (ap did (acted.grown.same actor d unlike) ∙ can.empty actor d (omega (arith, less, size, count))))
-    (λ version later history. refl)
+  begins : Begins before.entries now.entries
+  begins = begins_opened before.setup number before.entries (reverse has.done) now.entries
+      (map_writes_of now.setup now.entries) has.trace
+
+  lists : List (List Done)
+  lists = set (done_in old) number has.done
+
+  within : number < length (done_in old)
+  within = rw (length-map old (λ (work : Work). work.done.items)) can.within
+
+  size : length new ≡ length old
+  size = ap length acted.is ∙ length-set old number acted.work
+
+  own_work : IsWork before.setup before.entries now.entries phase number has.done
+  own_work = record {
+    seen = now.entries;
+    known = map_writes_of now.setup now.entries;
+    trace = has.trace;
+    closed = record {
+      begins = ([], refl);
+      meets = ([], ap (λ (setup : Setup). map_writes_of setup now.entries) (sym acted.setup));
+      mine = refl;
+    };
+    said = has.said;
+  }
+
+  other_work : (actor : ℕ) → actor ≢ number → IsWork before.setup before.entries now.entries phase actor []
+  other_work actor unlike = record {
+    seen = before.entries;
+    known = map_writes_of before.setup before.entries;
+    trace = (refl, refl);
+    closed = record {
+      begins = begins;
+      meets = writes_extend before.setup before.entries now.entries begins;
+      mine = theirs number actor before.entries now.entries unlike acted.others;
+    };
+    said = no_events number actor unlike phase only;
+  }
+
+  own_list : done_by 0 number lists ≡ has.done
+  unfolding lists
+  own_list = (from_first lists number).0 ∙ get_or-set_at (done_in old) number number has.done [] refl within
+
+  other_list : (actor : ℕ) → actor ≢ number → actor < length old → done_by 0 actor lists ≡ []
+  unfolding lists
+  other_list actor unlike less =
+      (from_first lists actor).0 ∙ (get_or-set_other (done_in old) number actor has.done [] unlike
+      ∙ All-map (λ (items : List Done). items ≡ []) (λ (work : Work). work.done.items) old can.empty actor []
+      (rw (length-map old (λ (work : Work). work.done.items)) less))
+
+  pages : pages_in new ≡ set (pages_in old) number (page acted.work)
+  pages = ap (map page) acted.is ∙ map-set page old number acted.work
+
+  wrote : (later : List Entry) → reverse later ++ before.entries ≡ now.entries → (actor : ℕ) → actor < length old
+      → page_by actor new ≡ page_of (written actor (done_by 0 actor lists) (entries_by actor later) (own actor))
+  wrote later whole actor less = elim (cases_eq actor number) [
+    | inl same ↦
+        let few : number < length (pages_in old) = rw (length-map old page) can.within in
+        let here : page_by number new ≡ page acted.work =
+        ap (λ (ps : List Page). slice_index_or ps number ([], 0)) pages
+        ∙ get_or-set_at (pages_in old) number number (page acted.work) ([], 0) refl few in
+        let lines = lines_are now.entries later has whole refl in
+        let mine : page_by number new ≡ page_of (written number (done_by 0 number lists) (entries_by number later)
+        (own number)) = here ∙ (lines ∙ ap (λ (done : List Done). page_of (written number done (entries_by number later)
+        (own number))) (sym own_list)) in
+        subst (λ (a : ℕ). page_by a new ≡ page_of (written a (done_by 0 a lists) (entries_by a later) (own a)))
+        (sym same) mine
+    | inr unlike ↦
+        ap (λ (ps : List Page). slice_index_or ps actor ([], 0)) pages
+        ∙ (get_or-set_other (pages_in old) number actor (page acted.work) ([], 0) unlike
+        ∙ (told actor less ∙ ap page_of (sym (nothing_written actor (entries_by actor later) (own actor))
+        ∙ ap (λ (done : List Done). written actor done (entries_by actor later) (own actor))
+        (sym (other_list actor unlike less)))))
+  ]
+
+  each : (actor : ℕ) → actor < length old
+      → IsWork before.setup before.entries now.entries phase actor (done_by 0 actor lists)
+  each actor less = elim (cases_eq actor number) [
+    | inl same ↦
+        subst (λ (a : ℕ). IsWork before.setup before.entries now.entries phase a (done_by 0 a lists)) (sym same)
+        (subst (λ (done : List Done). IsWork before.setup before.entries now.entries phase number done) (sym own_list)
+        own_work)
+    | inr unlike ↦
+        subst (λ (done : List Done). IsWork before.setup before.entries now.entries phase actor done)
+        (sym (other_list actor unlike less)) (other_work actor unlike)
+  ]
+
+  kept : AreKept keeps (done_in new) lists
+  unfolding lists
+  kept =
+      let did : Work → List Done = λ work. work.done.items in
+      let none : all_looks_in (done_in old) ≡ 0 = nobody_looked did old (λ k d less. rw (can.empty k d less) refl) in
+      let same : done_in new ≡ set (done_in old) number acted.work.done.items =
+      ap (map did) acted.is ∙ map-set did old number acted.work in
+      rw same (set_kept keeps (done_in old) number acted.work.done.items has.done within none has.kept)
+
+  lists_size : length lists ≡ length new
+  unfolding lists
+  lists_size = length-set (done_in old) number has.done
+      ∙ (length-map old (λ (work : Work). work.done.items) ∙ sym size)
+
+  pub alone_has_run : HasRun own before now phase new
+  alone_has_run = record {
+    setup = acted.setup;
+    begins = begins;
+    lists = lists;
+    count = lists_size;
+    each = λ actor less. each actor (rw size at less);
+    same = same_places keeps (done_in new) lists kept;
+    lines = λ later whole actor less. wrote later whole actor (rw size at less);
+  }
 
 -- the works of a phase are those that the run had, and nothing of it is done
-module _ {number : ℕ} {run : Run} {phase : List Statement} {given old : List Work} (lent : given ≡ run.works.items)
-    (again : map (λ (work : Work). work.asked) old ≡ map (λ (work : Work). work.asked) given)
-    (below : number < length run.works.items) where
-  pub can_act : CanDoPhase run phase → All (λ work. work.done.items ≡ []) old → CanAct number run.board old phase
-  can_act can empty =
+module _ {number : ℕ} {run : Run} {keeps : Bool} {phase : List Statement} {old : List Work}
+    (again : pages_in old ≡ pages_in run.works.items) (below : number < length run.works.items) where
+  pub can_act : CanDoPhase run phase → All (λ work. work.done.items ≡ []) old → All (λ work. work.keeps ≡ keeps) old
+      → (keeps ≡ false → HasNoLook phase) → CanAct number run.board old keeps phase
+  can_act can empty kept plain =
       let all : length run.board.entries ≤ 2_000_000 =
       few_entries (length run.works.items) run.board.entries (record {
         some = can.some;
@@ -124,166 +223,60 @@ module _ {number : ℕ} {run : Run} {phase : List Statement} {given old : List W
         actors = can.asked.actors;
         each = λ actor. omega (arith, can.asked.mine actor, can.room);
       }) in
-      let count = same_lengths (λ (w : Work). w.asked) (λ (w : Work). w.asked) old given again ∙ ap length lent in
-      let few = asked_again can.most run.works.items old (again ∙ ap (map (λ (w : Work). w.asked)) lent)
-      can.asked.asked in
+      let few = asked_again can.most run.works.items old again can.asked.asked in
       record {
         in_range = λ k d less. (can.in_range k d less).event;
-        within = omega (arith, count, below);
+        plain = plain;
+        within = omega (arith, pages_length run.works.items old again, below);
         empty = empty;
+        kept = kept;
         few = omega (arith, all, both number run.board.entries);
         room = omega (arith, can.asked.mine number, can.room);
         asked = λ k d less. omega (arith, few k d less, can.room);
       }
 
-  pub grows : (now : Run) → HasGrown number run.board now.board phase old now.works.items → GrowsBy phase run now
-  grows now grown =
-      let count = same_lengths (λ (w : Work). w.asked) (λ (w : Work). w.asked) old given again ∙ ap length lent in
-      let size : length run.works.items ≡ length now.works.items = omega (arith, count, grown.count) in
+  pub grows : (now : Run) → HasActed number run.board now.board keeps phase old now.works.items → GrowsBy phase run now
+  grows now acted =
+      let set_size = length-set old number acted.work in
+      let size : length run.works.items ≡ length now.works.items =
+      omega (arith, pages_length run.works.items old again, ap length acted.is, set_size) in
       let n : ℕ = length now.works.items in
       record {
         count = sym size;
         asked = λ most asked room. record {
           actors = all_below number n (omega (arith, below, size)) now.board.entries
-              (rw grown.others (All-filter (λ (e : Entry). not (e.actor == number)) (λ (e : Entry). e.actor < n)
+              (rw acted.others (All-filter (λ (e : Entry). not (e.actor == number)) (λ (e : Entry). e.actor < n)
               run.board.entries (rw size at asked.actors)));
           mine = λ actor.
               let same = theirs number actor run.board.entries now.board.entries in
-              grind (arith, nat_tests, grown.mine, grown.others, asked.mine number, asked.mine actor, same);
-          asked = λ k d less.
-              let few = asked_again most run.works.items old (again ∙ ap (map (λ (w : Work). w.asked)) lent)
-              asked.asked in
-              grind (arith, nat_tests, grown.count, grown.same k d, grown.asked most d few, few k d);
+              grind (arith, nat_tests, acted.mine, acted.others, asked.mine number, asked.mine actor, same);
+          asked =
+              let few = asked_again most run.works.items old again asked.asked in
+              let most_now : Work → Type 0 = λ work. work.asked ≤ most + length phase in
+              rw acted.is (All-set most_now old number acted.work (acted.asked most few)
+              (λ k d less. omega (arith, few k d less)));
         };
       }
 
 -- one work is replaced
-module _ (number : ℕ) (before now : Standing) (phase : List Statement) (old : List Work) (was work : Work)
-    (within : number < length old) (is : was ≡ slice_index_or old number was) (setup : now.setup ≡ before.setup)
-    (same : others number now.entries ≡ others number before.entries)
-    (mine : length (entries_by number now.entries) ≤ length (entries_by number before.entries) + length phase)
-    (asked : work.asked ≤ was.asked + length phase) where
-  pub has_grown : HasGrown number before now phase old (set old number work)
-  has_grown = grind (arith, nat_tests, length-set, get_or-set_other, get_or-set_same)
-
-  pub has_acted : HasDone before.setup number before.entries phase work.done.items now.entries
-      (map_writes_of now.setup now.entries) → HasActed number before now phase old (set old number work)
-  has_acted done = record { grown = has_grown; done = λ d. rw (get_or-set_same old number work d within) done }
-
--- ---- a phase of which what was done is not kept, since none of it is a look
-
--- what was done, as the history tells it, the newest first
-abbrev dones : Setup → (opened more : List Entry) → List Done
-dones setup opened [] = []
-dones setup opened (entry ∷ before) =
-    Went (length (map_writes_of setup (entry ∷ (before ++ opened)))) entry.event ∷ dones setup opened before
-
-no_looks : (setup : Setup) (opened more : List Entry) → looks_in (reverse (dones setup opened more)) ≡ 0
-no_looks setup opened [] = refl
-no_looks setup opened (entry ∷ before) =
-    let one : List Done = Went (length (map_writes_of setup (entry ∷ (before ++ opened)))) entry.event ∷ [] in
-    grind (arith, reverse-append one (dones setup opened before), looks_append, no_looks setup opened before)
-
-dones_events : (setup : Setup) (opened more : List Entry)
-    → map event_of (dones setup opened more) ≡ map (λ (entry : Entry). entry.event) more
-dones_events setup opened [] = refl
-dones_events setup opened (entry ∷ before) = grind (arith, dones_events setup opened before)
-
-dones_trace : (setup : Setup) (number : ℕ) (opened more : List Entry) → All (λ entry. entry.actor ≡ number) more
-    → All (λ entry. is_look entry.event ≡ false) more
-    → IsDone setup number opened (dones setup opened more) (more ++ opened) (map_writes_of setup (more ++ opened))
-dones_trace setup number opened [] own plain = (refl, refl)
-dones_trace setup number opened (entry ∷ before) own plain = (
-  before ++ opened,
-  map_writes_of setup (before ++ opened),
-  gone_alone setup number entry (before ++ opened) (own 0 entry (omega arith)),
-  refl,
-  plain 0 entry (omega arith),
-  dones_trace setup number opened before (λ k d less. own (suc k) d (omega (arith, less)))
-      (λ k d less. plain (suc k) d (omega (arith, less))),
-)
-
--- ---- entries of one processor after a history
-
-own_more : (number : ℕ) (more opened : List Entry) → All (λ entry. entry.actor ≡ number) more
-    → (others number (more ++ opened) ≡ others number opened)
-    × (length (entries_by number (more ++ opened)) ≡ length more + length (entries_by number opened))
-own_more number [] opened own = (refl, omega arith)
-own_more number (entry ∷ more) opened own =
-    let rest = own_more number more opened (λ k d less. own (suc k) d (omega (arith, less))) in
-    grind (arith, nat_tests, own 0 entry (omega arith), rest)
-
--- ---- the phase
-
--- what is kept is what was done
-pub so : (before now : Standing) (phase : List Statement) (works : List Work) → HasRun before now phase works
-    → HasRunSo before now phase works
-so before now phase works run = grind (arith, run, length-map works (λ (work : Work). work.done.items))
-
-has_done : (number : ℕ) (phase : List Statement) (before now : Standing) (a : HasAdded number phase before now)
-    → All (λ statement. statement.actor ≡ number) phase
-    → HasDone before.setup number before.entries phase (reverse (dones before.setup before.entries a.more))
-    now.entries (map_writes_of before.setup now.entries)
-has_done number phase before now a only =
-    let done : List Done = dones before.setup before.entries a.more in
-    let trace = dones_trace before.setup number before.entries a.more a.own a.plain in
-    let all = filter_all (λ (s : Statement). s.actor == number) phase
-    (λ k d less. eq-eqb (get_or phase k d).actor number (only k d less)) in
-    let turned = reverse-reverse done in let mapped = map_reverse event_of done in
-    let events = dones_events before.setup before.entries a.more in
-    grind (arith, a, trace, all, turned, mapped, events)
-
-pub plain_has_run : {number : ℕ} {before now : Standing} {phase : List Statement} {old new : List Work}
-    → CanAct number before old phase → All (λ statement. statement.actor ≡ number) phase
-    → HasStepped number before now phase old new → HasRunSo before now phase new
-plain_has_run {number} {before} {now} {phase} {old} {new} can only stepped =
-    let a = stepped.added in let did : Work → List Done = λ work. work.done.items in
-    let done : List Done = reverse (dones before.setup before.entries a.more) in
-    let size : length (done_in old) ≡ length old = length-map old did in
-    let within : number < length (done_in old) = omega (arith, size, can.within) in
-    let lists : List (List Done) = set (done_in old) number done in
-    let count : length lists ≡ length (done_in old) = length-set (done_in old) number done in
-    let none : all_looks_in (done_in old) ≡ 0 = nobody_looked did old (λ k d less. rw (can.empty k d less) refl) in
-    let plain : all_looks_in lists ≡ 0 =
-    omega (arith, count_set (done_in old) number done within, none, no_looks before.setup before.entries a.more) in
-    one_acted lists stepped.grown only
-    (has_done number phase before now a only) refl (omega (arith, count, size, stepped.grown.count))
-    (get_or-set_at (done_in old) number number done [] refl within)
-    (λ other unlike few. get_or-set_other (done_in old) number other done [] unlike
-    ∙ All-map (λ (items : List Done). items ≡ []) did old can.empty other [] (omega (arith, few, count)))
-    (λ version later history. rw stepped.kept (placed_alone version later (done_in old) history none
-    ∙ sym (placed_alone version later lists history plain)))
-
--- ---- a step of the loop
-
-pub has_stepped : {number : ℕ} {before now : Standing} {phase : List Statement} (old : List Work) (was work : Work)
-    → number < length old
-    → was ≡ slice_index_or old number was → HasAdded number phase before now → work.asked ≤ was.asked + length phase
-    → work.done.items ≡ was.done.items → HasStepped number before now phase old (set old number work)
-has_stepped {number} {before} {now} {phase} old was work within is a asked same =
-    let count : length a.more ≡ length phase = grind (arith, ap length a.said, length-reverse, length-map) in
-    let more = own_more number a.more before.entries a.own in
-    let kept = map-set_same (λ (w : Work). w.done.items) old number work was in
-    let size = length-set old number work in let apart = get_or-set_other old number in
-    let here = get_or-set_same old number work in
-    grind (arith, a, count, more, kept, same, is, within, asked, size, apart, here)
-
--- one statement more
-pub added_more : {number : ℕ} {before board now : Standing} {entry : Entry} (phase : List Statement) (i : ℕ)
-    (d : Statement) → i < length phase → HasAdded number (take i phase) before board → now.setup ≡ board.setup →
-    now.entries ≡ entry ∷ board.entries → entry.actor ≡ number → entry.event ≡ (slice_index_or phase i d).event →
-    is_look (slice_index_or phase i d).event ≡ false → HasAdded number (take (i + 1) phase) before now
-added_more {number} {entry = entry} phase i d less a setup is own said none =
-    let event : Statement → Event = λ statement. statement.event in
-    let told : Entry → Event = λ entry. entry.event in
+pub has_acted : {number : ℕ} {before now : Standing} {keeps : Bool} {phase : List Statement} (old : List Work)
+    (was work : Work) → CanAct number before old keeps phase → was ≡ slice_index_or old number was →
+    now.setup ≡ before.setup → others number now.entries ≡ others number before.entries →
+    length (entries_by number now.entries) ≤ length (entries_by number before.entries) + length phase →
+    work.asked ≤ was.asked + length phase →
+    ((own : List Entry) → page was ≡ page_of own →
+    HasDone before.setup number before.entries (events_by number phase) own was.keeps work now.entries
+    (map_writes_of now.setup now.entries)) → HasActed number before now keeps phase old (set old number work)
+has_acted {number} {keeps = keeps} old was work can is setup others mine asked done =
+    let kept : was.keeps ≡ keeps = ap (λ (w : Work). w.keeps) is ∙ can.kept number was can.within in
+    let same : page was ≡ page_by number old =
+    ap page is ∙ sym (get_or-map page old number was ([], 0) can.within) in
     record {
-      setup = setup ∙ a.setup;
-      more = entry ∷ a.more;
-      grows = is ∙ ap (λ (h : List Entry). entry ∷ h) a.grows;
-      own = All-cons (λ (e : Entry). e.actor ≡ number) entry a.more own a.own;
-      plain = All-cons (λ (e : Entry). is_look e.event ≡ false) entry a.more (ap is_look said ∙ none) a.plain;
-      said =
-          let split = map-append event (take i phase) (slice_index_or phase i d ∷ []) in
-          let turned = reverse-append (entry.event ∷ []) (map told a.more) in
-          grind (arith, a.said, said, split, turned, take_more phase i d less);
+      setup = setup;
+      others = others;
+      mine = mine;
+      work = work;
+      is = refl;
+      asked = λ most all. omega (arith, asked, all number was can.within, ap (λ (w : Work). w.asked) is);
+      done = λ own told. rw kept at (done own (same ∙ told));
     }

@@ -1,16 +1,19 @@
 -- A phase, as the history of the run takes it in.
-use Rattle.std.proofs.Common.{◌≡◌, ℕ, ◌+◌, ◌<◌, ◌≤◌, List, [], ◌∷◌, ◌++◌, length, take, drop, flat_map, All, Option}
-use Rattle.std.proofs.Common.{Vec, Global, sym, ◌∙◌, ap, arith, reverse, Some, Result, OnOk, take-append-drop, get_or}
+use Rattle.std.proofs.Common.{◌≡◌, ℕ, ◌+◌, ◌<◌, ◌≤◌, List, [], ◌∷◌, ◌++◌, length, map, take, drop, flat_map, All}
+use Rattle.std.proofs.Common.{Option}
+use Rattle.std.proofs.Common.{Vec, Global, sym, ◌∙◌, ap, arith, reverse, Some, Result, Ok, Err, OnOk, take-append-drop}
+use Rattle.std.proofs.Common.{get_or, subst}
 use Rattle.board_prelude.proofs.Common.{reverse-append, reverse-reverse, length-append, append-nil, flat_map-append}
 use Rattle.board_prelude.proofs.Common.{drop-append_seam, take-append_seam, All-drop, Entry, Statement, Setup}
-use Rattle.board_prelude.proofs.Common.{IsCardList, version_of, IsLegal, drop_more}
+use Rattle.board_prelude.proofs.Common.{IsCardList, version_of, IsLegal, drop_more, entries_by}
+use Rattle.std.proofs.lemmas.List.{take-map, drop-map}
+use Rattle.std.proofs.lemmas.List.Elements.{All-map}
 use Rattle.board_core.specs.Kept.{Standing}
 use Rattle.run_order.specs.declared.done.Done.{Done}
 use Rattle.run_order.specs.Common.{placed, Order, bare, IsPhaseRun, PhaseRuns, AreInPlace, AreAllInPlace, Begins}
 use Rattle.run_order.specs.Common.{IsPlacedBelow, over}
-use Rattle.phase_work.specs.declared.worker.Work.{Work}
-use Rattle.phase_threads.specs.Common.{IsStatement, TakesIn, entries_of, done_in}
-use Rattle.phase_threads.specs.Unseen.{HasRunSo}
+use Rattle.phase_threads.specs.declared.worker.Work.{Work}
+use Rattle.phase_threads.specs.Common.{HasRun, IsStatement, TakesIn, entries_of, done_in, page_of}
 use Rattle.run_order.proofs.Histories.{all_reverse, over_front}
 use Rattle.board_spec.proofs.ReplayLaws.{legal_before}
 
@@ -54,16 +57,33 @@ module _ {before now opened entries : List Entry} (grew : Grew before now opened
       rw front (all_reverse (λ (entry : Entry). entry.actor < 8) before (λ k d less.
       let one = all k d less in omega (arith, one, few)))
 
+  -- the processors of entries, that of the oldest first
+  pub earlier_actors : (n count : ℕ) (actors : List ℕ) → n ≤ 8 → All (λ entry. entry.actor < n) before
+      → count ≡ length opened → actors ≡ map (λ (entry : Entry). entry.actor) entries
+      → All (λ actor. actor < 8) (take count actors)
+  earlier_actors n count actors few all count_is actors_is =
+      let actor : Entry → ℕ = λ entry. entry.actor in
+      rw (count_is, actors_is, take-map actor (length opened) entries) (All-map (λ a. a < 8) actor
+      (take (length opened) entries) (front_all n few all))
+
+  pub later_actors : (n count : ℕ) (actors : List ℕ) → All (λ entry. entry.actor < n) now → count ≡ length opened
+      → actors ≡ map (λ (entry : Entry). entry.actor) entries → All (λ actor. actor < n) (drop count actors)
+  later_actors n count actors all count_is actors_is =
+      let actor : Entry → ℕ = λ entry. entry.actor in
+      rw (count_is, actors_is, drop-map actor (length opened) entries) (All-map (λ a. a < n) actor
+      (gained opened entries) (gained_all (λ (entry : Entry). entry.actor < n) all))
+
 -- ---- the history of the run
 
 pub takes_in : {before now : Standing} {opened entries : List Entry} {phase : List Statement} {works : List Work}
-    (old new : Option Order) (version : ℕ) → PhaseRuns → (run : HasRunSo before now phase works)
+    (old new : Option Order) (version : ℕ) → PhaseRuns
+    → (run : HasRun (λ actor. entries_by actor (entries_of old before.entries)) before now phase works)
     → Grew before.entries now.entries opened entries → IsCardList before.setup.cards → IsLegal now.setup now.entries
     → All (λ entry. entry.actor < length works) now.entries → All (IsStatement before.setup (length works)) phase
     → version ≡ version_of before.setup before.entries → IsLegal before.setup (entries_of old before.entries)
     → bare (entries_of old before.entries) ≡ bare before.entries → entries_of new (reverse entries)
     ≡ placed version (gained opened entries) (done_in works) (entries_of old (reverse (take (length opened) entries)))
-    → TakesIn phase before now (entries_of old before.entries) (entries_of new now.entries)
+    → TakesIn phase before now works (entries_of old before.entries) (entries_of new now.entries)
 takes_in {before} {now} {opened} {entries} {phase} {works} old new version law run grew cards legal callers speakers
     version_is kept same placed_is =
     let later : List Entry = gained opened entries in let history : List Entry = entries_of old before.entries in
@@ -76,8 +96,21 @@ takes_in {before} {now} {opened} {entries} {phase} {works} old new version law r
       each = λ actor less. rw (whole_is grew) (run.each actor (rw run.count at less));
     } in
     let there = law before.setup before.entries later phase run.lists history is_run kept same in
-    let added = there.added in
-    grind (arith, there, added, back_is grew, front_is grew, whole, version_is, placed_is, run.same version later)
+    let all : entries_of new now.entries ≡ placed (version_of before.setup before.entries) later run.lists history =
+    ap (entries_of new) (sym (back_is grew)) ∙ (placed_is
+    ∙ (ap (λ (h : List Entry). placed version later (done_in works) (entries_of old h)) (front_is grew)
+    ∙ (run.same version later history ∙ ap (λ (v : ℕ). placed v later run.lists history) version_is))) in
+    subst (λ (h : List Entry). TakesIn phase before now works history h) (sym all) (record {
+      legal = there.legal;
+      same = there.bus ∙ ap bare whole;
+      phases = there.phases;
+      added = there.added;
+      adds = there.adds;
+      size = there.size;
+      callers = rw run.count at there.callers;
+      places = there.places;
+      told = λ actor less. run.lines later whole actor less ∙ ap page_of (sym (there.own actor));
+    })
 
 -- ---- phase after phase
 
@@ -130,3 +163,8 @@ taken_in bus opened version works old new fits size within is =
 
 pub on_ok : {T E : Type 0} {P Q : Type 0} (result : Result T E) → (P → Q) → OnOk result P → OnOk result Q
 on_ok result more is = grind (arith, more)
+
+pub three_on_ok : {T E : Type 0} {P Q R S : Type 0} (result : Result T E) → (P → Q → R → S) → OnOk result P
+    → OnOk result Q → OnOk result R → OnOk result S
+three_on_ok (Ok value) more p q r = more p q r
+three_on_ok (Err error) more p q r = tt

@@ -2,6 +2,8 @@ pub mod Others
 pub mod Acts
 pub mod Ended
 pub mod Jobs
-pub mod Unseen
 pub mod Placed
 pub mod Common
+pub mod Replies
+pub mod Shared
+pub mod Works

@@ -1,18 +1,19 @@
 //! A phase in which one processor acts. It does its statements at the board itself: there is no turn to wait for, and
 //! no map to publish.
 
-ghost use Rattle.std.specs.Prelude.{◌≡◌, ◌<◌, ℕ, All, length, IfOk, IfSome, OnOk};
+ghost use Rattle.std.specs.Prelude.{◌≡◌, ◌<◌, ℕ, List, All, Bool, false, length, IfOk, IfSome, OnOk};
+ghost use Rattle.board_prelude.specs.Common.{Entry as AnEntry};
 ghost use Rattle.phase_threads.specs.Acts.{CanAct, HasActed};
-ghost use Rattle.phase_threads.specs.Jobs.{CanDoPhase, GrowsBy};
-ghost use Rattle.phase_threads.specs.Unseen.{HasRunSo};
+ghost use Rattle.phase_threads.specs.Jobs.{AreTold, CanDoPhase, GrowsBy, HasNoLook, HasRun};
 
+use crate::caller::Caller;
 use crate::jobs::next_works;
 use crate::run::Run;
+use crate::worker::Work;
 use board_base::{Kind, NoMemory};
-use board_core::Board;
+use board_core::{Steps, UnrecordedBoard};
 use board_outside::Gate;
-use board_spec::{Entry, Event, Look, Statement};
-use phase_work::{Caller, Work};
+use board_spec::{Entry, Event, Look, Reply, Statement};
 use std::alloc::Global;
 use std::collections::LinkedList;
 use std::sync::Wait;
@@ -20,7 +21,7 @@ use std::sync::Wait;
 /// The board, in the hands of the one processor that acts.
 #[derive(Drop)]
 pub(crate) struct Alone {
-    pub board: Board,
+    pub board: UnrecordedBoard,
     pub number: u8,
 }
 
@@ -54,10 +55,10 @@ impl Caller for Alone {
     }
 
     #[tactic(auto, using(crate::proofs::OneActs::both))]
-    fn bus<R: Wait>(&mut self, _shared: &(), _rt: &R, event: &Event) -> Result<(), NoMemory> {
+    fn bus<R: Wait>(&mut self, _shared: &(), _rt: &R, event: &Event) -> Result<Reply, NoMemory> {
         self.board.reserve(1)?;
-        self.board.step(self.number, event);
-        Ok(())
+        let reply = self.board.step(self.number, event);
+        Ok(reply)
     }
 
     fn look(&mut self, addr: u32, kind: Kind, smm: bool) -> Look {
@@ -98,30 +99,35 @@ fn do_all<R: Wait, G: Gate>(
     phase: &[Statement],
     gate: &G,
 ) -> Result<(), NoMemory>
-    requires can { CanAct alone.old.number alone.old.board works.old.items phase.now }
-    ensures acted { OnOk result (HasActed alone.old.number alone.old.board alone.new.board phase.now works.old.items
+    requires can { (keeps : Bool) × CanAct alone.old.number alone.old.board works.old.items keeps phase.now }
+    ensures acted { (keeps : Bool) → CanAct alone.old.number alone.old.board works.old.items keeps phase.now
+        → OnOk result (HasActed alone.old.number alone.old.board alone.new.board keeps phase.now works.old.items
         works.new.items) }
 {
     works[usize::from(alone.number)].run(alone, &(), rt, phase, gate)
 }
 
-/// Runs a phase in which this is the only processor that acts. The others' works are empty.
+/// Runs a phase in which this is the only processor that acts: nothing is shared. Whether somebody looks in it says
+/// whether what is done is kept.
 pub(crate) fn run_alone<R: Wait, G: Gate>(
     rt: &R,
     alloc: Global,
     run: Run,
     actor: u8,
     phase: &[Statement],
+    keeps: bool,
     gate: &G,
 ) -> Result<Run, NoMemory>
     requires can { CanDoPhase run phase.now }
+    requires plain { keeps ≡ false → HasNoLook phase.now }
     requires only { All (λ statement. statement.actor ≡ actor) phase.now }
     requires below { actor < length run.works.items }
     ensures goes_on { IfOk result (GrowsBy phase.now run) }
-    ensures run { IfOk result (λ next. HasRunSo run.board next.board phase.now next.works.items) }
+    ensures run { IfOk result (λ next. (own : ℕ → List AnEntry) → AreTold own run.works.items
+        → HasRun own run.board next.board phase.now next.works.items) }
 {
     let Run { board, works } = run;
-    let mut works = next_works(alloc, phase, &works)?;
+    let mut works = next_works(alloc, phase, keeps, works)?;
     let mut alone = Alone {
         board,
         number: actor,

@@ -1,63 +1,72 @@
 //! A run that has ended.
 
-ghost use Rattle.std.specs.Prelude.{◌≡◌, length, reverse, All, IfSome, MatchOption};
-ghost use Rattle.run_order.specs.Over.{IsPlacedBelow, over};
-ghost use Rattle.phase_threads.specs.Placed.{entries_of, IsUpTo};
+ghost use Rattle.std.specs.Prelude.{◌≡◌, IfOk};
+ghost use Rattle.board_prelude.specs.Common.{log_text};
+ghost use Rattle.phase_threads.specs.Ended.{HasEnded};
+ghost use Rattle.phase_threads.specs.Placed.{entries_of};
 
-use access_history::Entries;
-use board_core::Board;
-use run_order::{RunEntry, RunOrder};
+use board_base::NoMemory;
+use board_core::UnrecordedBoard;
+use logs::Text;
+use run_log::{Lines, log_of_lines};
+use run_order::RunOrder;
+use std::alloc::Global;
 use std::marker::Model;
+use std::thread::Threads;
 
-/// A run that has ended. Contracts see the entries of its history, the newest first, and those of the board's own, the
-/// oldest first.
+/// A run that has ended. Contracts see the entries of its history, the newest first.
 #[derive(Drop)]
 pub struct EndedRun {
-    board: Board,
+    board: UnrecordedBoard,
+    /// The order of all entries, where somebody looked. Else it is the board's own.
     order: Option<RunOrder>,
+    /// The lines of each processor's entries, from processor 0 on.
+    lines: Vec<Lines>,
 }
 
 impl Model for EndedRun {
-    ghost use Rattle.std.specs.Prelude.{reverse};
-    ghost use Rattle.phase_threads.specs.Ended.{Ended};
-    ghost use Rattle.phase_threads.specs.Placed.{entries_of, IsUpTo};
+    ghost use Rattle.phase_threads.specs.Ended.{Ended, HasEnded};
+    ghost use Rattle.phase_threads.specs.Placed.{entries_of};
 
     ghost Value = { Ended };
 
-    ghost view = { λ run. record {
-      entries = entries_of run.order run.board.entries;
-      bus = reverse run.board.entries;
-    } };
+    ghost view = { λ run. record { entries = entries_of run.order run.board.entries } };
 
-    ghost invariant = { λ run. IsUpTo run.order run.board.entries };
+    ghost invariant = { λ run. HasEnded run.order run.board.entries run.lines.items };
 }
 
 impl EndedRun {
     /// The end of a run that led to this board. Its history is the board's, where it has no order of its own.
-    pub(crate) fn new(board: Board, order: Option<RunOrder>) -> EndedRun
-        requires up_to { IsUpTo order board.entries }
+    pub(crate) fn new(
+        board: UnrecordedBoard,
+        order: Option<RunOrder>,
+        lines: Vec<Lines>,
+    ) -> EndedRun
+        requires ended { HasEnded order board.entries lines.items }
         ensures entries { result.entries ≡ entries_of order board.entries }
-        ensures bus { result.bus ≡ reverse board.entries }
     {
-        EndedRun { board, order }
-    }
-
-    /// The entries that went through the bus turn, the oldest first.
-    pub fn bus(&self) -> Entries<'_>
-        ensures bus { result ≡ self.now.bus }
-    {
-        self.board.history().entries()
-    }
-
-    /// The order of all entries, where somebody looked. Else they are those of the bus.
-    pub fn order(&self) -> Option<&[RunEntry]>
-        ensures entries { MatchOption result (self.now.bus ≡ reverse self.now.entries)
-            (λ order. over self.now.bus order.now ≡ reverse self.now.entries) }
-        ensures within { IfSome result (λ order. All (IsPlacedBelow (length self.now.bus)) order.now) }
-    {
-        match &self.order {
-            Some(order) => Some(order.entries()),
-            None => None,
+        EndedRun {
+            board,
+            order,
+            lines,
         }
+    }
+
+    /// The log of its history, of version 1 or 2, which `workers` threads put together.
+    pub fn log<R: Threads + Sync>(
+        &self,
+        rt: &R,
+        alloc: Global,
+        workers: u8,
+        version: u8,
+    ) -> Result<Text, NoMemory>
+        ensures text { IfOk result (λ text. text ≡ log_text version self.now.entries) }
+    {
+        let Some(order) = &self.order else {
+            let actors = self.board.actors();
+            return log_of_lines(rt, alloc, workers, version, &self.lines, actors);
+        };
+        let actors = order.actors(alloc)?;
+        log_of_lines(rt, alloc, workers, version, &self.lines, &actors)
     }
 }

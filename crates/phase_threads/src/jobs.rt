@@ -5,14 +5,18 @@ ghost use Rattle.std.specs.Prelude.{IfOk, IsTrue, IsFalse};
 ghost use Rattle.std.specs.List.{AllZip};
 ghost use Rattle.std.specs.Thread.{IsSync};
 ghost use Rattle.board_prelude.specs.Common.{events_by};
-ghost use Rattle.phase_threads.specs.Jobs.{CanRun, Runs, AreDue, done_in};
+ghost use Rattle.run_order.specs.Placing.{is_look};
+ghost use Rattle.phase_threads.specs.Works.{page};
+ghost use Rattle.phase_threads.specs.Jobs.{CanRun, Runs, AreDue, HasNoLook, done_in, pages_in};
 
+use crate::worker::Work;
 use board_base::NoMemory;
+use board_core::UnrecordedBoard;
 use board_live::{Cpu, Live};
 use board_outside::Gate;
-use board_spec::Statement;
 use board_spec::limits::ACTORS;
-use phase_work::Work;
+use board_spec::{Event, Statement};
+use run_log::Lines;
 use run_order::Works;
 use std::alloc::Global;
 use std::sync::Wait;
@@ -20,7 +24,7 @@ use std::thread::{Threads, join_mut};
 
 /// A worker, with the caller that it has in a phase.
 pub(crate) struct Job {
-    pub cpu: Cpu,
+    pub cpu: Cpu<UnrecordedBoard>,
     pub work: Work,
     /// There was no memory for one of its statements.
     pub refused: bool,
@@ -28,7 +32,13 @@ pub(crate) struct Job {
 
 impl Job {
     /// Does the statements of one processor.
-    fn run<R: Wait, G: Gate>(&mut self, live: &Live, rt: &R, phase: &[Statement], gate: &G)
+    fn run<R: Wait, G: Gate>(
+        &mut self,
+        live: &Live<UnrecordedBoard>,
+        rt: &R,
+        phase: &[Statement],
+        gate: &G,
+    )
         requires can { CanRun live.now phase.now self.old }
         ensures runs { Runs live.now phase.now self.old self.new }
     {
@@ -48,7 +58,7 @@ fn are_idle(jobs: &[Job]) -> bool
 #[cycle(halves)]
 pub(crate) fn run_jobs<R: Threads + Wait + Sync, G: Gate>(
     rt: &R,
-    live: &Live,
+    live: &Live<UnrecordedBoard>,
     phase: &[Statement],
     gate: &G,
     jobs: &mut [Job],
@@ -75,7 +85,7 @@ pub(crate) fn run_jobs<R: Threads + Wait + Sync, G: Gate>(
 #[cycle(halves)]
 fn run_both<R: Threads + Wait + Sync, G: Gate>(
     rt: &R,
-    live: &Live,
+    live: &Live<UnrecordedBoard>,
     phase: &[Statement],
     gate: &G,
     low: &mut [Job],
@@ -101,6 +111,23 @@ fn run_both<R: Threads + Wait + Sync, G: Gate>(
     );
 }
 
+/// Whether an event is a look.
+fn is_look(event: &Event) -> bool
+    ensures look { result ≡ is_look event.now }
+{
+    match event {
+        Event::Look { .. } => true,
+        _ => false,
+    }
+}
+
+/// Whether a statement of a phase is a look.
+pub(crate) fn has_looks(phase: &[Statement]) -> bool
+    ensures none { IsFalse result → HasNoLook phase.now }
+{
+    phase.iter().any(|statement| is_look(&statement.event))
+}
+
 /// How many statements each processor has in a phase.
 fn own_in(phase: &[Statement]) -> [usize; ACTORS]
     ensures own { (actor : ℕ) → actor < 256 → slice_index result actor ≡ length (events_by actor phase.now) }
@@ -115,44 +142,62 @@ fn own_in(phase: &[Statement]) -> [usize; ACTORS]
 /// The work of each of `cpus` processors before the first phase.
 pub(crate) fn first_works(alloc: Global, cpus: u8) -> Result<Vec<Work>, NoMemory>
     ensures count { IfOk result (λ works. length works.items ≡ cpus) }
-    ensures asked { IfOk result (λ works. All (λ work. work.asked ≡ 0) works.items) }
+    ensures none { IfOk result (λ works. All (λ work. page work ≡ ([], 0)) works.items) }
 {
     let mut works = Vec::with_capacity(alloc, usize::from(cpus))?;
     for _ in 0..cpus {
-        let done = Vec::new(alloc);
         works.push(Work {
-            done,
+            lines: Lines::new(alloc),
             asked: 0,
+            done: Vec::new(alloc),
+            keeps: false,
             due: 0,
         })?;
     }
     Ok(works)
 }
 
-/// The work of each processor in the next phase, with room for its statements.
+/// The work of each processor in the next phase. What it does is kept where `keeps` says so, and there is room for it.
 pub(crate) fn next_works(
     alloc: Global,
     phase: &[Statement],
-    works: &[Work],
+    keeps: bool,
+    works: Vec<Work>,
 ) -> Result<Vec<Work>, NoMemory>
-    requires few { length works.now ≤ 8 }
-    ensures asked { IfOk result (λ next. map (λ work. work.asked) next.items ≡ map (λ work. work.asked) works.now) }
+    requires few { length works.items ≤ 8 }
+    ensures pages { IfOk result (λ next. pages_in next.items ≡ pages_in works.items) }
     ensures empty { IfOk result (λ next. All (λ work. work.done.items ≡ []) next.items) }
+    ensures keeps { IfOk result (λ next. All (λ work. work.keeps ≡ keeps) next.items) }
     ensures due { IfOk result (λ next. AreDue phase.now next.items) }
 {
     let own = own_in(phase);
     let mut next = Vec::with_capacity(alloc, works.len())?;
-    for actor in 0..works.len() {
-        let due = own[actor];
-        let done = Vec::with_capacity(alloc, due)?;
-        let asked = works[actor].asked;
-        next.push(Work { done, asked, due })?;
+    for work in works {
+        let due = own[next.len()];
+        let work = work.for_phase(alloc, keeps, due)?;
+        next.push(work)?;
     }
     Ok(next)
 }
 
+/// The lines of each processor, from processor 0 on.
+pub(crate) fn lines_of(alloc: Global, works: Vec<Work>) -> Result<Vec<Lines>, NoMemory>
+    ensures lines { IfOk result (λ lines. lines.items ≡ map (λ work. work.lines) works.items) }
+{
+    let mut all = Vec::with_capacity(alloc, works.len())?;
+    for work in works {
+        let Work { lines, .. } = work;
+        all.push(lines)?;
+    }
+    Ok(all)
+}
+
 /// Gives each caller its work. What is left has room for as many.
-pub(crate) fn begin(cpus: &mut Vec<Cpu>, works: &mut Vec<Work>, jobs: &mut Vec<Job>)
+pub(crate) fn begin(
+    cpus: &mut Vec<Cpu<UnrecordedBoard>>,
+    works: &mut Vec<Work>,
+    jobs: &mut Vec<Job>,
+)
     requires same { length works.old.items ≡ length cpus.old.items }
     requires none { jobs.old.items ≡ [] }
     requires room { length cpus.old.items ≤ vec_capacity jobs.old }
@@ -174,7 +219,7 @@ pub(crate) fn begin(cpus: &mut Vec<Cpu>, works: &mut Vec<Work>, jobs: &mut Vec<J
 }
 
 /// Takes the callers and the works back.
-pub(crate) fn end(jobs: Vec<Job>, cpus: &mut Vec<Cpu>, works: &mut Vec<Work>)
+pub(crate) fn end(jobs: Vec<Job>, cpus: &mut Vec<Cpu<UnrecordedBoard>>, works: &mut Vec<Work>)
     requires none { (cpus.old.items ≡ []) × (works.old.items ≡ []) }
     requires cpus_room { length jobs.items ≤ vec_capacity cpus.old }
     requires works_room { length jobs.items ≤ vec_capacity works.old }

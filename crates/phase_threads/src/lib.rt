@@ -3,11 +3,15 @@
 #![tactic(auto)]
 
 mod alone;
+mod caller;
+mod cpu;
 mod ended;
 mod jobs;
 mod placing;
-mod plain;
 mod run;
+mod worker;
 
+pub use caller::Caller;
 pub use ended::EndedRun;
 pub use run::run_phases;
+pub use worker::Work;

@@ -1,11 +1,10 @@
 //! The order of a run beside the history of its board.
 
-ghost use Rattle.std.specs.Prelude.{◌≡◌, ◌<◌, ◌≤◌, All, length, map, take, drop, reverse, OnOk};
-ghost use Rattle.board_prelude.specs.Common.{Setup, IsLegal};
-ghost use Rattle.run_order.specs.Placing.{placed};
-ghost use Rattle.phase_threads.specs.Placed.{entries_of, IsUpTo};
+ghost use Rattle.std.specs.Prelude.{◌≡◌, ◌<◌, ◌≤◌, List, All, length, map, take, drop, reverse, OnOk};
+ghost use Rattle.board_prelude.specs.Common.{Entry as AnEntry, Setup, IsLegal};
+ghost use Rattle.run_order.specs.Common.{AreActorsOf, placed};
+ghost use Rattle.phase_threads.specs.Placed.{entries_of, IsUpToCount};
 
-use access_history::Entries;
 use board_base::NoMemory;
 use run_order::{RunOrder, Works, has_looks};
 use std::alloc::Global;
@@ -19,34 +18,35 @@ pub(crate) struct Placing {
 }
 
 impl Placing {
-    /// Adds what a phase did. The board's own history is `bus`, with the oldest entry first, and had `opened` entries
-    /// before. While nobody looks nothing is kept.
+    /// Adds what a phase did. `actors` are the processors of the entries of the board's own history, that of the oldest
+    /// first, which had `opened` entries before. While nobody looks nothing is kept.
     pub(crate) fn add(
         &mut self,
         alloc: Global,
         version: u32,
         opened: usize,
-        bus: &Entries<'_>,
+        actors: &[u8],
         works: Works<'_>,
     ) -> Result<(), NoMemory>
-        requires legal { (setup : Setup) × IsLegal setup (reverse bus.now) }
-        requires gained { opened ≤ length bus.now }
-        requires up_to { IsUpTo self.old.order (reverse (take opened bus.now)) }
-        requires earlier { All (λ entry. entry.actor < 8) (take opened bus.now) }
-        requires callers { All (λ entry. entry.actor < length works.items) (drop opened bus.now) }
-        ensures placed { OnOk result (entries_of self.new.order (reverse bus.now)
-            ≡ placed version (drop opened bus.now) (map (λ done. done.now) works.entry.items)
-            (entries_of self.old.order (reverse (take opened bus.now)))) }
-        ensures up_to { OnOk result (IsUpTo self.new.order (reverse bus.now)) }
+        requires gained { opened ≤ length actors.now }
+        requires up_to { IsUpToCount self.old.order opened }
+        requires earlier { All (λ actor. actor < 8) (take opened actors.now) }
+        requires callers { All (λ actor. actor < length works.items) (drop opened actors.now) }
+        ensures placed { OnOk result ((setup : Setup) (bus : List AnEntry) → AreActorsOf actors.now bus
+            → IsLegal setup (reverse bus) → entries_of self.new.order (reverse bus)
+            ≡ placed version (drop opened bus) (map (λ done. done.now) works.entry.items)
+            (entries_of self.old.order (reverse (take opened bus)))) }
+        ensures up_to { OnOk result (IsUpToCount self.new.order (length actors.now)) }
     {
         if let Some(order) = &mut self.order {
-            return order.place(version, bus, works);
+            return order.place(version, &actors, works);
         }
         if !has_looks(&works) {
             return Ok(());
         }
-        let mut order = RunOrder::begin(alloc, self.most, &bus.before(opened))?;
-        order.place(version, bus, works)?;
+        let before = &actors[..opened];
+        let mut order = RunOrder::begin(alloc, self.most, &before)?;
+        order.place(version, &actors, works)?;
         self.order = Some(order);
         Ok(())
     }

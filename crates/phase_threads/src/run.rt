@@ -1,23 +1,24 @@
 //! A script's phases, one after another.
 
-ghost use Rattle.std.specs.Prelude.{◌≡◌, ◌<◌, ◌≤◌, [], All, length, map, reverse, flat_map, IfOk};
-ghost use Rattle.board_prelude.specs.Common.{IsCardList, IsLegal, IsCompleteFor, most_statements};
+ghost use Rattle.std.specs.Prelude.{◌≡◌, ◌<◌, ◌≤◌, ℕ, List, [], All, false, length, map, reverse, flat_map, IfOk};
+ghost use Rattle.board_prelude.specs.Common.{Entry as AnEntry, IsCardList, IsLegal, IsCompleteFor, entries_by};
+ghost use Rattle.board_prelude.specs.Common.{most_statements};
 ghost use Rattle.run_order.specs.Common.{bare, AreAllInPlace};
 ghost use Rattle.phase_threads.specs.Placed.{entries_of, IsUpTo};
-ghost use Rattle.phase_threads.specs.Jobs.{IsStatement, CanDoPhase, GrowsBy, TakesIn};
-ghost use Rattle.phase_threads.specs.Unseen.{HasRunSo};
+ghost use Rattle.phase_threads.specs.Jobs.{IsStatement, AreTold, CanDoPhase, GrowsBy, HasNoLook, HasRun, TakesIn};
 
 use crate::alone::{only_actor, run_alone};
 use crate::ended::EndedRun;
-use crate::jobs::{begin, end, first_works, is_refused, next_works, run_jobs, works_of};
+use crate::jobs::{
+    begin, end, first_works, has_looks, is_refused, lines_of, next_works, run_jobs, works_of,
+};
 use crate::placing::Placing;
-use crate::plain::{has_looks, run_plain};
+use crate::worker::Work;
 use board_base::NoMemory;
-use board_core::Board;
+use board_core::{Board, Steps, UnrecordedBoard};
 use board_live::Live;
 use board_outside::Gate;
 use board_spec::Statement;
-use phase_work::Work;
 use run_order::laws::law_phase_runs;
 use std::alloc::Global;
 use std::sync::Wait;
@@ -26,7 +27,7 @@ use std::thread::Threads;
 /// A board between two phases, and what its processors did in the last.
 #[derive(Drop)]
 pub(crate) struct Run {
-    pub board: Board,
+    pub board: UnrecordedBoard,
     pub works: Vec<Work>,
 }
 
@@ -36,14 +37,17 @@ fn run_workers<R: Threads + Wait + Sync, G: Gate>(
     alloc: Global,
     run: Run,
     phase: &[Statement],
+    keeps: bool,
     gate: &G,
 ) -> Result<Run, NoMemory>
     requires can { CanDoPhase run phase.now }
+    requires plain { keeps ≡ false → HasNoLook phase.now }
     ensures goes_on { IfOk result (GrowsBy phase.now run) }
-    ensures run { IfOk result (λ next. HasRunSo run.board next.board phase.now next.works.items) }
+    ensures run { IfOk result (λ next. (own : ℕ → List AnEntry) → AreTold own run.works.items
+        → HasRun own run.board next.board phase.now next.works.items) }
 {
     let Run { board, works } = run;
-    let mut works = next_works(alloc, phase, &works)?;
+    let mut works = next_works(alloc, phase, keeps, works)?;
     let mut jobs = Vec::with_capacity(alloc, works.len())?;
     let Ok((live, mut cpus)) = Live::open(rt, alloc, board, works.len() as u8) else {
         jobs.destroy_empty();
@@ -60,28 +64,6 @@ fn run_workers<R: Threads + Wait + Sync, G: Gate>(
     Ok(Run { board, works })
 }
 
-/// Runs a phase in which this is the only processor that acts: nothing is shared.
-fn run_by_one<R: Wait, G: Gate>(
-    rt: &R,
-    alloc: Global,
-    run: Run,
-    actor: u8,
-    phase: &[Statement],
-    gate: &G,
-) -> Result<Run, NoMemory>
-    requires can { CanDoPhase run phase.now }
-    requires only { All (λ statement. statement.actor ≡ actor) phase.now }
-    requires below { actor < length run.works.items }
-    ensures goes_on { IfOk result (GrowsBy phase.now run) }
-    ensures run { IfOk result (λ next. HasRunSo run.board next.board phase.now next.works.items) }
-{
-    if has_looks(phase) {
-        run_alone(rt, alloc, run, actor, phase, gate)
-    } else {
-        run_plain(alloc, run, actor, phase, gate)
-    }
-}
-
 /// Runs a phase: by one processor, where all its statements are of one, else by all.
 fn run_any<R: Threads + Wait + Sync, G: Gate>(
     rt: &R,
@@ -92,11 +74,13 @@ fn run_any<R: Threads + Wait + Sync, G: Gate>(
 ) -> Result<Run, NoMemory>
     requires can { CanDoPhase run phase.now }
     ensures goes_on { IfOk result (GrowsBy phase.now run) }
-    ensures run { IfOk result (λ next. HasRunSo run.board next.board phase.now next.works.items) }
+    ensures run { IfOk result (λ next. (own : ℕ → List AnEntry) → AreTold own run.works.items
+        → HasRun own run.board next.board phase.now next.works.items) }
 {
+    let keeps = has_looks(phase);
     match only_actor(phase) {
-        Some(actor) => run_by_one(rt, alloc, run, actor, phase, gate),
-        None => run_workers(rt, alloc, run, phase, gate),
+        Some(actor) => run_alone(rt, alloc, run, actor, phase, keeps, gate),
+        None => run_workers(rt, alloc, run, phase, keeps, gate),
     }
 }
 
@@ -114,18 +98,20 @@ fn run_phase<R: Threads + Wait + Sync, G: Gate>(
     requires legal { IsLegal run.board.setup (entries_of placing.old.order run.board.entries) }
     requires same { bare (entries_of placing.old.order run.board.entries) ≡ bare run.board.entries }
     requires up_to { IsUpTo placing.old.order run.board.entries }
+    requires told { AreTold (λ actor. entries_by actor (entries_of placing.old.order run.board.entries))
+        run.works.items }
     ensures setup { IfOk result (λ next. next.board.setup ≡ run.board.setup) }
     ensures goes_on { IfOk result (GrowsBy phase.items run) }
-    ensures takes_in { IfOk result (λ next. TakesIn phase.items run.board next.board
+    ensures takes_in { IfOk result (λ next. TakesIn phase.items run.board next.board next.works.items
         (entries_of placing.old.order run.board.entries) (entries_of placing.new.order next.board.entries)) }
     ensures up_to { IfOk result (λ next. IsUpTo placing.new.order next.board.entries) }
 {
     let version = run.board.map().version();
-    let opened = run.board.history().entries().len();
+    let opened = run.board.actors().len();
     let run = run_any(rt, alloc, run, &phase, gate)?;
     drop(phase);
-    let entries = run.board.history().entries();
-    placing.add(alloc, version, opened, &entries, works_of(&run.works))?;
+    let actors = run.board.actors();
+    placing.add(alloc, version, opened, actors, works_of(&run.works))?;
     law_phase_runs();
     Ok(run)
 }
@@ -141,6 +127,19 @@ fn statements_in(phases: &[Vec<Statement>]) -> u32
         count += statements.len() as u32;
     }
     count
+}
+
+/// The end of a run, with the order as far as it came.
+fn ended(alloc: Global, run: Run, placing: Placing) -> Result<EndedRun, NoMemory>
+    requires up_to { IsUpTo placing.order run.board.entries }
+    requires actors { All (λ entry. entry.actor < length run.works.items)
+        (entries_of placing.order run.board.entries) }
+    requires told { AreTold (λ actor. entries_by actor (entries_of placing.order run.board.entries)) run.works.items }
+    ensures entries { IfOk result (λ ended. ended.entries ≡ entries_of placing.order run.board.entries) }
+{
+    let Run { board, works } = run;
+    let lines = lines_of(alloc, works)?;
+    Ok(EndedRun::new(board, placing.order, lines))
 }
 
 /// Runs the phases of a script on a fresh board, with 1 to 8 processors. In each phase every processor does its own
@@ -166,7 +165,7 @@ pub fn run_phases<R: Threads + Wait + Sync, G: Gate>(
     ensures places { IfOk result (λ history. AreAllInPlace board.setup
         (reverse (map (λ phase. phase.items) phases.items)) history.entries) }
 {
-    let mut board = board;
+    let mut board = UnrecordedBoard::new(alloc, board.into_replay());
     let most = statements_in(&phases);
     board.reserve(most)?;
     let works = first_works(alloc, cpus)?;
@@ -178,9 +177,5 @@ pub fn run_phases<R: Threads + Wait + Sync, G: Gate>(
     for phase in phases {
         run = run_phase(rt, alloc, run, phase, gate, &mut placing)?;
     }
-    let Run {
-        board,
-        works: _works,
-    } = run;
-    Ok(EndedRun::new(board, placing.order))
+    ended(alloc, run, placing)
 }

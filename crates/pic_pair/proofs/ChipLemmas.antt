@@ -7,7 +7,7 @@ use Rattle.device_spec.specs.Common.{find, Levels, has, levels_where, no_levels,
 use Rattle.device_spec.specs.Common.{is_requested, first_selectable, first_blocking, blocks_itself, is_blocking}
 use Rattle.device_spec.specs.Common.{request, priority_order}
 use Rattle.device_spec.proofs.Priorities.{scan, scan-end, request-is}
-use Rattle.pic_levels.proofs.Orders.{order-length}
+use Rattle.pic_pair.proofs.Orders.{order-length}
 
 -- ---- the pending levels
 

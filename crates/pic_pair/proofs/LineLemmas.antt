@@ -6,7 +6,7 @@ use Rattle.device_spec.proofs.Common.{take-append-drop, cases_eq, get_or-map, ex
 use Rattle.device_spec.proofs.Common.{levels_where-same, levels_of_byte, nat_tests}
 use Rattle.std.proofs.lemmas.Nat.Bits.{bit_at_cat_low, bit_at_cat_high}
 use Rattle.pic_pair.specs.Lines.{sixteen, lines_where, lines_of}
-use Rattle.pic_levels.proofs.LevelLemmas.{is_bit-or, is_bit-set, is_bit-clear}
+use Rattle.pic_pair.proofs.LevelLemmas.{is_bit-or, is_bit-set, is_bit-clear}
 
 -- ---- line by line
 

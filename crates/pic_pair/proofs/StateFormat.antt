@@ -12,7 +12,7 @@ use Rattle.pic_pair.specs.State.{awaited_byte, words_of, AreAwaited, sets_of, mo
 use Rattle.pic_pair.specs.State.{modes_bytes, sets_fields, modes_fields, IsChip, chip_bytes, chip_fields, IsPair}
 use Rattle.pic_pair.specs.State.{pair_bytes, pair_fields, AreLines, lines_bytes, lines_fields}
 use Rattle.std.proofs.lemmas.Nat.Bits.{bit_at-suc, bit_at-zero}
-use Rattle.pic_levels.proofs.LevelLemmas.{byte-levels}
+use Rattle.pic_pair.proofs.LevelLemmas.{byte-levels}
 
 -- ---- sets and their bytes
 

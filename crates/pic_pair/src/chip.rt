@@ -15,8 +15,9 @@ ghost use Rattle.device_spec.specs.Levels.{levels_where};
 ghost use Rattle.pic_pair.specs.View.{awaited_words, cascade_words, mode_words};
 ghost use Rattle.device_spec.specs.Pic.{ended};
 
+use crate::level_set::LevelSet;
+use crate::priority::{LEVEL_COUNT, first_of, level_at};
 use board_base::bits::is_set;
-use pic_levels::{LEVEL_COUNT, LevelSet, first_of, level_at};
 use std::marker::Model;
 
 /// The input of the master to which the slave is wired.

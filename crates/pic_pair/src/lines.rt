@@ -3,8 +3,8 @@ ghost use Rattle.std.specs.Prelude.{◌≡◌, ℕ, ◌+◌, ◌*◌, ◌<◌, �
 ghost use Rattle.std.specs.Prelude.{slice_set, true, false};
 ghost use Rattle.device_spec.specs.Levels.{levels_of_byte};
 
+use crate::level_set::LevelSet;
 use board_base::bits::is_set;
-use pic_levels::LevelSet;
 use std::marker::Model;
 
 /// How many of the lines are the master's.

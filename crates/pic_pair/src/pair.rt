@@ -7,9 +7,9 @@ ghost use Rattle.device_spec.specs.Common.{answer_at, answer_of, pair_acknowledg
 ghost use Rattle.pic_pair.specs.View.{answer_shown};
 
 use crate::chip::{CASCADE, Pic};
+use crate::level_set::LevelSet;
 use crate::lines::Lines;
 use board_base::bits::is_set;
-use pic_levels::LevelSet;
 use std::marker::Model;
 
 /// The line of the timer, which is 1 at power-on.

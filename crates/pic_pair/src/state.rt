@@ -9,12 +9,13 @@ ghost use Rattle.pic_pair.specs.State.{modes_fields, IsChip, chip_bytes, chip_fi
 ghost use Rattle.pic_pair.specs.State.{AreLines, lines_bytes, lines_fields};
 
 use crate::chip::{Awaited, Pic};
+use crate::level_set::LevelSet;
 use crate::lines::Lines;
 use crate::pair::PicPair;
+use crate::priority::LEVEL_COUNT;
 use board_base::NoMemory;
 use board_base::bits::is_set;
 use byte_fields::{Bad, Fields, push_byte, push_bytes};
-use pic_levels::{LEVEL_COUNT, LevelSet};
 
 /// The bits of the words that are awaited.
 const ICW2: u32 = 2;

@@ -20,7 +20,7 @@ use Rattle.board_commands.specs.Outcomes.{PutsText as PutsOf}
 use Rattle.board_commands.specs.Texts.{IsCommandText, IsRunText}
 use Rattle.command_texts.specs.Replays.{IsReplayText, IsLegalText}
 use Rattle.command_texts.specs.Images.{IsResumeText}
-use Rattle.image_writer.specs.ImageBytes.{Saved, image_bytes}
+use Rattle.board_image.specs.ImageBytes.{Saved, image_bytes}
 use Rattle.script_spec.specs.Boards.{IsForBoard}
 use Rattle.std.specs.Io.KnownBytes.{Appends}
 use Rattle.command_files.proofs.Refusals.{at_files}

@@ -4,7 +4,7 @@ use Rattle.board_spec.specs.declared.event.Entry.{Entry}
 use Rattle.board_spec.specs.declared.event.Statement.{Statement}
 use Rattle.board_spec.specs.Common.{Setup, IsLegal, IsCompleteFor, log_text, statements_of, in_file_order, line_feed}
 use Rattle.script_spec.specs.ScriptText.{Script, IsScriptText}
-use Rattle.image_writer.specs.ImageBytes.{image_bytes}
+use Rattle.board_image.specs.ImageBytes.{image_bytes}
 use Rattle.command_words.specs.Words.{Command, Replay, Run, Check, Resume}
 use Rattle.board_commands.specs.Texts.{IsCommandText}
 use Rattle.promises.specs.Headline.{IsTrueLog, IsHeadline, InRunOrder, InFileOrder, board_for}

@@ -4,7 +4,7 @@ ghost use Rattle.std.specs.Prelude.{◌≡◌, ◌<◌, length, IfOk, OnErr};
 ghost use Rattle.board_spec.specs.InRange.{IsInRange};
 ghost use Rattle.board_live.specs.Bus.{IsNoLook};
 ghost use Rattle.board_live.specs.Callers.{IsCallerOf, setup_of, seen_of, known_of, mine_of};
-ghost use Rattle.shared_board.specs.Known.{most_each};
+ghost use Rattle.board_live.specs.Known.{most_each};
 ghost use Rattle.promises.specs.Caller.{HasPlace, AddsNothing, IsLookOf};
 
 use board_base::{Kind, NoMemory};

@@ -146,11 +146,17 @@ pub late_by : {setup : Setup} {whole before : List Entry} {actor n : ℕ} {items
     (w : Waits setup whole before actor items) → n ≤ w.low → Late n items
 late_by {items = items} w le = let f = w.follows in grind arith
 
+-- what comes first went through the turn
+abbrev pub GoesFirst : List Done → Type 0
+GoesFirst (Went version event ∷ items) = Unit {0}
+GoesFirst _ = ⊥
+
 -- this call of the bus is the processor's next statement
 pub record IsNextCall (setup : Setup) (whole : List Entry) (entry : Entry) (before : List Entry) (items : List Done)
     : Type 0 where
   pub version_is : (v : ℕ) → noted v items ≡ version_of setup (entry ∷ before)
   pub call : is_look entry.event ≡ false
+  pub goes : GoesFirst items
   pub events : map event_of items ≡ entry.event ∷ map event_of (without_first items)
   pub rest : Waits setup whole (entry ∷ before) entry.actor (without_first items)
   pub late : Late (version_of setup (entry ∷ before)) (without_first items)

@@ -5,3 +5,5 @@ pub mod Histories
 pub mod Phases
 pub mod Placement
 pub mod Settled
+pub mod BusActors
+pub mod Written

@@ -6,10 +6,11 @@ use Rattle.board_spec.proofs.OrderLawProofs.{events-append, statements-append, s
 use Rattle.board_prelude.proofs.Common.{cases_lt, nat_tests, append-nil, reverse-append, reverse-reverse, get_or_past}
 use Rattle.board_prelude.proofs.Common.{filter-append, map-append, length-map, length-reverse, length-take, take_all}
 use Rattle.board_prelude.proofs.Common.{drop_all, take-append-le, drop-append-le, Event, Entry, Statement, version_of}
-use Rattle.board_prelude.proofs.Common.{statement_of, statements_of, events_by, IsWholePhase, HasPhases}
+use Rattle.board_prelude.proofs.Common.{statement_of, statements_of, events_by, IsWholePhase, HasPhases, All-cons}
+use Rattle.board_prelude.proofs.Common.{get_or-map}
 use Rattle.run_order.specs.declared.done.Done.{Done}
 use Rattle.run_order.specs.Common.{event_of, placed, done_by, bare, AnswersAreBlind, PhaseRuns}
-use Rattle.run_order.proofs.Histories.{onto, onto_is}
+use Rattle.run_order.proofs.Histories.{onto, onto_is, all_turned}
 use Rattle.run_order.proofs.Fitting.{late_by, Waits, first_all, follows_on}
 use Rattle.run_order.proofs.Placement.{Each, own, Stands, placed_holds}
 use Rattle.run_order.proofs.Counts.{from_first}
@@ -35,6 +36,25 @@ nobody_else actor n [] past few = refl
 nobody_else actor n (statement ∷ phase) past few =
     let rest = nobody_else actor n phase past (λ k d less. few (suc k) d (omega (arith, less))) in
     grind (arith, nat_tests, few 0 statement (omega arith), rest)
+
+-- statements of which none is of a processor from `n` on
+all_below : (n : ℕ) (part : List Statement) → ((actor : ℕ) → n ≤ actor → length (events_by actor part) ≡ 0)
+    → All (λ statement. statement.actor < n) part
+all_below n [] none = λ k d less. absurd (omega (arith, less))
+all_below n (statement ∷ part) none =
+    let rest = all_below n part (λ actor past. let no = none actor past in grind (arith, nat_tests, no)) in
+    let here : statement.actor < n = elim (cases_lt statement.actor n) [
+      | inl less ↦ less
+      | inr past ↦ let no = none statement.actor past in absurd (grind (arith, nat_tests, no))
+    ] in
+    All-cons (λ (s : Statement). s.actor < n) statement part here rest
+
+-- so are the entries
+entries_below : (n : ℕ) (h : List Entry) → All (λ statement. statement.actor < n) (statements_of h)
+    → All (λ entry. entry.actor < n) h
+entries_below n h all = all_turned (λ (e : Entry). e.actor < n) h
+    (λ k d less. let one = all k (statement_of d) (rw (length-map (reverse h) statement_of) less) in
+    rw (get_or-map statement_of (reverse h) k d (statement_of d) less) at one)
 
 -- ---- as many statements
 
@@ -123,5 +143,8 @@ phase_runs blind setup opened later phase works final run legal same =
       added = all.added;
       adds = all.holds.is;
       size = sym (length-map (reverse all.added) statement_of ∙ length-reverse all.added) ∙ is_whole.size;
+      callers = entries_below (length works) all.added (all_below (length works) part (λ c past.
+          ap length (events c ∙ nobody_else c (length works) phase past run.speakers)));
       places = all.holds.places;
+      own = all.mine;
     }

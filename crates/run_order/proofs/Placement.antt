@@ -16,6 +16,8 @@ use Rattle.run_order.proofs.Fitting.{FirstLook, first_goes, first_all, Waits, La
 use Rattle.run_order.proofs.Fitting.{none_left}
 use Rattle.run_order.proofs.Blindness.{version_same}
 use Rattle.run_order.specs.Trace.{Begins}
+use Rattle.run_order.specs.Written.{written}
+use Rattle.run_order.proofs.Written.{none_before, none_written, all_written, call_written}
 
 -- ---- each processor's events stand in the placed history, in its order
 
@@ -31,11 +33,6 @@ looks_own v actor c (Looked kind addr smm look ∷ items) final =
     let entry : Entry = next_entry final actor (LookAt kind addr smm) (Saw look) in
     grind (arith, nat_tests, looks_own v actor c items (entry ∷ final))
 looks_own v actor c _ final = refl
-
-none_before : (first c : ℕ) (rests : List (List Done)) → c < first → done_by first c rests ≡ []
-unfolding done_by
-none_before first c [] less = refl
-none_before first c (items ∷ rests) less = grind (arith, nat_tests, none_before (first + 1) c rests)
 
 all_own : (v : ℕ) (rests : List (List Done)) (first c : ℕ) (final : List Entry)
     → onto (map event_of (done_by first c (all_left v rests))) (own c (with_all_looks v first rests final)) ≡ onto
@@ -130,11 +127,12 @@ record HaveLooks (setup : Setup) (history before since : List Entry) (first : �
   pub lower : AreLower first looks
 
 -- the phase was placed after `final`, and gave `all`
-pub record HasPlaced (setup : Setup) (history whole : List Entry) (rests : List (List Done)) (final all : List Entry)
-    : Type 0 where
+pub record HasPlaced (setup : Setup) (history whole later : List Entry) (rests : List (List Done))
+    (final all : List Entry) : Type 0 where
   pub added : List Entry
   pub holds : Holds setup history whole added all
   pub own : (c : ℕ) → own c all ≡ onto (map event_of (done_by 0 c rests)) (own c final)
+  pub mine : (c : ℕ) → entries_by c all ≡ written c (done_by 0 c rests) (entries_by c later) (entries_by c final)
 
 bare_bus : (entry : Entry) (before final : List Entry) → bare final ≡ bare before
     → bare (next_entry final entry.actor entry.event entry.reply ∷ final) ≡ bare (entry ∷ before)
@@ -201,7 +199,7 @@ module _ (blind : AnswersAreBlind) (setup : Setup) (whole history : List Entry) 
   pub placed_holds : (later before : List Entry) (rests : List (List Done)) (final since : List Entry) → EndsBare since
       → Holds setup history before since final → whole ≡ onto later before → IsLegal setup whole
       → All (λ e. e.actor < length rests) later → Each (Stands setup whole history before since) 0 rests
-      → HasPlaced setup history whole rests final (placed (version_of setup before) later rests final)
+      → HasPlaced setup history whole later rests final (placed (version_of setup before) later rests final)
   unfolding placed
   placed_holds [] before rests final since ends holds is legal few each =
       let v : ℕ = version_of setup before in
@@ -215,6 +213,9 @@ module _ (blind : AnswersAreBlind) (setup : Setup) (whole history : List Entry) 
         holds = record { is = h.is; legal = h.legal; bare = h.bare ∙ ap bare (sym is); places = h.places };
         own = λ c. ap (λ (items : List Done). onto (map event_of items) (own c (with_all_looks v 0 rests final)))
             (sym (none c)) ∙ all_own v rests 0 c final;
+        mine = λ c. sym (none_written c (entries_by c (with_all_looks v 0 rests final)))
+            ∙ (ap (λ (items : List Done). written c items [] (entries_by c (with_all_looks v 0 rests final)))
+            (sym (none c)) ∙ all_written v rests 0 c [] final);
       }
   placed_holds (entry ∷ later) before rests final since ends holds is legal few each =
       let v : ℕ = version_of setup before in let v' : ℕ = version_of setup (entry ∷ before) in
@@ -263,4 +264,7 @@ module _ (blind : AnswersAreBlind) (setup : Setup) (whole history : List Entry) 
         added = rest.added;
         holds = rest.holds;
         own = λ c. rest.own c ∙ (call_own c new looked left within head.events ∙ all_own v rests 0 c final);
+        mine = λ c. rest.mine c
+            ∙ (call_written c entry looked left later within head.goes
+            ∙ all_written v rests 0 c (entries_by c (entry ∷ later)) final);
       })

@@ -5,4 +5,5 @@ pub mod Placing
 pub mod Room
 pub mod Settled
 pub mod Trace
+pub mod Written
 pub mod Common

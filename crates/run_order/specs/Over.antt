@@ -1,5 +1,5 @@
 -- The history of a run in few bytes, over the bus's history, which has the oldest entry first here.
-use Rattle.std.specs.Prelude.{ℕ, ◌<◌, List, map, None, slice_index_or}
+use Rattle.std.specs.Prelude.{ℕ, ◌≡◌, ◌<◌, List, map, None, slice_index_or}
 use Rattle.board_prelude.specs.Common.{Abort, Ack, Bus as AnsweredBy, Saw, Entry}
 use Rattle.board_spec.specs.declared.event.Event.TheVariants.{Look as LookAt}
 use Rattle.run_order.specs.declared.entry.RunEntry.{RunEntry}
@@ -23,3 +23,7 @@ over bus entries = map (entry_of bus) entries
 abbrev pub IsPlacedBelow : ℕ → RunEntry → Type 0
 IsPlacedBelow count (Bus actor seq place) = place < count
 IsPlacedBelow count (Look actor seq kind smm addr look) = Unit {0}
+
+-- these are the processors of entries, in the same order
+abbrev pub AreActorsOf : List ℕ → List Entry → Type 0
+AreActorsOf actors entries = actors ≡ map (λ entry. entry.actor) entries

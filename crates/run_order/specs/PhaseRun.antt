@@ -1,11 +1,12 @@
 -- A phase that was run, and the history of the run with that phase.
 use Rattle.std.specs.Prelude.{ℕ, ◌≡◌, ◌<◌, if◌then◌else◌, List, [], ◌∷◌, ◌++◌, length, map, reverse, All}
 use Rattle.board_prelude.specs.Common.{Event, Reply, Entry, Statement, MapChange, Setup, IsCardList, version_of}
-use Rattle.board_prelude.specs.Common.{IsAnswer, IsLegal, statements_of, events_by, HasPhases}
+use Rattle.board_prelude.specs.Common.{IsAnswer, IsLegal, entries_by, statements_of, events_by, HasPhases}
 use Rattle.run_order.specs.declared.done.Done.{Done}
 use Rattle.run_order.specs.Placing.{is_look, event_of, done_by, placed}
 use Rattle.run_order.specs.Places.{AreInPlace}
 use Rattle.run_order.specs.Trace.{IsDone, IsClosed}
+use Rattle.run_order.specs.Written.{written}
 
 -- ---- the phase
 
@@ -45,7 +46,7 @@ AnswersAreBlind =
 -- ---- the history of the run
 
 -- `history` is the history of the run before a phase, and `all` the one with what the phase added
-pub record IsPlaced (setup : Setup) (opened later : List Entry) (phase : List Statement)
+pub record IsPlaced (setup : Setup) (opened later : List Entry) (phase : List Statement) (works : List (List Done))
     (history all : List Entry) : Type 0 where
   pub legal : IsLegal setup all
   pub bus : bare all ≡ bare (reverse later ++ opened)
@@ -54,13 +55,17 @@ pub record IsPlaced (setup : Setup) (opened later : List Entry) (phase : List St
   pub added : List Entry
   pub adds : all ≡ added ++ history
   pub size : length added ≡ length phase
+  pub callers : All (λ entry. entry.actor < length works) added
   pub places : AreInPlace setup history added
+  pub own :
+      (actor : ℕ) →
+      entries_by actor all ≡ written actor (done_by 0 actor works) (entries_by actor later) (entries_by actor history)
 
 -- with its looks placed, the history of a run stays legal and that of the bus, and has one phase more, in which each
--- look is in its place
+-- look is in its place and each processor's entries are what it did
 abbrev pub PhaseRuns : Type 0
 PhaseRuns =
     (setup : Setup) (opened later : List Entry) (phase : List Statement) (works : List (List Done))
     (history : List Entry) →
     IsPhaseRun setup opened later phase works → IsLegal setup history → bare history ≡ bare opened →
-    IsPlaced setup opened later phase history (placed (version_of setup opened) later works history)
+    IsPlaced setup opened later phase works history (placed (version_of setup opened) later works history)

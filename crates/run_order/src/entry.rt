@@ -1,6 +1,7 @@
 //! An entry of the history of a run, in few bytes.
 
-ghost use Rattle.std.specs.Prelude.{◌≡◌, length};
+ghost use Rattle.std.specs.Prelude.{◌≡◌, List, length};
+ghost use Rattle.board_prelude.specs.Common.{Entry as AnEntry};
 ghost use Rattle.run_order.specs.Over.{IsPlacedBelow, entry_of};
 
 use access_history::Entries;
@@ -28,6 +29,17 @@ pub enum RunEntry {
 }
 
 impl RunEntry {
+    /// Its processor.
+    #[inline]
+    pub(crate) fn actor(&self) -> u8
+        ensures actor { (bus : List AnEntry) → result ≡ (entry_of bus self.now).actor }
+    {
+        match self {
+            RunEntry::Bus { actor, .. } => *actor,
+            RunEntry::Look { actor, .. } => *actor,
+        }
+    }
+
     /// The whole entry, over the bus's history with the oldest entry first.
     pub fn over(&self, bus: &Entries<'_>) -> Entry
         requires within { IsPlacedBelow (length bus.now) self.now }

@@ -4,12 +4,14 @@
 //! the look's version; looks in the same place stand in order of processor, and each processor's in its own order.
 #![tactic(auto)]
 
+mod actors;
 mod done;
 mod entry;
 pub mod laws;
 mod next;
 mod order;
 
+pub use actors::Actors;
 pub use done::Done;
 pub use entry::RunEntry;
 pub use order::{RunOrder, Works, has_looks};

@@ -4,15 +4,15 @@ ghost use Rattle.std.specs.Prelude.{◌≡◌, ◌-◌, ◌+◌, ◌<◌, ◌≤
 ghost use Rattle.std.specs.Prelude.{All, max, IsFalse, IsOk, IfOk, OnOk, OnErr};
 ghost use Rattle.board_prelude.specs.Common.{Entry, Saw, Setup, IsLegal, entries_by, next_entry};
 ghost use Rattle.board_spec.specs.declared.event.Event.TheVariants.{Look as LookAt};
-ghost use Rattle.run_order.specs.Over.{IsPlacedBelow, entry_of, nowhere, over};
+ghost use Rattle.run_order.specs.Over.{AreActorsOf, IsPlacedBelow, entry_of, nowhere, over};
 ghost use Rattle.run_order.specs.Placing.{with_looks, left_after, with_all_looks, all_left, placed};
 ghost use Rattle.run_order.specs.Room.{in_all, most, looks_in, all_looks_in};
 ghost use Rattle.run_order.specs.Settled.{IsSettledBut};
 
+use crate::actors::Actors;
 use crate::done::Done;
 use crate::entry::RunEntry;
 use crate::next::{NextLook, due_look, has_look, looks_in, noted, without_first};
-use access_history::Entries;
 use arrayvec::ArrayVec;
 use board_base::NoMemory;
 use std::alloc::Global;
@@ -84,19 +84,19 @@ impl RunOrder {
         }
     }
 
-    /// The order in which a bus has its entries, which are given, the oldest first. It has room for `most` entries in
-    /// all. Refused for want of memory, or where there would be 2^32 entries.
-    pub fn begin(alloc: Global, most: usize, entries: &Entries<'_>) -> Result<RunOrder, NoMemory>
-        requires callers { All (λ entry. entry.actor < 8) entries.now }
-        requires legal { (setup : Setup) × IsLegal setup (reverse entries.now) }
-        ensures same { IfOk result (λ order. over entries.now order.entries ≡ reverse entries.now) }
-        ensures bus { IfOk result (λ order. order.bus ≡ length entries.now) }
+    /// The order in which a bus has its entries, whose processors are given, that of the oldest first. It has room for
+    /// `most` entries in all. Refused for want of memory, or where there would be 2^32 entries.
+    pub fn begin<A: Actors>(alloc: Global, most: usize, actors: &A) -> Result<RunOrder, NoMemory>
+        requires callers { All (λ actor. actor < 8) (A.actors actors.now) }
+        ensures same { IfOk result (λ order. (setup : Setup) (bus : List Entry) → AreActorsOf (A.actors actors.now) bus
+            → IsLegal setup (reverse bus) → over bus order.entries ≡ reverse bus) }
+        ensures bus { IfOk result (λ order. order.bus ≡ length (A.actors actors.now)) }
         ensures room { IfOk result (λ order. most ≤ in_all order) }
     {
         let mut order = RunOrder::new(alloc);
-        order.reserve(most.max(entries.len()))?;
-        for i in 0..entries.len() {
-            order.push_bus(entries.entry(i).actor);
+        order.reserve(most.max(actors.len()))?;
+        for i in 0..actors.len() {
+            order.push_bus(actors.actor(i));
         }
         Ok(order)
     }
@@ -109,29 +109,42 @@ impl RunOrder {
         &self.entries
     }
 
-    /// Adds the entries that the bus's history gained in a phase and the looks of all processors at their places. `bus`
-    /// is the bus's history with them, the oldest first, and `version` that of the map before the phase. Of the room
-    /// that there was it uses what it needs, and keeps the rest. Where there is no memory, or there would be 2^32
-    /// entries, nothing changes.
-    pub fn place(
+    /// The processors of all entries, that of the oldest first.
+    pub fn actors(&self, alloc: Global) -> Result<Vec<u8>, NoMemory>
+        ensures actors { IfOk result (λ actors. (bus : List Entry)
+            → AreActorsOf actors.items (reverse (over bus self.now.entries))) }
+    {
+        let mut actors = Vec::with_capacity(alloc, self.entries.len())?;
+        for entry in &self.entries {
+            actors.push(entry.actor())?;
+        }
+        Ok(actors)
+    }
+
+    /// Adds the entries that the bus's history gained in a phase and the looks of all processors at their places.
+    /// `actors` are the processors of the bus's history with them, that of the oldest first, and `version` is that of
+    /// the map before the phase. Of the room that there was it uses what it needs, and keeps the rest. Where there is
+    /// no memory, or there would be 2^32 entries, nothing changes.
+    pub fn place<A: Actors>(
         &mut self,
         version: u32,
-        bus: &Entries<'_>,
+        actors: &A,
         mut works: Works,
     ) -> Result<(), NoMemory>
-        requires gained { self.old.bus ≤ length bus.now }
-        requires callers { All (λ entry. entry.actor < length works.items) (drop self.old.bus bus.now) }
-        ensures placed { OnOk result (over bus.now self.new.entries ≡ placed version (drop self.old.bus bus.now)
-            (map (λ done. done.now) works.entry.items) (over bus.now self.old.entries)) }
-        ensures bus { OnOk result (self.new.bus ≡ length bus.now) }
+        requires gained { self.old.bus ≤ length (A.actors actors.now) }
+        requires callers { All (λ actor. actor < length works.items) (drop self.old.bus (A.actors actors.now)) }
+        ensures placed { OnOk result ((bus : List Entry) → AreActorsOf (A.actors actors.now) bus
+            → over bus self.new.entries ≡ placed version (drop self.old.bus bus)
+            (map (λ done. done.now) works.entry.items) (over bus self.old.entries)) }
+        ensures bus { OnOk result (self.new.bus ≡ length (A.actors actors.now)) }
         ensures within { All (IsPlacedBelow self.old.bus) self.old.entries }
         ensures keeps { OnOk result (in_all self.old ≤ in_all self.new) }
         ensures unplaced { OnErr result (self.new ≡ self.old) }
-        ensures room { length (drop self.old.bus bus.now) + all_looks_in (map (λ done. done.now) works.entry.items)
-            ≤ self.old.spare → IsOk result }
+        ensures room { length (drop self.old.bus (A.actors actors.now))
+            + all_looks_in (map (λ done. done.now) works.entry.items) ≤ self.old.spare → IsOk result }
     {
-        self.reserve(entries_in(bus.len() - self.bus as usize, &works))?;
-        self.place_all(version, bus, works.as_mut_slice());
+        self.reserve(entries_in(actors.len() - self.bus as usize, &works))?;
+        self.place_all(version, actors, works.as_mut_slice());
         Ok(())
     }
 
@@ -281,28 +294,30 @@ impl RunOrder {
     }
 
     /// Adds what a phase has, in the room that was reserved.
-    fn place_all(&mut self, version: u32, bus: &Entries<'_>, rests: &mut [&[Done]])
-        requires gained { self.old.bus ≤ length bus.now }
+    fn place_all<A: Actors>(&mut self, version: u32, actors: &A, rests: &mut [&[Done]])
+        requires gained { self.old.bus ≤ length (A.actors actors.now) }
         requires few { length rests.old ≤ 8 }
-        requires callers { All (λ entry. entry.actor < length rests.old) (drop self.old.bus bus.now) }
-        requires room { length (drop self.old.bus bus.now) + all_looks_in (map (λ done. done.now) rests.old)
-            ≤ self.old.spare }
-        ensures placed { over bus.now self.new.entries ≡ placed version (drop self.old.bus bus.now)
-            (map (λ done. done.now) rests.old) (over bus.now self.old.entries) }
-        ensures bus { self.new.bus ≡ length bus.now }
+        requires callers { All (λ actor. actor < length rests.old) (drop self.old.bus (A.actors actors.now)) }
+        requires room { length (drop self.old.bus (A.actors actors.now))
+            + all_looks_in (map (λ done. done.now) rests.old) ≤ self.old.spare }
+        ensures placed { (bus : List Entry) → AreActorsOf (A.actors actors.now) bus
+            → over bus self.new.entries ≡ placed version (drop self.old.bus bus)
+            (map (λ done. done.now) rests.old) (over bus self.old.entries) }
+        ensures bus { self.new.bus ≡ length (A.actors actors.now) }
         ensures keeps { in_all self.new ≡ in_all self.old }
     {
         let mut version = version;
-        let later = bus.from(self.bus as usize);
+        let start = self.bus as usize;
+        let count = actors.len() - start;
         self.all_looks(version, rests);
-        for i in 0..later.len() {
-            let entry = later.entry(i);
-            let actor = usize::from(entry.actor);
+        for i in 0..count {
+            let actor = actors.actor(start + i);
+            let place = usize::from(actor);
             let before = version;
-            version = noted(before, rests[actor]);
-            rests[actor] = without_first(rests[actor]);
-            self.push_bus(entry.actor);
-            self.next_looks(before, version, entry.actor, rests);
+            version = noted(before, rests[place]);
+            rests[place] = without_first(rests[place]);
+            self.push_bus(actor);
+            self.next_looks(before, version, actor, rests);
         }
     }
 }

@@ -5,7 +5,7 @@ pub use Rattle.uart_16550.specs.Calls.{taken}
 pub use Rattle.uart_16550.specs.Com1.{board_event, board_steps, change_steps, com1_actor, com1_after, com1_at_reset}
 pub use Rattle.uart_16550.specs.Com1.{com1_irq, from_uart, is_for_uart, level_of, line_steps, uart_access, uart_after}
 pub use Rattle.uart_16550.specs.Com1.{uart_reply}
-pub use Rattle.byte_queue.specs.Queue.{front_of, rest_of}
+pub use Rattle.uart_16550.specs.Queue.{front_of, rest_of}
 pub use Rattle.uart_16550.specs.Reads.{after_identity, register_read, registers_of}
 unfoldable pub use Rattle.uart_16550.specs.Reads.{after_value, value_of}
 pub use Rattle.uart_16550.specs.Sent.{ControlFollows, Sending, bytes_sent, sending_after, sending_at_reset, sent_by}

@@ -11,3 +11,4 @@ pub mod Calls
 pub mod Sent
 pub mod SerialOrder
 pub mod Common
+pub mod Queue

@@ -9,7 +9,7 @@ use Rattle.uart_16550.specs.declared.register.ReadRegister.{ReadRegister}
 use Rattle.uart_16550.specs.declared.register.ReadRegister.TheVariants.{Rbr, Dll, Ier, Dlm, Iir, Lcr, Mcr, Lsr, Msr}
 use Rattle.uart_16550.specs.declared.register.ReadRegister.TheVariants.{Scr}
 use Rattle.uart_16550.specs.declared.register.UartRegisters.{UartRegisters}
-use Rattle.byte_queue.specs.Queue.{front_of, rest_of}
+use Rattle.uart_16550.specs.Queue.{front_of, rest_of}
 use Rattle.uart_16550.specs.Names.{dr, oe, thre, temt, dcts, ddsr, teri, ddcd, cts, dsr, ri, dcd}
 use Rattle.uart_16550.specs.Uart.{Uart, no_changes, is_dlab, lines_of, pending, flag}
 

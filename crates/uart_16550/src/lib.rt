@@ -11,6 +11,7 @@ mod line;
 mod modem;
 mod over_cards;
 mod over_chipset;
+mod queue;
 mod register;
 mod serial;
 mod serial_state;
@@ -19,6 +20,7 @@ mod stepped;
 mod uart;
 
 pub use com1::{COM1, Happening, SerialReply, UartReply, is_for_uart};
+pub use queue::{FIFO_SIZE, Queue};
 pub use register::UartRegisters;
 pub use serial::SerialBoard;
 pub use state::law_one_uart;

@@ -2,10 +2,11 @@
 
 ghost use Rattle.std.specs.Prelude.{◌≡◌, ◌≤◌, ◌<◌, ◌+◌, ◌↔◌, ◌++◌, ℕ, Bool, false, None, List, [], ◌∷◌, length, IsErr};
 ghost use Rattle.std.specs.Prelude.{IfOk, IfErr, OnOk, OnErr};
-ghost use Rattle.board_prelude.specs.Common.{Entry, Line, Memory, Port, Wide, installed, IsAnswer, IsBusAccess};
+ghost use Rattle.board_prelude.specs.Common.{Bytes, Entry, Line, Memory, Port, Wide, installed, IsAnswer, IsBusAccess};
 ghost use Rattle.board_prelude.specs.Common.{IsInRange, IsWideAccess, is_hard_reset, is_write};
 ghost use Rattle.board_chipset.specs.Common.{IsLeftBy as IsChipsetLeftBy, WriteAll, WriteClockByte, IsAnswerModulo};
 ghost use Rattle.board_chipset.specs.Common.{IsFault, IsForDevices, reply_of, wide_reply_of};
+ghost use Rattle.board_chipset.specs.Held.{HoldsRegisters, IsByDevice, IsHeldReply};
 ghost use Rattle.board_spec.specs.declared.event.Event.TheVariants.{Look as LookAt};
 ghost use Rattle.board_spec.specs.declared.event.Reply.TheVariants.{Saw};
 ghost use Rattle.uart_16550.specs.Com1.{board_event, board_steps, change_steps, com1_actor, com1_after, is_for_uart};
@@ -39,6 +40,8 @@ impl SerialBoard<Chipset> {
         ensures history { (history : List Entry) (actor : ℕ) → actor < com1_actor
             → IsLeftBy IsChipsetLeftBy self.old history
             → IsChipsetAfter self.new history (record { actor = actor; event = Memory access.now } ∷ []) }
+        ensures held { (bytes : Bytes) → HoldsRegisters self.old.board bytes
+            → IsHeldReply self.old.board bytes (Memory access.now) (reply_of result) }
     {
         self.board.memory(access)
     }
@@ -53,12 +56,15 @@ impl SerialBoard<Chipset> {
         ensures history { (history : List Entry) (actor : ℕ) → actor < com1_actor
             → IsLeftBy IsChipsetLeftBy self.old history
             → IsChipsetAfter self.new history (record { actor = actor; event = Wide access.now } ∷ []) }
+        ensures held { (bytes : Bytes) → HoldsRegisters self.old.board bytes
+            → IsHeldReply self.old.board bytes (Wide access.now) (wide_reply_of result) }
     {
         self.board.wide(access)
     }
 
     /// Does an access at a port of one bus cycle, which is in range and not for the UART, as `step` does it for any
     /// processor. A hard reset makes the UART new after it.
+    #[inline(always)]
     pub fn port(&mut self, access: &PortAccess) -> BusReply
         requires board { is_for_uart access.now ≡ false }
         requires bus { IsBusAccess access.now.write access.now.port access.now.width access.now.value }
@@ -71,6 +77,8 @@ impl SerialBoard<Chipset> {
             → IsLeftBy IsChipsetLeftBy self.old history
             → IsChipsetAfter self.new history
             (record { actor = actor; event = Port access.now } ∷ change_steps self.old.com1 self.new.com1) }
+        ensures held { (bytes : Bytes) → HoldsRegisters self.old.board bytes
+            → IsHeldReply self.old.board bytes (Port access.now) (reply_of result) }
     {
         let resets = self.board.resets_hard(access);
         let reply = self.board.port(access);
@@ -88,6 +96,8 @@ impl SerialBoard<Chipset> {
         ensures history { (history : List Entry) (actor : ℕ) → actor < com1_actor
             → IsLeftBy IsChipsetLeftBy self.now history
             → IsChipsetAfter self.now history (record { actor = actor; event = LookAt kind addr smm } ∷ []) }
+        ensures held { (bytes : Bytes) → HoldsRegisters self.now.board bytes
+            → IsHeldReply self.now.board bytes (LookAt kind addr smm) (Saw result) }
     {
         self.board.look(kind, addr, smm)
     }
@@ -106,6 +116,7 @@ impl SerialBoard<Chipset> {
         ensures history { (history : List Entry) (actor : ℕ) (resets : Bool) → actor < com1_actor
             → IsLeftBy IsChipsetLeftBy self.old history
             → IsChipsetAfter self.new history (board_steps actor resets event.now self.old.com1) }
+        ensures held { IsByDevice event.now (reply_of result) }
     {
         self.board.outside(event)
     }

@@ -110,6 +110,7 @@ impl<B: SteppedBoard> SerialBoard<B> {
     }
 
     /// Does an access to the UART, as `step` does it.
+    #[inline(always)]
     pub fn uart_access(&mut self, access: &PortAccess) -> UartReply
         requires uart { is_for_uart access.now ≡ true }
         requires bus { IsBusAccess access.now.write access.now.port access.now.width access.now.value }

@@ -10,11 +10,11 @@ ghost use Rattle.uart_16550.specs.State.{IsUart, uart_bytes, uart_fields, IsCom1
 
 use crate::com1::Com1;
 use crate::modem::ModemChanges;
+use crate::queue::{FIFO_SIZE, Queue};
 use crate::register::{IER_BITS, MCR_BITS};
 use crate::uart::Uart;
 use board_base::NoMemory;
 use byte_fields::{Bad, Fields, push_byte, push_bytes, push_flag};
-use byte_queue::{FIFO_SIZE, Queue};
 
 /// The registers that keep what is written.
 #[derive(Clone, Copy)]

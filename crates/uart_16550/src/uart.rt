@@ -11,12 +11,12 @@ ghost use Rattle.uart_16550.specs.Writes.{with_value, after_write, byte_sent};
 
 use crate::interrupt::{Interrupt, identity};
 use crate::modem::{ModemChanges, ModemLines, modem_status};
+use crate::queue::{FIFO_SIZE, Queue};
 use crate::register::{
     DLAB, DR, ETBEI, FIFO_ENABLE, FIFOS_ENABLED, IER_BITS, LOOP, MCR_BITS, OE, OUT2,
     RECEIVER_RESET, ReadRegister, TEMT, THRE, UartRegisters, WriteRegister, flag,
 };
 use board_spec::bits::is_set;
-use byte_queue::{FIFO_SIZE, Queue};
 use std::marker::Model;
 
 /// A 16550. Contracts see the machine of the definitions. No time passes in it: a byte is sent as it is written.

@@ -177,6 +177,7 @@ class board_dma : public bx_dma_stub_c {
   void raise_HLDA(void) {
     bx_pc_system.set_HRQ(false);
     machine_save(&m);
+    if (console_ended()) end(console_why());
   }
 };
 
@@ -206,8 +207,8 @@ static void on_timer(void *) {
     listened = now;
     pace();
     console_listen(&m);
-    if (console_ended()) end("ended");
-    if (console_save_asked()) bx_pc_system.set_HRQ(true);
+    if (console_save_asked()) bx_pc_system.set_HRQ(true); // it may be ended there
+    else if (console_ended()) end(console_why());
     if (wanted.seconds && host_time() - host_start > wanted.seconds * NANOSECONDS) end("the time is up");
   }
   show_interrupt();
@@ -217,6 +218,7 @@ static void on_timer(void *) {
 // ---- ports
 
 static void after_exit() {
+  if (console_ended()) end(console_why());
   if (m.slots_moved) move_slots();
   if (m.reset) {
     unsigned type = machine_take_reset(&m) == BOARD_HARD_RESET ? BX_RESET_HARDWARE : BX_RESET_SOFTWARE;

@@ -17,58 +17,67 @@ FORMS = ("02", "06", "00", "04")  # of register B: 24 hours and binary
 ALARM_FIELDS, ANY_TIME = ("01", "03", "05"), ("C0", "FF")
 
 
+class Interrupts:
+    """Doings with the two 8259A. It remembers the levels of their lines."""
+
+    def __init__(self, rng: random.Random) -> None:
+        self.rng, self.levels = rng, dict.fromkeys(range(16), 0)
+
+    def line(self) -> Steps:
+        number = self.rng.choice(LINES)
+        self.levels[number] ^= 1
+        return [[f"irq {number} {self.levels[number]}"]]
+
+    def acknowledged(self) -> Steps:
+        return [["ack"]]
+
+    def command(self) -> Steps:
+        word = self.rng.choice(COMMANDS)
+        return [outb(self.rng.choice(EVEN_PORTS), word | self.rng.randrange(8) if word in WITH_LEVEL else word)]
+
+    def mask(self) -> Steps:
+        port = self.rng.choice(EVEN_PORTS) + 1
+        return [outb(port, self.rng.choice((0, 0, self.rng.getrandbits(8)))), [f"in b {port:04X}"]]
+
+    def special_mask(self) -> Steps:
+        port = self.rng.choice(EVEN_PORTS)
+        return [[*outb(port + 1, 1 << self.rng.randrange(8)), *outb(port, self.rng.choice(SPECIAL_MASKS))]]
+
+    def poll(self) -> Steps:
+        port = self.rng.choice(EVEN_PORTS)
+        return [[*outb(port, POLL), f"in b {port + self.rng.randrange(2):04X}"]]
+
+    def again(self) -> Steps:
+        chip = self.rng.randrange(2)
+        port = EVEN_PORTS[chip]
+        return [outb(port, 0x11) + outb(port + 1, self.rng.randrange(32) << 3, (4, 2)[chip], 1)]
+
+    def sense(self) -> Steps:
+        chip = self.rng.randrange(2)
+        return [outb(0x4D0 + chip, self.rng.getrandbits(8)), [f"in b {0x4D0 + chip:04X}"]]
+
+    def look(self) -> Steps:
+        return [requests(self.rng.randrange(2), self.rng.choice((READ_REQUESTS, READ_SERVICE)))]
+
+
 def interrupts(rng: random.Random) -> Steps:
     """Initializations, priorities, special modes, polls, ELCR, lines and acknowledges."""
-    levels = dict.fromkeys(range(16), 0)
-
-    def line() -> Steps:
-        number = rng.choice(LINES)
-        levels[number] ^= 1
-        return [[f"irq {number} {levels[number]}"]]
-
-    def command() -> Steps:
-        word = rng.choice(COMMANDS)
-        return [outb(rng.choice(EVEN_PORTS), word | rng.randrange(8) if word in WITH_LEVEL else word)]
-
-    def mask() -> Steps:
-        port = rng.choice(EVEN_PORTS) + 1
-        return [outb(port, rng.choice((0, 0, rng.getrandbits(8)))), [f"in b {port:04X}"]]
-
-    def special_mask() -> Steps:
-        port = rng.choice(EVEN_PORTS)
-        return [[*outb(port + 1, 1 << rng.randrange(8)), *outb(port, rng.choice(SPECIAL_MASKS))]]
-
-    def poll() -> Steps:
-        port = rng.choice(EVEN_PORTS)
-        return [[*outb(port, POLL), f"in b {port + rng.randrange(2):04X}"]]
-
-    def again() -> Steps:
-        chip = rng.randrange(2)
-        port = EVEN_PORTS[chip]
-        return [outb(port, 0x11) + outb(port + 1, rng.randrange(32) << 3, (4, 2)[chip], 1)]
-
-    def sense() -> Steps:
-        chip = rng.randrange(2)
-        return [outb(0x4D0 + chip, rng.getrandbits(8)), [f"in b {0x4D0 + chip:04X}"]]
-
-    def look() -> Steps:
-        return [requests(rng.randrange(2), rng.choice((READ_REQUESTS, READ_SERVICE)))]
-
+    it = Interrupts(rng)
     elcr = [
-        it
+        statement
         for chip, bits in enumerate(ELCR_BITS)
-        for it in outb(0x4D0 + chip, rng.choice((0, 0, rng.getrandbits(8) & bits)))
+        for statement in outb(0x4D0 + chip, rng.choice((0, 0, rng.getrandbits(8) & bits)))
     ]
     doings = [
-        (6, line),
-        (4, lambda: [["ack"]]),
-        (3, command),
-        (1, mask),
-        (1.5, special_mask),
-        (1, poll),
-        (0.3, again),
-        (0.3, sense),
-        (4, look),
+        (6, it.line),
+        (4, it.acknowledged),
+        (3, it.command),
+        (1, it.mask),
+        (1.5, it.special_mask),
+        (1, it.poll),
+        (0.3, it.again),
+        (0.3, it.sense),
+        (4, it.look),
     ]
     return [[*elcr, *pic(rng.choice(ICW4))], *several(rng, 12, 40, doings)]
 
@@ -147,49 +156,61 @@ def hour_shown(hour: int, form: str) -> str:
     return f"{int(shown((hour + 11) % 12 + 1, form), 16) | (0x80 if hour > 11 else 0):02X}"
 
 
-def clock(rng: random.Random) -> Steps:
-    """Forms, seconds that pass, alarms, SET, flags, and the clock's memory."""
-    form = [rng.choice(FORMS)]
+class Clock:
+    """Doings with the clock. It remembers the form that register B has."""
 
-    def field(first: int, last: int, *others: int) -> str:
-        return shown(rng.choice((*others, rng.randint(first, last))), form[0])
+    def __init__(self, rng: random.Random) -> None:
+        self.rng, self.form = rng, rng.choice(FORMS)
 
-    def whole() -> list[str]:
-        form[0] = rng.choice(FORMS)
-        hour = hour_shown(rng.choice((0, 11, 12, 13, 23, rng.randrange(24))), form[0])
+    def field(self, first: int, last: int, *others: int) -> str:
+        return shown(self.rng.choice((*others, self.rng.randint(first, last))), self.form)
+
+    def date(self) -> list[str]:
+        rng, field = self.rng, self.field
+        self.form = rng.choice(FORMS)
+        hour = hour_shown(rng.choice((0, 11, 12, 13, 23, rng.randrange(24))), self.form)
         enables = rng.choice((0, 0, 0x10, 0x20, 0x30))
         fields = (field(0, 59, 58, 59), field(0, 59, 59), hour, "01", field(1, 28), field(1, 12), field(0, 99))
-        return date(form[0], *fields) + cmos("0B", f"{int(form[0], 16) | enables:02X}")
+        return date(self.form, *fields) + cmos("0B", f"{int(self.form, 16) | enables:02X}")
 
-    def alarm() -> Steps:
-        values = (field(0, 59), field(0, 59), hour_shown(rng.randrange(24), form[0]))
+    def set_again(self) -> Steps:
+        return [self.date()]
+
+    def alarm(self) -> Steps:
+        rng = self.rng
+        values = (self.field(0, 59), self.field(0, 59), hour_shown(rng.randrange(24), self.form))
         return [[it for at, value in zip(ALARM_FIELDS, values) for it in cmos(at, rng.choice((*ANY_TIME, value)))]]
 
-    def seconds() -> Steps:
-        return [["second"] * rng.choice((1, 1, 1, 2, 3, 60)), *(cmos(at) for at in ("00", "02", "04"))]
+    def seconds(self) -> Steps:
+        return [["second"] * self.rng.choice((1, 1, 1, 2, 3, 60)), *(cmos(at) for at in ("00", "02", "04"))]
 
-    def registers() -> Steps:
+    def flags(self) -> Steps:
+        return [cmos("0C")]
+
+    def registers(self) -> Steps:
+        rng = self.rng
         at = rng.choice(("0A", "0B", "0D"))
         value = {"0A": rng.choice((0x26, 0x20, 0x06, 0x2F)), "0D": rng.getrandbits(8)}.get(at)
-        value = int(form[0], 16) | rng.choice((0, 0x10, 0x20, 0x40, 0x80)) if value is None else value
+        value = int(self.form, 16) | rng.choice((0, 0x10, 0x20, 0x40, 0x80)) if value is None else value
         return [cmos(at, f"{value:02X}"), cmos(at)]
 
-    def memory() -> Steps:
-        at = f"{rng.randrange(0x0E, 0x32):02X}"
-        return [cmos(at, f"{rng.getrandbits(8):02X}"), cmos(at)]
+    def memory(self) -> Steps:
+        at = f"{self.rng.randrange(0x0E, 0x32):02X}"
+        return [cmos(at, f"{self.rng.getrandbits(8):02X}"), cmos(at)]
 
+
+def clock(rng: random.Random) -> Steps:
+    """Forms, seconds that pass, alarms, SET, flags, and the clock's memory."""
+    it = Clock(rng)
     doings = [
-        (4, lambda: [whole()]),
-        (3, alarm),
-        (5, seconds),
-        (3, lambda: [cmos("0C")]),
-        (2, registers),
-        (2, memory),
+        (4, it.set_again),
+        (3, it.alarm),
+        (5, it.seconds),
+        (3, it.flags),
+        (2, it.registers),
+        (2, it.memory),
         (1, lambda: [requests(1)]),
     ]
     still = outb(0x43, 0x30) + outb(0x40, 0xFF, 0xFF)  # line 0 stays as it is
-    return [
-        [*still, *whole(), *cmos("0C")],
-        *several(rng, 6, 14, doings),
-        *(cmos(at) for at in ("00", "02", "04", "07", "08", "09")),
-    ]
+    first = [*still, *it.date(), *cmos("0C")]
+    return [first, *several(rng, 6, 14, doings), *(cmos(at) for at in ("00", "02", "04", "07", "08", "09"))]

@@ -1,214 +1,249 @@
-//! A monitor: SeaBIOS on the board's chips, with the host's processor by KVM.
+//! A monitor: a PC of one processor by KVM on the board's chips, with a disk, and COM1 as standard input and output.
 //!
-//!     kvm BIOS     as in kvm /usr/share/seabios/bios.bin; Ctrl-C ends it
+//!     kvm BIOS DISK MIB     as in kvm /usr/share/seabios/bios.bin disk.img 64
+//!
+//! `stty raw -echo` stands before it, and Ctrl-] ends it. Then DISK gets what the guest wrote.
 
-mod sys;
-
-use board_440fx::{cycles, is_installed, Area, Board, Error, Event, Kind, Range, Reset, Target, Width};
-use std::io::{self, Write};
+use board_440fx::{Board, Clocks, Memory, Pages, Reset, Slot, Slots};
+use std::io::{self, Error, Read, Write};
+use std::os::raw::{c_int, c_long, c_ulong, c_void};
+use std::os::unix::io::{AsRawFd, RawFd};
+use std::ptr::null_mut;
+use std::sync::mpsc::{channel, Receiver};
 use std::time::{Duration, Instant};
 use std::{env, fs, thread};
-use sys::{Exit, Memory, Processor, Slot, MEMORY_DATA};
 
 type Outcome<T> = Result<T, Box<dyn std::error::Error>>;
 
-const MIB: u32 = 8;
-const PAGE: u64 = 4096;
-const PORTS: u32 = 0x10000;
-const PIT_HERTZ: u128 = 1_193_182;
-const MOST_PULSES: u128 = 1_000_000; // of one call
-const ROM_RANGE: usize = 512 << 10; // a smaller ROM stands there again and again
-const TICK_MICROSECONDS: u64 = 1000; // after which the time is looked at again
-const SEABIOS_SAYS: u16 = 0x402; // and what a read of it gives where someone listens
-const LISTENS: u8 = 0xE9;
+const ROM_BYTES: usize = 512 << 10; // a smaller BIOS stands in them again and again
+const TICK: Duration = Duration::from_millis(1); // after which time and keys are looked at again
+const SECTOR: usize = 512;
+const END_KEY: u8 = 0x1D;
 
 struct Monitor {
     board: Board,
     processor: Processor,
-    memory: Memory,
-    rom: Memory,
-    slots: Vec<Option<Slot>>, // by their numbers
-    version: Option<u32>,     // of the map that they are of
-    reset: Option<Reset>,     // the strongest that is to be done yet
+    memory: Pages,
+    rom: Pages,
+    slots: Slots,
+    version: Option<u32>, // of the map that they are of
+    reset: Option<Reset>, // the strongest that is to be done yet
+    is_halted: bool,
     begun: Instant,
-    pulses: u128,
-    seconds: u64,
+    clocks: Clocks,
+    keys: Receiver<u8>,
 }
 
 impl Monitor {
-    /// The processor at its reset vector, and after a hard reset what SeaBIOS finds set: the whole ROM answers, one row of
-    /// memory is decoded, and the clock's bytes say that there are 8 MiB.
+    /// The instruction that made the last exit ends, which may make more, and none begins. Then the processor is at its
+    /// reset vector, and after a hard reset firmware finds set what it takes for given.
     fn restart(&mut self, reset: Reset) -> Outcome<()> {
-        while let Some(exit) = self.processor.end_instruction()? {
-            self.serve(exit)?;
+        while self.processor.run(false, true)? {
+            self.serve()?;
         }
-        self.reset = None;
         if reset == Reset::Hard {
-            self.board.out_u32(0xCF8, 0x8000_084C)?;
-            self.board.out_u8(0xCFE, 0xC3)?; // XBCS
-            for (address, byte) in [(0x15, 0x80), (0x16, 0x02), (0x17, 0x00), (0x18, 0x1C), (0x30, 0x00), (0x31, 0x1C)]
-            {
-                self.board.cmos_write(address, byte)?;
-            }
+            self.board.prepare()?;
         }
+        (self.reset, self.is_halted) = (None, false);
         Ok(self.processor.reset()?)
     }
 
-    /// What a range is to the processor; none where each access is to be an exit.
-    fn slot_of(&self, range: &Range, mib: u32) -> Option<Slot> {
-        let [fetch, read, write] = [Kind::Fetch, Kind::Read, Kind::Write].map(|kind| range.area(kind, false));
-        let range = if read == Area::Rom { *range } else { range.clip(mib)? };
-        let (lo, bytes) = (u64::from(range.lo), u64::from(range.hi) - u64::from(range.lo) + 1);
-        let host = match read {
-            Area::Rom => self.rom.place(lo % ROM_RANGE as u64, bytes)?,
-            memory if memory.is_memory() => self.memory.place(lo, bytes)?,
-            _ => return None,
-        };
-        let is_slot = fetch == read && lo % PAGE == 0 && bytes % PAGE == 0;
-        is_slot.then_some(Slot { lo, bytes, host, is_read_only: !write.is_memory() })
-    }
-
-    /// The map as slots: those that are gone go first, then the new ones come, and equal ones stay.
     fn follow_map(&mut self) -> Outcome<()> {
         let map = self.board.map()?;
-        let wanted: Vec<_> = map.ranges.iter().filter_map(|range| self.slot_of(range, map.mib)).collect();
-        for (number, place) in self.slots.iter_mut().enumerate() {
-            if let Some(slot) = place.filter(|slot| !wanted.contains(slot)) {
-                self.processor.set_slot(number, Slot { bytes: 0, ..slot })?;
-                *place = None;
-            }
-        }
-        for slot in wanted {
-            if !self.slots.contains(&Some(slot)) {
-                let number = self.slots.iter().position(Option::is_none).unwrap_or(self.slots.len());
-                self.slots.resize(self.slots.len().max(number + 1), None);
-                self.processor.set_slot(number, slot)?;
-                self.slots[number] = Some(slot);
-            }
+        for change in self.slots.follow(&map, self.memory.mib(), ROM_BYTES as u32) {
+            let (number, slot) = change.region();
+            let pages = if slot.is_rom { &self.rom } else { &self.memory };
+            self.processor.set_slot(number, slot, pages.as_ptr() as u64 + slot.offset)?;
         }
         self.version = Some(map.version);
         Ok(())
     }
 
-    /// The pulses and the seconds of the time that has gone by.
-    fn keep_time(&mut self) -> Outcome<()> {
-        let now = self.begun.elapsed();
-        let due = now.as_micros() * PIT_HERTZ / 1_000_000;
-        while self.pulses < due {
-            let count = (due - self.pulses).min(MOST_PULSES);
-            self.board.pulse(count as u32)?;
-            self.pulses += count;
-        }
-        while self.seconds < now.as_secs() {
-            self.seconds += 1;
-            self.board
-                .second()
-                .map(|_| ())
-                .or_else(|error| if error == Error::NoTime { Ok(()) } else { Err(error) })?;
-        }
-        Ok(())
-    }
-
-    /// A cycle of the bus at a port or an address. Bytes of main memory are the monitor's.
-    fn cycle(&mut self, is_port: bool, is_write: bool, at: u32, width: Width, data: &mut [u8]) -> Outcome<()> {
-        let value = data.iter().rev().fold(0, |number, &byte| number << 8 | u64::from(byte));
-        let answer = self.board.step(&match (is_port, is_write) {
-            (true, false) => Event::In { port: at as u16, width },
-            (true, true) => Event::Out { port: at as u16, width, value: value as u32 },
-            (false, false) => Event::read(at, width),
-            (false, true) => Event::write(at, width, value),
-        })?;
-        self.reset = self.reset.max(answer.reset);
-        io::stdout().write_all(answer.sent.as_ref().map_or(&[], std::slice::from_ref))?;
-        let is_memory = !is_port && answer.target().map_or(false, Target::is_memory);
-        match (is_memory && is_installed(MIB, at.into(), width.bytes().into()), is_write) {
-            (true, true) => self.memory.write(at as usize, data),
-            (true, false) => self.memory.read(at as usize, data),
-            (false, true) => (),
-            (false, false) => data.copy_from_slice(&answer.value().unwrap_or(u64::MAX).to_le_bytes()[..data.len()]),
-        }
-        Ok(())
-    }
-
-    /// An access of any count of bytes, whose data stand in KVM's page. Past port FFFFh and from 4 GiB on a read gives ones.
+    /// An access of any count of bytes, whose data stand at a place of KVM's page.
     fn access(&mut self, is_port: bool, is_write: bool, addr: u64, bytes: usize, place: usize) -> Outcome<()> {
-        let mut data = vec![0xFF; bytes];
-        if is_write {
-            self.processor.page.read(place, &mut data);
-        }
-        let cut = cycles(addr, bytes as u64).take_while(|&(at, _)| !is_port || at < PORTS);
-        for (at, width) in cut {
-            let from = (u64::from(at) - addr) as usize;
-            self.cycle(is_port, is_write, at, width, &mut data[from..from + usize::from(width.bytes())])?;
-        }
-        if !is_write {
-            self.processor.page.write(place, &data);
-        }
-        Ok(())
+        let mut data = vec![0; bytes];
+        self.processor.page.get(place, &mut data);
+        let answer = match (is_port, is_write) {
+            (true, false) => self.board.port_read(addr as u16, &mut data)?,
+            (true, true) => self.board.port_write(addr as u16, &data)?,
+            (false, false) => self.board.memory_read(addr, &mut data, &self.memory)?,
+            (false, true) => self.board.memory_write(addr, &data, &self.memory)?,
+        };
+        self.processor.page.put(place, &data); // of a write as they were
+        self.reset = self.reset.max(answer.and_then(|answer| answer.reset));
+        let sent = answer.and_then(|answer| answer.sent);
+        Ok(sent.map_or(Ok(()), |byte| io::stdout().write_all(&[byte]).and_then(|()| io::stdout().flush()))?)
     }
 
-    fn port(&mut self, is_out: bool, port: u16, bytes: usize, place: usize) -> Outcome<()> {
-        match (port, is_out) {
-            (SEABIOS_SAYS, true) => Ok(io::stdout().write_all(&[self.processor.page.number(place, 1) as u8])?),
-            (SEABIOS_SAYS, false) => {
-                self.processor.page.write(place, &[LISTENS]);
-                Ok(())
+    /// Serves an exit: whether the guest can go on. The numbers are places in struct kvm_run, and bytes there.
+    fn serve(&mut self) -> Outcome<bool> {
+        let field = |at, bytes| self.processor.field(at, bytes);
+        match field(8, 4) {
+            2 => {
+                let (is_out, bytes, port, count) = (field(32, 1) == 1, field(33, 1), field(34, 2), field(36, 4));
+                let mut places = (field(40, 8) as usize..).step_by(bytes as usize).take(count as usize);
+                places.try_for_each(|place| self.access(true, is_out, port, bytes as usize, place))?;
             }
-            _ => self.access(true, is_out, port.into(), bytes, place),
+            6 => self.access(false, field(52, 1) == 1, field(32, 8), field(48, 4) as usize, 40)?, // KVM_EXIT_MMIO
+            5 => self.is_halted = self.processor.field(13, 1) == 1, // KVM_EXIT_HLT, if_flag
+            8 => self.reset = self.reset.max(Some(Reset::Soft)),    // KVM_EXIT_SHUTDOWN, a triple fault
+            7 | 10 => (),                                           // KVM_EXIT_IRQ_WINDOW_OPEN, KVM_EXIT_INTR
+            other => return Err(format!("exit {other} of KVM").into()),
         }
+        Ok(self.is_halted || self.processor.field(8, 4) != 5)
     }
 
     fn has_interrupt(&self) -> bool {
         self.board.last().map_or(false, |answer| answer.interrupt)
     }
 
-    fn serve(&mut self, exit: Exit) -> Outcome<()> {
-        match exit {
-            Exit::Port { is_out, port, bytes, count, place } => {
-                (0..count).try_for_each(|k| self.port(is_out, port, bytes, place + k * bytes))?;
+    /// COM1's next bytes, as far as there is room: false where the end was asked for.
+    fn listen(&mut self) -> Outcome<bool> {
+        while self.board.last().map_or(false, |answer| answer.serial_room) {
+            match self.keys.try_recv() {
+                Ok(END_KEY) => return Ok(false),
+                Ok(key) => self.board.receive(key).map(|_| ())?,
+                Err(_) => break,
             }
-            Exit::Memory { is_write, addr, bytes } => self.access(false, is_write, addr, bytes, MEMORY_DATA)?,
-            Exit::Halt => {
-                while !self.has_interrupt() {
-                    thread::sleep(Duration::from_micros(TICK_MICROSECONDS));
-                    self.keep_time()?;
-                }
-            }
-            Exit::TripleFault => self.reset = self.reset.max(Some(Reset::Soft)),
-            Exit::Signal => (),
-            Exit::Other(why) => return Err(format!("exit {why} of KVM").into()),
         }
-        Ok(())
+        Ok(true)
     }
 
     fn run(&mut self) -> Outcome<()> {
-        loop {
+        let mut goes_on = true;
+        while goes_on && self.listen()? {
             if let Some(reset) = self.reset {
                 self.restart(reset)?;
             }
-            self.keep_time()?;
+            self.board.run_until(&mut self.clocks, self.begun.elapsed())?;
             if self.version != self.board.last().map(|answer| answer.version) {
                 self.follow_map()?;
             }
-            if self.has_interrupt() && self.processor.takes_interrupts() {
-                self.processor.interrupt(self.board.acknowledge()?)?;
+            if self.is_halted && !self.has_interrupt() {
+                thread::sleep(TICK);
+                continue;
             }
-            let exit = self.processor.run(self.has_interrupt())?;
-            self.serve(exit)?;
+            if self.has_interrupt() && self.processor.field(12, 2) == 0x0101 {
+                // ready_for_interrupt_injection, if_flag
+                self.processor.interrupt(self.board.acknowledge()?)?;
+                self.is_halted = false;
+            }
+            goes_on = !self.processor.run(self.has_interrupt(), false)? || self.serve()?;
         }
+        Ok(())
     }
 }
 
 fn main() -> Outcome<()> {
-    let bios = fs::read(env::args().nth(1).ok_or("usage: kvm BIOS")?)?;
-    let board = Board::builder().memory_mib(MIB).rom(&bios).open()?;
-    let (processor, memory, rom) = (
-        Processor::open(TICK_MICROSECONDS)?,
-        Memory::open((MIB as usize) << 20, None)?,
-        Memory::open(ROM_RANGE, None)?,
-    );
-    (0..ROM_RANGE).step_by(bios.len()).for_each(|at| rom.write(at, &bios));
-    let (slots, begun) = (Vec::new(), Instant::now());
-    let reset = Some(Reset::Hard);
-    Monitor { board, processor, memory, rom, slots, version: None, reset, begun, pulses: 0, seconds: 0 }.run()
+    let mut words = env::args().skip(1);
+    let mut word = || words.next().ok_or("usage: kvm BIOS DISK MIB");
+    let (bios, disk, mib) = (fs::read(word()?)?, word()?, word()?.parse()?);
+    let sectors = fs::read(&disk)?;
+    let board = Board::builder().memory_mib(mib).rom(&bios).disk(&sectors).open()?;
+    let (memory, rom) = (Pages::new((mib as usize) << 20)?, Pages::new(ROM_BYTES)?);
+    (0..ROM_BYTES).step_by(bios.len()).for_each(|at| rom.put(at, &bios));
+    let (sender, keys) = channel();
+    thread::spawn(move || io::stdin().lock().bytes().flatten().try_for_each(|key| sender.send(key)));
+    let (processor, slots, clocks) = (Processor::open()?, Slots::default(), Clocks::default());
+    let (version, reset, is_halted, begun) = (None, Some(Reset::Hard), false, Instant::now());
+    let mut monitor = Monitor { board, processor, memory, rom, slots, version, reset, is_halted, begun, clocks, keys };
+    let ended = monitor.run();
+    let sectors = (0..(sectors.len() / SECTOR) as u32).map(|number| monitor.board.disk_read(number));
+    fs::write(disk, sectors.collect::<Result<Vec<_>, _>>()?.concat())?;
+    ended
+}
+
+// ---- what it needs of KVM, for which Debian 12 has no crate
+
+extern "C" {
+    fn ioctl(fd: RawFd, request: c_ulong, argument: *mut c_void) -> c_int;
+    fn mmap(at: *mut c_void, bytes: usize, protection: c_int, flags: c_int, fd: RawFd, offset: c_long) -> *mut c_void;
+    fn signal(number: c_int, handler: extern "C" fn(c_int)) -> usize;
+    fn ualarm(first: u32, every: u32) -> u32;
+}
+
+extern "C" fn end_run(_: c_int) {}
+
+fn call<T>(fd: RawFd, request: c_ulong, argument: *mut T) -> io::Result<c_int> {
+    // SAFETY: each call here hands over the record that its request reads or writes.
+    match unsafe { ioctl(fd, request, argument.cast()) } {
+        -1 => Err(Error::last_os_error()),
+        done => Ok(done),
+    }
+}
+
+const LEAVES: usize = 256;
+const LEAF: usize = 10; // words: function, index, flags, eax, ebx, ecx, edx, and three more
+
+struct Processor {
+    vm: RawFd,
+    cpu: RawFd,
+    at_start: [u64; 39], // struct kvm_sregs
+    page: Pages,         // that KVM shares: struct kvm_run
+}
+
+impl Processor {
+    /// The host's, without an APIC, as the board has none; a signal ends each run after a tick.
+    fn open() -> io::Result<Processor> {
+        let file = fs::OpenOptions::new().read(true).write(true).open("/dev/kvm")?;
+        let (kvm, mut id, mut at_start) = (file.as_raw_fd(), vec![0u32; 2 + LEAVES * LEAF], [0; 39]);
+        let vm = call::<u8>(kvm, 0xAE01, null_mut())?; // KVM_CREATE_VM
+        call(vm, 0x4008_AE48, &mut 0xFEFF_C000u64)?; // KVM_SET_IDENTITY_MAP_ADDR: not in the ROM's range
+        call(vm, 0xAE47, 0xFEFF_D000 as *mut u8)?; // KVM_SET_TSS_ADDR
+        let cpu = call::<u8>(vm, 0xAE41, null_mut())?; // KVM_CREATE_VCPU
+        let bytes = call::<u8>(kvm, 0xAE04, null_mut())? as usize; // KVM_GET_VCPU_MMAP_SIZE
+        let page = unsafe { Pages::over(mmap(null_mut(), bytes, 3, 1, cpu, 0).cast(), bytes) }; // SAFETY: they stay
+        if page.as_ptr() as isize == -1 {
+            return Err(Error::last_os_error());
+        }
+        id[0] = LEAVES as u32;
+        call(kvm, 0xC008_AE05, id.as_mut_ptr())?; // KVM_GET_SUPPORTED_CPUID
+        for leaf in id[2..].chunks_mut(LEAF) {
+            match leaf[0] {
+                1 => (leaf[5], leaf[6]) = (leaf[5] & !(1 << 21 | 1 << 24 | 1 << 31), leaf[6] & !(1 << 9)), // APIC, KVM
+                0x4000_0000..=0x4000_FFFF => leaf[3..7].fill(0),                                           // KVM's own
+                _ => (),
+            }
+        }
+        call(cpu, 0x4008_AE90, id.as_mut_ptr())?; // KVM_SET_CPUID2
+        call(cpu, 0x8138_AE83, &mut at_start)?; // KVM_GET_SREGS
+        (at_start[0], at_start[34]) = (0xFFFF_0000, 0); // the base of CS, and of the APIC
+        at_start[1] = at_start[1] & !(0xFFFF << 32) | 0xF000 << 32; // CS
+        let tick = TICK.as_micros() as u32;
+        unsafe { (signal(14, end_run), ualarm(tick, tick)) }; // SAFETY: SIGALRM, whose handler does nothing
+        Ok(Processor { vm, cpu, at_start, page })
+    }
+
+    fn reset(&mut self) -> io::Result<()> {
+        let (mut registers, mut events) = ([0u64; 18], [0u64; 8]);
+        (registers[16], registers[17]) = (0xFFF0, 2); // rip, rflags
+        call(self.cpu, 0x4138_AE84, &mut self.at_start)?; // KVM_SET_SREGS
+        call(self.cpu, 0x4040_AEA0, &mut events)?; // KVM_SET_VCPU_EVENTS
+        call(self.cpu, 0x4090_AE82, &mut registers).map(|_| ()) // KVM_SET_REGS
+    }
+
+    fn set_slot(&self, number: u32, slot: Slot, host: u64) -> io::Result<()> {
+        let flags = if slot.is_read_only { 2 << 32 } else { 0 };
+        let mut region = [u64::from(number) | flags, slot.addr, slot.bytes, host];
+        call(self.vm, 0x4020_AE46, &mut region).map(|_| ()) // KVM_SET_USER_MEMORY_REGION
+    }
+
+    fn field(&self, at: usize, bytes: usize) -> u64 {
+        let mut number = [0; 8];
+        self.page.get(at, &mut number[..bytes]);
+        u64::from_le_bytes(number)
+    }
+
+    fn interrupt(&self, vector: u8) -> io::Result<()> {
+        call(self.cpu, 0x4004_AE86, &mut u32::from(vector)).map(|_| ()) // KVM_INTERRUPT
+    }
+
+    /// Runs until an exit, also where an interrupt can be taken; false of a signal, and where nothing is to begin.
+    fn run(&self, wants_interrupt: bool, only_ends: bool) -> io::Result<bool> {
+        self.page.put(0, &[wants_interrupt.into(), only_ends.into()]); // request_interrupt_window, immediate_exit
+        match call::<u8>(self.cpu, 0xAE80, null_mut()) {
+            Err(fault) if fault.kind() == io::ErrorKind::Interrupted => Ok(false),
+            done => done.map(|_| true), // KVM_RUN
+        }
+    }
 }

@@ -1,12 +1,33 @@
+use Rattle.std.proofs.Common.{◌≡◌, length, subst, sym, ◌∙◌, true, false, true≢false, arith}
+use Rattle.board_prelude.proofs.Common.{nat_tests}
+use Rattle.machine.specs.Common.{IsSavedState, Saved, image_bytes, without}
+use Rattle.board_c.specs.Images.{IsSaveRefusal, IsSaved}
 use Rattle.board_c.proofs.Full.{is_full}
 use Rattle.board_c.proofs.image.board_save.Goals as goal
 
-pub returns-clause-done : goal.returns-clause-done
-returns-clause-done c ok =
-    let full = is_full c.args.handle.now.full c.in-Some.board c.in-Some.ensures.empty in
-    rw (← c.in-Some.ensures.held full) (rw (← c.deref.ensures) (c.save-status.ensures.done ok))
+-- nothing is left out
+without_none : (saved : Saved) → without (record { dram = false; disk = false }) saved ≡ saved
+without_none saved = grind (arith, nat_tests)
 
-pub returns-clause-counted : goal.returns-clause-counted
-returns-clause-counted c told =
+pub returns-clause-call : goal.returns-clause-call
+returns-clause-call c =
     let full = is_full c.args.handle.now.full c.in-Some.board c.in-Some.ensures.empty in
-    rw (← c.in-Some.ensures.held full) (rw (← c.deref.ensures) (c.save-status.ensures.counted told))
+    let whole : Saved = c.behind-board.inside.machine.saved in
+    let saved = c.save-status.ensures.outcome in
+    record {
+      kept = c.put.ensures.full ∙ sym full;
+      says_closed = λ closed. absurd (true≢false (sym full ∙ closed));
+      not_closed = λ _. saved.not_closed;
+      done = λ ok.
+          rw (← c.in-Some.ensures.held full)
+          (rw (← c.deref.ensures) (rw (← c.behind-board.view_is)
+          (subst (λ (it : Saved). IsSavedState whole × IsSaved (image_bytes it) c.args.into.now
+          c.save-status.new.into c.save-status.new.bytes) (without_none whole) (saved.done ok))));
+      refused = λ _ refused.
+          rw (← c.in-Some.ensures.held full)
+          (rw (← c.deref.ensures) (rw (← c.behind-board.view_is)
+          (subst (λ (it : Saved). IsSaveRefusal (image_bytes it) (length c.args.into.now) c.save-status.result
+          c.args.bytes.now c.save-status.new.bytes) (without_none whole) (saved.refused refused))));
+      unchanged = λ _ _. c.put.ensures.held ∙ c.in-Some.ensures.held full;
+      unfilled = λ refused. saved.unchanged refused;
+    }

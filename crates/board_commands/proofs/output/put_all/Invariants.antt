@@ -1,5 +1,5 @@
 use Rattle.std.proofs.Common.{◌≡◌, drop}
-use Rattle.log_pieces.specs.Text.{joined}
+use Rattle.logs.specs.Text.{joined}
 use Rattle.board_commands.specs.Common.{Sent, AllTook}
 use Rattle.command_files.specs.Calls.{OfCalls}
 use Rattle.board_commands.proofs.output.put_all.Given as goal

@@ -3,7 +3,7 @@ use Rattle.board_prelude.proofs.Common.{Vec, Global, get_or_default, Statement, 
 use Rattle.phase_threads.specs.Jobs.{IsStatement}
 use Rattle.script_spec.specs.Phases.{lists_of}
 use Rattle.log_check.proofs.PhaseLists.{all_in_phase}
-use Rattle.script_text.specs.Script.{said_of}
+use Rattle.scripts.specs.Script.{said_of}
 use Rattle.board_commands.proofs.run.run_script.Goals as goal
 
 -- the statements of each phase are in range

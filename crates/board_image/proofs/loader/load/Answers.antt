@@ -1,7 +1,7 @@
 use Rattle.std.proofs.Common.{◌≡◌, List, rules}
 use Rattle.board_prelude.proofs.Common.{Statement, Setup}
 use Rattle.board_core.specs.Steps.{AreInRange}
-use Rattle.image_writer.specs.ImageBytes.{IsImage}
+use Rattle.board_image.specs.ImageBytes.{IsImage}
 use Rattle.board_image.proofs.loader.load.Goals as goal
 
 in_range : (setup other : Setup) (steps others : List Statement) → setup ≡ other → steps ≡ others →

@@ -3,4 +3,4 @@ use Rattle.board_live.specs.declared.cpu.Cpu.{Cpu}
 use Rattle.board_live.proofs.live.place_of_first.Given as goal
 
 abbrev pub invariant-loop-place : goal.invariant-loop-place
-invariant-loop-place l = (k : ℕ) (d : Cpu) → k < l.place → (slice_index_or l.cpus k d).number ≢ 0
+invariant-loop-place g l = (k : ℕ) (d : Cpu _ g.B.Steps) → k < l.place → (slice_index_or l.cpus k d).number ≢ 0

@@ -1,7 +1,7 @@
 use Rattle.std.proofs.Common.{ℕ, ◌+◌, List, take, drop, sym, subst, ◌∙◌, ap}
 use Rattle.board_prelude.proofs.Common.{Statement, Setup, IsInRange, in_file_order}
 use Rattle.board_core.specs.Steps.{AreInRange}
-use Rattle.script_text.specs.Script.{said_of}
+use Rattle.scripts.specs.Script.{said_of}
 use Rattle.script_spec.specs.Phases.{lists_of}
 use Rattle.log_check.proofs.PhaseLists.{phases_cut, all_of_phase}
 use Rattle.command_texts.proofs.Statements.{in_range}

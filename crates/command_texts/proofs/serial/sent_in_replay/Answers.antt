@@ -1,4 +1,4 @@
-use Rattle.script_text.specs.Script.{said_of}
+use Rattle.scripts.specs.Script.{said_of}
 use Rattle.command_texts.proofs.TransferTexts.{ok_then}
 use Rattle.command_texts.proofs.SerialReplays.{script_for_port, serial_told}
 use Rattle.command_texts.proofs.serial.sent_in_replay.Goals as goal

@@ -1,5 +1,5 @@
 use Rattle.std.proofs.Common.{◌∙◌, sym, arith, inl, inr}
-use Rattle.xbus_select.specs.Piix.{IsIsaFixed, IsOffRouting}
+use Rattle.south_bridge.specs.Piix.{IsIsaFixed, IsOffRouting}
 use Rattle.config_regs.proofs.reading.isa_byte_beside.Goals as goal
 use Rattle.config_regs.proofs.reading.isa_byte_beside.Goals.{in_default-via-then-off-lt96}
 use Rattle.config_regs.proofs.reading.isa_byte_beside.Goals.{in_default-via-else-off-lt96+else-off-lt100}

@@ -12,21 +12,21 @@ abbrev between : (version : ℕ) → List ℕ → (done later : List (List State
 between version bytes done later = record { version = version; bytes = bytes; done = done; later = later; count = 0 }
 
 pub loop-phase-init : goal.loop-phase-init
-loop-phase-init c = grind (arith, nat_tests, common_steps, statements_of, log_text)
+loop-phase-init g c = grind (arith, nat_tests, common_steps, statements_of, log_text)
 
 pub check_phase-requires-clause-in_range : goal.check_phase-requires-clause-in_range
-check_phase-requires-clause-in_range c =
+check_phase-requires-clause-in_range g c =
     rw (c.loop-phase.invariant.setup, c.deref.ensures.value)
     (all_in_phase _ _ _ c.loop-phase-test.true c.phase-item.is
-    (λ statement. IsInRange c.args.board.now.setup statement.event) c.requires.in_range)
+    (λ statement. IsInRange (g.B.Steps.standing c.args.board.now).setup statement.event) c.requires.in_range)
 
 pub check_phase-requires-clause-typed : goal.check_phase-requires-clause-typed
-check_phase-requires-clause-typed c =
+check_phase-requires-clause-typed g c =
     rw c.deref.ensures.value
     (all_in_phase _ _ _ c.loop-phase-test.true c.phase-item.is IsTyped c.requires.typed)
 
 pub loop-phase-preserved : goal.loop-phase-preserved
-loop-phase-preserved c =
+loop-phase-preserved g c =
     let l = c.loop-phase in
     let i : ℕ = l.phase-index in
     let before : List (List Statement) = lists_of (take i c.args.phases.now) in
@@ -36,6 +36,8 @@ loop-phase-preserved c =
     record {
       setup = c.check_phase.ensures.setup ∙ l.invariant.setup;
       spare = omega (arith, l.invariant.spare, c.in_ok-left.ensures.spare, size, same);
+      count = omega (arith, l.invariant.count, c.in_ok-left.ensures.more, size, same);
+      numbers = c.in_ok-left.ensures.numbers;
       complete =
           let walked = c.in_ok-left.ensures.walked (between 0 _ before []) l.invariant.complete refl in
           rw more (rw c.deref.ensures.value at walked.0);
@@ -45,7 +47,7 @@ loop-phase-preserved c =
     }
 
 pub returns-in_err-left-clause-walked : goal.returns-in_err-left-clause-walked
-returns-in_err-left-clause-walked c = λ version bytes text.
+returns-in_err-left-clause-walked g c = λ version bytes text.
     let l = c.loop-phase in
     let i : ℕ = l.phase-index in
     let stopped =
@@ -57,8 +59,8 @@ returns-in_err-left-clause-walked c = λ version bytes text.
     (rw (l.invariant.setup, c.deref.ensures.value) at stopped))
 
 pub returns-clause-walked : goal.returns-clause-walked
-returns-clause-walked c = λ version bytes text. (
-  subst (λ phases. IsCompleteFor (lists_of phases) c.loop-phase.board.entries)
+returns-clause-walked g c = λ version bytes text. (
+  subst (λ phases. IsCompleteFor (lists_of phases) (g.B.Steps.standing c.loop-phase.board).entries)
       (take_all c.loop-phase.phase-index c.args.phases.now c.loop-phase-test.false) c.loop-phase.invariant.complete,
   c.loop-phase.invariant.past version bytes text,
 )

@@ -1,5 +1,5 @@
 use Rattle.std.proofs.Common.{refl}
-use Rattle.logs_and_maps.proofs.Joined.{appended_twice}
+use Rattle.logs.proofs.Joined.{appended_twice}
 use Rattle.make_script.specs.MakeText.{setup_lines, opening_lines}
 use Rattle.make_script.proofs.script.push_opening.Goals as goal
 

@@ -1,6 +1,6 @@
 use Rattle.std.proofs.Common.{take, flat_map, ◌++◌, ◌∷◌, [], decimal}
 use Rattle.board_spec.specs.Text.{line_feed}
-use Rattle.logs_and_maps.specs.Adds.{AddsWords}
+use Rattle.logs.specs.Adds.{AddsWords}
 use Rattle.make_script.proofs.summary.push_rows.Given as goal
 
 -- the rows so far

@@ -1,6 +1,6 @@
 use Rattle.std.proofs.Common.{ℕ, ◌++◌, reverse, sym, ap, ◌∙◌}
 use Rattle.board_prelude.proofs.Common.{length-reverse, version_of}
-use Rattle.logs_and_maps.proofs.Joined.{appended_twice, front_more}
+use Rattle.logs.proofs.Joined.{appended_twice, front_more}
 use Rattle.script_spec.specs.Lines.{text_of_lines}
 use Rattle.make_script.specs.Summary.{entry_lines, map_lines, summary_of}
 use Rattle.make_script.proofs.MadeLemmas.{text-append}

@@ -1,5 +1,5 @@
 use Rattle.std.proofs.Common.{◌-◌, ◌≤◌, length}
-use Rattle.map_ranges.specs.Find.{BeginsBelow}
+use Rattle.map_builder.specs.Find.{BeginsBelow}
 use Rattle.map_builder.proofs.build.index_from.Given as goal
 
 abbrev pub invariant-loop-index : goal.invariant-loop-index

@@ -1,5 +1,5 @@
 use Rattle.std.proofs.Common.{◌∙◌, ◌++◌, ap, List}
-use Rattle.map_ranges.specs.declared.range.Changed.{Changed}
+use Rattle.map_builder.specs.declared.range.Changed.{Changed}
 use Rattle.map_builder.proofs.WindowLemmas.{covered_by_names}
 use Rattle.map_builder.proofs.changed.push_covered.Goals as goal
 

@@ -1,6 +1,6 @@
 use Rattle.std.proofs.Common.{sym, ◌∙◌, ◌++◌, ap, List}
 use Rattle.pci_bars.specs.Cards.{CardBytes}
-use Rattle.map_ranges.specs.declared.range.Changed.{Changed}
+use Rattle.map_builder.specs.declared.range.Changed.{Changed}
 use Rattle.map_builder.specs.Held.{device_held}
 use Rattle.map_builder.proofs.WindowLemmas.{device_is}
 use Rattle.map_builder.proofs.changed.push_of_register.Goals as goal

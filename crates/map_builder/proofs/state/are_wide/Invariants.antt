@@ -1,5 +1,5 @@
 use Rattle.std.proofs.Common.{◌<◌, ℕ, get_or}
-use Rattle.map_ranges.specs.declared.range.Changed.{Changed}
+use Rattle.map_builder.specs.declared.range.Changed.{Changed}
 use Rattle.map_builder.specs.State.{IsWindow}
 use Rattle.map_builder.proofs.state.are_wide.Given as goal
 

@@ -1,9 +1,12 @@
-use Rattle.std.proofs.Common.{arith}
+use Rattle.std.proofs.Common.{rules}
+use Rattle.phase_threads.proofs.Phases.{three_on_ok}
 use Rattle.phase_threads.proofs.OneActs.{has_acted}
 use Rattle.phase_threads.proofs.alone.do_all.Goals as goal
 
 pub returns : goal.returns
-returns g c =
-    let acted = has_acted c.args.alone.now.number c.args.alone.now.board c.run.new.cpu.board c.args.phase.now
-    c.args.works.now.items c.index_mut.result.now c.run.new.self in
-    grind (arith, acted, c.from.ensures, c.run.ensures, c.requires, c.index_mut.ensures)
+returns g c = record {
+  acted = λ keeps can.
+      rw c.from.ensures (three_on_ok c.run.result (λ done mine asked.
+      has_acted c.args.works.now.items c.index_mut.result.now c.run.new.self can (search rules) c.run.ensures.setup
+      (search rules) mine asked done) c.run.ensures.done c.run.ensures.mine c.run.ensures.asked);
+}

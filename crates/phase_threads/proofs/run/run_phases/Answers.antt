@@ -1,7 +1,11 @@
-use Rattle.std.proofs.Common.{◌≡◌, ◌+◌, ◌<◌, ◌≤◌, List, [], ◌∷◌, ◌++◌, length, flat_map, All, arith, append_assoc, map}
+use Rattle.std.proofs.Common.{rules, ◌≡◌, ◌+◌, ◌<◌, ◌≤◌, List, [], ◌∷◌, ◌++◌, length, flat_map, All, arith, map, ap}
+use Rattle.std.proofs.Common.{append_assoc, refl, ◌∙◌}
 use Rattle.board_prelude.proofs.Common.{into_iter_items, length-append, get_or-append_seam, most_statements}
-use Rattle.board_prelude.proofs.Common.{reverse-append, map-append}
-use Rattle.phase_threads.specs.Common.{IsStatement}
+use Rattle.board_prelude.proofs.Common.{reverse-append, map-append, length-map, Entry, Setup}
+use Rattle.std.proofs.lemmas.List.Elements.{All-append, All-map}
+use Rattle.board_core.specs.Kept.{Standing}
+use Rattle.phase_threads.specs.declared.worker.Work.{Work}
+use Rattle.phase_threads.specs.Common.{AreTold, IsStatement, Page, page}
 use Rattle.phase_threads.proofs.Phases.{Phase, in_phase, all_in_place, statements_more, statements_within}
 use Rattle.phase_threads.proofs.run.run_phases.Goals as goal
 
@@ -39,8 +43,56 @@ loop-phase-preserved g c =
     let asked = ran.goes_on.asked (length (flat_map in_phase l.yielded)) was.asked room in
     let more = map-append in_phase l.yielded (phase ∷ []) in
     let turned = reverse-append (map in_phase l.yielded) (phase.items ∷ []) in
+    let callers = All-append (λ entry. entry.actor < c.args.cpus) ran.takes_in.added _
+    (rw (ran.goes_on.count, was.count) at ran.takes_in.callers) was.callers in
     let places = all_in_place c.args.board.setup phase.items _ ran.takes_in.added _ _ ran.takes_in.adds
     ran.takes_in.size (rw was.setup at ran.takes_in.places) was.places in
     let phases = ran.takes_in.phases _ was.phases in
     let joined = append_assoc l.yielded (phase ∷ []) rest in let count = statements_more l.yielded phase in
-    grind (arith, was, ran, asked, whole, steps, c.in-Some.ensures, joined, more, turned, places, phases, count)
+    grind (
+      arith,
+      was,
+      ran,
+      asked,
+      whole,
+      steps,
+      c.in-Some.ensures,
+      joined,
+      more,
+      turned,
+      places,
+      phases,
+      count,
+      callers,
+    )
+
+pub loop-phase-init : goal.loop-phase-init
+loop-phase-init g c =
+    let board : Standing → List Entry = λ b. b.entries in let fitted : Standing → Setup = λ b. b.setup in
+    let works : List Work = c.in_ok-works.works.items in
+    let none : c.reserve.new.self.entries ≡ [] =
+    ap board c.in_ok-reserve.ensures.ok ∙ ap board c.new-board.ensures.fresh in
+    let setup : c.reserve.new.self.setup ≡ c.args.board.setup =
+    ap fitted c.in_ok-reserve.ensures.ok ∙ (ap fitted c.new-board.ensures.fresh ∙ c.into_replay.ensures.setup) in
+    let told : AreTold (λ actor. []) works = λ actor less.
+    All-map (λ (p : Page). p ≡ ([], 0)) page works c.in_ok-works.ensures.none actor ([], 0)
+    (rw (length-map works page) less) in
+    record {
+      left = search rules;
+      len = search rules;
+      setup = setup;
+      count = c.in_ok-works.ensures.count;
+      legal = rw none tt;
+      same = refl;
+      up_to = tt;
+      callers = rw none (λ k d less. absurd (omega (arith, less)));
+      told = rw none told;
+      phases = rw none (search rules);
+      places = tt;
+      asked =
+          rw none (record {
+            actors = λ k d less. absurd (omega (arith, less));
+            mine = λ actor. omega arith;
+            asked = λ k d less. omega (arith, ap (λ (p : Page). p.1) (c.in_ok-works.ensures.none k d less));
+          });
+    }

@@ -1,8 +1,8 @@
-use Rattle.std.proofs.Common.{◌≡◌, ◌++◌, length, map, reverse, flat_map}
-use Rattle.board_prelude.proofs.Common.{into_iter_items, IsLegal, statements_of, HasPhases}
+use Rattle.std.proofs.Common.{◌≡◌, ◌<◌, ◌++◌, length, map, reverse, flat_map, All}
+use Rattle.board_prelude.proofs.Common.{into_iter_items, IsLegal, entries_by, statements_of, HasPhases}
 use Rattle.std.specs.Vec.Iter.{into_iter_len}
 use Rattle.run_order.specs.Common.{bare, AreAllInPlace}
-use Rattle.phase_threads.specs.Common.{AreAsked, entries_of, IsUpTo}
+use Rattle.phase_threads.specs.Common.{AreAsked, AreTold, entries_of, IsUpTo}
 use Rattle.phase_threads.proofs.run.run_phases.Given as goal
 
 abbrev pub invariant-loop-phase : goal.invariant-loop-phase
@@ -14,6 +14,8 @@ invariant-loop-phase g l = record {
   legal : IsLegal l.fn.board.setup (entries_of l.placing.order l.run.board.entries);
   same : bare (entries_of l.placing.order l.run.board.entries) ≡ bare l.run.board.entries;
   up_to : IsUpTo l.placing.order l.run.board.entries;
+  callers : All (λ entry. entry.actor < l.fn.cpus) (entries_of l.placing.order l.run.board.entries);
+  told : AreTold (λ actor. entries_by actor (entries_of l.placing.order l.run.board.entries)) l.run.works.items;
   phases : HasPhases (map (λ phase. phase.items) l.yielded)
       (statements_of (entries_of l.placing.order l.run.board.entries));
   places : AreAllInPlace l.fn.board.setup (reverse (map (λ phase. phase.items) l.yielded))

@@ -1,13 +1,12 @@
 use Rattle.std.proofs.Common.{rules, ◌≡◌, ℕ, ◌+◌, ◌<◌, ◌≤◌, ◌++◌, List, All, length, map, take, drop, sym, ◌∙◌, ap}
-use Rattle.std.proofs.Common.{arith, false, Some, reverse}
+use Rattle.std.proofs.Common.{arith, false, Some, reverse, refl, [], slice_index_or}
 use Rattle.board_prelude.proofs.Common.{most_statements, length-map, length-reverse}
-use Rattle.phase_work.specs.declared.worker.Work.{Work}
 use Rattle.phase_threads.specs.declared.jobs.Job.{Job}
-use Rattle.phase_threads.specs.Jobs.{IsReadyToWork, AreAsked}
-use Rattle.phase_threads.proofs.Numbers.{same_lengths, numbered_length, asked_again, lent_back, counted}
-use Rattle.phase_threads.proofs.Workers.{numbers_stay, all_run, cpu_in, work_in, number_in, number_by, ready, HaveRun}
-use Rattle.phase_threads.proofs.Workers.{all_again, listed, has_run, are_asked}
-use Rattle.phase_threads.proofs.OneActs.{so}
+use Rattle.phase_threads.specs.Jobs.{IsReadyToWork, AreAsked, page_by}
+use Rattle.phase_threads.specs.Works.{Page, page_of}
+use Rattle.phase_threads.proofs.Numbers.{same_lengths, numbered_length, asked_again, lent_back, pages_length}
+use Rattle.phase_threads.proofs.Workers.{numbers_stay, all_run, cpu_in, work_in, number_in, number_by, ready, begun}
+use Rattle.phase_threads.proofs.Workers.{HaveRun, all_again, listed, has_run, are_asked}
 use Rattle.phase_threads.proofs.run.run_workers.Given.{Over}
 use Rattle.phase_threads.proofs.run.run_workers.Goals.{After-len-2, After-begin, After-end}
 use Rattle.phase_threads.proofs.run.run_workers.Goals as goal
@@ -16,20 +15,20 @@ use Rattle.phase_threads.proofs.run.run_workers.Goals as goal
 many : (g : Over) (c : After-len-2 g) → c.len-2.result ≡ length c.args.run.works.items
 many g c =
     let listed : c.in_ok-works.works.len ≡ length c.in_ok-works.works.items = search rules in
-    counted c.in_ok-works.works.items c.args.run.works.items c.deref.result.now c.len-2.result c.in_ok-works.works.len
-    c.in_ok-works.ensures.asked c.deref.ensures.value c.len-2.ensures listed
+    c.len-2.ensures
+    ∙ (listed ∙ pages_length c.args.run.works.items c.in_ok-works.works.items c.in_ok-works.ensures.pages)
 
 -- the jobs are ready to work
 all_ready : (g : Over) (c : After-begin g) (most : ℕ) → AreAsked most c.args.run.board.entries c.args.run.works.items
     → most + length c.args.phase.now ≤ most_statements
-    → All (IsReadyToWork c.in-Ok.live c.args.run.board (Some c.in-Ok.ensures.opened.all.opened) c.args.phase.now most)
-    c.begin.new.jobs.items
+    → All (IsReadyToWork c.in-Ok.live (begun c.args.run.board (Some c.in-Ok.ensures.opened.all.opened)
+    c.in_ok-works.works.items c.args.keeps most) c.args.phase.now) c.begin.new.jobs.items
 all_ready g c most asked room =
-    let next = asked_again most c.args.run.works.items c.in_ok-works.works.items (c.in_ok-works.ensures.asked
-    ∙ ap (map (λ (w : Work). w.asked)) c.deref.ensures.value) asked.asked in
-    ready c.begin.new.jobs.items c.in-Ok.ensures.opened c.begin.ensures.cpus c.in_ok-works.works.items
-    c.begin.ensures.works c.in_ok-works.ensures.empty c.in_ok-works.ensures.due next
-    (λ k d less. (c.requires.can.in_range k d less).event) asked.mine room
+    let next = asked_again most c.args.run.works.items c.in_ok-works.works.items c.in_ok-works.ensures.pages asked.asked
+    in
+    ready c.begin.new.jobs.items c.in-Ok.ensures.opened c.begin.ensures.cpus c.in_ok-works.works.items c.args.keeps most
+    c.begin.ensures.works c.in_ok-works.ensures.empty c.in_ok-works.ensures.keeps c.in_ok-works.ensures.due next
+    (λ k d less. (c.requires.can.in_range k d less).event) c.requires.plain asked.mine room
 
 -- when they have run, they are as they were numbered, and their callers and works come back
 numbers : (g : Over) (c : After-end g) → map number_in c.run_jobs.new.jobs ≡ map number_in c.begin.new.jobs.items
@@ -49,18 +48,20 @@ works : (g : Over) (c : After-end g) → map work_in (reverse c.run_jobs.new.job
 works g c = ap (λ (jobs : List Job). map work_in (reverse jobs)) (sym (back g c)) ∙ c.end.ensures.works
 
 have_run : (g : Over) (c : After-end g) (most : ℕ)
-    → All (IsReadyToWork c.in-Ok.live c.args.run.board (Some c.in-Ok.ensures.opened.all.opened) c.args.phase.now most)
-    c.begin.new.jobs.items
-    → HaveRun c.in-Ok.live c.args.run.board c.len-2.result c.in-Ok.cpus.items c.end.new.cpus.items c.args.phase.now most
-    c.run_jobs.new.jobs
+    → All (IsReadyToWork c.in-Ok.live (begun c.args.run.board (Some c.in-Ok.ensures.opened.all.opened)
+    c.in_ok-works.works.items c.args.keeps most) c.args.phase.now) c.begin.new.jobs.items
+    → HaveRun c.in-Ok.live (begun c.args.run.board (Some c.in-Ok.ensures.opened.all.opened) c.in_ok-works.works.items
+    c.args.keeps most) c.len-2.result c.in-Ok.cpus.items c.end.new.cpus.items c.args.phase.now c.run_jobs.new.jobs
 have_run g c most all = record {
   o = c.in-Ok.ensures.opened;
+  part = refl;
   jobs = c.begin.new.jobs.items;
   are_cpus = c.begin.ensures.cpus;
   are_cpus1 = ap (λ (jobs : List Job). map cpu_in (reverse jobs)) (sym (back g c)) ∙ c.end.ensures.cpus;
   same = numbers g c;
-  run = all_run c.in-Ok.live c.args.run.board (Some c.in-Ok.ensures.opened.all.opened) c.args.phase.now most
-      c.deref_mut.result.now c.run_jobs.new.jobs c.run_jobs.ensures.runs (rw c.deref_mut.ensures.value all);
+  run = all_run c.in-Ok.live (begun c.args.run.board (Some c.in-Ok.ensures.opened.all.opened) c.in_ok-works.works.items
+      c.args.keeps most) c.args.phase.now c.deref_mut.result.now c.run_jobs.new.jobs c.run_jobs.ensures.runs
+      (rw c.deref_mut.ensures.value all);
 }
 
 pub overflow_cast-len : goal.overflow_cast-len
@@ -97,7 +98,11 @@ run_jobs-requires-clause-can g c κs within =
     let can = c.requires.can in
     let all = all_ready g (goal.at.run_jobs-requires-clause-can g c).After-begin can.most can.asked can.room in
     rw c.deref_mut.ensures.value
-    (λ k d less. (c.args.run.board, Some c.in-Ok.ensures.opened.all.opened, can.most, all k d less))
+    (λ k d less. (
+      begun c.args.run.board (Some c.in-Ok.ensures.opened.all.opened) c.in_ok-works.works.items c.args.keeps
+          can.most,
+      all k d less,
+    ))
 
 pub close-board-requires : goal.close-board-requires
 close-board-requires g c =
@@ -113,7 +118,7 @@ returns-clause-goes_on g c =
     (room : most + length c.args.phase.now ≤ most_statements).
     have_run g end most (all_ready g at.After-begin most asked room) in
     let fine : All (λ (job : Job). job.refused ≡ false) c.run_jobs.new.jobs =
-    rw (c.deref-2.ensures.value, back g end) at (c.is_refused-refused.ensures.none c.if-refused.false) in
+    rw (c.deref.ensures.value, back g end) at (c.is_refused-refused.ensures.none c.if-refused.false) in
     record {
       count = listed (run can.most can.asked can.room) c.end.new.works.items (works g end) ∙ many g at.After-len-2;
       asked = λ most asked room. are_asked (run most asked room) c.end.new.works.items (works g end)
@@ -121,11 +126,14 @@ returns-clause-goes_on g c =
     }
 
 pub returns-clause-run : goal.returns-clause-run
-returns-clause-run g c =
+returns-clause-run g c = λ own told.
     let at = goal.at.returns-clause-run g c in let end = at.After-end in let can = c.requires.can in
     let run = have_run g end can.most (all_ready g at.After-begin can.most can.asked can.room) in
     let fine : All (λ (job : Job). job.refused ≡ false) c.run_jobs.new.jobs =
-    rw (c.deref-2.ensures.value, back g end) at (c.is_refused-refused.ensures.none c.if-refused.false) in
-    so c.args.run.board c.close-board.result c.args.phase.now c.end.new.works.items
-    (has_run run c.end.new.works.items (works g end) c.close-board.result fine c.close-board.ensures.cpus
-    (omega (arith, many g at.After-len-2, can.some)))
+    rw (c.deref.ensures.value, back g end) at (c.is_refused-refused.ensures.none c.if-refused.false) in
+    let count = many g at.After-len-2 in
+    let pages : (actor : ℕ) → actor < c.len-2.result → page_by actor c.in_ok-works.works.items ≡ page_of (own actor) =
+    λ actor less. ap (λ (ps : List Page). slice_index_or ps actor ([], 0)) c.in_ok-works.ensures.pages
+    ∙ told actor (rw count at less) in
+    has_run run c.end.new.works.items (works g end) c.close-board.result fine c.close-board.ensures.cpus own pages
+    (omega (arith, count, can.some))

@@ -9,8 +9,8 @@ use mir.Raw.{raw}
 use denote.Memory.{lone}
 use Rattle.std.proofs.Crossing.{frees}
 use Rattle.std_alloc.proofs.SendSync.{lies, quiet}
-use Rattle.board_records.specs.contracts.door.Door.{the_row as door_row}
-use Rattle.board_records.proofs.door.Door.TheSendSync as door
+use Rattle.board_c.specs.contracts.opened.Opened.{the_row as opened_row}
+use Rattle.board_c.proofs.opened.Opened.TheSendSync as opened
 use Rattle.board_c.specs.Owned.{owned_if}
 use Rattle.board_c.specs.contracts.handle.Handle.{the_row, the_type}
 
@@ -22,7 +22,7 @@ pub send : IsSend the_row
 send = let O = the_type in let all : AllSend (fields O) = (search sendable, (search sendable, (search sendable, tt))) in
     owning_send O all
     (λ h. if_open h.full _ (
-      lies door_row door.the_send h.at h.held,
-      frees.frees h.alloc (raw (lone door_row.mir)) h.at,
+      lies opened_row opened.the_send h.at h.held,
+      frees.frees h.alloc (raw (lone opened_row.mir)) h.at,
     ))
     (λ k. quiet (to O) (exits_of k (fields O)) ((struct_send (shape O) all).leaving k))

@@ -9,22 +9,22 @@ returns-clause-registers c = λ setup history entry has writes.
     let bytes = byte_of setup history in
     follows writes has refl refl
     (assumption (
-      c.store_from.ensures.stored.stands setup bytes has.kept.map,
-      c.store_from.ensures.stored.cards setup bytes has.kept.cards,
-      c.store.ensures.stored setup bytes has.kept.south,
+      c.store.ensures.stored.stands setup bytes has.kept.map,
+      c.store.ensures.stored.cards setup bytes has.kept.cards,
+      c.store-2.ensures.stored setup bytes has.kept.south,
     ))
-    (c.store_from.ensures.stored.version setup has.kept.cards.0)
-    (store_follows _ _ _ _ _ (c.store_from.ensures.stored.windows setup bytes has.kept.map)
-    (c.store_from.ensures.stored.same_windows setup has.kept.cards.0)) c.store_from.ensures.stored.map
+    (c.store.ensures.stored.version setup has.kept.cards.0)
+    (store_follows _ _ _ _ _ (c.store.ensures.stored.windows setup bytes has.kept.map)
+    (c.store.ensures.stored.same_windows setup has.kept.cards.0)) c.store.ensures.stored.map
 
 pub returns-clause-sound : goal.returns-clause-sound
 returns-clause-sound c = λ setup sound. record {
   bytes = λ r. changed_byte setup (Store c.args.register.now.reg c.args.width c.args.value) r (sound.bytes r);
   kept = record {
-    map = c.store_from.ensures.stored.stands setup sound.bytes sound.kept.map;
-    cards = c.store_from.ensures.stored.cards setup sound.bytes sound.kept.cards;
-    south = c.store.ensures.stored setup sound.bytes sound.kept.south;
+    map = c.store.ensures.stored.stands setup sound.bytes sound.kept.map;
+    cards = c.store.ensures.stored.cards setup sound.bytes sound.kept.cards;
+    south = c.store-2.ensures.stored setup sound.bytes sound.kept.south;
   };
   address = sound.address;
-  flat = c.store_from.ensures.stored.map;
+  flat = c.store.ensures.stored.map;
 }

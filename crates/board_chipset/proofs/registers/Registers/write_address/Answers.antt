@@ -1,5 +1,5 @@
 use Rattle.std.proofs.Common.{refl}
-use Rattle.cfg_ports.proofs.AddressLemmas.{kept_address-again}
+use Rattle.addr_decode.proofs.AddressLemmas.{kept_address-again}
 use Rattle.board_chipset.proofs.StateSteps.{follows}
 use Rattle.board_chipset.proofs.registers.Registers.write_address.Goals as goal
 

@@ -2,7 +2,7 @@ use Rattle.pit_8254.proofs.Saved.{joined}
 use Rattle.pic_pair.specs.State.{pair_bytes, lines_bytes}
 use Rattle.pit_8254.specs.State.{pit_bytes}
 use Rattle.cmos_clock.specs.State.{clock_bytes}
-use Rattle.pirq_router.specs.State.{triggers_bytes}
+use Rattle.south_bridge.specs.RoutingState.{triggers_bytes}
 use Rattle.board_devices.specs.State.{machines_bytes, plain_bytes}
 use Rattle.board_devices.proofs.devices.Devices.save_machines.Goals as goal
 

@@ -3,8 +3,8 @@ use Rattle.board_prelude.proofs.Common.{reverse-append, reverse-reverse, Entry, 
 use Rattle.bus_turn.specs.Common.{opened_of as opened_by, seen_of as seen_in, mine_of as mine_in}
 use Rattle.bus_turn.specs.Common.{IsSameCaller as IsSamePass, own_by}
 use Rattle.bus_turn.proofs.Rows.{prefix_trans, own_more, drop_front}
-use Rattle.board_live.specs.Common.{IsSameBoard, setup_in}
-use Rattle.board_live.proofs.Turns.{by_actor, Finds, finds, known_left, own_first, has_learnt}
+use Rattle.board_live.specs.Common.{IsSameBoard, board_of, setup_in}
+use Rattle.board_live.proofs.CallerTurns.{by_actor, Finds, finds, known_left, own_first, has_learnt}
 use Rattle.board_live.proofs.cpu.Cpu.bus.Given.{Over}
 use Rattle.board_live.proofs.cpu.Cpu.bus.Goals.{After-enter-held}
 use Rattle.std.proofs.lemmas.Bool.Decides.{nat_tests}
@@ -22,8 +22,8 @@ step-requires-clause-few g c = rw (found g (goal.at.step-requires-clause-few g c
 pub commit-requires-clause-adds : goal.commit-requires-clause-adds
 commit-requires-clause-adds g c =
     let cpu = c.args.self.now in let held = c.enter-held.result.value in
-    let entry : Entry = next_entry held.board.value.entries cpu.number c.args.event.now c.in-Ok.answered.reply in
-    let turned = reverse-append (entry ∷ []) held.board.value.entries in
+    let entry : Entry = next_entry (board_of held).entries cpu.number c.args.event.now c.in-Ok.answered.reply in
+    let turned = reverse-append (entry ∷ []) (board_of held).entries in
     (entry, grind (arith, turned, c.step.ensures, c.enter-held.ensures), search rules)
 
 pub leave-requires-clause-begins : goal.leave-requires-clause-begins
@@ -38,9 +38,9 @@ invariant_of-self g c =
     let cpu = c.args.self.now in let held = c.enter-held.result.value in
     let found = found g (goal.at.invariant_of-self g c).After-enter-held in
     let same : IsSamePass cpu.pass c.leave.new.pass = search rules in
-    let entry : Entry = next_entry held.board.value.entries cpu.number c.args.event.now c.in-Ok.answered.reply in
-    let entries : c.step.new.self.board.value.entries ≡ entry ∷ held.board.value.entries = search rules in
-    let list = reverse held.board.value.entries in let turned = reverse-append (entry ∷ []) held.board.value.entries in
+    let entry : Entry = next_entry (board_of held).entries cpu.number c.args.event.now c.in-Ok.answered.reply in
+    let entries : (board_of c.step.new.self).entries ≡ entry ∷ (board_of held).entries = search rules in
+    let list = reverse (board_of held).entries in let turned = reverse-append (entry ∷ []) (board_of held).entries in
     let own = own_more by_actor cpu.number list entry refl in let passed = cpu.passed in let opens = cpu.opens in
     let last = drop_front list (entry ∷ []) in let left = c.leave.ensures in let entered = c.enter-held.ensures in
     let told = c.commit.ensures in
@@ -61,22 +61,22 @@ returns-in-Ok-clause-added g c =
     let found = found g (goal.at.returns-in-Ok-clause-added g c).After-enter-held in
     let same : IsSamePass pass now = search rules in
     let stepped : IsSameBoard held c.step.new.self = c.step.ensures.same in
-    let entry : Entry = next_entry held.board.value.entries cpu.number c.args.event.now c.in-Ok.answered.reply in
-    let entries : c.step.new.self.board.value.entries ≡ entry ∷ held.board.value.entries = search rules in
-    let listed : seen_in now ≡ reverse c.step.new.self.board.value.entries = search rules in
-    let seen : reverse (seen_in now) ≡ entry ∷ held.board.value.entries =
-    ap reverse listed ∙ (reverse-reverse c.step.new.self.board.value.entries ∙ entries) in
+    let entry : Entry = next_entry (board_of held).entries cpu.number c.args.event.now c.in-Ok.answered.reply in
+    let entries : (board_of c.step.new.self).entries ≡ entry ∷ (board_of held).entries = search rules in
+    let listed : seen_in now ≡ reverse (board_of c.step.new.self).entries = search rules in
+    let seen : reverse (seen_in now) ≡ entry ∷ (board_of held).entries =
+    ap reverse listed ∙ (reverse-reverse (board_of c.step.new.self).entries ∙ entries) in
     let known = known_left pass now c.step.new.self c.leave.new.viewer.front.seen.log same (search rules)
     (found.setup ∙ sym stepped.setup) (found.opened ∙ sym stepped.opened) in
     record {
-      list = held.board.value.entries;
+      list = (board_of held).entries;
       begins = found.begins;
       own = found.own;
       meets = found.meets;
       place = search rules;
       answer = rw found.setup (search rules);
       seen = seen;
-      mine = rw (seen, own_first cpu.number entry held.board.value.entries refl, found.own) refl;
+      mine = rw (seen, own_first cpu.number entry (board_of held).entries refl, found.own) refl;
       known = known ∙ ap (map_writes_of (setup_in pass)) (entries ∙ sym seen);
     }
 

@@ -1,5 +1,5 @@
 use Rattle.std.proofs.Common.{refl, rules, arith}
-use Rattle.board_live.proofs.Turns.{finds, has_learnt}
+use Rattle.board_live.proofs.CallerTurns.{finds, has_learnt}
 use Rattle.std.proofs.lemmas.Bool.Decides.{nat_tests}
 use Rattle.board_live.proofs.cpu.Cpu.catch_up.Goals as goal
 

@@ -6,7 +6,7 @@ use Rattle.board_live.proofs.Opening.{viewer_for, new_of, numbers_more}
 use Rattle.board_live.proofs.live.Live.callers.Goals as goal
 
 pub loop-viewer-init : goal.loop-viewer-init
-loop-viewer-init c =
+loop-viewer-init g c =
     let pass = c.args.pass in
     let is : c.args.viewers.items ≡ c.pop.new.self.items ++ c.unwrap-first.result ∷ [] = search rules in
     let viewers = All-pop (IsViewerFor pass) c.args.viewers.items c.pop.new.self.items
@@ -18,14 +18,14 @@ loop-viewer-init c =
     grind (arith, c.requires, viewers, none, no_cpus, long, callers, new)
 
 pub new-requires-clause-viewer : goal.new-requires-clause-viewer
-new-requires-clause-viewer c =
+new-requires-clause-viewer g c =
     let i = c.loop-viewer.invariant in
     let viewers = All-pop (IsViewerFor c.args.pass) c.loop-viewer.viewers.items c.pop-in-loop-viewer.new.self.items
     (Some c.in-Some.viewer) (search rules) i.viewers in
     grind (arith, i, viewers, c.split-further.ensures, viewer_for)
 
 pub loop-viewer-preserved : goal.loop-viewer-preserved
-loop-viewer-preserved c =
+loop-viewer-preserved g c =
     let i = c.loop-viewer.invariant in let cpus = c.loop-viewer.cpus.items in
     let all = c.push.new.self.items in let cpu = c.new.result in
     let is : c.loop-viewer.viewers.items ≡ c.pop-in-loop-viewer.new.self.items ++ c.in-Some.viewer ∷ [] =
@@ -47,7 +47,7 @@ loop-viewer-preserved c =
     grind (arith, split, c.push.ensures, i, viewers, long, fewer, added, same, callers, others, numbers)
 
 pub new-requires-2-clause-viewer : goal.new-requires-2-clause-viewer
-new-requires-2-clause-viewer c =
+new-requires-2-clause-viewer g c =
     let i = c.loop-viewer.invariant in
     let viewers = All-pop (IsViewerFor c.args.pass) c.args.viewers.items c.pop.new.self.items
     (Some c.unwrap-first.result) (search rules) c.requires.viewers in

@@ -5,7 +5,7 @@ use Rattle.board_live.specs.Common.{IsFresh, IsViewerFor, callers_in, IsCallerOf
 use Rattle.board_live.proofs.live.Live.callers.Given as goal
 
 abbrev pub invariant-loop-viewer : goal.invariant-loop-viewer
-invariant-loop-viewer l = record {
+invariant-loop-viewer g l = record {
   own : IsOf l.fn.self.turn l.pass;
   idle : IsIdle l.pass;
   same : IsSamePass l.fn.pass l.pass;
@@ -20,4 +20,4 @@ invariant-loop-viewer l = record {
 }
 
 abbrev pub decreases-loop-viewer : goal.decreases-loop-viewer
-decreases-loop-viewer l = length l.viewers.items
+decreases-loop-viewer g l = length l.viewers.items

@@ -3,7 +3,7 @@ use Rattle.std.proofs.lemmas.List.Elements.{All-cons, All-weaker}
 use Rattle.bus_turn.specs.Passes.{number_of, mine_of as mine_in, joined_of}
 use Rattle.bus_turn.proofs.Rows.{prefix_trans}
 use Rattle.board_live.specs.Joins.{IsJoined}
-use Rattle.board_live.proofs.Turns.{popped, joined_more, joined_new}
+use Rattle.board_live.proofs.CallerTurns.{popped, joined_more, joined_new}
 use Rattle.board_live.proofs.live.Live.join.Goals as goal
 
 pub loop-cpu-preserved : goal.loop-cpu-preserved

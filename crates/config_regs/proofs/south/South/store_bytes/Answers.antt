@@ -2,7 +2,7 @@ use Rattle.std.proofs.Common.{arith}
 use Rattle.board_prelude.proofs.Common.{Bytes, bytes_few}
 use Rattle.addr_decode.proofs.StandsLemmas.{none_stored, one_more_stored, whole}
 use Rattle.addr_decode.proofs.StoreLemmas.{byte_in_list}
-use Rattle.xbus_select.specs.Piix.{piix_register}
+use Rattle.south_bridge.specs.Piix.{piix_register}
 use Rattle.config_regs.specs.Config.{IsSouthOf}
 use Rattle.config_regs.proofs.SouthStores.{south_agrees}
 use Rattle.config_regs.proofs.south.South.store_bytes.Goals as goal

@@ -1,6 +1,6 @@
 -- The registers so far are those after the first bytes.
 use Rattle.board_prelude.proofs.Common.{Setup, Bytes}
-use Rattle.xbus_select.specs.Piix.{piix_register}
+use Rattle.south_bridge.specs.Piix.{piix_register}
 use Rattle.config_regs.specs.Config.{IsSouthOf}
 use Rattle.addr_decode.proofs.StandsLemmas.{stored_so_far}
 use Rattle.config_regs.proofs.south.South.store_bytes.Given as goal

@@ -1,4 +1,4 @@
 use Rattle.map_builder.proofs.flat_map.FlatMap.apply.Given as goal
 
-abbrev pub ghosts-apply_uncounted : goal.ghosts-apply_uncounted
-ghosts-apply_uncounted a = record { name = a.blank.name; parts = a.blank.parts }
+abbrev pub ghosts-uncounted : goal.ghosts-uncounted
+ghosts-uncounted a = record { name = a.blank.name; parts = a.blank.parts }

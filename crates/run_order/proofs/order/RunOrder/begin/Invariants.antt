@@ -1,11 +1,13 @@
-use Rattle.std.proofs.Common.{◌≡◌, ◌+◌, ◌≤◌, length, take, reverse}
-use Rattle.run_order.specs.Common.{over, in_all}
+use Rattle.std.proofs.Common.{◌≡◌, ◌+◌, ◌≤◌, List, length, take, reverse}
+use Rattle.board_prelude.proofs.Common.{Entry, Setup, IsLegal}
+use Rattle.run_order.specs.Common.{AreActorsOf, over, in_all}
 use Rattle.run_order.proofs.order.RunOrder.begin.Given as goal
 
 abbrev pub invariant-loop-i : goal.invariant-loop-i
-invariant-loop-i l = record {
-  same : over l.entries l.order.entries ≡ reverse (take l.i l.entries);
+invariant-loop-i g l = record {
+  same : (setup : Setup) (bus : List Entry) → AreActorsOf (g.A.Actors.actors l.actors) bus
+      → IsLegal setup (reverse bus) → over bus l.order.entries ≡ reverse (take l.i bus);
   bus : l.order.bus ≡ l.i;
-  room : length l.entries ≤ l.order.spare + l.i;
+  room : length (g.A.Actors.actors l.actors) ≤ l.order.spare + l.i;
   most : l.most ≤ in_all l.order;
 }

@@ -9,3 +9,6 @@ returns-clause-history c =
     (λ history actor below left_at.
     quiet_step {reply = Saw c.look.result} left_at refl (c.look.ensures.answer history left_at.left)
     (c.look.ensures.left history _ left_at.left refl) refl below)
+
+pub returns-clause-held : goal.returns-clause-held
+returns-clause-held c = rw (← c.self.view_is) c.look.ensures.held

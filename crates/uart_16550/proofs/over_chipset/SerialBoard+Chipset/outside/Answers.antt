@@ -20,6 +20,7 @@ returns c =
     record {
       setup = search rules;
       other = plain.access;
+      held = c.outside.ensures.held;
       com1 = rw (← c.self.view_is) (λ resets. sym (plain.after resets com1));
       answer =
           rw (← c.self.view_is)

@@ -1,0 +1,19 @@
+//! A machine on the heap, as a handle has it.
+
+use machine::Machine;
+use std::marker::Model;
+
+/// A machine as a handle has it. Contracts see it as some: the value of no machine is None.
+#[derive(Drop)]
+pub struct Opened {
+    pub machine: Machine,
+}
+
+impl Model for Opened {
+    ghost use Rattle.std.specs.Prelude.{Option, Some};
+    ghost use Rattle.machine.specs.Machines.{MachineState};
+
+    ghost Value = { Option MachineState };
+
+    ghost view = { λ opened. Some opened.machine };
+}

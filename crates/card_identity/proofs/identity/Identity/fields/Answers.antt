@@ -1,4 +1,0 @@
-use Rattle.card_identity.proofs.identity.Identity.fields.Goals as goal
-
-pub returns : goal.returns
-returns c = record { fields = cc }

@@ -1,3 +1,0 @@
-pub mod AddressLemmas
-pub mod SpaceLemmas
-pub mod StateFormat

@@ -1,0 +1,39 @@
+use Rattle.std.proofs.lemmas.Bool.Decides.{nat_tests}
+use Rattle.std.proofs.Common.{length, ap, ◌∙◌, arith}
+use Rattle.board_prelude.proofs.Common.{take_all, IsInRange, in_file_order}
+use Rattle.script_spec.specs.Phases.{lists_of}
+use Rattle.command_texts.proofs.Statements.{in_range}
+use Rattle.command_texts.proofs.Done.{phase_adds, of_phase, said_before}
+use Rattle.command_texts.proofs.plays.play_script.Goals as goal
+
+pub loop-phase-init : goal.loop-phase-init
+loop-phase-init c = grind (arith, nat_tests)
+
+pub play_phase-requires-clause-in_range : goal.play_phase-requires-clause-in_range
+play_phase-requires-clause-in_range c =
+    of_phase (λ statement. IsInRange c.loop-phase.replay.chipset.setup statement.event) _ _ _ _
+    c.loop-phase-test.true c.phase-item.is c.deref.ensures.value
+    (rw (c.loop-phase.invariant.setup, c.deref-phase-items.ensures.value)
+    (in_range c.args.replay.now.chipset.setup _ c.requires.in_range c.requires.cards))
+
+pub play_phase-requires-clause-few : goal.play_phase-requires-clause-few
+play_phase-requires-clause-few c =
+    let adds = phase_adds c.loop-phase-test.true c.phase-item.is c.deref.ensures.value in
+    let all = ap (λ ps. length (in_file_order (lists_of ps))) c.deref-phase-items.ensures.value in
+    omega (arith, c.loop-phase.invariant.count, adds.few, all, c.requires.in_range.statements)
+
+pub loop-phase-preserved : goal.loop-phase-preserved
+loop-phase-preserved c =
+    let phases = c.deref-phase-items.result.now in
+    let before = c.loop-phase.invariant in
+    let adds = phase_adds c.loop-phase-test.true c.phase-item.is c.deref.ensures.value in
+    record {
+      setup = c.play_phase.ensures.setup ∙ before.setup;
+      count = omega (arith, c.play_phase.ensures.count, before.count, adds.long);
+      done =
+          rw adds.said (c.play_phase.ensures.done
+          (said_before phases c.loop-phase.phase-index) before.done);
+    }
+
+pub returns-clause-done : goal.returns-clause-done
+returns-clause-done c = grind (arith, nat_tests, take_all)

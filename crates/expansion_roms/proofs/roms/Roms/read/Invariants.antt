@@ -1,9 +1,0 @@
-use Rattle.std.proofs.Common.{◌≡◌, ◌+◌, ◌<◌, ℕ, length, slice_index}
-use Rattle.expansion_roms.specs.Roms.{rom_byte}
-use Rattle.expansion_roms.proofs.roms.Roms.read.Given as goal
-
-abbrev pub invariant-loop-k : goal.invariant-loop-k
-invariant-loop-k l = record {
-  size : length l.into ≡ length l.fn.into;
-  bytes : (at : ℕ) → at < l.k → slice_index l.into at ≡ rom_byte l.self l.dev (l.off + at);
-}

@@ -1,8 +1,0 @@
-use Rattle.byte_fields.proofs.Loaded.{loads_with}
-use Rattle.fitted_bytes.proofs.FittedFormat.{fitting_format}
-use Rattle.fitted_bytes.proofs.fitted.read_fitted.Goals as goal
-
-pub returns : goal.returns
-returns c = record {
-  loaded = loads_with fitting_format c.args.fields.now _ c.read.result c.are_bytes.ensures.bytes c.read.ensures.filled;
-}

@@ -1,8 +1,0 @@
--- The cards so far are so.
-use Rattle.std.proofs.Common.{ℕ, ◌<◌, get_or}
-use Rattle.card_identity.specs.declared.identity.FittedIdentity.{FittedIdentity}
-use Rattle.fitted_bytes.specs.Identities.{IsIdentity}
-use Rattle.fitted_bytes.proofs.identities.are_identities.Given as goal
-
-abbrev pub invariant-loop-card : goal.invariant-loop-card
-invariant-loop-card l = (k : ℕ) (d : FittedIdentity) → k < l.card-index → IsIdentity (get_or l.cards k d)

@@ -1,3 +1,0 @@
-pub mod Identities
-pub mod Setups
-pub mod Fitted

@@ -1,0 +1,5 @@
+pub mod PmcLemmas
+pub mod RowLemmas
+pub mod TableLemmas
+pub mod RowNames
+pub mod PamLemmas

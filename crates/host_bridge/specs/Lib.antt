@@ -1,0 +1,4 @@
+pub mod Pmc
+pub mod Pam
+pub mod Windows
+pub mod Control

@@ -1,8 +1,0 @@
--- The steps so far are written.
-use Rattle.std.proofs.Common.{◌≡◌, take, map, flat_map}
-use Rattle.board_spec.specs.Orders.{statement_of}
-use Rattle.image_writer.specs.ImageBytes.{step_bytes}
-use Rattle.image_writer.proofs.event_writer.steps_piece.Given as goal
-
-abbrev pub invariant-loop-i : goal.invariant-loop-i
-invariant-loop-i l = l.piece.items ≡ flat_map step_bytes (map statement_of (take l.i l.entries))

@@ -1,3 +1,0 @@
-pub mod CutPlaces
-pub mod AskedReading
-pub mod LineBack

@@ -1,0 +1,11 @@
+pub mod Joined
+pub mod Digits
+pub mod Lines
+pub mod Parts
+pub mod ReadLines
+pub mod ReadLogs
+pub mod StimulusWords
+pub mod Join
+pub mod CutPlaces
+pub mod AskedReading
+pub mod LineBack

@@ -1,0 +1,8 @@
+pub mod Adds
+pub mod Tails
+pub mod LinesFrom
+pub mod Numbered
+pub mod Reading
+pub mod Common
+pub mod Text
+pub mod Asked

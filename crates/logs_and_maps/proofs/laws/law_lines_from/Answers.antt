@@ -1,8 +1,0 @@
-use Rattle.logs_and_maps.proofs.Parts.{lines_of_history, lines_of_parts}
-use Rattle.logs_and_maps.proofs.laws.law_lines_from.Goals as goal
-
-pub returns-clause-whole : goal.returns-clause-whole
-returns-clause-whole c = lines_of_history
-
-pub returns-clause-parts : goal.returns-clause-parts
-returns-clause-parts c = lines_of_parts

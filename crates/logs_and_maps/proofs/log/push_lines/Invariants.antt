@@ -1,7 +1,0 @@
-use Rattle.std.proofs.Common.{take}
-use Rattle.logs_and_maps.specs.Common.{AddsWords, lines_from}
-use Rattle.logs_and_maps.proofs.log.push_lines.Given as goal
-
--- a line for each entry so far
-abbrev pub invariant-loop-index : goal.invariant-loop-index
-invariant-loop-index l = AddsWords l.fn.text l.text (lines_from l.first (take l.index l.entries))

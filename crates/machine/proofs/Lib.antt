@@ -1,0 +1,10 @@
+pub mod Walks
+pub mod RomBytes
+pub mod RomCards
+pub mod FittedFormat
+pub mod Pages
+pub mod Puts
+pub mod Images
+pub mod SavedParts
+pub mod LeftSteps
+pub mod GivenParts

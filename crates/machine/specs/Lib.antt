@@ -1,0 +1,12 @@
+pub mod Header
+pub mod IdentityBytes
+pub mod Roms
+pub mod Machines
+pub mod CardRoms
+pub mod Identities
+pub mod Setups
+pub mod Fitted
+pub mod Room
+pub mod Images
+pub mod Given
+pub mod Common

@@ -1,0 +1,15 @@
+pub mod AskedSteps
+pub mod EventReplies
+pub mod FittedSteps
+pub mod Said
+pub mod Openings
+pub mod Identities
+pub mod Digits
+pub mod Filled
+pub mod LineLevels
+pub mod Cycles
+pub mod Masters
+pub mod RomParts
+pub mod Turns
+pub mod PartsBack
+pub mod ReadBack

@@ -1,4 +1,0 @@
-use Rattle.map_builder.proofs.flat_map.FlatMap.store_named.Given as goal
-
-abbrev pub ghosts-apply_uncounted : goal.ghosts-apply_uncounted
-ghosts-apply_uncounted a = record { name = a.blank.name; parts = a.blank.parts }

@@ -1,4 +1,0 @@
-pub mod Bounds
-pub mod Sorted
-pub mod Ranges
-pub mod Find

@@ -1,8 +1,0 @@
-use Rattle.std.proofs.Common.{refl}
-use Rattle.board_spec.specs.RegisterTable.{host_bridge, reset_byte}
-use Rattle.pam_windows.proofs.PamLemmas.{pam_are}
-use Rattle.pam_windows.proofs.pam.Pam.new.Goals as goal
-
-pub returns : goal.returns
-unfolding reset_byte host_bridge
-returns c = record { reset = λ setup. pam_are (reset_byte setup) _ refl }

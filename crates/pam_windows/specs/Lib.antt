@@ -1,2 +1,0 @@
-pub mod Pam
-pub mod Windows

@@ -1,2 +1,0 @@
-pub mod LevelLemmas
-pub mod Orders

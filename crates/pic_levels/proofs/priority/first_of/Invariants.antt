@@ -1,8 +1,0 @@
--- What the search is for is among the levels that are left.
-use Rattle.std.proofs.Common.{◌≡◌, drop}
-use Rattle.device_spec.proofs.Common.{find, has, priority_order}
-use Rattle.pic_levels.proofs.priority.first_of.Given as goal
-
-abbrev pub invariant-loop-place : goal.invariant-loop-place
-invariant-loop-place l = find (has l.levels) (priority_order l.lowest)
-    ≡ find (has l.levels) (drop l.place (priority_order l.lowest))

@@ -1,3 +1,0 @@
-pub mod RegisterLemmas
-mod RouteLemmas
-pub mod StateFormats

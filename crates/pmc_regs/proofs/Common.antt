@@ -1,3 +1,0 @@
--- The lemmas and definitions that proofs above cite, passed on from one place. Declares nothing.
-pub use Rattle.pmc_regs.proofs.PmcLemmas.{reset_byte-small, rows_after_store, there}
-pub use Rattle.pmc_regs.proofs.TableLemmas.{row_bytes, rows_are, writable_bits-fixed}

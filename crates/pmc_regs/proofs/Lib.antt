@@ -1,4 +1,0 @@
-pub mod PmcLemmas
-pub mod RowLemmas
-pub mod TableLemmas
-pub mod Common

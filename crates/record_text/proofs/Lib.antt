@@ -1,2 +1,0 @@
-pub mod PartsBack
-pub mod ReadBack

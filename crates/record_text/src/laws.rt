@@ -1,8 +1,0 @@
-//! Laws of the definitions. Each function does nothing: its clause is the law.
-
-ghost use Rattle.record_text.specs.Laws.{RecordSaysReply};
-
-/// What the record of a reply says is this reply.
-pub fn law_read_back()
-    ensures back { RecordSaysReply }
-{}

@@ -1,3 +1,0 @@
-mod CardWindows
-mod RomReads
-mod SaidReads

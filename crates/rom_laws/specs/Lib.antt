@@ -1,2 +1,0 @@
-pub mod RomReads
-pub mod StepReads

@@ -1,0 +1,5 @@
+pub mod Cuts
+pub mod Counts
+pub mod Lines
+pub mod Pieces
+pub mod Common

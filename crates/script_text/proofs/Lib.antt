@@ -1,9 +1,0 @@
-pub mod LineLemmas
-pub mod NameLemmas
-pub mod CardLemmas
-pub mod BaseRuns
-pub mod Reasons
-pub mod TakenSetup
-pub mod TakenPhases
-pub mod Runs
-pub mod StraightLine

@@ -1,9 +1,0 @@
-use Rattle.std.proofs.Common.{◌∙◌, ap}
-use Rattle.script_text.proofs.StraightLine.{asked_line}
-use Rattle.script_spec.specs.Common.{lines_of}
-use Rattle.script_text.proofs.LineLemmas.{line_ended}
-use Rattle.script_text.proofs.lines.straight_line.Goals as goal
-
-pub returns-clause-cases : goal.returns-clause-cases
-returns-clause-cases c =
-    ap lines_of c.in_ok-line.ensures.cut ∙ line_ended _ _ (asked_line c.args.version _ _ _ c.in_ok-actor.ensures.says)

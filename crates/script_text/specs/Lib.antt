@@ -1,6 +1,0 @@
-pub mod Faults
-pub mod Valid
-pub mod Reading
-pub mod Script
-pub mod Straight
-pub mod Common

@@ -1,0 +1,15 @@
+pub mod Sums
+pub mod DigitTable
+pub mod NumberLemmas
+pub mod FieldLemmas
+pub mod ItemReading
+pub mod StraightLemmas
+pub mod LineLemmas
+pub mod NameLemmas
+pub mod CardLemmas
+pub mod BaseRuns
+pub mod Reasons
+pub mod TakenSetup
+pub mod TakenPhases
+pub mod Runs
+pub mod StraightLine

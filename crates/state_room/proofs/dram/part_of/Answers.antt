@@ -1,7 +1,0 @@
-use Rattle.state_room.proofs.Pages.{part_is}
-use Rattle.state_room.proofs.dram.part_of.Goals as goal
-
-pub returns : goal.returns
-returns c = record {
-  part = part_is c.args.kept.now c.args.at c.min-from.result c.min.result c.min-from.ensures c.min.ensures;
-}

@@ -1,6 +1,0 @@
-use Rattle.std.proofs.Common.{◌∙◌}
-use Rattle.state_room.proofs.Pages.{zero_page}
-use Rattle.state_room.proofs.page.is_zero.Goals as goal
-
-pub returns : goal.returns
-returns c = record { zero = c.eq.ensures ∙ rw c.requires.zeros (zero_page c.args.kept.now c.requires.within) }

@@ -1,0 +1,1 @@
+"""What ./board does by no program: it proves, packs and installs."""

@@ -1,0 +1,1 @@
+"""Why a script, a log or words are refused, and what denied an access."""

@@ -1,0 +1,1 @@
+"""Traces of other monitors: scripts of them, and what differs."""
