@@ -1,7 +1,6 @@
 -- A history that got an entry.
 use Rattle.std.proofs.Common.{◌≡◌, ℕ, ◌-◌, ◌≤◌, List, [], ◌∷◌, ◌++◌, length, reverse, refl, ap, arith, suc}
-use Rattle.board_prelude.proofs.Common.{reverse-append, length-append, map-append, get_or_append_left, All-push, Entry}
-use Rattle.board_prelude.proofs.Common.{Part}
+use Rattle.board_prelude.proofs.{reverse-append, length-append, map-append, get_or_append_left, All-push, Entry, Part}
 use Rattle.access_history.specs.declared.packed.PackedReply.{PackedReply}
 use Rattle.access_history.specs.declared.packed.PackedEntry.{PackedEntry}
 use Rattle.access_history.specs.Packed.{IsHistory, IsWithin, AreWithin, KeepsParts, entry_in, entries_in, reply_in}

@@ -1,7 +1,7 @@
 -- What an entry in few bytes stands for. The parts of all wide accesses stand in one list.
 use Rattle.std.specs.Prelude.{ℕ, ◌≡◌, ◌≤◌, ◌<◌, ◌+◌, ◌*◌, List, [], ◌∷◌, ◌++◌, length, map, slice_index_or, All, Some}
 use Rattle.std.specs.Prelude.{None}
-use Rattle.board_prelude.specs.Common.{Abort, Entry, Part, Parts, Reply, Two, Three, Four}
+use Rattle.board_prelude.specs.{Abort, Entry, Part, Parts, Reply, Two, Three, Four}
 use Rattle.board_spec.specs.declared.event.Reply.TheVariants as AReply
 use Rattle.board_spec.specs.Limits.{entry_limit}
 use Rattle.access_history.specs.declared.packed.Count.{Count}

@@ -1,7 +1,7 @@
 //! The entries of a history, or some of them that stand together.
 
 ghost use Rattle.std.specs.Prelude.{◌≡◌, ◌<◌, ◌≤◌, ◌-◌, length, take, drop, slice_index_or};
-ghost use Rattle.board_prelude.specs.Common.{Entry as AnEntry};
+ghost use Rattle.board_prelude.specs.{Entry as AnEntry};
 
 use crate::packed::PackedEntry;
 use board_spec::{Entry, Part};
@@ -16,7 +16,7 @@ pub struct Entries<'a> {
 
 impl<'a> Model for Entries<'a> {
     ghost use Rattle.std.specs.Prelude.{List, length};
-    ghost use Rattle.board_prelude.specs.Common.{Entry};
+    ghost use Rattle.board_prelude.specs.{Entry};
     ghost use Rattle.access_history.specs.Packed.{AreWithin, entries_in};
 
     ghost Value = { List Entry };

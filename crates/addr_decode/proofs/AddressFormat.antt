@@ -1,6 +1,6 @@
 -- The state of the register is spelled and read back.
 use Rattle.std.proofs.Common.{refl, arith, ◌==◌}
-use Rattle.board_prelude.proofs.Common.{eq-eqb, eqb-true, kept_address}
+use Rattle.board_prelude.proofs.{eq-eqb, eqb-true, kept_address}
 use Rattle.byte_fields.proofs.Formats.{IsFormat, format_as}
 use Rattle.byte_fields.proofs.Numbers.{where_format, wide32}
 use Rattle.addr_decode.specs.AddressState.{IsAddress, address_bytes, address_fields}

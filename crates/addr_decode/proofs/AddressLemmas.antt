@@ -1,7 +1,7 @@
 -- The configuration address keeps what it has kept, and its low two bits are 0.
 use Rattle.std.proofs.Common.{◌≡◌, ℕ, ◌+◌, ◌%◌, ◌≤◌, ◌∙◌, sym, ap, arith}
 use Rattle.std.proofs.lemmas.Nat.{and_assoc, and_mod}
-use Rattle.board_prelude.proofs.Common.{and_zero_r, Width, One, bytes_of, kept_address}
+use Rattle.board_prelude.proofs.{and_zero_r, Width, One, bytes_of, kept_address}
 use Rattle.board_base.specs.declared.access.Width.TheVariants.{Two, Four}
 
 pub kept_address-again : (value : ℕ) → kept_address (kept_address value) ≡ kept_address value

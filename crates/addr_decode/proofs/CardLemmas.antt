@@ -1,7 +1,7 @@
 -- The cards in a list by their device numbers, and the bytes of their registers.
-use Rattle.board_prelude.proofs.Common.{get_or-set_at, nat_tests, position, All-head, All-tail, get_or-map, length-map}
-use Rattle.board_prelude.proofs.Common.{take_all, take_more, Setup, FittedCard, IsCard, IsCardList, Rises, card_at, Reg}
-use Rattle.board_prelude.proofs.Common.{reset_byte, Bytes, card_register}
+use Rattle.board_prelude.proofs.{get_or-set_at, nat_tests, position, All-head, All-tail, get_or-map, length-map}
+use Rattle.board_prelude.proofs.{take_all, take_more, Setup, FittedCard, IsCard, IsCardList, Rises, card_at, Reg}
+use Rattle.board_prelude.proofs.{reset_byte, Bytes, card_register}
 use Rattle.std.proofs.Common.{◌≡◌, ◌≢◌, ℕ, zero, suc, ◌+◌, ◌<◌, ◌≤◌, ◌⊎◌, inl, inr, false, List, [], ◌∷◌, ◌++◌, take}
 use Rattle.std.proofs.Common.{length, get_or, set, Some, None, refl, sym, ◌∙◌, ap, subst, arith, get_or-set_other}
 use Rattle.std.proofs.Common.{length-set, ◌==◌, All, is_some, find}

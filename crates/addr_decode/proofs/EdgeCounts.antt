@@ -2,9 +2,8 @@
 use Rattle.std.proofs.Common.{ℕ, ◌+◌, ◌*◌, ◌<◌, ◌≤◌, List, [], ◌∷◌, length, Option, Some, None, arith, nat_lt, All}
 use Rattle.std.proofs.Common.{filter, flat_map, IfSome, not, refl}
 use Rattle.std.proofs.lemmas.List.Filters.{length-filter_both}
-use Rattle.board_prelude.proofs.Common.{Contains, enumerate_from, nat_tests, length-append, All-head, All-tail, Base}
-use Rattle.board_prelude.proofs.Common.{FittedCard, Setup, IsCard, IsCardList, Bytes, memory_window, rom_window}
-use Rattle.board_prelude.proofs.Common.{rom_window_of}
+use Rattle.board_prelude.proofs.{Contains, enumerate_from, nat_tests, length-append, All-head, All-tail, Base}
+use Rattle.board_prelude.proofs.{FittedCard, Setup, IsCard, IsCardList, Bytes, memory_window, rom_window, rom_window_of}
 use Rattle.addr_decode.specs.Edges.{fixed_edges, window_edges, card_edges, edges_of, edges_after, IsNextEdge}
 use Rattle.addr_decode.specs.Edges.{most_edges, FewEdges}
 use Rattle.addr_decode.proofs.EdgeSearchLemmas.{contains_cases}

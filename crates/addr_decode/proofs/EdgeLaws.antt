@@ -2,12 +2,11 @@
 use Rattle.std.proofs.Common.{◌≡◌, ℕ, ◌+◌, ◌*◌, ◌/◌, ◌^◌, ◌<◌, ◌≤◌, inl, inr, Bool, true, false, List, [], ◌∷◌, ◌++◌}
 use Rattle.std.proofs.Common.{Option, Some, None, refl, arith, ◌==◌, All, flat_map, unwrap_or, IfSome, IsNone}
 use Rattle.std.proofs.Common.{if◌then◌else◌, slice_index_or}
-use Rattle.board_prelude.proofs.Common.{list_any, AllByRecursion, enumerate_from, cases_lt, nat_tests, pow_pos}
-use Rattle.board_prelude.proofs.Common.{find-append, recursion_from_All, Kind, FittedCard, Setup, smram_range}
-use Rattle.board_prelude.proofs.Common.{upper_memory, is_within, Bytes, Window, row_of, is_in_hole, is_shadowed}
-use Rattle.board_prelude.proofs.Common.{is_rom_selected, memory_window, rom_window, is_rom_on, vga_window}
-use Rattle.board_prelude.proofs.Common.{memory_windows, is_enabled_for, first_window, memory_claim, area_of}
-use Rattle.board_prelude.proofs.Common.{xbcs as select_register, address_count}
+use Rattle.board_prelude.proofs.{list_any, AllByRecursion, enumerate_from, cases_lt, nat_tests, pow_pos, find-append}
+use Rattle.board_prelude.proofs.{recursion_from_All, Kind, FittedCard, Setup, smram_range, upper_memory, is_within}
+use Rattle.board_prelude.proofs.{Bytes, Window, row_of, is_in_hole, is_shadowed, is_rom_selected, memory_window}
+use Rattle.board_prelude.proofs.{rom_window, is_rom_on, vga_window, memory_windows, is_enabled_for, first_window}
+use Rattle.board_prelude.proofs.{memory_claim, area_of, xbcs as select_register, address_count}
 use Rattle.std.proofs.lemmas.List.Elements.{All-contains_itself}
 use Rattle.addr_decode.specs.Edges.{fixed_edges, row_edges, window_edges, card_edges, edges_of, IsNextEdge, NoEdgeAbove}
 use Rattle.addr_decode.specs.Edges.{SameAreas, AreasChangeAtEdges}

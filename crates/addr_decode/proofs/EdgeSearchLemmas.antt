@@ -2,16 +2,16 @@
 use Rattle.std.proofs.Common.{◌≡◌, ℕ, zero, suc, ◌+◌, ◌*◌, ◌<◌, ◌≤◌, ◌⊎◌, inl, inr, List, [], ◌∷◌, ◌++◌, length, map}
 use Rattle.std.proofs.Common.{Option, Some, None, refl, sym, ap, ◌∙◌, arith, All, flat_map, slice_index, unwrap_or}
 use Rattle.std.proofs.Common.{IfSome, IsNone, ◌↔◌}
-use Rattle.board_prelude.proofs.Common.{Contains, enumerate_from, cases_lt, nat_tests, All-head, All-tail, Base, Setup}
-use Rattle.board_prelude.proofs.Common.{IsCard, boundary_unit, Bytes, base_value, memory_window, rom_window_of}
-use Rattle.board_prelude.proofs.Common.{address_count, ext_get_or}
+use Rattle.board_prelude.proofs.{Contains, enumerate_from, cases_lt, nat_tests, All-head, All-tail, Base, Setup, IsCard}
+use Rattle.board_prelude.proofs.{boundary_unit, Bytes, base_value, memory_window, rom_window_of, address_count}
+use Rattle.board_prelude.proofs.{ext_get_or}
 use Rattle.std.proofs.lemmas.List.Elements.{Contains-append_cases, Contains-append_left, Contains-append_right}
 use Rattle.std.proofs.lemmas.List.Sums.{fold-append}
 use Rattle.host_bridge.specs.Pmc.{IsRowsOf}
 use Rattle.host_bridge.proofs.RowNames.{row_bytes, rows_are}
 use Rattle.pci_bars.specs.Cards.{CardBytes, HoldsRom, DecodesAs, AreCards, AreDecoded, cards_of}
-use Rattle.addr_decode.specs.Common.{fixed_edges, row_edges, window_edges, card_edges, edges_of, IsNextEdge}
-use Rattle.addr_decode.specs.Common.{NoEdgeAbove, nearer, nearest, ends_from, ends_of_rom, ends_of_card}
+use Rattle.addr_decode.specs.Edges.{fixed_edges, row_edges, window_edges, card_edges, edges_of, IsNextEdge, NoEdgeAbove}
+use Rattle.addr_decode.specs.EdgeSearch.{nearer, nearest, ends_from, ends_of_rom, ends_of_card}
 
 -- ---- the edges, as the code keeps them
 

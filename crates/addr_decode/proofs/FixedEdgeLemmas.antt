@@ -1,8 +1,9 @@
 -- In a rising list of edges the first above an address is the least above it.
 use Rattle.std.proofs.Common.{◌≡◌, ℕ, suc, ◌*◌, ◌^◌, ◌<◌, ◌≤◌, List, [], ◌∷◌, map, drop, Option, Some, None, refl, ◌∙◌}
 use Rattle.std.proofs.Common.{ap, arith, nat_lt, find, slice_index}
-use Rattle.board_prelude.proofs.Common.{nat_tests, address_count, boundary_unit}
-use Rattle.addr_decode.specs.Common.{fixed_edges, nearer, nearest}
+use Rattle.board_prelude.proofs.{nat_tests, address_count, boundary_unit}
+use Rattle.addr_decode.specs.Edges.{fixed_edges}
+use Rattle.addr_decode.specs.EdgeSearch.{nearer, nearest}
 
 -- they rise from an edge on, and all are addresses
 abbrev Rise : ℕ → List ℕ → Type 0

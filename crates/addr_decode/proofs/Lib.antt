@@ -10,7 +10,6 @@ pub mod FixedEdgeLemmas
 pub mod EdgeLaws
 pub mod EdgeSearchLemmas
 pub mod StateFormat
-pub mod Common
 pub mod AddressLemmas
 pub mod SpaceLemmas
 pub mod AddressFormat

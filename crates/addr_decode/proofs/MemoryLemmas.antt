@@ -1,16 +1,17 @@
 -- The memory map and the denials in the order of the code are those of the definitions.
 use Rattle.std.proofs.Common.{◌≡◌, ◌≤◌, ◌↔◌, ℕ, Bool, false, true, Option, Some, None, refl, arith, unwrap_or, [], ◌∷◌}
 use Rattle.std.proofs.Common.{option_map, IsNone, IfSome, inl, inr, nat_lt, if◌then◌else◌, sym, ◌∙◌}
-use Rattle.board_prelude.proofs.Common.{nat_tests, Area, Denial, Kind, top_of, memory_shut, rom_unselected, cases_lt}
-use Rattle.board_prelude.proofs.Common.{abort_denial, rom_denial, denial_in, denial_of, Setup, Window, first_of, lt-ltb}
-use Rattle.board_prelude.proofs.Common.{line_where, is_smram_range, is_shadow_range, card_area, area_under, Bytes, lies_in}
-use Rattle.board_prelude.proofs.Common.{row_of, is_shadowed, memory_claim, area_of, xbcs as select_register, is_in_hole}
-use Rattle.board_prelude.proofs.Common.{is_bios_selected, is_smram_open, Fetch, Read, Write, six_areas, upper_memory}
-use Rattle.board_base.proofs.Common.{false≢true, le-ltb}
+use Rattle.board_prelude.proofs.{nat_tests, Area, Denial, Kind, top_of, memory_shut, rom_unselected, cases_lt}
+use Rattle.board_prelude.proofs.{abort_denial, rom_denial, denial_in, denial_of, Setup, Window, first_of, lt-ltb}
+use Rattle.board_prelude.proofs.{line_where, is_smram_range, is_shadow_range, card_area, area_under, Bytes, lies_in}
+use Rattle.board_prelude.proofs.{row_of, is_shadowed, memory_claim, area_of, xbcs as select_register, is_in_hole}
+use Rattle.board_prelude.proofs.{is_bios_selected, is_smram_open, Fetch, Read, Write, six_areas, upper_memory}
+use Rattle.std.proofs.lemmas.Bool.{false≢true, le-ltb}
 use Rattle.board_base.specs.declared.target.Area.TheVariants.{Dram, Smram, Rom, Abort}
 use Rattle.host_bridge.proofs.RowLemmas.{none_above_top}
-use Rattle.addr_decode.specs.Common.{dram_area, above_dram, beside_dram, master_area, MapBytes, StandsFor}
-use Rattle.addr_decode.specs.Memory.{board_denial, card_denial, plain_row}
+use Rattle.addr_decode.specs.Memory.{dram_area, above_dram, beside_dram, board_denial, card_denial, plain_row}
+use Rattle.addr_decode.specs.Master.{master_area}
+use Rattle.addr_decode.specs.MapRegs.{MapBytes, StandsFor}
 
 no_dram : (rom : Bool) (claim : Option Window) →
     first_of (line_where rom Rom ∷ option_map card_area claim ∷ []) Abort ≡ above_dram None rom claim

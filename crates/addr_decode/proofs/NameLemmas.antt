@@ -2,10 +2,10 @@
 use Rattle.std.proofs.Common.{◌≡◌, ◌≢◌, ℕ, ◌+◌, ◌<◌, ◌≤◌, true, false, ◌&&◌, ◌||◌, Option, Some, None, List, [], ◌∷◌}
 use Rattle.std.proofs.Common.{◌++◌, length, get_or, inl, inr, refl, sym, ◌∙◌, arith, take, lit<, ◌==◌, map, find}
 use Rattle.std.proofs.Common.{is_some, option_map, option_and_then, rules, IfSome}
-use Rattle.board_prelude.proofs.Common.{position, AllByRecursion, list_any, and-true, and-false, cases_Bool, ne_eqb}
-use Rattle.board_prelude.proofs.Common.{nat_tests, Width, One, Reg, bytes_of, MapChange, Store, Reset, FittedCard}
-use Rattle.board_prelude.proofs.Common.{Setup, card_at, is_within, bridge, isa, card_register, is_host_byte, has_rom}
-use Rattle.board_prelude.proofs.Common.{is_map_byte, reg_after, touches_map, bytes_few, each_below, or-false}
+use Rattle.board_prelude.proofs.{position, AllByRecursion, list_any, and-true, and-false, cases_Bool, ne_eqb, nat_tests}
+use Rattle.board_prelude.proofs.{Width, One, Reg, bytes_of, MapChange, Store, Reset, FittedCard, Setup, card_at}
+use Rattle.board_prelude.proofs.{is_within, bridge, isa, card_register, is_host_byte, has_rom, is_map_byte, reg_after}
+use Rattle.board_prelude.proofs.{touches_map, bytes_few, each_below, or-false}
 use Rattle.std.proofs.lemmas.List.{map_more}
 use Rattle.std.proofs.lemmas.List.Quantifiers.{position-Some}
 use Rattle.std.proofs.lemmas.Option.{slice_get-get_or}

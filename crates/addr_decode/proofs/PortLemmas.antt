@@ -1,18 +1,20 @@
 -- The ports in the order of the code are those of the definitions.
 use Rattle.std.proofs.Common.{◌≡◌, ℕ, ◌/◌, Bool, false, Option, Some, sym, arith, is_some, if◌then◌else◌, ◌≤◌, ◌==◌}
 use Rattle.std.proofs.Common.{◌∙◌, List}
-use Rattle.board_prelude.proofs.Common.{nat_tests, ne_eqb, Width, Dev, Decoded, nobody, NoRegister, bytes_of, device_at}
-use Rattle.board_prelude.proofs.Common.{Setup, card_at, is_enabled, is_config_port, config_register, Bytes}
-use Rattle.board_prelude.proofs.Common.{ide_command as command_register, idetim_high, xbcs as select_register}
-use Rattle.board_prelude.proofs.Common.{config_port, device_port, port_target_of, card_function, function_exists}
-use Rattle.board_prelude.proofs.Common.{position}
+use Rattle.board_prelude.proofs.{nat_tests, ne_eqb, Width, Dev, Decoded, nobody, NoRegister, bytes_of, device_at, Setup}
+use Rattle.board_prelude.proofs.{card_at, is_enabled, is_config_port, config_register, Bytes}
+use Rattle.board_prelude.proofs.{ide_command as command_register, idetim_high, xbcs as select_register, config_port}
+use Rattle.board_prelude.proofs.{device_port, port_target_of, card_function, function_exists, position}
 use Rattle.pci_bars.specs.Cards.{CardBytes, cards_of}
 use Rattle.addr_decode.specs.declared.conf_add.Selected.{Selected}
 use Rattle.addr_decode.specs.Selection.{existing}
 use Rattle.addr_decode.specs.declared.onboard.Onboard.{Onboard}
 use Rattle.addr_decode.proofs.CardLemmas.{fitted_is}
 use Rattle.addr_decode.proofs.NameLemmas.{is_named}
-use Rattle.addr_decode.specs.Common.{response_of, IsChannelOf, register_answers, after_onboard}
+use Rattle.addr_decode.specs.Onboard.{response_of}
+use Rattle.addr_decode.specs.MapRegs.{IsChannelOf}
+use Rattle.addr_decode.specs.Found.{register_answers}
+use Rattle.addr_decode.specs.Ports.{after_onboard}
 
 module _ (setup : Setup) (bytes : Bytes) (timing port : ℕ) (is : timing / 0x100 ≡ bytes idetim_high) where
   found_in_order : (found : Option Dev) (disk : Bool) →

@@ -1,8 +1,7 @@
 -- The registers of one byte each: their numbers, and that each stands beside all others.
 use Rattle.std.proofs.Common.{◌≡◌, ◌≢◌, ℕ, ◌<◌, ◌≤◌, Bool, true, not, ◌&&◌, Some, None, List, ◌∙◌, ap, arith, ◌==◌}
 use Rattle.std.proofs.Common.{nat_lt, rules, map, slice_index}
-use Rattle.board_prelude.proofs.Common.{nat_tests, each_below, Reg, is_within, bridge, card_register, fdhc, Bytes}
-use Rattle.board_prelude.proofs.Common.{get_or-map}
+use Rattle.board_prelude.proofs.{nat_tests, each_below, Reg, is_within, bridge, card_register, fdhc, Bytes, get_or-map}
 use Rattle.addr_decode.specs.Singles.{singles, single, single_count, single_number, AreSinglesOf}
 use Rattle.addr_decode.proofs.StoreLemmas.{Differs, same_or_apart}
 

@@ -1,8 +1,8 @@
 -- A write to a space, as the definitions of the registers say it.
 use Rattle.std.proofs.Common.{◌≡◌, ℕ, ◌<◌, List, length, get_or, set, false, inl, inr, ◌∙◌, sym, ap, arith}
 use Rattle.std.proofs.Common.{get_or-set_other}
-use Rattle.board_prelude.proofs.Common.{cases_eq, get_or-set_at, One, Reg, Store, Setup, merged, writable_bits}
-use Rattle.board_prelude.proofs.Common.{changed_byte, smram, is_same, changed_byte-one_same, changed_byte-one_other}
+use Rattle.board_prelude.proofs.{cases_eq, get_or-set_at, One, Reg, Store, Setup, merged, writable_bits, changed_byte}
+use Rattle.board_prelude.proofs.{smram, is_same, changed_byte-one_same, changed_byte-one_other}
 
 -- the bytes with a merged byte at a place are those after a store of one byte there
 pub stored_byte :

@@ -1,15 +1,16 @@
 -- The registers of the address map among those of a board: after a reset, and where a byte is stored.
 use Rattle.std.proofs.Common.{◌≡◌, ℕ, ◌+◌, ◌<◌, ◌≤◌, ◌⊎◌, inl, inr, None, List, length, set, sym, ◌∙◌, arith, add-one}
 use Rattle.std.proofs.Common.{slice_index}
-use Rattle.board_prelude.proofs.Common.{get_or-set_other, get_or-set_same, cases_eq, nat_tests, Width, bytes_of, One}
-use Rattle.board_prelude.proofs.Common.{Reg, Store, FittedCard, Setup, byte, reset_byte, changed_byte, Bytes, bridge}
-use Rattle.board_prelude.proofs.Common.{drb, card_register, reg_after, after_stores, byte_by_byte}
+use Rattle.board_prelude.proofs.{get_or-set_other, get_or-set_same, cases_eq, nat_tests, Width, bytes_of, One, Reg}
+use Rattle.board_prelude.proofs.{Store, FittedCard, Setup, byte, reset_byte, changed_byte, Bytes, bridge, drb}
+use Rattle.board_prelude.proofs.{card_register, reg_after, after_stores, byte_by_byte}
 use Rattle.host_bridge.proofs.RowNames.{row_bytes, rows_are, rows_after_store}
 use Rattle.host_bridge.specs.Pam.{IsPamOffset, IsPamOf}
 use Rattle.host_bridge.proofs.PamLemmas.{pam_bytes, pam_are}
 use Rattle.pci_bars.specs.Cards.{CardBytes, AreCards, AreCardsOf, AreDecoded, cards_of, AreFitted, AreReset}
-use Rattle.addr_decode.specs.Common.{map_register, MapBytes, StandsFor, stored, AreSinglesOf, single, single_count}
-use Rattle.addr_decode.specs.Common.{single_number}
+use Rattle.addr_decode.specs.MapRegister.{map_register}
+use Rattle.addr_decode.specs.MapRegs.{MapBytes, StandsFor, stored}
+use Rattle.addr_decode.specs.Singles.{AreSinglesOf, single, single_count, single_number}
 use Rattle.addr_decode.proofs.StoreLemmas.{Differs, differs_back, stored-elsewhere}
 use Rattle.addr_decode.proofs.CardLemmas.{cards_agree, cards_stay, cards_decoded, of_decoded, of_registers, reset_cards}
 use Rattle.addr_decode.proofs.SingleLemmas.{no_single, singles_apart, single_is}

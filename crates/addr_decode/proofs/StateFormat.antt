@@ -2,9 +2,9 @@
 use Rattle.std.proofs.Common.{◌≡◌, ℕ, zero, suc, ◌+◌, ◌*◌, ◌^◌, ◌<◌, ◌≤◌, List, [], ◌∷◌, ◌++◌, length, Option, None}
 use Rattle.std.proofs.Common.{Result, Ok, refl, sym, ap, ◌∙◌, arith, slice_index, flat_map, get_or, take, drop, ◌-◌}
 use Rattle.std.proofs.Common.{Err}
-use Rattle.board_prelude.proofs.Common.{AllByRecursion, All-cons, All-head, All-nil, All-tail, append-nil, get_or_past}
-use Rattle.board_prelude.proofs.Common.{drop_all, drop_at, drop_more, flat_map-cons, take_at, length-append}
-use Rattle.board_prelude.proofs.Common.{length-drop, length-take-le, take-append-drop, FittedCard}
+use Rattle.board_prelude.proofs.{AllByRecursion, All-cons, All-head, All-nil, All-tail, append-nil, get_or_past}
+use Rattle.board_prelude.proofs.{drop_all, drop_at, drop_more, flat_map-cons, take_at, length-append, length-drop}
+use Rattle.board_prelude.proofs.{length-take-le, take-append-drop, FittedCard}
 use Rattle.byte_fields.proofs.Formats.{IsFormat, fields_format, ◌then◌, ◌&◌, last_field, whole_field, done_format}
 use Rattle.byte_fields.proofs.Formats.{plain_format}
 use Rattle.byte_fields.specs.Loads.{OneSpelling}

@@ -1,7 +1,7 @@
 -- A byte that is stored in one register leaves all others, and a register takes it under its mask.
 use Rattle.std.proofs.Common.{◌≡◌, ◌≢◌, ℕ, List, ◌<◌, ◌⊎◌, refl, sym, arith, slice_index}
-use Rattle.board_prelude.proofs.Common.{w32, to_le_bytes, cond-false, nat_tests, One, Reg, Setup, byte, covers, Bytes}
-use Rattle.board_prelude.proofs.Common.{card_register}
+use Rattle.board_prelude.proofs.{w32, to_le_bytes, cond-false, nat_tests, One, Reg, Setup, byte, covers, Bytes}
+use Rattle.board_prelude.proofs.{card_register}
 use Rattle.pci_bars.proofs.BaseLemmas.{long_byte}
 use Rattle.addr_decode.specs.MapRegs.{stored}
 

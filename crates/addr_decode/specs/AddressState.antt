@@ -1,6 +1,6 @@
 -- The state of the configuration address register as bytes.
 use Rattle.std.specs.Prelude.{ℕ, ◌≡◌, ◌<◌, ◌^◌, ◌==◌, List}
-use Rattle.board_base.specs.Common.{w32, to_le_bytes}
+use Rattle.std.specs.Int.{w32, to_le_bytes}
 use Rattle.board_spec.specs.Registers.{kept_address}
 use Rattle.byte_fields.specs.Fields.{Reading, number_where}
 

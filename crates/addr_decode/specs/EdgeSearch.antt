@@ -2,7 +2,7 @@
 use Rattle.std.specs.Prelude.{ℕ, ◌+◌, ◌*◌, ◌/◌, ◌^◌, nat_lt, min, ◌&&◌, if◌then◌else◌, List, [], ◌∷◌, ◌++◌, Option}
 use Rattle.std.specs.Prelude.{Some, None, unwrap_or, slice_index}
 use Rattle.std.specs.List.{fold}
-use Rattle.board_prelude.specs.Common.{Base, MemoryBase, IoBase, OutsideBase, address_count}
+use Rattle.board_prelude.specs.{Base, MemoryBase, IoBase, OutsideBase, address_count}
 use Rattle.pci_bars.specs.Cards.{CardBytes}
 
 -- the least edge so far, after one more

@@ -1,9 +1,9 @@
 -- The edges of the memory map: the addresses at which the areas of an address may differ from those just below it.
 use Rattle.std.specs.Prelude.{ℕ, ◌≡◌, ◌+◌, ◌*◌, ◌/◌, ◌^◌, ◌<◌, ◌≤◌, nat_lt, List, [], ◌∷◌, ◌++◌, length, map, filter}
 use Rattle.std.specs.Prelude.{flat_map}
-use Rattle.board_prelude.specs.Common.{Contains, enumerate_from, FittedCard, Setup, IsCardList, Bytes, Window, boundary}
-use Rattle.board_prelude.specs.Common.{memory_window, rom_window, address_count, six_areas, smram_range, system_bios}
-use Rattle.board_prelude.specs.Common.{hole_at_512_kib, hole_at_15_mib, high_bios, lower_high_bios, extended_bios}
+use Rattle.board_prelude.specs.{Contains, enumerate_from, FittedCard, Setup, IsCardList, Bytes, Window, boundary}
+use Rattle.board_prelude.specs.{memory_window, rom_window, address_count, six_areas, smram_range, system_bios}
+use Rattle.board_prelude.specs.{hole_at_512_kib, hole_at_15_mib, high_bios, lower_high_bios, extended_bios}
 
 -- those that no register moves: the ends of the hole at 512 KiB, of SMRAM, of the shadow windows of 16 KiB from C0000h
 -- on and of 64 KiB at F0000h, of the hole at 15 MiB, and of the ranges of the ROM below 4 GiB

@@ -1,6 +1,6 @@
 -- What the decode of a port access finds, and which function has a register.
 use Rattle.std.specs.Prelude.{◌≡◌, ◌≤◌, ◌==◌, List, Some, None}
-use Rattle.board_prelude.specs.Common.{position, Reg, Config, Decoded, device, nobody}
+use Rattle.board_prelude.specs.{position, Reg, Config, Decoded, device, nobody}
 use Rattle.board_base.specs.declared.target.Target.TheVariants.{Card as CardTarget}
 use Rattle.pci_bars.specs.Cards.{CardBytes}
 use Rattle.addr_decode.specs.declared.found.Function.{Function}

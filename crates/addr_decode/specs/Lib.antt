@@ -9,7 +9,6 @@ pub mod Ports
 pub mod Singles
 pub mod State
 pub mod Master
-pub mod Common
 pub mod Selection
 pub mod Space
 pub mod AddressState

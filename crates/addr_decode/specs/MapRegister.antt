@@ -1,9 +1,9 @@
 -- The registers that the address map depends on, each by its one name.
 use Rattle.std.specs.Prelude.{ℕ, ◌≡◌, ◌+◌, ◌-◌, ◌<◌, ◌≤◌, ◌==◌, Bool, true, false, not, ◌&&◌, if◌then◌else◌, List, []}
 use Rattle.std.specs.Prelude.{◌∷◌, length, take, map, find, Option, Some, None, is_some, option_map, option_and_then}
-use Rattle.board_prelude.specs.Common.{AllByRecursion, Width, Reg, bytes_of, MapChange, Store, Reset, FittedCard, Setup}
-use Rattle.board_prelude.specs.Common.{IsCardList, is_within, is_map_byte, reg_after, pam, drb, bridge, isa}
-use Rattle.board_prelude.specs.Common.{card_register, card_command, base_register, expansion_rom}
+use Rattle.board_prelude.specs.{AllByRecursion, Width, Reg, bytes_of, MapChange, Store, Reset, FittedCard, Setup}
+use Rattle.board_prelude.specs.{IsCardList, is_within, is_map_byte, reg_after, pam, drb, bridge, isa, card_register}
+use Rattle.board_prelude.specs.{card_command, base_register, expansion_rom}
 use Rattle.addr_decode.specs.declared.register.MapRegister.{MapRegister}
 use Rattle.addr_decode.specs.declared.register.MapRegister.TheVariants.{Pam, RowBoundary, Single, Card}
 use Rattle.addr_decode.specs.declared.register.CardRegister.{CardRegister}

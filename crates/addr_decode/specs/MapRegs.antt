@@ -1,7 +1,7 @@
 -- The registers that the address map depends on.
 use Rattle.std.specs.Prelude.{◌≡◌, ℕ, ◌/◌, List}
-use Rattle.board_prelude.specs.Common.{One, Reg, Store, changed_byte, Setup, Bytes}
-use Rattle.board_prelude.specs.Common.{ide_command as command_register, idetim_high}
+use Rattle.board_prelude.specs.{One, Reg, Store, changed_byte, Setup, Bytes, ide_command as command_register}
+use Rattle.board_prelude.specs.{idetim_high}
 use Rattle.host_bridge.specs.Pmc.{IsRowsOf}
 use Rattle.host_bridge.specs.Pam.{IsPamOf}
 use Rattle.pci_bars.specs.Cards.{CardBytes, AreDecoded}

@@ -1,9 +1,8 @@
 -- How a bus master sees the memory map: as a processor does where SMRAM answers nobody.
 use Rattle.std.specs.Prelude.{ℕ, false, Option}
-use Rattle.board_prelude.specs.Common.{Kind, Area, Denial, Setup, xbcs, Bytes, area_under, row_of, is_shadowed}
-use Rattle.board_prelude.specs.Common.{memory_claim, denial_in, abort_denial, top_of}
-use Rattle.board_prelude.specs.Common.{memory_shut, rom_unselected, rom_denial}
-use Rattle.board_prelude.specs.Common.{is_in_hole, is_bios_selected}
+use Rattle.board_prelude.specs.{Kind, Area, Denial, Setup, xbcs, Bytes, area_under, row_of, is_shadowed, memory_claim}
+use Rattle.board_prelude.specs.{denial_in, abort_denial, top_of, memory_shut, rom_unselected, rom_denial, is_in_hole}
+use Rattle.board_prelude.specs.{is_bios_selected}
 
 -- the area that an access of a bus master reaches
 unfoldable pub master_area : Setup → Bytes → ℕ → Kind → Area

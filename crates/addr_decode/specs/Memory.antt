@@ -1,11 +1,10 @@
 -- The memory map as the code asks it: DRAM in its three forms first, and then the ROM and the cards.
 use Rattle.std.specs.Prelude.{ℕ, ◌==◌, nat_lt, Bool, true, false, not, if◌then◌else◌, Option, Some, None, option_map}
 use Rattle.std.specs.Prelude.{unwrap_or}
-use Rattle.board_prelude.specs.Common.{Area, Denial, Register, NoRegister, Setup, lies_in, selectable_bios}
-use Rattle.board_prelude.specs.Common.{expansion_range, largest_top, Bytes, Window, line_where, is_smram_range}
-use Rattle.board_prelude.specs.Common.{is_shadow_range, card_area, memory_claim, pam_register, drb}
-use Rattle.board_prelude.specs.Common.{smram, xbcs, card_command, expansion_rom}
-use Rattle.board_prelude.specs.Common.{is_bios_selected, is_in_hole, row_of, upper_memory}
+use Rattle.board_prelude.specs.{Area, Denial, Register, NoRegister, Setup, lies_in, selectable_bios, expansion_range}
+use Rattle.board_prelude.specs.{largest_top, Bytes, Window, line_where, is_smram_range, is_shadow_range, card_area}
+use Rattle.board_prelude.specs.{memory_claim, pam_register, drb, smram, xbcs, card_command, expansion_rom}
+use Rattle.board_prelude.specs.{is_bios_selected, is_in_hole, row_of, upper_memory}
 use Rattle.board_base.specs.declared.target.Area.TheVariants.{Dram, Shadow, Smram, Rom, Card, Abort}
 use Rattle.addr_decode.specs.Singles.{hole_denial}
 

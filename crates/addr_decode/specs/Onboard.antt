@@ -1,8 +1,8 @@
 -- What the board's own devices say to a port access: one answers, or the device of the port is not
 -- selected, or the port is no device's.
 use Rattle.std.specs.Prelude.{ℕ, ◌/◌, Bool, true, false, if◌then◌else◌, Option, Some, None}
-use Rattle.board_prelude.specs.Common.{Dev, Denial, Register, NoRegister, Select, Always, XbcsBit0, XbcsBit1}
-use Rattle.board_prelude.specs.Common.{IdeChannel, select_of, is_bit, xbcs as select_register, ide_command, idetim}
+use Rattle.board_prelude.specs.{Dev, Denial, Register, NoRegister, Select, Always, XbcsBit0, XbcsBit1, IdeChannel}
+use Rattle.board_prelude.specs.{select_of, is_bit, xbcs as select_register, ide_command, idetim}
 use Rattle.addr_decode.specs.declared.onboard.Onboard.{Onboard}
 use Rattle.addr_decode.specs.declared.onboard.Onboard.TheVariants.{Answers, Denied, Absent}
 

@@ -1,6 +1,6 @@
 -- What the code gives for a port, and what becomes of what the board's own devices say.
 use Rattle.std.specs.Prelude.{ℕ, ◌≡◌, ◌↔◌, Option, IsSome}
-use Rattle.board_prelude.specs.Common.{Target, Abort, Denial, Setup, Bytes, Decoded, device, unselected, other_port}
+use Rattle.board_prelude.specs.{Target, Abort, Denial, Setup, Bytes, Decoded, device, unselected, other_port}
 use Rattle.addr_decode.specs.declared.onboard.Onboard.{Onboard}
 use Rattle.addr_decode.specs.declared.onboard.Onboard.TheVariants.{Answers, Denied, Absent}
 

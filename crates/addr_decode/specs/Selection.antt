@@ -1,6 +1,6 @@
 -- What a configuration address selects at the configuration data ports.
 use Rattle.std.specs.Prelude.{ℕ, ◌+◌, ◌%◌, if◌then◌else◌, Option, Some, None}
-use Rattle.board_prelude.specs.Common.{Reg, Setup, function_exists, bus_of, device_of, function_of, register_of}
+use Rattle.board_prelude.specs.{Reg, Setup, function_exists, bus_of, device_of, function_of, register_of}
 use Rattle.addr_decode.specs.declared.conf_add.Selected.{Selected}
 
 -- the bus, device, function and register of the address, and the byte that the port adds

@@ -1,7 +1,7 @@
 -- The registers of one byte each that the address map depends on: one table, in which each stands by its number.
 use Rattle.std.specs.Prelude.{◌≡◌, ℕ, ◌+◌, ◌<◌, if◌then◌else◌, List, [], ◌∷◌, length, get_or, slice_index, Option, Some}
 use Rattle.std.specs.Prelude.{None}
-use Rattle.board_prelude.specs.Common.{Reg, Bytes, Denial, Register, is_same, fdhc, smram, xbcs}
+use Rattle.board_prelude.specs.{Reg, Bytes, Denial, Register, is_same, fdhc, smram, xbcs}
 
 -- FDHC and SMRAM of the host bridge, and XBCS of the ISA bridge
 abbrev pub singles : List Reg

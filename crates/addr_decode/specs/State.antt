@@ -1,7 +1,7 @@
 -- The state of the registers that the address map depends on as bytes. The cards of the board are not in them.
 use Rattle.std.specs.Prelude.{ℕ, ◌≡◌, ◌<◌, ◌^◌, List, [], ◌∷◌, ◌++◌, length, slice_index, All, flat_map, Option, None}
 use Rattle.std.specs.Prelude.{Some, ◌-◌, take, drop}
-use Rattle.board_base.specs.Common.{w8, w32, to_le_bytes}
+use Rattle.std.specs.Int.{w8, w32, to_le_bytes}
 use Rattle.board_spec.specs.Setup.{FittedCard}
 use Rattle.byte_fields.specs.Fields.{Reading, gives, ◌>>=◌, within, plain}
 use Rattle.pci_bars.specs.Cards.{CardBytes, cards_of}

@@ -1,7 +1,7 @@
 //! The six areas of an address: what every kind of access there reaches.
 ghost use Rattle.std.specs.Prelude.{◌≡◌, ◌+◌, true, false, unwrap_or};
-ghost use Rattle.board_prelude.specs.Common.{Setup, Bytes, lies_in, line_where, upper_memory, is_smram_range};
-ghost use Rattle.board_prelude.specs.Common.{is_shadow_range, is_smram_open, six_areas};
+ghost use Rattle.board_prelude.specs.{Setup, Bytes, lies_in, line_where, upper_memory, is_smram_range, is_shadow_range};
+ghost use Rattle.board_prelude.specs.{is_smram_open, six_areas};
 ghost use Rattle.board_base.specs.declared.target.Area.TheVariants.{Smram};
 ghost use Rattle.pci_bars.specs.Cards.{AreFitted};
 ghost use Rattle.addr_decode.specs.MapRegs.{StandsFor, map_bytes};

@@ -1,6 +1,6 @@
 //! The cards by their device numbers.
 ghost use Rattle.std.specs.Prelude.{◌≡◌};
-ghost use Rattle.board_prelude.specs.Common.{Setup, Bytes, card_register};
+ghost use Rattle.board_prelude.specs.{Setup, Bytes, card_register};
 ghost use Rattle.pci_bars.specs.Cards.{AreCardsOf, AreDecoded, AreFitted, cards_of};
 ghost use Rattle.addr_decode.specs.MapRegs.{stored};
 

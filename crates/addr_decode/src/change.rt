@@ -1,7 +1,7 @@
 //! What a change of the configuration space makes of the registers that the address map depends on.
 ghost use Rattle.std.specs.Prelude.{◌≡◌, ◌≢◌, ◌≤◌, ◌<◌, ◌⊎◌, None, true, false, is_some};
-ghost use Rattle.board_prelude.specs.Common.{list_any, Store, Setup, changed_byte, Bytes, card_register, is_map_byte};
-ghost use Rattle.board_prelude.specs.Common.{reg_after, touches_map};
+ghost use Rattle.board_prelude.specs.{list_any, Store, Setup, changed_byte, Bytes, card_register, is_map_byte};
+ghost use Rattle.board_prelude.specs.{reg_after, touches_map};
 ghost use Rattle.pci_bars.specs.Cards.{AreCards, AreCardsOf, AreDecoded, AreFitted, cards_of};
 ghost use Rattle.addr_decode.specs.MapRegister.{IsNumbered, map_register, names_from, names_of, place_of};
 ghost use Rattle.addr_decode.specs.MapRegs.{StandsFor, map_bytes, stored};

@@ -1,7 +1,7 @@
 //! The configuration address register, CONFADD of the 82441FX (configuration mechanism one of PCI Local Bus 2.1).
 ghost use Rattle.std.specs.Prelude.{◌≡◌, ◌+◌, ◌%◌, ◌≤◌, ◌↔◌, false, IsTrue, IsNone, IfSome};
-ghost use Rattle.board_prelude.specs.Common.{Width, bytes_of, Setup, kept_address, is_enabled, is_config_port};
-ghost use Rattle.board_prelude.specs.Common.{config_register};
+ghost use Rattle.board_prelude.specs.{Width, bytes_of, Setup, kept_address, is_enabled, is_config_port};
+ghost use Rattle.board_prelude.specs.{config_register};
 ghost use Rattle.addr_decode.specs.Selection.{selected_at, existing};
 
 use board_base::Reg;

@@ -1,8 +1,8 @@
 //! Which register denies a memory access.
 ghost use Rattle.std.specs.Prelude.{◌≡◌, ◌≤◌, false, Some, None};
-ghost use Rattle.board_prelude.specs.Common.{Register, Setup, Bytes, pam_register, top_of as top_by, memory_shut};
-ghost use Rattle.board_prelude.specs.Common.{rom_unselected, abort_denial, rom_denial, denial_in, is_shadow_range};
-ghost use Rattle.board_prelude.specs.Common.{shadow_range, xbcs as select_register};
+ghost use Rattle.board_prelude.specs.{Register, Setup, Bytes, pam_register, top_of as top_by, memory_shut};
+ghost use Rattle.board_prelude.specs.{rom_unselected, abort_denial, rom_denial, denial_in, is_shadow_range};
+ghost use Rattle.board_prelude.specs.{shadow_range, xbcs as select_register};
 ghost use Rattle.pci_bars.specs.Cards.{AreFitted};
 ghost use Rattle.addr_decode.specs.MapRegs.{StandsFor, map_bytes};
 ghost use Rattle.addr_decode.specs.Memory.{board_denial, row_denial};

@@ -1,7 +1,7 @@
 //! Denials by the registers that the address decode names.
 ghost use Rattle.std.specs.Prelude.{◌≡◌};
-ghost use Rattle.board_prelude.specs.Common.{Register, bridge, isa, ide, card_command as command_register};
-ghost use Rattle.board_prelude.specs.Common.{expansion_rom as rom_register};
+ghost use Rattle.board_prelude.specs.{Register, bridge, isa, ide, card_command as command_register};
+ghost use Rattle.board_prelude.specs.{expansion_rom as rom_register};
 
 use board_base::{Denial, Reg};
 use board_spec::offset::{COMMAND, EXPANSION_ROM, HOST_BRIDGE, IDE, ISA_BRIDGE, SOUTH_BRIDGE};

@@ -1,9 +1,9 @@
 //! The edges of the memory map: the addresses whose six areas may differ from those of the address below.
 ghost use Rattle.std.specs.Prelude.{ℕ, ◌≡◌, ◌<◌, ◌≤◌, ◌*◌, ◌^◌, ◌↔◌, ◌+◌, [], ◌∷◌, IfSome, IsNone, true, nat_lt, find};
 ghost use Rattle.std.specs.Prelude.{slice_index, All, length, map, unwrap_or, flat_map};
-ghost use Rattle.board_prelude.specs.Common.{Setup, IsBase, IsCard, IsExpansionRom, Bytes, address_count};
-ghost use Rattle.board_prelude.specs.Common.{boundary_unit};
-ghost use Rattle.pci_bars.specs.Common.{base_of, AreCards, AreFitted};
+ghost use Rattle.board_prelude.specs.{Setup, IsBase, IsCard, IsExpansionRom, Bytes, address_count, boundary_unit};
+ghost use Rattle.pci_bars.specs.Bases.{base_of};
+ghost use Rattle.pci_bars.specs.Cards.{AreCards, AreFitted};
 ghost use Rattle.addr_decode.specs.MapRegs.{StandsFor, map_bytes};
 ghost use Rattle.addr_decode.specs.Edges.{IsNextEdge, NoEdgeAbove, SameAreas, edges_after, fixed_edges};
 ghost use Rattle.addr_decode.specs.EdgeSearch.{nearer, nearest, ends_of, ends_from, ends_of_rom, ends_of_card};

@@ -1,6 +1,6 @@
 //! What the decode of a port access finds.
 ghost use Rattle.std.specs.Prelude.{◌≡◌, ◌≤◌, List, IfSome, is_some};
-ghost use Rattle.board_prelude.specs.Common.{Setup, function_exists};
+ghost use Rattle.board_prelude.specs.{Setup, function_exists};
 ghost use Rattle.pci_bars.specs.Cards.{CardBytes, cards_of};
 ghost use Rattle.addr_decode.specs.Found.{HasRegister, decoded_as};
 

@@ -1,7 +1,6 @@
 //! The memory map as a bus master sees it, to which SMRAM never answers.
 ghost use Rattle.std.specs.Prelude.{◌≡◌, false};
-ghost use Rattle.board_prelude.specs.Common.{Setup, Bytes, row_of as row_by, is_shadowed};
-ghost use Rattle.board_prelude.specs.Common.{is_in_hole};
+ghost use Rattle.board_prelude.specs.{Setup, Bytes, row_of as row_by, is_shadowed, is_in_hole};
 ghost use Rattle.pci_bars.specs.Cards.{AreFitted};
 ghost use Rattle.addr_decode.specs.MapRegs.{StandsFor, map_bytes};
 ghost use Rattle.addr_decode.specs.Memory.{dram_area};

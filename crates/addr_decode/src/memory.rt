@@ -1,10 +1,9 @@
 //! The memory map of the 82441FX and the 82371SB: which area an access reaches, and what denies it.
 ghost use Rattle.std.specs.Prelude.{◌≡◌, Bool, true, false, None, IfSome, if◌then◌else◌, unwrap_or};
-ghost use Rattle.board_prelude.specs.Common.{Kind, Read, Write, Setup, Bytes, line_where};
-ghost use Rattle.board_prelude.specs.Common.{row_of as row_by, is_shadow_range, is_smram_range, is_shadowed, area_of};
-ghost use Rattle.board_prelude.specs.Common.{denial_of, denial_in as denial_by, abort_denial, rom_denial, top_of};
-ghost use Rattle.board_prelude.specs.Common.{memory_shut, rom_unselected, xbcs as select_register};
-ghost use Rattle.board_prelude.specs.Common.{is_in_hole, is_smram_open};
+ghost use Rattle.board_prelude.specs.{Kind, Read, Write, Setup, Bytes, line_where, row_of as row_by, is_shadow_range};
+ghost use Rattle.board_prelude.specs.{is_smram_range, is_shadowed, area_of, denial_of, denial_in as denial_by};
+ghost use Rattle.board_prelude.specs.{abort_denial, rom_denial, top_of, memory_shut, rom_unselected};
+ghost use Rattle.board_prelude.specs.{xbcs as select_register, is_in_hole, is_smram_open};
 ghost use Rattle.board_base.specs.declared.target.Area.TheVariants.{Dram, Shadow};
 ghost use Rattle.host_bridge.specs.Pam.{IsPamOf};
 ghost use Rattle.pci_bars.specs.Cards.{AreFitted};

@@ -1,6 +1,6 @@
 //! The board's own devices: which port is whose, and whether the registers select it.
 ghost use Rattle.std.specs.Prelude.{◌≡◌};
-ghost use Rattle.board_prelude.specs.Common.{bytes_of, is_bit, xbcs as select_register, Register, device_at, select_of};
+ghost use Rattle.board_prelude.specs.{bytes_of, is_bit, xbcs as select_register, Register, device_at, select_of};
 ghost use Rattle.addr_decode.specs.Onboard.{if_selected, if_decoded, by_select, response_of};
 
 use crate::denied_by::{ide_function, isa_bridge};

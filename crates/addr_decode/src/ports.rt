@@ -1,8 +1,8 @@
 //! The ports of the 82371SB and of the cards: what an access to a port reaches, and what denies it.
 ghost use Rattle.std.specs.Prelude.{◌≡◌, ◌%◌, ◌^◌, IsTrue, IfSome, option_map, unwrap_or, if◌then◌else◌};
-ghost use Rattle.board_prelude.specs.Common.{Setup, function_exists, kept_address, config_register, is_config_port};
-ghost use Rattle.board_prelude.specs.Common.{Bytes, command_of, io_claim, io_shut, nobody, port_target_of, config_port};
-ghost use Rattle.board_prelude.specs.Common.{unselected, other_port};
+ghost use Rattle.board_prelude.specs.{Setup, function_exists, kept_address, config_register, is_config_port, Bytes};
+ghost use Rattle.board_prelude.specs.{command_of, io_claim, io_shut, nobody, port_target_of, config_port, unselected};
+ghost use Rattle.board_prelude.specs.{other_port};
 ghost use Rattle.pci_bars.specs.Cards.{AreCards, AreDecoded, AreFitted};
 ghost use Rattle.addr_decode.specs.Found.{IsFoundIn, decoded_as, register_answers};
 ghost use Rattle.addr_decode.specs.MapRegs.{IsChannelOf, StandsFor, map_bytes};

@@ -1,6 +1,6 @@
 //! The registers that the address map depends on, each named once.
 ghost use Rattle.std.specs.Prelude.{◌≡◌, ◌≤◌, ◌==◌, [], ◌∷◌, Some, is_some, option_map};
-ghost use Rattle.board_prelude.specs.Common.{One, list_any, position, reg_after};
+ghost use Rattle.board_prelude.specs.{One, list_any, position, reg_after};
 ghost use Rattle.pci_bars.specs.Cards.{cards_of};
 ghost use Rattle.addr_decode.specs.declared.register.CardRegister.TheVariants.{ExpansionRom};
 ghost use Rattle.addr_decode.specs.declared.register.MapRegister.TheVariants.{Card, Single};

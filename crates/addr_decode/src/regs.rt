@@ -1,6 +1,6 @@
 //! The registers that the address map depends on.
 ghost use Rattle.std.specs.Prelude.{◌≡◌};
-ghost use Rattle.board_prelude.specs.Common.{Setup, IsCardList, reset_byte};
+ghost use Rattle.board_prelude.specs.{Setup, IsCardList, reset_byte};
 ghost use Rattle.pci_bars.specs.Cards.{AreCardsOf, AreFitted, AreReset, cards_of};
 ghost use Rattle.addr_decode.specs.MapRegs.{StandsFor, map_bytes};
 

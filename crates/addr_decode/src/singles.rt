@@ -1,9 +1,9 @@
 //! The registers of one byte each that the address map depends on: FDHC and SMRAM of the host bridge, and XBCS of the
 //! ISA bridge. Each stands at its number in a table, and all that a register says of an address is told here.
 ghost use Rattle.std.specs.Prelude.{◌≡◌, ◌++◌, ◌<◌};
-ghost use Rattle.board_prelude.specs.Common.{One, Store, Setup, Bytes, changed_byte, reset_byte, is_in};
-ghost use Rattle.board_prelude.specs.Common.{hole_of as hole_by, bridge, isa, xbcs as select_register};
-ghost use Rattle.board_prelude.specs.Common.{is_in_hole, is_smram_open, is_bios_selected};
+ghost use Rattle.board_prelude.specs.{One, Store, Setup, Bytes, changed_byte, reset_byte, is_in, hole_of as hole_by};
+ghost use Rattle.board_prelude.specs.{bridge, isa, xbcs as select_register, is_in_hole, is_smram_open};
+ghost use Rattle.board_prelude.specs.{is_bios_selected};
 ghost use Rattle.addr_decode.specs.Singles.{AreSinglesOf, hole_denial, single, single_count, single_number};
 
 use crate::denied_by::host_bridge;

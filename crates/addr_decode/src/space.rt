@@ -1,7 +1,7 @@
 //! A function's 256 bytes of configuration space (PCI Local Bus 2.1, section 6.1).
 ghost use Rattle.std.specs.Prelude.{◌≡◌, ◌==◌, ◌<◌, ℕ, false, if◌then◌else◌};
-ghost use Rattle.board_prelude.specs.Common.{One, Reg, Store, Setup, bit, is_bit, merged, writable_bits, changed_byte};
-ghost use Rattle.board_prelude.specs.Common.{smram, is_same};
+ghost use Rattle.board_prelude.specs.{One, Reg, Store, Setup, bit, is_bit, merged, writable_bits, changed_byte, smram};
+ghost use Rattle.board_prelude.specs.{is_same};
 ghost use Rattle.addr_decode.specs.Space.{byte_at, mask_at, reset_at, SameTable};
 
 use board_spec::bits::merged;

@@ -2,7 +2,7 @@
 //! them: a board that is loaded has those of its setup.
 
 ghost use Rattle.std.specs.Prelude.{◌≡◌, ◌≤◌, ◌<◌, ◌^◌, ◌++◌, ℕ, List, length, slice_index, flat_map, All, OnOk, IfOk};
-ghost use Rattle.board_prelude.specs.Common.{FittedCard, Setup, IsCardList, Bytes};
+ghost use Rattle.board_prelude.specs.{FittedCard, Setup, IsCardList, Bytes};
 ghost use Rattle.byte_fields.specs.Fields.{Took};
 ghost use Rattle.byte_fields.specs.Loads.{Loads, OneSpelling};
 ghost use Rattle.pci_bars.specs.Cards.{AreCardsOf, AreFitted};

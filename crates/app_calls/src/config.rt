@@ -1,7 +1,7 @@
 //! The bytes of configuration space and the configuration address by themselves, each line a new one.
 
 ghost use Rattle.std.specs.Prelude.{IsTrue};
-ghost use Rattle.board_prelude.specs.Common.{is_config_port};
+ghost use Rattle.board_prelude.specs.{is_config_port};
 
 use addr_decode::{ConfAdd, Selected, Space};
 use board_base::NoMemory;

@@ -3,7 +3,7 @@
 //! that the board answers, and then the log of what the board itself was asked, where its processor 8 is the port.
 
 ghost use Rattle.std.specs.Prelude.{◌≡◌, false, [], IfOk};
-ghost use Rattle.board_prelude.specs.Common.{Setup as Fitting, IsInRange};
+ghost use Rattle.board_prelude.specs.{Setup as Fitting, IsInRange};
 
 use crate::told::push_byte;
 use board_base::{NoMemory, PortAccess, Width};

@@ -2,8 +2,10 @@
 //! is refused, the same is told: `tests/each-failure` refuses each in turn.
 
 ghost use Rattle.std.specs.Prelude.{◌≡◌, ◌+◌, ◌<◌, ◌≤◌, [], length, All, IfOk};
-ghost use Rattle.board_prelude.specs.Common.{Setup as Fitting, IsInRange};
-ghost use Rattle.board_live.specs.Common.{most_each, IsNoLook, IsCallerOf, IsSameCaller, AreAllOf, AreOpened, mine_of};
+ghost use Rattle.board_prelude.specs.{Setup as Fitting, IsInRange};
+ghost use Rattle.board_live.specs.Known.{most_each};
+ghost use Rattle.board_live.specs.Bus.{IsNoLook};
+ghost use Rattle.board_live.specs.Callers.{IsCallerOf, IsSameCaller, AreAllOf, AreOpened, mine_of};
 
 use board_base::{NoMemory, PortAccess, Width};
 use board_core::{Board, BoardOpen, Setup};

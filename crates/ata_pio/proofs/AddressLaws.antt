@@ -1,6 +1,6 @@
 -- The registers that are written back for a sector name it.
 use Rattle.std.proofs.Common.{arith}
-use Rattle.device_spec.proofs.Common.{nat_tests}
+use Rattle.std.proofs.lemmas.Bool.Decides.{nat_tests}
 use Rattle.ata_pio.specs.Ata.Laws.{WrittenBackNames}
 
 pub written_back_names : WrittenBackNames

@@ -1,10 +1,13 @@
 -- A command moves exactly its count of sectors, or stops at the first that fails.
 use Rattle.std.proofs.Common.{◌≡◌, ℕ, zero, suc, ◌+◌, ◌*◌, ◌<◌, ◌≤◌, ◌⊎◌, Bool, true, false, eqb, List, [], ◌∷◌, ◌++◌}
 use Rattle.std.proofs.Common.{length, Some, Result, Ok, Err, refl, ap, ◌∙◌, arith, length-set}
-use Rattle.device_spec.proofs.Common.{cond-false, ne_eqb, Medium, Reading, Writing, Drive, Disk, sectors_of}
-use Rattle.device_spec.proofs.Common.{sector_bytes, stored, named, left_of, readable, reads_found, finished, ended}
-use Rattle.device_spec.proofs.Common.{begin_read, begin_write, sector_read, sector_written, verified, counted_down}
-use Rattle.device_spec.proofs.Common.{moved_to, word_of, word_read, word_written, with_drive, nat_tests}
+use Rattle.std.proofs.lemmas.Bool.{cond-false, ne_eqb}
+use Rattle.device_spec.specs.Ata.State.{Medium, Reading, Writing, Drive, Disk, sectors_of, sector_bytes, stored}
+use Rattle.device_spec.specs.Ata.Address.{named, left_of}
+use Rattle.device_spec.specs.Ata.Commands.{readable, reads_found, finished, ended, begin_read, begin_write, sector_read}
+use Rattle.device_spec.specs.Ata.Commands.{sector_written, verified, counted_down, moved_to}
+use Rattle.device_spec.specs.Ata.Steps.{word_of, word_read, word_written, with_drive}
+use Rattle.std.proofs.lemmas.Bool.Decides.{nat_tests}
 use Rattle.ata_pio.specs.Ata.Laws.{IsWhole, IsChosen, words_read, after_words_read, after_words_written, sector_words}
 use Rattle.ata_pio.specs.Ata.Laws.{bytes_of_words, moved_on, AllReadable, MovesOn, words_of_sectors, reading_disk}
 use Rattle.ata_pio.specs.Ata.Laws.{ReadMovesItsSectors, VerifyLooksAtItsSectors, writing_disk, all_stored, AreSectors}

@@ -1,6 +1,7 @@
 -- The state of the drive is spelled and read back.
-use Rattle.board_base.proofs.Common.{nat_tests, nil_from_length}
-use Rattle.device_spec.specs.Common.{w32, to_le_bytes}
+use Rattle.std.proofs.lemmas.Bool.Decides.{nat_tests}
+use Rattle.std.proofs.lemmas.List.{nil_from_length}
+use Rattle.std.specs.Int.{w32, to_le_bytes}
 use Rattle.std.proofs.Common.{◌≡◌, ℕ, ◌-◌, ◌^◌, ◌<◌, ◌≤◌, Bool, List, ◌∷◌, ◌++◌, length, refl, arith, nat_lt}
 use Rattle.byte_fields.specs.Fields.{bound_where}
 use Rattle.byte_fields.proofs.Formats.{IsFormat, format_as, fields_format, ◌then◌, ◌&◌, last_field, plain_format}

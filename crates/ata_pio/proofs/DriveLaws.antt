@@ -1,8 +1,10 @@
 -- What is under way stays one of the disk's sectors.
 use Rattle.std.proofs.Common.{arith, ℕ, zero, suc, Bool, eqb}
-use Rattle.device_spec.proofs.Common.{Medium, Drive, sectors_of, begin_read, begin_write, sector_read, sector_written}
-use Rattle.device_spec.proofs.Common.{verified, obeyed, commanded, after_word, register_written, control_written}
-use Rattle.device_spec.proofs.Common.{nat_tests}
+use Rattle.device_spec.specs.Ata.State.{Medium, Drive, sectors_of}
+use Rattle.device_spec.specs.Ata.Commands.{begin_read, begin_write, sector_read, sector_written, verified, obeyed}
+use Rattle.device_spec.specs.Ata.Commands.{commanded}
+use Rattle.device_spec.specs.Ata.Steps.{after_word, register_written, control_written}
+use Rattle.std.proofs.lemmas.Bool.Decides.{nat_tests}
 use Rattle.ata_pio.specs.Ata.Laws.{IsUnderWay}
 
 begin_read-under_way : (m : Medium) (d : Drive) → IsUnderWay (sectors_of m) (begin_read m d).activity

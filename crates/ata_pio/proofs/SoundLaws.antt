@@ -1,10 +1,12 @@
 -- A sound disk stays sound, and only a store changes a sector.
 use Rattle.std.proofs.Common.{◌||◌, ◌++◌, rules, ltb, leb, ◌≡◌, ℕ, ◌/◌, ◌%◌, ◌<◌, Bool, false, cond, eqb, ◌&&◌, List}
 use Rattle.std.proofs.Common.{[], ◌∷◌, length, refl, ◌∙◌, arith, length-set, length-append}
-use Rattle.device_spec.proofs.Common.{and_parts, ltb-true, leb-true, cases_Bool, cond-true, cond-false, eqb-true}
-use Rattle.device_spec.proofs.Common.{length-replicate, One, Two, Four, Activity, Writing, Drive, Disk, sectors_of}
-use Rattle.device_spec.proofs.Common.{sector_bytes, bytes_written, activity_written, word_written, word_read}
-use Rattle.device_spec.proofs.Common.{with_drive, nat_tests}
+use Rattle.std.proofs.lemmas.Bool.{and_parts, ltb-true, leb-true, cases_Bool, cond-true, cond-false, eqb-true}
+use Rattle.std.proofs.lemmas.List.{length-replicate}
+use Rattle.board_base.specs.declared.access.Width.TheVariants.{One, Two, Four}
+use Rattle.device_spec.specs.Ata.State.{Activity, Writing, Drive, Disk, sectors_of, sector_bytes}
+use Rattle.device_spec.specs.Ata.Steps.{bytes_written, activity_written, word_written, word_read, with_drive}
+use Rattle.std.proofs.lemmas.Bool.Decides.{nat_tests}
 use Rattle.ata_pio.specs.Ata.Laws.{PowerOnIsSound, IsUnderWay, IsSound, Access, Read, Write, Spoil, Restart, stepped}
 use Rattle.ata_pio.specs.Ata.Laws.{activity_stores, word_stores, stores, StaysSound, OnlyStoresChange, after_all}
 use Rattle.ata_pio.specs.Ata.Laws.{NoneStores}

@@ -1,8 +1,9 @@
 -- The state of a disk is spelled and read back.
 use Rattle.std.proofs.Common.{rules, ◌≡◌, ℕ, ◌+◌, ◌*◌, ◌<◌, ◌≤◌, Bool, true, List, [], ◌∷◌, length, map, flat_map, refl}
 use Rattle.std.proofs.Common.{ap, ◌∙◌, arith}
-use Rattle.device_spec.proofs.Common.{flat_map-cons, nat_tests}
-use Rattle.device_spec.specs.Common.{is_disk_length}
+use Rattle.std.proofs.lemmas.List.Concat.{flat_map-cons}
+use Rattle.std.proofs.lemmas.Bool.Decides.{nat_tests}
+use Rattle.device_spec.specs.Ata.State.{is_disk_length}
 use Rattle.byte_fields.specs.Fields.{Reading as Reader, flag_byte, flag_field}
 use Rattle.byte_fields.specs.Loads.{OneSpelling}
 use Rattle.byte_fields.proofs.Loops.{IsLoop}

@@ -1,10 +1,11 @@
 -- A sector that is stored, and the other ones.
 use Rattle.std.proofs.Common.{refl, ◌≡◌, ◌≢◌, ℕ, ◌+◌, ◌*◌, ◌<◌, ◌≤◌, List, ◌++◌, length, take, drop, get_or, ap, sym}
 use Rattle.std.proofs.Common.{◌∙◌, arith, length-set, length-take-le, get_or-take, get_or-drop}
-use Rattle.device_spec.proofs.Common.{cases_lt, drop-drop, take_at, drop_at, Medium, sectors_of, sector_bytes, stored}
-use Rattle.device_spec.proofs.Common.{word_at, nat_tests}
+use Rattle.std.proofs.lemmas.Bool.{cases_lt}
+use Rattle.std.proofs.lemmas.List.{drop-drop, take_at, drop_at, drop-take}
+use Rattle.device_spec.specs.Ata.State.{Medium, sectors_of, sector_bytes, stored, word_at}
+use Rattle.std.proofs.lemmas.Bool.Decides.{nat_tests}
 use Rattle.std.proofs.lemmas.Slice.{take-put_mid_below, drop-put_mid}
-use Rattle.std.proofs.lemmas.List.{drop-take}
 use borrow.Rule.Slice.PartMut.{put_mid}
 use Rattle.ata_pio.specs.Ata.Laws.{IsWhole}
 use Rattle.ata_pio.proofs.Stores.{length-store}

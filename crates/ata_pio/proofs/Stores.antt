@@ -1,7 +1,10 @@
 -- A sector that is written over the bytes of a disk.
 use Rattle.std.proofs.Common.{◌≡◌, ℕ, ◌+◌, ◌-◌, ◌*◌, ◌≤◌, List, ◌++◌, length, take, drop, arith, length-append}
 use Rattle.std.proofs.Common.{length-take-le, length-drop}
-use Rattle.device_spec.proofs.Common.{with_items_is, drop-drop, Vec, with_items, nat_tests}
+use Rattle.std.proofs.lemmas.List.{with_items_is, drop-drop}
+use Rattle.std.specs.declared.vec.Vec.{Vec}
+use Rattle.std.specs.Vec.{with_items}
+use Rattle.std.proofs.lemmas.Bool.Decides.{nat_tests}
 use borrow.Rule.Slice.PartMut.{put_mid}
 
 pub length-store : (xs bytes : List ℕ) (s : ℕ) → 512 * s + 512 ≤ length xs → length bytes ≡ 512

@@ -1,7 +1,9 @@
 -- One turn of verify: it fails, it was the last sector, or it goes on.
 use Rattle.std.proofs.Common.{◌≡◌, ◌≢◌, ℕ, suc, ◌+◌, Ok, Err, refl, arith}
-use Rattle.device_spec.proofs.Common.{Medium, Drive, named, naming, counted, left_of, readable, failed, finished}
-use Rattle.device_spec.proofs.Common.{counted_down, moved_to, verified, nat_tests}
+use Rattle.device_spec.specs.Ata.State.{Medium, Drive}
+use Rattle.device_spec.specs.Ata.Address.{named, naming, counted, left_of}
+use Rattle.device_spec.specs.Ata.Commands.{readable, failed, finished, counted_down, moved_to, verified}
+use Rattle.std.proofs.lemmas.Bool.Decides.{nat_tests}
 
 pub verified-fails : (m : Medium) (left e : ℕ) (d : Drive) → readable m (named d.registers) ≡ Err e →
     verified m left d ≡ failed e d

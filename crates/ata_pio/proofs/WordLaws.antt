@@ -2,10 +2,14 @@
 use Rattle.std.proofs.Common.{rules, ◌≡◌, ◌≢◌, ℕ, zero, suc, ◌+◌, ◌*◌, ◌/◌, ◌%◌, ◌<◌, ◌≤◌, Bool, true, cond, eqb, List}
 use Rattle.std.proofs.Common.{[], ◌∷◌, ◌++◌, length, drop, refl, ap, sym, subst, ◌∙◌, arith, length-append, get_or-drop}
 use Rattle.std.proofs.Common.{append_assoc}
-use Rattle.device_spec.proofs.Common.{cond-true, cond-false, eq-eqb, ne_eqb, drop-drop, Medium, Activity, Reading}
-use Rattle.device_spec.proofs.Common.{Writing, Drive, Disk, sectors_of, sector_bytes, word_at, is_drq, left_of, counted}
-use Rattle.device_spec.proofs.Common.{naming, begin_read, sector_read, ended, word_of, word_read, word_written}
-use Rattle.device_spec.proofs.Common.{after_word, with_drive, bytes_written, nat_tests}
+use Rattle.std.proofs.lemmas.Bool.{cond-true, cond-false, eq-eqb, ne_eqb}
+use Rattle.std.proofs.lemmas.List.{drop-drop}
+use Rattle.device_spec.specs.Ata.State.{Medium, Activity, Reading, Writing, Drive, Disk, sectors_of, sector_bytes}
+use Rattle.device_spec.specs.Ata.State.{word_at, is_drq}
+use Rattle.device_spec.specs.Ata.Address.{left_of, counted, naming}
+use Rattle.device_spec.specs.Ata.Commands.{begin_read, sector_read, ended}
+use Rattle.device_spec.specs.Ata.Steps.{word_of, word_read, word_written, after_word, with_drive, bytes_written}
+use Rattle.std.proofs.lemmas.Bool.Decides.{nat_tests}
 use Rattle.ata_pio.specs.Ata.Laws.{IsChosen, words_read, after_words_read, after_words_written, sector_words}
 use Rattle.ata_pio.specs.Ata.Laws.{bytes_of_words, AreWords, SectorIsRead, SectorIsWritten, written_disk, ReadsBack}
 use Rattle.ata_pio.specs.Ata.Laws.{IsSound, IsUnderWay, after_all}

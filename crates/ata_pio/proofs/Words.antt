@@ -1,5 +1,6 @@
 -- The bytes of a word.
-use Rattle.board_base.proofs.Common.{nat_tests, nil_from_length}
+use Rattle.std.proofs.lemmas.Bool.Decides.{nat_tests}
+use Rattle.std.proofs.lemmas.List.{nil_from_length}
 use Rattle.std.proofs.Common.{◌≡◌, ℕ, ◌+◌, ◌-◌, ◌*◌, ◌/◌, ◌%◌, ◌<◌, ◌≤◌, List, [], ◌∷◌, ◌++◌, length, take, drop, refl}
 use Rattle.std.proofs.Common.{arith, length-drop, length-take}
 use Rattle.std.proofs.lemmas.Slice.{take-put_mid}

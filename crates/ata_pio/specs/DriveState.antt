@@ -1,8 +1,8 @@
 -- The state of the drive as bytes: the registers, what is under way, and the request.
 use Rattle.std.specs.Prelude.{ℕ, ◌≡◌, ◌-◌, ◌*◌, ◌/◌, ◌<◌, ◌==◌, ◌++◌, if◌then◌else◌, nat_lt, List, [], ◌∷◌, length}
-use Rattle.board_base.specs.Common.{w8, w32, to_le_bytes}
+use Rattle.std.specs.Int.{w8, w32, to_le_bytes}
 use Rattle.byte_fields.specs.Fields.{Reading as Reader, gives, ◌>>=◌, within, plain, flag_byte, flag_field, bound_where}
-use Rattle.device_spec.specs.Common.{Registers, Activity, Ready, Failed, Reading, Writing, Identifying, Drive}
+use Rattle.device_spec.specs.Ata.State.{Registers, Activity, Ready, Failed, Reading, Writing, Identifying, Drive}
 use Rattle.ata_pio.specs.View.{activity_of}
 use Rattle.ata_pio.specs.declared.drive_state.UnderWay.{UnderWay}
 

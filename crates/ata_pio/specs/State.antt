@@ -2,7 +2,7 @@
 use Rattle.std.specs.Prelude.{ℕ, zero, suc, ◌≡◌, ◌/◌, ◌++◌, Bool, true, List, [], ◌∷◌, length, map}
 use Rattle.byte_fields.specs.Fields.{Reading as Reader, gives, ◌>>=◌, flag_byte, flag_field}
 use Rattle.byte_fields.specs.Pages.{pages_bytes, pages_fields}
-use Rattle.device_spec.specs.Common.{Medium, Disk, is_disk_length}
+use Rattle.device_spec.specs.Ata.State.{Medium, Disk, is_disk_length}
 use Rattle.ata_pio.specs.DriveState.{IsDrive, drive_bytes, drive_fields}
 
 -- ---- the sectors: their bytes over those of the disk as it was fitted, in pages of a sector each, and then a flag for

@@ -1,7 +1,8 @@
 -- The state of the machine that the values of this crate stand for.
 use Rattle.std.specs.Prelude.{ℕ, ◌*◌, ◌<◌, List, take, Result, Ok, Err}
-use Rattle.device_spec.specs.Common.{Medium, Registers, Activity, Ready, Failed, Reading, Writing, Identifying, Drive}
-use Rattle.device_spec.specs.Common.{aborted, not_found, uncorrectable}
+use Rattle.device_spec.specs.Ata.State.{Medium, Registers, Activity, Ready, Failed, Reading, Writing, Identifying}
+use Rattle.device_spec.specs.Ata.State.{Drive}
+use Rattle.device_spec.specs.Ata.Commands.{aborted, not_found, uncorrectable}
 use Rattle.ata_pio.specs.declared.fault.Fault.{Fault}
 use Rattle.ata_pio.specs.declared.fault.Fault.TheVariants.{Aborted, NotFound, Uncorrectable}
 use Rattle.ata_pio.specs.declared.task_file.TaskFile.{TaskFile}

@@ -1,11 +1,12 @@
 //! The disk as its ports show it.
 
 ghost use Rattle.std.specs.Prelude.{◌≡◌, ◌*◌, ◌<◌, ◌↔◌, length, false, IsTrue, IfOk};
-ghost use Rattle.device_spec.specs.Common.{is_disk_length, power_on, is_interrupt, sectors_of, word_at, sector_bytes};
-ghost use Rattle.device_spec.specs.Common.{is_ata_port, read_of, after_bad, word_of, word_read, word_written};
-ghost use Rattle.device_spec.specs.Common.{register_of, register_read, byte_written};
+ghost use Rattle.device_spec.specs.Ata.State.{is_disk_length, power_on, is_interrupt, sectors_of, word_at};
+ghost use Rattle.device_spec.specs.Ata.State.{sector_bytes};
+ghost use Rattle.device_spec.specs.Ata.Steps.{is_ata_port, read_of, after_bad, word_of, word_read, word_written};
+ghost use Rattle.device_spec.specs.Ata.Steps.{register_of, register_read, byte_written, after_read, after_write};
+ghost use Rattle.device_spec.specs.Ata.Steps.{after_reset};
 ghost use Rattle.ata_pio.specs.Words.{is_readable, with_word, with_all};
-ghost use Rattle.device_spec.specs.Ata.Steps.{after_read, after_write, after_reset};
 
 use crate::controller::Controller;
 use crate::sectors::{SECTOR_BYTES, Sectors};

@@ -1,11 +1,13 @@
 //! The drive: what a command does, and how its words move.
 
 ghost use Rattle.std.specs.Prelude.{◌≡◌, ◌+◌, ◌-◌, ◌*◌, ◌<◌, length, ◌%◌, ◌/◌, ◌++◌, ◌∷◌, [], ℕ, take};
-ghost use Rattle.device_spec.specs.Common.{power_on_drive, status_of, is_drq, is_interrupt, sectors_of, reset_drive};
-ghost use Rattle.device_spec.specs.Common.{failed, finished, begin_read, begin_write, sector_read, sector_written};
-ghost use Rattle.device_spec.specs.Common.{verified, geometry_set, feature_set, obeyed, begun, is_ignored, commanded};
-ghost use Rattle.device_spec.specs.Common.{identifies, left_of, word_of, after_word, word_written, register_of};
-ghost use Rattle.device_spec.specs.Common.{register_written, control_written};
+ghost use Rattle.device_spec.specs.Ata.State.{power_on_drive, status_of, is_drq, is_interrupt, sectors_of, reset_drive};
+ghost use Rattle.device_spec.specs.Ata.Commands.{failed, finished, begin_read, begin_write, sector_read};
+ghost use Rattle.device_spec.specs.Ata.Commands.{sector_written, verified, geometry_set, feature_set, obeyed, begun};
+ghost use Rattle.device_spec.specs.Ata.Commands.{is_ignored, commanded, identifies};
+ghost use Rattle.device_spec.specs.Ata.Address.{left_of};
+ghost use Rattle.device_spec.specs.Ata.Steps.{word_of, after_word, word_written, register_of, register_written};
+ghost use Rattle.device_spec.specs.Ata.Steps.{control_written};
 ghost use Rattle.ata_pio.specs.View.{error_of, medium_of, registers_of, drive_of, IsOnDisk};
 
 use crate::fault::Fault;

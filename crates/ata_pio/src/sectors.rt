@@ -1,8 +1,9 @@
 //! The sectors of a disk: their bytes, and which of them are bad.
 
 ghost use Rattle.std.specs.Prelude.{◌≡◌, ◌*◌, ◌<◌, ◌≤◌, length, vec_len, IsTrue, IfOk};
-ghost use Rattle.device_spec.specs.Common.{is_disk_length, power_on, sectors_of, word_at, sector_bytes, stored, marked};
-ghost use Rattle.device_spec.specs.Common.{found, readable};
+ghost use Rattle.device_spec.specs.Ata.State.{is_disk_length, power_on, sectors_of, word_at, sector_bytes, stored};
+ghost use Rattle.device_spec.specs.Ata.State.{marked};
+ghost use Rattle.device_spec.specs.Ata.Commands.{found, readable};
 ghost use Rattle.ata_pio.specs.Words.{is_readable, with_word, with_all};
 
 use crate::fault::Fault;

@@ -3,7 +3,7 @@
 ghost use Rattle.std.specs.Prelude.{◌≡◌, ◌++◌, OnOk, IfOk, IsTrue, map, length, List, ℕ};
 ghost use Rattle.byte_fields.specs.Fields.{Filled, flag_byte};
 ghost use Rattle.byte_fields.specs.Loads.{LoadsWith, OneSpelling};
-ghost use Rattle.device_spec.specs.Common.{Disk, is_disk_length};
+ghost use Rattle.device_spec.specs.Ata.State.{Disk, is_disk_length};
 ghost use Rattle.ata_pio.specs.View.{medium_of};
 ghost use Rattle.ata_pio.specs.State.{IsMedium, medium_bytes, medium_fields, flags_fields, count_of, IsDisk};
 ghost use Rattle.ata_pio.specs.State.{disk_bytes, disk_fields};

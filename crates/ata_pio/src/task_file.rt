@@ -14,8 +14,9 @@
 //! | 3F6h | alternate status                     | device control | 00h      |
 
 ghost use Rattle.std.specs.Prelude.{◌≡◌, ◌+◌, ◌*◌, ◌<◌};
-ghost use Rattle.device_spec.specs.Common.{signed, power_on_registers, is_lba, is_drive_one, lba_of, chs_of, named};
-ghost use Rattle.device_spec.specs.Common.{naming, head_of, counted, with_head, with_register, with_control};
+ghost use Rattle.device_spec.specs.Ata.State.{signed, power_on_registers, is_lba, is_drive_one};
+ghost use Rattle.device_spec.specs.Ata.Address.{lba_of, chs_of, named, naming, head_of, counted, with_head};
+ghost use Rattle.device_spec.specs.Ata.Steps.{with_register, with_control};
 ghost use Rattle.ata_pio.specs.View.{registers_of};
 
 use board_base::bits::is_set;

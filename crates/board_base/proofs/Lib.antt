@@ -2,4 +2,3 @@ pub mod CalendarLemmas
 pub mod WidthLemmas
 pub mod ZeroLemmas
 pub mod MergedLemmas
-pub mod Common

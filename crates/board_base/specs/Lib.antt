@@ -1,4 +1,3 @@
 pub mod Access
 pub mod Bits
 pub mod Calendar
-pub mod Common

@@ -1,7 +1,7 @@
 -- How a call from C ends.
 use Rattle.std.specs.Prelude.{ℕ, ◌≡◌, ◌≢◌, true, false, Option, Some, None}
-use Rattle.board_chipset.specs.Common.{Running}
-use Rattle.uart_16550.specs.Common.{Serial}
+use Rattle.board_chipset.specs.Chipset.{Running}
+use Rattle.uart_16550.specs.Serial.{Serial}
 use Rattle.machine.specs.Machines.{MachineState}
 use Rattle.machine_records.specs.FittedReplies.{IsGoneOn}
 use Rattle.machine_records.specs.Statuses.{bad_handle, ok}

@@ -3,8 +3,9 @@
 ghost use Rattle.std.specs.Prelude.{◌≡◌, ◌+◌, ◌<◌, ◌≤◌, length, true};
 ghost use Rattle.board_c.specs.Calls.{IsCall, OnBoard, OnBoth};
 ghost use Rattle.board_spec.specs.Setup.{installed};
-ghost use Rattle.machine_records.specs.Common.{IsClockByte, IsClockWritten, IsDramRead, IsDramWritten, IsSectorRead};
-ghost use Rattle.machine_records.specs.Common.{IsSectorRefusal, clock_bytes, no_byte, past_end};
+ghost use Rattle.machine_records.specs.Bytes.{IsClockByte, IsClockWritten, IsDramRead, IsDramWritten, IsSectorRead};
+ghost use Rattle.machine_records.specs.Bytes.{IsSectorRefusal, clock_bytes};
+ghost use Rattle.machine_records.specs.Statuses.{no_byte, past_end};
 
 use crate::handle::Handle;
 use machine_records::status::{BAD_HANDLE, OK};

@@ -2,8 +2,9 @@
 
 ghost use Rattle.std.specs.Prelude.{◌≡◌, length, true};
 ghost use Rattle.board_c.specs.Calls.{IsCall, OnBoard, OnMachine, OnMachines};
-ghost use Rattle.machine_records.specs.Common.{IsBaseRead, IsBaseUnread, IsBaseUnwritten, IsBaseWritten};
-ghost use Rattle.machine_records.specs.Common.{IsMasterCycle, IsMasterPlaced, no_cycle};
+ghost use Rattle.machine_records.specs.CardBytes.{IsBaseRead, IsBaseUnread, IsBaseUnwritten, IsBaseWritten};
+ghost use Rattle.machine_records.specs.Masters.{IsMasterCycle, IsMasterPlaced};
+ghost use Rattle.machine_records.specs.Statuses.{no_cycle};
 
 use crate::handle::Handle;
 use machine_records::status::BAD_HANDLE;

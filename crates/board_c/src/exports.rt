@@ -2,8 +2,11 @@
 
 ghost use Rattle.std.specs.Prelude.{◌≡◌, [], false, IsSomeAnd};
 ghost use Rattle.board_c.specs.Calls.{IsCall, IsOpening, OnBoard, OnMachine, OnMachines};
-ghost use Rattle.machine_records.specs.Common.{IsEventRefusal, IsMachineStep, IsOpenRefusal, IsOpenedWith, asked_said};
-ghost use Rattle.machine_records.specs.Common.{identities_said, setup_said};
+ghost use Rattle.machine_records.specs.Statuses.{IsEventRefusal};
+ghost use Rattle.machine_records.specs.FittedReplies.{IsMachineStep};
+ghost use Rattle.machine_records.specs.Openings.{IsOpenRefusal, IsOpenedWith, setup_said};
+ghost use Rattle.machine_records.specs.Events.{asked_said};
+ghost use Rattle.machine_records.specs.Cards.{identities_said};
 
 use crate::handle::Handle;
 use crate::opened::Opened;

@@ -3,11 +3,12 @@
 ghost use Rattle.std.specs.Prelude.{◌≡◌, ◌⊎◌, [], length, true, false, Some};
 ghost use Rattle.board_c.specs.Calls.{IsCall, IsOpening, OnMachine};
 ghost use Rattle.board_c.specs.Images.{IsSaveRefusal, IsSaved};
-ghost use Rattle.machine.specs.Common.{AreAsMany, IsGivenBoard, IsGivenRefusal, IsLoadRefusal, IsSavedState};
-ghost use Rattle.machine.specs.Common.{Saved, given_of, image_bytes, left_of, on_board, with_given, without};
-ghost use Rattle.machine.specs.Common.{without_roms};
+ghost use Rattle.machine.specs.Given.{AreAsMany, IsGivenBoard, IsGivenRefusal, given_of, left_of, on_board, with_given};
+ghost use Rattle.machine.specs.Given.{without};
+ghost use Rattle.machine.specs.Images.{IsLoadRefusal, IsSavedState, image_bytes};
+ghost use Rattle.machine.specs.Machines.{Saved, without_roms};
 ghost use Rattle.machine.specs.declared.saved.LeftOut.{LeftOut as Left};
-ghost use Rattle.machine_records.specs.Common.{IsOutcome, IsRefusedBy, no_memory, ok};
+ghost use Rattle.machine_records.specs.Statuses.{IsOutcome, IsRefusedBy, no_memory, ok};
 
 use crate::handle::Handle;
 use crate::opened::Opened;

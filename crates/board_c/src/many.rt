@@ -2,7 +2,7 @@
 
 ghost use Rattle.std.specs.Prelude.{◌≡◌, length};
 ghost use Rattle.board_c.specs.Calls.{IsCall, OnMachine, OnMachines};
-ghost use Rattle.machine_records.specs.Common.{AreRead, AreWritten, IsFirstRefused, reads, writes};
+ghost use Rattle.machine_records.specs.Strings.{AreRead, AreWritten, IsFirstRefused, reads, writes};
 
 use crate::handle::Handle;
 use machine_records::status::BAD_HANDLE;

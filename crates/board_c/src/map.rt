@@ -2,8 +2,9 @@
 
 ghost use Rattle.std.specs.Prelude.{◌≡◌, true, IsSomeAnd};
 ghost use Rattle.board_c.specs.Calls.{IsCall, OnBoard};
-ghost use Rattle.machine_records.specs.Common.{AreRangesOf, AreWindowsOf, IsAskedPlace, IsNotPlaced, IsRise};
-ghost use Rattle.machine_records.specs.Common.{IsVersionSaid, asked_said};
+ghost use Rattle.machine_records.specs.Maps.{AreRangesOf, AreWindowsOf, IsVersionSaid};
+ghost use Rattle.machine_records.specs.Places.{IsAskedPlace, IsNotPlaced, IsRise};
+ghost use Rattle.machine_records.specs.Events.{asked_said};
 
 use crate::handle::Handle;
 use machine_records::status::{BAD_HANDLE, OK};

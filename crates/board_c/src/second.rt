@@ -2,7 +2,9 @@
 
 ghost use Rattle.std.specs.Prelude.{◌≡◌, true};
 ghost use Rattle.board_c.specs.Calls.{IsCall, OnBoard, OnBoth};
-ghost use Rattle.machine_records.specs.Common.{AreLinesOf, HasNoSecond, IsSecondStep, no_time, serial_state_said};
+ghost use Rattle.machine_records.specs.Lines.{AreLinesOf, serial_state_said};
+ghost use Rattle.machine_records.specs.Seconds.{HasNoSecond, IsSecondStep};
+ghost use Rattle.machine_records.specs.Statuses.{no_time};
 
 use crate::handle::Handle;
 use machine_records::status::{BAD_HANDLE, OK};

@@ -2,7 +2,8 @@
 
 ghost use Rattle.std.specs.Prelude.{◌≡◌, ◌≢◌, ◌⊎◌, length, IsSomeAnd};
 ghost use Rattle.machine.specs.Images.{IsWritten};
-ghost use Rattle.machine_records.specs.Common.{IsLineRefusal, entry_recorded, no_room, ok, whole_line};
+ghost use Rattle.machine_records.specs.LogLines.{IsLineRefusal, entry_recorded, whole_line};
+ghost use Rattle.machine_records.specs.Statuses.{no_room, ok};
 
 use machine_records::{EventRecord, ReplyRecord, write_line};
 use std::alloc::Global;

@@ -2,9 +2,9 @@
 
 ghost use Rattle.std.specs.Prelude.{◌≡◌, ◌≢◌, true};
 ghost use Rattle.board_c.specs.Calls.{IsCall, OnBoard};
-ghost use Rattle.machine_records.specs.Common.{no_transfer, ok};
-ghost use Rattle.transfer_records.specs.Common.{IsBeginning, IsNextPiece, IsRegionFree, IsTransfer, begun_at};
-ghost use Rattle.transfer_records.specs.Common.{described_by};
+ghost use Rattle.machine_records.specs.Statuses.{no_transfer, ok};
+ghost use Rattle.transfer_records.specs.Transfers.{IsBeginning, IsRegionFree, IsTransfer, begun_at, described_by};
+ghost use Rattle.transfer_records.specs.Pieces.{IsNextPiece};
 
 use crate::handle::Handle;
 use machine_records::status::BAD_HANDLE;

@@ -1,7 +1,7 @@
 -- Cards and bases that are tested one after another.
 use Rattle.std.proofs.Common.{◌≡◌, ℕ, ◌+◌, ◌<◌, ◌≤◌, List, [], ◌∷◌, length, get_or, drop, map, subst, arith, ◌↔◌, All}
-use Rattle.board_prelude.proofs.Common.{drop_more, get_or-map, length-map, All-nil, All-cons, All-head, All-tail}
-use Rattle.board_prelude.proofs.Common.{FittedCard, IsBase, IsCard, IsCardList, Rises}
+use Rattle.board_prelude.proofs.{drop_more, get_or-map, length-map, All-nil, All-cons, All-head, All-tail, FittedCard}
+use Rattle.board_prelude.proofs.{IsBase, IsCard, IsCardList, Rises}
 use Rattle.pci_bars.specs.declared.spec.BaseSpec.{BaseSpec}
 use Rattle.pci_bars.specs.Bases.{base_of}
 use Rattle.board_chipset.specs.Setups.{RiseFrom}

@@ -4,14 +4,13 @@ use Rattle.std.proofs.Common.{drop, Option, Some, None, refl, ap, ◌∙◌, ari
 use Rattle.std.proofs.Common.{unwrap_or}
 use Rattle.std.proofs.lemmas.Grind.{elements}
 use Rattle.std.proofs.lemmas.Option.{slice_get_past}
-use Rattle.board_prelude.proofs.Common.{get_or-take, get_or-drop, nat_tests, Write, One, Card, Event, Memory, Bus}
-use Rattle.board_prelude.proofs.Common.{Entry, Setup, IsSetup, Cell, DramCell, CardCell, byte, byte_put, card_byte}
-use Rattle.board_prelude.proofs.Common.{Denial}
+use Rattle.board_prelude.proofs.{get_or-take, get_or-drop, nat_tests, Write, One, Card, Event, Memory, Bus, Entry}
+use Rattle.board_prelude.proofs.{Setup, IsSetup, Cell, DramCell, CardCell, byte, byte_put, card_byte, Denial}
 use Rattle.board_base.specs.declared.access.Access.{Access}
 use Rattle.pci_bars.specs.Contents.{HaveSizes, IsBaseNumber, held, IsContentsOf}
 use Rattle.pci_bars.proofs.ContentsLemmas.{card_within, stored_byte}
 use Rattle.board_chipset.specs.declared.state.State.{State}
-use Rattle.board_chipset.specs.Common.{IsSound, IsStateOf}
+use Rattle.board_chipset.specs.Kept.{IsSound, IsStateOf}
 use Rattle.board_chipset.specs.CardLoads.{card_size, WritesByte, WriteCardInTurn, WriteCard}
 use Rattle.board_chipset.proofs.OutsideSteps.{found_in}
 use Rattle.board_chipset.proofs.LoadSteps.{IsPut, all_put, InTurn, state_in_turn}

@@ -1,5 +1,5 @@
 -- The state of a chipset is spelled and read back. What is read has no ranges of the map yet.
-use Rattle.board_prelude.proofs.Common.{nat_tests, Setup, FittedCard, IsSetup, w8, to_le_bytes}
+use Rattle.board_prelude.proofs.{nat_tests, Setup, FittedCard, IsSetup, w8, to_le_bytes}
 use Rattle.std.proofs.Common.{◌≡◌, ℕ, ◌+◌, ◌*◌, ◌^◌, ◌<◌, List, ◌∷◌, [], length, is_some, refl, ap, arith}
 use Rattle.std.specs.Int.{Width as Size, byte_len}
 use Rattle.byte_fields.specs.Fields.{within, flag_byte}

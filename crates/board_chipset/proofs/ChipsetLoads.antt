@@ -1,7 +1,7 @@
 -- What was read is a chipset, and the one that was saved.
 use Rattle.std.proofs.Common.{◌≡◌, ℕ, inl, inr, false, List, [], ◌++◌, length, Result, Ok, Err, IfOk, refl, sym, ap}
 use Rattle.std.proofs.Common.{◌∙◌, append_assoc, arith, ◌+◌, ◌≤◌}
-use Rattle.board_prelude.proofs.Common.{nat_tests, Setup, IsSetup, append-nil}
+use Rattle.board_prelude.proofs.{nat_tests, Setup, IsSetup, append-nil}
 use Rattle.byte_fields.specs.declared.fault.Fault.{Fault}
 use Rattle.byte_fields.specs.Fields.{AreBytes, Filled}
 use Rattle.byte_fields.proofs.Formats.{ok_is, not_err}

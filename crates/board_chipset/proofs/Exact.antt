@@ -1,6 +1,6 @@
 -- Answers, and answers in which the version of a look is counted modulo 2^32.
 use Rattle.std.proofs.Common.{◌≡◌, ℕ, Bool, ◌%◌, ◌<◌, List, length, arith}
-use Rattle.board_prelude.proofs.Common.{nat_tests, Kind, Event, Reply, Entry, entry_limit, Setup, version_of, IsAnswer}
+use Rattle.board_prelude.proofs.{nat_tests, Kind, Event, Reply, Entry, entry_limit, Setup, version_of, IsAnswer}
 use Rattle.board_spec.specs.declared.event.Event.TheVariants.{Look as LookAt}
 use Rattle.board_chipset.specs.Versions.{version_count, IsAnswerModulo}
 use Rattle.board_chipset.proofs.MapVersions.{few_writes}

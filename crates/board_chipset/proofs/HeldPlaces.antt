@@ -1,6 +1,6 @@
 -- Where accesses land by the register bytes that a chipset holds.
 use Rattle.std.proofs.Common.{◌≡◌, ℕ, List, Option, None, Some, is_some, refl, arith, option_map}
-use Rattle.board_prelude.proofs.Common.{Disk, nat_tests}
+use Rattle.board_prelude.proofs.{Disk, nat_tests}
 use Rattle.board_devices.specs.Devices.{HasDisk}
 
 -- a disk is there exactly where one is fitted

@@ -1,16 +1,18 @@
 -- What an access reaches has the bytes that it asks for.
 use Rattle.std.proofs.Common.{◌≡◌, ℕ, ◌+◌, ◌%◌, ◌^◌, ◌≤◌, Bool, List, [], ◌∷◌, Option, Some, refl, sym, arith}
 use Rattle.std.proofs.Common.{option_map}
-use Rattle.board_prelude.proofs.Common.{PortAccess, Width, Dev, Reg, Area, Target, Device, Config, Card, Abort}
-use Rattle.board_prelude.proofs.Common.{bytes_of, Part, Setup, IsRomSize, IsBusAccess, is_write, Window, first_of}
-use Rattle.board_prelude.proofs.Common.{line_where, card_area, memory_claim, area_of, window_bits, target_at, nat_tests}
+use Rattle.board_prelude.proofs.{PortAccess, Width, Dev, Reg, Area, Target, Device, Config, Card, Abort, bytes_of, Part}
+use Rattle.board_prelude.proofs.{Setup, IsRomSize, IsBusAccess, is_write, Window, first_of, line_where, card_area}
+use Rattle.board_prelude.proofs.{memory_claim, area_of, window_bits, target_at, nat_tests}
 use Rattle.board_base.specs.declared.access.Access.{Access}
 use Rattle.board_base.specs.declared.target.Area.TheVariants as areas
-use Rattle.pci_bars.specs.Common.{AreFitted, LiesIn}
+use Rattle.pci_bars.specs.Cards.{AreFitted}
+use Rattle.pci_bars.specs.Contents.{LiesIn}
 use Rattle.pci_bars.proofs.WindowLemmas.{IsSized, memory_claim_sized, io_claim_sized, lies_in_window}
 use Rattle.addr_decode.specs.MapRegs.{MapBytes, StandsFor}
 use Rattle.addr_decode.proofs.CardLemmas.{fitted_list}
-use Rattle.board_stores.specs.Common.{IsStored, IsHeld, IsReady, part_in}
+use Rattle.board_stores.specs.Targets.{IsStored, IsHeld, part_in}
+use Rattle.board_stores.specs.Ready.{IsReady}
 use Rattle.board_chipset.specs.declared.state.State.{State}
 use Rattle.board_chipset.specs.Kept.{IsSound}
 use Rattle.board_chipset.specs.Ports.{Reaching}

@@ -1,7 +1,7 @@
 -- Registers of the right number and widths are those of a board of their setup: each stands for a byte of its own.
 use Rattle.std.proofs.Common.{◌≡◌, ℕ, ◌-◌, List, [], ◌∷◌, length, get_or, Some, None, refl, ◌∙◌, arith, ◌==◌}
 use Rattle.std.proofs.Common.{if◌then◌else◌, All, is_some, slice_index, map}
-use Rattle.board_prelude.proofs.Common.{and-false, option_map_or, Setup, IsCard, Bytes, reset_byte, ide, nat_tests}
+use Rattle.board_prelude.proofs.{and-false, option_map_or, Setup, IsCard, Bytes, reset_byte, ide, nat_tests}
 use Rattle.pci_bars.specs.Cards.{CardBytes, IsCardOf, cards_of}
 use Rattle.addr_decode.specs.MapRegs.{MapBytes}
 use Rattle.map_builder.specs.Map.{HoldsDoublewords}

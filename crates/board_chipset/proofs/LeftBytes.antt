@@ -1,18 +1,18 @@
 -- Bytes that a caller keeps itself: left out they are spelled as any others beside themselves, and they can be put in.
 use Rattle.std.proofs.Common.{◌≡◌, ℕ, suc, ◌≤◌, ◌<◌, Bool, List, [], ◌∷◌, length, drop, replicate, option_map}
 use Rattle.std.proofs.Common.{unwrap_or, Option, refl, sym, ap, ◌∙◌, arith, slice_index}
-use Rattle.board_prelude.proofs.Common.{bytes_eq-Decides, length-replicate, length-take, length-drop, nat_tests, Disk}
-use Rattle.board_prelude.proofs.Common.{Setup, reset_byte}
+use Rattle.board_prelude.proofs.{bytes_eq-Decides, length-replicate, length-take, length-drop, nat_tests, Disk, Setup}
+use Rattle.board_prelude.proofs.{reset_byte}
 use Rattle.std.proofs.lemmas.List.{drop_min, take_min}
 use Rattle.byte_fields.specs.Pages.{memory_bytes, memory_page, pages_bytes}
 use Rattle.byte_fields.proofs.PageFormats.{bytes_first}
-use Rattle.board_devices.specs.Common.{HasDisk, holding, sectors_in}
+use Rattle.board_devices.specs.Devices.{HasDisk, holding, sectors_in}
 use Rattle.board_devices.specs.State.{fitted_bytes}
 use Rattle.board_chipset.specs.ChipsetState.{head_bytes, size_bytes, disk_size}
 use Rattle.board_chipset.specs.Given.{fitted_with, unless_left, zeros}
 use Rattle.std.proofs.lemmas.Grind.{same_number_lists}
 use Rattle.dram_store.specs.Dram.{IsWritten}
-use Rattle.board_chipset.specs.Common.{IsSound}
+use Rattle.board_chipset.specs.Kept.{IsSound}
 use Rattle.board_chipset.specs.declared.state.State.{State}
 
 -- as many bytes beside themselves are spelled alike

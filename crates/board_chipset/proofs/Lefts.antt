@@ -1,8 +1,9 @@
 -- What a history leaves, in the words that contracts see.
 use Rattle.std.proofs.Common.{◌≡◌, ℕ, List, sym, subst}
-use Rattle.board_prelude.proofs.Common.{Event, Entry, Setup, IsInRange}
+use Rattle.board_prelude.proofs.{Event, Entry, Setup, IsInRange}
 use Rattle.board_chipset.specs.declared.state.State.{State}
-use Rattle.board_chipset.specs.Common.{CanDo, IsStateOf, IsSound, Running, IsLeftBy}
+use Rattle.board_chipset.specs.Kept.{CanDo, IsStateOf, IsSound}
+use Rattle.board_chipset.specs.Chipset.{Running, IsLeftBy}
 
 pub left_by : {setup : Setup} {history : List Entry} {state : State} → IsStateOf setup history state →
     IsLeftBy (record { setup = setup; state = state }) history

@@ -18,4 +18,3 @@ pub mod Marks
 pub mod LeftBytes
 pub mod ChipsetFormats
 pub mod ChipsetLoads
-pub mod Common

@@ -3,17 +3,20 @@
 use Rattle.std.proofs.Common.{◌≡◌, ℕ, zero, suc, ◌+◌, ◌-◌, ◌&&◌, ◌==◌, nat_le, nat_lt, if◌then◌else◌, List, [], ◌∷◌}
 use Rattle.std.proofs.Common.{◌++◌, length, slice_index, unwrap_or, Option, Some, None, refl, sym, ◌∙◌, ap, arith}
 use Rattle.std.proofs.Common.{false, ◌≤◌, Result, Ok, Err, OnOk, OnErr}
-use Rattle.board_prelude.proofs.Common.{nat_tests, Event, Reply, Entry, Setup, Cell, entry_put, stored_of}
-use Rattle.board_prelude.proofs.Common.{device_reached, Write, One, Dram, Device, clock_index_port, clock_data_port}
-use Rattle.board_prelude.proofs.Common.{Memory, Port, Bus, DramCell, CardCell, clock_of}
+use Rattle.board_prelude.proofs.{nat_tests, Event, Reply, Entry, Setup, Cell, entry_put, stored_of, device_reached}
+use Rattle.board_prelude.proofs.{Write, One, Dram, Device, clock_index_port, clock_data_port, Memory, Port, Bus}
+use Rattle.board_prelude.proofs.{DramCell, CardCell, clock_of}
 use Rattle.board_base.specs.declared.access.Access.{Access}
-use Rattle.board_devices.specs.Common.{DevicesValue, AreDevicesOf, PassesBy, byte_out, WritesClock, PutsClockByte}
+use Rattle.board_devices.specs.Devices.{DevicesValue, AreDevicesOf}
+use Rattle.board_devices.specs.Events.{PassesBy}
+use Rattle.board_devices.specs.Outside.{byte_out, WritesClock, PutsClockByte}
 use Rattle.board_devices.proofs.DeviceLemmas.{leaves_devices}
 use Rattle.board_stores.specs.declared.stores.Stores.{Stores}
 use Rattle.board_chipset.specs.declared.registers.Registers.{Registers}
 use Rattle.board_chipset.specs.declared.state.State.{State}
-use Rattle.board_chipset.specs.Common.{HasRegisters, IsStateOf, Writes, WriteInTurn, WriteAll, IsClockWrite}
-use Rattle.board_chipset.specs.Common.{WriteClockByte}
+use Rattle.board_chipset.specs.Kept.{HasRegisters, IsStateOf}
+use Rattle.board_chipset.specs.Ports.{Writes}
+use Rattle.board_chipset.specs.Loads.{WriteInTurn, WriteAll, IsClockWrite, WriteClockByte}
 use Rattle.board_chipset.proofs.StateSteps.{quiet, soft, HavePut, stores_after, stores_stay}
 use Rattle.board_base.specs.declared.target.Dev.TheVariants.{Clock as ClockChip}
 use Rattle.dram_store.specs.declared.dram.PastTheEnd.{PastTheEnd}

@@ -1,11 +1,11 @@
 -- Which entries are map writes, the version of the map, and the windows of its last change.
 use Rattle.std.proofs.Common.{◌≡◌, ℕ, Bool, true, false, ◌+◌, ◌%◌, ◌≤◌, List, [], ◌∷◌, ◌++◌, length, Option, Some, None}
 use Rattle.std.proofs.Common.{arith, if◌then◌else◌, option_and_then}
-use Rattle.board_prelude.proofs.Common.{option_to_list, nat_tests, Entry, MapChange, Store, Width, Reg, Setup}
-use Rattle.board_prelude.proofs.Common.{register_change, byte_of, touches_map, map_change_of, map_writes_of, version_of}
-use Rattle.board_prelude.proofs.Common.{cond_both}
+use Rattle.board_prelude.proofs.{option_to_list, nat_tests, Entry, MapChange, Store, Width, Reg, Setup, register_change}
+use Rattle.board_prelude.proofs.{byte_of, touches_map, map_change_of, map_writes_of, version_of, cond_both}
 use Rattle.map_builder.specs.declared.range.Changed.{Changed}
-use Rattle.map_builder.specs.Common.{next_version, AreChanged}
+use Rattle.map_builder.specs.Map.{next_version}
+use Rattle.map_builder.specs.Applied.{AreChanged}
 use Rattle.board_chipset.specs.Versions.{version_count, AreNextChanged, AreLastChanged}
 
 -- the map write that a change of the registers is, and whether it is one

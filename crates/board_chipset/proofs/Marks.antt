@@ -1,6 +1,6 @@
 -- Fixed bytes, and that nothing follows.
 use Rattle.std.proofs.Common.{◌≡◌, ℕ, ◌≤◌, inl, inr, List, length, Err, ap, ◌∙◌, arith, length-append}
-use Rattle.board_prelude.proofs.Common.{nat_tests}
+use Rattle.board_prelude.proofs.{nat_tests}
 use Rattle.byte_fields.specs.Fields.{AreBytes, Reading, then_read, gives, ended}
 use Rattle.board_chipset.specs.Alone.{alone}
 use Rattle.byte_fields.proofs.Formats.{IsFormat, then_err}

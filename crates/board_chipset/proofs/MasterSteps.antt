@@ -1,9 +1,9 @@
 -- What a bus master reaches is neither SMRAM nor DRAM in its range.
 use Rattle.std.proofs.Common.{◌≡◌, ◌≢◌, ℕ, Bool, true, false, not, ◌&&◌, [], ◌∷◌, Option, is_some, refl, arith}
 use Rattle.std.proofs.Common.{unwrap_or, option_map}
-use Rattle.board_prelude.proofs.Common.{cases_Bool, and_right, nat_tests, Kind, Area, Smram, Card, Setup, lies_in}
-use Rattle.board_prelude.proofs.Common.{upper_memory, Bytes, Window, first_of, line_where, card_area, row_of}
-use Rattle.board_prelude.proofs.Common.{is_shadowed, memory_claim, is_smram_range, is_in_hole, is_bios_selected}
+use Rattle.board_prelude.proofs.{cases_Bool, and_right, nat_tests, Kind, Area, Smram, Card, Setup, lies_in}
+use Rattle.board_prelude.proofs.{upper_memory, Bytes, Window, first_of, line_where, card_area, row_of, is_shadowed}
+use Rattle.board_prelude.proofs.{memory_claim, is_smram_range, is_in_hole, is_bios_selected}
 use Rattle.board_base.specs.declared.target.Area.TheVariants as areas
 use Rattle.addr_decode.specs.Master.{master_area}
 use Rattle.board_chipset.specs.Masters.{IsOutsideSmram, master_target}

@@ -1,10 +1,12 @@
 -- The state after an access to memory.
 use Rattle.std.proofs.Common.{◌≡◌, ℕ, true, false, List, None, refl, Bool, IsTrue, ◌↔◌, arith, [], ◌∷◌, ◌∙◌, ap, map}
 use Rattle.std.proofs.Common.{All}
-use Rattle.board_prelude.proofs.Common.{Kind, Write, Part, Setup, is_write, nat_tests, Bytes, IsBusAccess, get_or-map}
-use Rattle.board_prelude.proofs.Common.{length-map, All-head, All-tail, All-cons, WideAccess, Cell, parts_put, IsPart}
+use Rattle.board_prelude.proofs.{Kind, Write, Part, Setup, is_write, nat_tests, Bytes, IsBusAccess, get_or-map}
+use Rattle.board_prelude.proofs.{length-map, All-head, All-tail, All-cons, WideAccess, Cell, parts_put, IsPart}
 use Rattle.addr_decode.specs.MapRegs.{StandsFor}
-use Rattle.board_stores.specs.Common.{IsReady, part_in, accesses, answers, AreReady}
+use Rattle.board_stores.specs.Ready.{IsReady}
+use Rattle.board_stores.specs.Targets.{part_in}
+use Rattle.board_stores.specs.Cycles.{accesses, answers, AreReady}
 use Rattle.board_chipset.specs.declared.state.State.{State}
 use Rattle.board_chipset.specs.Kept.{IsState, IsSound}
 use Rattle.board_chipset.proofs.HeldTargets.{ready}

@@ -1,7 +1,7 @@
 -- A disk that was opened has whole sectors, a card is found by its device number, and a size is tested.
 use Rattle.std.proofs.Common.{◌≡◌, ℕ, ◌/◌, Option, Some, None, List, [], ◌∷◌, length, refl, inl, inr, subst, arith, ◌↔◌}
 use Rattle.std.proofs.Common.{Result, Ok, Err, ◌==◌, is_some, find, ◌≢◌, ◌%◌, IsTrue, nat_le}
-use Rattle.board_prelude.proofs.Common.{list_any, cases_Bool, nat_tests, FittedCard, IsDisk, is_disk_length, IsDiskSize}
+use Rattle.board_prelude.proofs.{list_any, cases_Bool, nat_tests, FittedCard, IsDisk, is_disk_length, IsDiskSize}
 use Rattle.ata_pio.specs.declared.ata.AtaOpen.{AtaOpen}
 use Rattle.board_devices.proofs.DeviceLemmas.{refused_length}
 

@@ -1,13 +1,16 @@
 -- Events for the devices alone: they write no register and store nothing.
-use Rattle.board_prelude.proofs.Common.{nat_tests, IsAnswer, IsInRange, outside_answer, Applied, Stimulus}
-use Rattle.board_prelude.proofs.Common.{stimulus_form, applied_by, event_applied, All-head, All-tail, Event, Entry}
-use Rattle.board_prelude.proofs.Common.{Setup, FittedCard, IsCard, IsSetup}
+use Rattle.board_prelude.proofs.{nat_tests, IsAnswer, IsInRange, outside_answer, Applied, Stimulus, stimulus_form}
+use Rattle.board_prelude.proofs.{applied_by, event_applied, All-head, All-tail, Event, Entry, Setup, FittedCard, IsCard}
+use Rattle.board_prelude.proofs.{IsSetup}
 use Rattle.std.proofs.Common.{◌≡◌, true, List, [], ◌∷◌, None, sym, ◌∙◌, subst, ℕ, ◌==◌, All, find, Bool, Some, IfSome}
 use Rattle.std.proofs.Common.{arith}
 use Rattle.board_spec.specs.declared.stimulus.Stimulus.TheVariants as stimuli
-use Rattle.board_devices.specs.Common.{DevicesValue, AreDevicesOf, AreRoutesOf, Asks}
+use Rattle.board_devices.specs.Devices.{DevicesValue, AreDevicesOf, AreRoutesOf}
+use Rattle.board_devices.specs.Events.{Asks}
 use Rattle.board_chipset.specs.declared.state.State.{State}
-use Rattle.board_chipset.specs.Common.{IsStateOf, Writes, IsForDevices}
+use Rattle.board_chipset.specs.Kept.{IsStateOf}
+use Rattle.board_chipset.specs.Ports.{Writes}
+use Rattle.board_chipset.specs.Steps.{IsForDevices}
 use Rattle.board_chipset.proofs.StateSteps.{soft, devices_move, writes_none}
 
 -- the state after such an event, by what it makes of the devices

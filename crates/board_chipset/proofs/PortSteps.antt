@@ -1,16 +1,16 @@
 -- What an access at a port reaches, what it writes, and the state after it, and the change of the map that it makes.
 use Rattle.std.proofs.Common.{◌≡◌, ℕ, ◌%◌, ◌^◌, Bool, true, false, ◌&&◌, List, [], ◌∷◌, drop, Option, Some, None, refl}
 use Rattle.std.proofs.Common.{arith, ◌==◌, ◌+◌, ◌≤◌, is_some, ap, if◌then◌else◌, ◌≢◌, sym}
-use Rattle.board_prelude.proofs.Common.{cond_both, nat_tests, Width, Reg, Dev, Keyboard, Ata, Target, Card, Device}
-use Rattle.board_prelude.proofs.Common.{Config, Abort, Denial, bytes_of, is_port_of, device_at, Setup}
-use Rattle.board_prelude.proofs.Common.{config_address_port, reset_control_port, is_config_port, config_register, Bytes}
-use Rattle.board_prelude.proofs.Common.{Window, io_claim, Decoded, unselected, device_port, port_target_of, PortAccess}
-use Rattle.board_prelude.proofs.Common.{Port, Entry, MapChange, Store, config_address, byte_of, is_hard_reset, Cell}
-use Rattle.board_prelude.proofs.Common.{entry_put, byte_put, Event, Reset as HardReset, reset_control, is_hard_value}
-use Rattle.board_prelude.proofs.Common.{map_change_of, device_in, device_reached, device_value, port_value, Bus}
+use Rattle.board_prelude.proofs.{cond_both, nat_tests, Width, Reg, Dev, Keyboard, Ata, Target, Card, Device, Config}
+use Rattle.board_prelude.proofs.{Abort, Denial, bytes_of, is_port_of, device_at, Setup, config_address_port}
+use Rattle.board_prelude.proofs.{reset_control_port, is_config_port, config_register, Bytes, Window, io_claim, Decoded}
+use Rattle.board_prelude.proofs.{unselected, device_port, port_target_of, PortAccess, Port, Entry, MapChange, Store}
+use Rattle.board_prelude.proofs.{config_address, byte_of, is_hard_reset, Cell, entry_put, byte_put, Event}
+use Rattle.board_prelude.proofs.{Reset as HardReset, reset_control, is_hard_value, map_change_of, device_in}
+use Rattle.board_prelude.proofs.{device_reached, device_value, port_value, Bus}
 use Rattle.board_base.specs.declared.target.Dev.TheVariants.{Confadd as AddressPort, Reset, Clock}
 use Rattle.device_spec.specs.PortTable.{first_with, port_devices}
-use Rattle.board_devices.specs.Events.{is_chip_port}
+use Rattle.board_devices.specs.Events.{is_chip_port, is_chip, PassesBy, ReachesDevice}
 use Rattle.addr_decode.proofs.AddressLemmas.{kept_address-low_bits}
 use Rattle.board_chipset.specs.declared.state.State.{State}
 use Rattle.board_chipset.specs.Ports.{reached, Reaching, IsEntryOf, Writes}
@@ -18,11 +18,11 @@ use Rattle.addr_decode.specs.declared.found.ConfigRegister.{ConfigRegister}
 use Rattle.addr_decode.specs.declared.found.Found.{Found}
 use Rattle.addr_decode.specs.declared.found.Found.TheVariants.{Device as FoundDevice, Register as FoundRegister}
 use Rattle.addr_decode.specs.Found.{decoded_as}
-use Rattle.board_devices.specs.Common.{DevicesValue, AreDevicesOf, AreRoutesOf, is_chip, PassesBy, ReachesDevice}
+use Rattle.board_devices.specs.Devices.{DevicesValue, AreDevicesOf, AreRoutesOf}
 use Rattle.board_stores.specs.declared.stores.Stores.{Stores}
 use Rattle.board_stores.specs.Puts.{ArePut}
 use Rattle.board_chipset.specs.declared.registers.Registers.{Registers}
-use Rattle.board_chipset.specs.Common.{HasRegisters, IsStateOf}
+use Rattle.board_chipset.specs.Kept.{HasRegisters, IsStateOf}
 use Rattle.board_chipset.proofs.MapVersions.{map_write}
 use Rattle.board_chipset.proofs.StateSteps.{change_by, change_is, stores_stay, soft, state_after, state_put}
 use Rattle.board_chipset.proofs.StateSteps.{state_stays, devices_move}

@@ -1,21 +1,23 @@
 -- The state after an entry: its registers, the bytes behind the addresses, and its devices.
 use Rattle.std.proofs.Common.{arith, ◌≡◌, ◌≢◌, ◌<◌, ℕ, false, List, [], ◌∷◌, Option, Some, None, refl, sym, ◌∙◌, ap}
 use Rattle.std.proofs.Common.{if◌then◌else◌, unwrap_or, option_map, length, slice_index, subst}
-use Rattle.board_prelude.proofs.Common.{nat_tests, Event, Entry, MapChange, Setup, config_address, byte_of, PortAccess}
-use Rattle.board_prelude.proofs.Common.{is_hard_reset, Cell, DramCell, CardCell, entry_put, stored_of, device_reached}
-use Rattle.board_prelude.proofs.Common.{Port, Reset, control_after, resets_hard, kept_address, reset_control}
-use Rattle.board_prelude.proofs.Common.{register_change, byte_with}
+use Rattle.board_prelude.proofs.{nat_tests, Event, Entry, MapChange, Setup, config_address, byte_of, PortAccess}
+use Rattle.board_prelude.proofs.{is_hard_reset, Cell, DramCell, CardCell, entry_put, stored_of, device_reached, Port}
+use Rattle.board_prelude.proofs.{Reset, control_after, resets_hard, kept_address, reset_control, register_change}
+use Rattle.board_prelude.proofs.{byte_with}
 use Rattle.config_regs.specs.Config.{AreKeptOf}
 use Rattle.config_regs.specs.declared.south.South.{South}
 use Rattle.pci_bars.specs.Contents.{IsBaseNumber, held}
-use Rattle.board_devices.specs.Common.{DevicesValue, AreDevicesOf, AreRoutesOf, PassesBy, sectors_fitted}
+use Rattle.board_devices.specs.Devices.{DevicesValue, AreDevicesOf, AreRoutesOf, sectors_fitted}
+use Rattle.board_devices.specs.Events.{PassesBy}
 use Rattle.board_devices.proofs.DeviceLemmas.{leaves_devices}
 use Rattle.board_devices.proofs.DiskSizes.{opened_has}
 use Rattle.board_stores.specs.declared.stores.Stores.{Stores}
 use Rattle.board_stores.specs.Puts.{HasStores, ArePut}
 use Rattle.board_chipset.specs.declared.registers.Registers.{Registers}
 use Rattle.board_chipset.specs.declared.state.State.{State}
-use Rattle.board_chipset.specs.Common.{AreSound, HasRegisters, IsFlat, IsSound, IsStateOf, Writes}
+use Rattle.board_chipset.specs.Kept.{AreSound, HasRegisters, IsFlat, IsSound, IsStateOf}
+use Rattle.board_chipset.specs.Ports.{Writes}
 use Rattle.board_chipset.proofs.MapVersions.{version_by, modulo_after, Follow, changed_after}
 
 -- ---- the registers

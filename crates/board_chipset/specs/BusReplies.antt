@@ -1,5 +1,5 @@
 -- The replies to accesses, as those to events.
-use Rattle.board_prelude.specs.Common.{Reply, Bus}
+use Rattle.board_prelude.specs.{Reply, Bus}
 use Rattle.board_spec.specs.declared.event.Reply.TheVariants as replies
 use Rattle.board_chipset.specs.declared.bus_reply.BusReply.{BusReply}
 use Rattle.board_chipset.specs.declared.bus_reply.WideReply.{WideReply}

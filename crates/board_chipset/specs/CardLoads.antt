@@ -1,7 +1,7 @@
 -- Bytes that are written to a card from outside: the entries that would have written them.
 use Rattle.std.specs.Prelude.{ℕ, ◌≡◌, ◌+◌, Bool, true, false, List, [], ◌∷◌, length, slice_index, Option, None}
-use Rattle.board_prelude.specs.Common.{Write, One, Card, Denial, Event, Memory, Port, Bus, Entry, Setup, card_at}
-use Rattle.board_prelude.specs.Common.{kept_size, is_within}
+use Rattle.board_prelude.specs.{Write, One, Card, Denial, Event, Memory, Port, Bus, Entry, Setup, card_at, kept_size}
+use Rattle.board_prelude.specs.{is_within}
 
 -- how many bytes are kept of a base of a card. None where the card or the base does not exist, of an outside base, and
 -- of an expansion ROM

@@ -1,6 +1,6 @@
 -- What contracts see of a chipset. Its history is not kept: it is whatever history leaves a board as the chipset is.
 use Rattle.std.specs.Prelude.{List}
-use Rattle.board_prelude.specs.Common.{Entry, Setup}
+use Rattle.board_prelude.specs.{Entry, Setup}
 use Rattle.board_chipset.specs.declared.state.State.{State}
 use Rattle.board_chipset.specs.Kept.{IsStateOf, IsSound}
 

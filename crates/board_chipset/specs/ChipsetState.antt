@@ -2,8 +2,8 @@
 -- ranges of the map are not in them: they are built anew of its registers.
 use Rattle.std.specs.Prelude.{ℕ, ◌≡◌, ◌+◌, ◌<◌, ◌⊎◌, ◌==◌, Bool, false, not, List, [], ◌∷◌, ◌++◌, length, Option}
 use Rattle.std.specs.Prelude.{is_some, unwrap_or, Result, Ok, Err, IfOk, codes}
-use Rattle.board_base.specs.Common.{w8, w16, w32, to_le_bytes}
-use Rattle.board_prelude.specs.Common.{FittedCard, Setup, IsSetup}
+use Rattle.std.specs.Int.{w8, w16, w32, to_le_bytes}
+use Rattle.board_prelude.specs.{FittedCard, Setup, IsSetup}
 use Rattle.byte_fields.specs.declared.fault.Fault.{Fault}
 use Rattle.byte_fields.specs.declared.fault.Fault.TheVariants.{NoMemory}
 use Rattle.byte_fields.specs.Fields.{Reading, gives, ◌>>=◌, within, exactly, flag_byte, Filled}

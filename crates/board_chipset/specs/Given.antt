@@ -1,8 +1,8 @@
 -- A chipset with bytes that a caller keeps itself: those of the DRAM, of the disk as it was fitted, and of its sectors
 -- as they stand. Its state can be saved without them, and they can be put in again.
 use Rattle.std.specs.Prelude.{ℕ, Bool, if◌then◌else◌, List, [], replicate, length, Option, option_map, unwrap_or}
-use Rattle.board_prelude.specs.Common.{Setup}
-use Rattle.board_devices.specs.Common.{DevicesValue, with_sectors as devices_with_sectors, sectors_in}
+use Rattle.board_prelude.specs.{Setup}
+use Rattle.board_devices.specs.Devices.{DevicesValue, with_sectors as devices_with_sectors, sectors_in}
 use Rattle.board_devices.specs.State.{devices_bytes}
 use Rattle.board_chipset.specs.Chipset.{Running}
 

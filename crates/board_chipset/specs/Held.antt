@@ -1,8 +1,8 @@
 -- The register bytes that a chipset holds, whether or not a history left it so, and what accesses reach by them.
 use Rattle.std.specs.Prelude.{ℕ, ◌≡◌, if◌then◌else◌, Option, Some, None, is_some, map}
-use Rattle.board_prelude.specs.Common.{Bytes, Setup, Event, Memory, Wide, Port, Ack, PortAccess, Part, Parts}
-use Rattle.board_prelude.specs.Common.{Device, Dev, Reply, Bus, IsSpan, IsSeen, is_write}
-use Rattle.board_prelude.specs.Common.{WideAccess, parts_list, parts_of, port_target_of, answers_outside, outside_answer}
+use Rattle.board_prelude.specs.{Bytes, Setup, Event, Memory, Wide, Port, Ack, PortAccess, Part, Parts, Device, Dev}
+use Rattle.board_prelude.specs.{Reply, Bus, IsSpan, IsSeen, is_write, WideAccess, parts_list, parts_of, port_target_of}
+use Rattle.board_prelude.specs.{answers_outside, outside_answer}
 use Rattle.board_base.specs.declared.access.Access.{Access}
 use Rattle.board_spec.specs.declared.event.Event.TheVariants.{Look as LookAt}
 use Rattle.board_spec.specs.declared.event.Reply.TheVariants.{Parts as InParts}

@@ -1,7 +1,7 @@
 -- What a history leaves: the registers, the bytes behind the addresses, and the devices.
 use Rattle.std.specs.Prelude.{ℕ, ◌≡◌, ◌%◌, List, length}
-use Rattle.board_prelude.specs.Common.{Event, Entry, Setup, IsSetup, IsInRange, installed, kept_address, reset_control}
-use Rattle.board_prelude.specs.Common.{config_address, byte_of, version_of, Bytes, IsFlatMapOf}
+use Rattle.board_prelude.specs.{Event, Entry, Setup, IsSetup, IsInRange, installed, kept_address, reset_control}
+use Rattle.board_prelude.specs.{config_address, byte_of, version_of, Bytes, IsFlatMapOf}
 use Rattle.addr_decode.specs.MapRegs.{StandsFor}
 use Rattle.map_builder.specs.Map.{Mapped}
 use Rattle.pci_bars.specs.Contents.{HaveSizes}

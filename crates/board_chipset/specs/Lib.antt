@@ -19,4 +19,3 @@ pub mod StateFaults
 pub mod Steps
 pub mod Stores
 pub mod Versions
-pub mod Common

@@ -1,7 +1,7 @@
 -- Bytes that are written to a chipset from outside: the entries that would have written them.
 use Rattle.std.specs.Prelude.{ℕ, ◌≡◌, ◌+◌, Bool, List, [], ◌∷◌, length, slice_index, Option, Some, None}
-use Rattle.board_prelude.specs.Common.{Write, One, Target, Denial, clock_index_port, clock_data_port, Memory, Port, Bus}
-use Rattle.board_prelude.specs.Common.{Entry, DramCell, first_cell, clock_of, device_reached}
+use Rattle.board_prelude.specs.{Write, One, Target, Denial, clock_index_port, clock_data_port, Memory, Port, Bus, Entry}
+use Rattle.board_prelude.specs.{DramCell, first_cell, clock_of, device_reached}
 use Rattle.board_base.specs.declared.target.Dev.TheVariants.{Clock as ClockChip}
 use Rattle.board_devices.specs.Outside.{byte_out}
 

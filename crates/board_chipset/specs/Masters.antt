@@ -1,7 +1,6 @@
 -- What an access of a bus master lands on, by the register bytes.
 use Rattle.std.specs.Prelude.{ℕ, ◌≡◌, false, Some}
-use Rattle.board_prelude.specs.Common.{Kind, Target, Part, Setup, Bytes, is_smram_range, target_at, DramCell}
-use Rattle.board_prelude.specs.Common.{first_cell}
+use Rattle.board_prelude.specs.{Kind, Target, Part, Setup, Bytes, is_smram_range, target_at, DramCell, first_cell}
 use Rattle.addr_decode.specs.Master.{master_area, master_denial}
 
 -- the ROM and the cards by the address modulo their size, as for a processor

@@ -1,8 +1,8 @@
 -- The first field of an event that is out of range, in the order in which they stand here.
 use Rattle.std.specs.Prelude.{ℕ, ◌≡◌, ◌≢◌, ◌+◌, ◌%◌, ◌≤◌, ◌⊎◌, Bool, true, is_some}
-use Rattle.board_prelude.specs.Common.{Width, WideAccess, bytes_of, IsMoment, Event, Memory, Wide, Port}
-use Rattle.board_prelude.specs.Common.{Pulses as PulsesOf, Time, Wire, Line as LineOf, Setup, card_at, FitsAccess}
-use Rattle.board_prelude.specs.Common.{FitsBytes, is_free_line, is_write}
+use Rattle.board_prelude.specs.{Width, WideAccess, bytes_of, IsMoment, Event, Memory, Wide, Port, Pulses as PulsesOf}
+use Rattle.board_prelude.specs.{Time, Wire, Line as LineOf, Setup, card_at, FitsAccess, FitsBytes, is_free_line}
+use Rattle.board_prelude.specs.{is_write}
 use Rattle.board_chipset.specs.declared.in_range.OutOfRange.{OutOfRange}
 use Rattle.board_chipset.specs.declared.in_range.OutOfRange.TheVariants.{Alignment, Value, Bytes, Aligned, End, Pulses}
 use Rattle.board_chipset.specs.declared.in_range.OutOfRange.TheVariants.{Date, Device, Line}

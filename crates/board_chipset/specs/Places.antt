@@ -1,6 +1,6 @@
 -- Where an access of one bus cycle would land after a history.
 use Rattle.std.specs.Prelude.{List, Option, Some, None}
-use Rattle.board_prelude.specs.Common.{PortAccess, Event, Memory, Port, Part, Entry, Setup, part_answer}
+use Rattle.board_prelude.specs.{PortAccess, Event, Memory, Port, Part, Entry, Setup, part_answer}
 use Rattle.board_chipset.specs.Ports.{reached}
 
 -- what an access to a port would reach, and what would deny it

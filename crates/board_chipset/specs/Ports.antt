@@ -1,8 +1,8 @@
 -- What an access at a port reaches after a history, and what its entry tells.
 use Rattle.std.specs.Prelude.{ℕ, ◌≡◌, Bool, List, Option, is_some}
-use Rattle.board_prelude.specs.Common.{PortAccess, Target, Denial, Event, Port, Bus, Entry, MapChange, Setup}
-use Rattle.board_prelude.specs.Common.{IsBusAccess, control_written, address_written, config_address, config_store}
-use Rattle.board_prelude.specs.Common.{byte_of, Decoded, port_target_of}
+use Rattle.board_prelude.specs.{PortAccess, Target, Denial, Event, Port, Bus, Entry, MapChange, Setup, IsBusAccess}
+use Rattle.board_prelude.specs.{control_written, address_written, config_address, config_store, byte_of, Decoded}
+use Rattle.board_prelude.specs.{port_target_of}
 use Rattle.board_chipset.specs.declared.state.State.{State}
 use Rattle.board_chipset.specs.Kept.{IsState}
 

@@ -1,6 +1,6 @@
 -- Which reset an event makes at the reset control register, port CF9h of the 82371SB.
 use Rattle.std.specs.Prelude.{ℕ, Bool, not, ◌&&◌, if◌then◌else◌, List, Option, Some, None}
-use Rattle.board_prelude.specs.Common.{Event, Entry, is_bit, reset_control, control_written, is_hard_value}
+use Rattle.board_prelude.specs.{Event, Entry, is_bit, reset_control, control_written, is_hard_value}
 use Rattle.board_chipset.specs.declared.reset_control.ResetKind.{ResetKind}
 use Rattle.board_chipset.specs.declared.reset_control.ResetKind.TheVariants.{None as NoReset, Soft, Hard}
 

@@ -1,7 +1,7 @@
 -- The first field of a setup that no board can have, in the order in which they stand here.
 use Rattle.std.specs.Prelude.{ℕ, ◌≡◌, ◌≤◌, ◌<◌, List, [], ◌∷◌, length, Option, option_map}
-use Rattle.board_prelude.specs.Common.{most_mib, most_card_memory, FittedCard, Setup, IsCard, IsCardList, IsRomSize}
-use Rattle.board_prelude.specs.Common.{IsDisk, memory_of_cards}
+use Rattle.board_prelude.specs.{most_mib, most_card_memory, FittedCard, Setup, IsCard, IsCardList, IsRomSize, IsDisk}
+use Rattle.board_prelude.specs.{memory_of_cards}
 use Rattle.board_chipset.specs.declared.check.SetupFault.{SetupFault}
 use Rattle.board_chipset.specs.declared.check.SetupFault.TheVariants.{Memory, Cards, Windows, Rom, Disk, NoMemory}
 

@@ -1,5 +1,5 @@
 -- Events for the devices alone.
-use Rattle.board_prelude.specs.Common.{Event, Memory, Wide, Port}
+use Rattle.board_prelude.specs.{Event, Memory, Wide, Port}
 use Rattle.board_spec.specs.declared.event.Event.TheVariants.{Look as LookAt}
 
 -- an event is no access and no look: it is for the devices alone

@@ -1,6 +1,6 @@
 -- What a store holds, and of which board it can be.
 use Rattle.std.specs.Prelude.{◌≡◌, length}
-use Rattle.board_prelude.specs.Common.{Setup, IsCardList, IsRomSize, installed, Bytes}
+use Rattle.board_prelude.specs.{Setup, IsCardList, IsRomSize, installed, Bytes}
 use Rattle.pci_bars.specs.Contents.{HaveSizes}
 use Rattle.addr_decode.specs.MapRegs.{StandsFor, map_bytes}
 use Rattle.board_chipset.specs.declared.store.Store.{Store}

@@ -1,7 +1,7 @@
 -- What a chipset tells of its map: the version modulo 2^32, and the windows of the last change.
 use Rattle.std.specs.Prelude.{ℕ, ◌≡◌, ◌%◌, ◌^◌, Bool, List, [], ◌∷◌, Option, Some, None}
-use Rattle.board_prelude.specs.Common.{Kind, Event, Look, Reply, Entry, MapChange, Setup, byte_of, map_change_of}
-use Rattle.board_prelude.specs.Common.{version_of, IsSpan, IsAnswer, IsSeen}
+use Rattle.board_prelude.specs.{Kind, Event, Look, Reply, Entry, MapChange, Setup, byte_of, map_change_of, version_of}
+use Rattle.board_prelude.specs.{IsSpan, IsAnswer, IsSeen}
 use Rattle.board_spec.specs.declared.event.Event.TheVariants.{Look as LookAt}
 use Rattle.map_builder.specs.declared.range.Changed.{Changed}
 use Rattle.map_builder.specs.Applied.{AreChanged}

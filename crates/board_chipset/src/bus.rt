@@ -1,8 +1,8 @@
 //! Steps of a chipset by the kind of event, which are told in few bytes. They have the clauses of `Chipset::step`.
 
 ghost use Rattle.std.specs.Prelude.{◌≡◌, List, ◌∷◌};
-ghost use Rattle.board_prelude.specs.Common.{Entry, Memory, Port, Wide, IsBusAccess, IsInRange, IsWideAccess, IsAnswer};
-ghost use Rattle.board_prelude.specs.Common.{Bytes, is_write};
+ghost use Rattle.board_prelude.specs.{Entry, Memory, Port, Wide, IsBusAccess, IsInRange, IsWideAccess, IsAnswer, Bytes};
+ghost use Rattle.board_prelude.specs.{is_write};
 ghost use Rattle.board_spec.specs.declared.event.Event.TheVariants.{Look as LookAt};
 ghost use Rattle.board_spec.specs.declared.event.Reply.TheVariants.{Saw};
 ghost use Rattle.board_chipset.specs.BusReplies.{reply_of, wide_reply_of};

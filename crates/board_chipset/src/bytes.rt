@@ -1,7 +1,7 @@
 //! What a monitor can read of a chipset's bytes without an access on the bus.
 
 ghost use Rattle.std.specs.Prelude.{◌≡◌, ◌≤◌, ◌*◌, List, length, option_map};
-ghost use Rattle.board_prelude.specs.Common.{Entry, disk_of, most_mib};
+ghost use Rattle.board_prelude.specs.{Entry, disk_of, most_mib};
 ghost use Rattle.dram_store.specs.Bank.{bank_size};
 ghost use Rattle.dram_store.specs.Dram.{IsDramOf};
 ghost use Rattle.pci_bars.specs.Contents.{IsContentsOf};

@@ -2,7 +2,7 @@
 
 ghost use Rattle.std.specs.Prelude.{◌≡◌, ◌≤◌, ◌<◌, ◌+◌, ◌↔◌, ◌++◌, ℕ, true, false, List, length, slice_index, IsErr};
 ghost use Rattle.std.specs.Prelude.{OnOk, OnErr};
-ghost use Rattle.board_prelude.specs.Common.{Entry, card_byte};
+ghost use Rattle.board_prelude.specs.{Entry, card_byte};
 ghost use Rattle.pci_bars.specs.Contents.{IsBaseNumber};
 ghost use Rattle.board_chipset.specs.Chipset.{IsLeftBy};
 ghost use Rattle.board_chipset.specs.CardLoads.{WriteCard, card_size};

@@ -1,8 +1,8 @@
 //! Tests a list of cards of which nothing is known.
 
 ghost use Rattle.std.specs.Prelude.{◌≡◌, ◌≤◌, ◌<◌, ◌+◌, ◌↔◌, All, map, sum_by, IsTrue, IfSome, None};
-ghost use Rattle.board_prelude.specs.Common.{most_card_memory, IsBase, IsCard, IsCardList, IsExpansionRom};
-ghost use Rattle.board_prelude.specs.Common.{memory_of_cards, memory_size};
+ghost use Rattle.board_prelude.specs.{most_card_memory, IsBase, IsCard, IsCardList, IsExpansionRom, memory_of_cards};
+ghost use Rattle.board_prelude.specs.{memory_size};
 ghost use Rattle.pci_bars.specs.Bases.{base_of};
 ghost use Rattle.board_chipset.specs.Setups.{RiseFrom};
 

@@ -1,9 +1,9 @@
 //! The chipset: each event is one step, and its reply the answer to the history so far, which is not kept.
 
 ghost use Rattle.std.specs.Prelude.{◌≡◌, ◌<◌, ◌≤◌, ◌%◌, ◌↔◌, List, [], ◌∷◌, length, Err, IfOk};
-ghost use Rattle.board_prelude.specs.Common.{Entry, most_mib, most_card_memory, IsCardList, IsDisk, IsRomSize, IsSetup};
-ghost use Rattle.board_prelude.specs.Common.{memory_of_cards, IsInRange, IsAnswer, byte_of, map_change_of, version_of};
-ghost use Rattle.board_prelude.specs.Common.{IsFlatMapOf, disk_of};
+ghost use Rattle.board_prelude.specs.{Entry, most_mib, most_card_memory, IsCardList, IsDisk, IsRomSize, IsSetup};
+ghost use Rattle.board_prelude.specs.{memory_of_cards, IsInRange, IsAnswer, byte_of, map_change_of, version_of};
+ghost use Rattle.board_prelude.specs.{IsFlatMapOf, disk_of};
 ghost use Rattle.addr_decode.specs.MapRegs.{StandsFor, map_bytes};
 ghost use Rattle.dram_store.specs.Dram.{IsDramOf};
 ghost use Rattle.pci_bars.specs.Contents.{IsContentsOf};

@@ -1,8 +1,8 @@
 //! What an access would reach, without doing it: nothing changes.
 
 ghost use Rattle.std.specs.Prelude.{◌≡◌, List};
-ghost use Rattle.board_prelude.specs.Common.{Bytes, Entry, part_answer};
-ghost use Rattle.board_stores.specs.Common.{part_in};
+ghost use Rattle.board_prelude.specs.{Bytes, Entry, part_answer};
+ghost use Rattle.board_stores.specs.Targets.{part_in};
 ghost use Rattle.board_chipset.specs.Chipset.{IsLeftBy};
 ghost use Rattle.board_chipset.specs.Held.{HoldsBytes, HoldsRegisters, held_place, held_port};
 ghost use Rattle.board_chipset.specs.Places.{place_of, port_part};

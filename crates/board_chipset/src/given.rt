@@ -1,7 +1,7 @@
 //! A chipset with bytes that a caller keeps itself, and its state without those of the disk.
 
 ghost use Rattle.std.specs.Prelude.{◌≡◌, ◌≢◌, ◌↔◌, ◌++◌, true, length, IsErr, OnOk, OnErr};
-ghost use Rattle.board_prelude.specs.Common.{installed};
+ghost use Rattle.board_prelude.specs.{installed};
 ghost use Rattle.pci_bars.specs.State.{contents_bytes};
 ghost use Rattle.board_chipset.specs.Around.{after_dram};
 ghost use Rattle.board_chipset.specs.ChipsetState.{AreRegisters, IsChipset, IsWhole, disk_size};

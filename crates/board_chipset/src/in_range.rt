@@ -1,8 +1,7 @@
 //! Events that are in range: what a bus can ask, and what the world outside can do.
 
 ghost use Rattle.std.specs.Prelude.{◌↔◌, ◌≡◌, true, false, IsTrue, MatchResult};
-ghost use Rattle.board_prelude.specs.Common.{card_at, FitsAccess, FitsBytes, IsBusAccess, IsInRange, IsWideAccess};
-ghost use Rattle.board_prelude.specs.Common.{is_write};
+ghost use Rattle.board_prelude.specs.{card_at, FitsAccess, FitsBytes, IsBusAccess, IsInRange, IsWideAccess, is_write};
 ghost use Rattle.board_chipset.specs.OutOfRange.{IsBusFault, IsFault, IsWideFault, IsWideSize};
 
 use crate::setup::Setup;

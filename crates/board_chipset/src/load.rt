@@ -1,7 +1,7 @@
 //! Bytes that are written to a chipset from outside the bus.
 
 ghost use Rattle.std.specs.Prelude.{◌≡◌, ◌≤◌, ◌<◌, ◌+◌, ◌↔◌, ◌++◌, List, length, IsErr, OnOk, OnErr};
-ghost use Rattle.board_prelude.specs.Common.{Entry, installed};
+ghost use Rattle.board_prelude.specs.{Entry, installed};
 ghost use Rattle.board_chipset.specs.Chipset.{IsLeftBy};
 ghost use Rattle.board_chipset.specs.Loads.{WriteAll, WriteClockByte};
 

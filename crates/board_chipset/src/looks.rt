@@ -1,8 +1,8 @@
 //! Looks at the memory map. A look is no access: it goes to no bus and changes nothing.
 
 ghost use Rattle.std.specs.Prelude.{◌≡◌, List, ◌∷◌};
-ghost use Rattle.board_prelude.specs.Common.{Bytes, Entry, IsSpan, Setup};
-ghost use Rattle.addr_decode.specs.Common.{StandsFor};
+ghost use Rattle.board_prelude.specs.{Bytes, Entry, IsSpan, Setup};
+ghost use Rattle.addr_decode.specs.MapRegs.{StandsFor};
 ghost use Rattle.board_spec.specs.declared.event.Event.TheVariants.{Look as LookAt};
 ghost use Rattle.board_spec.specs.declared.event.Reply.TheVariants.{Saw};
 ghost use Rattle.board_chipset.specs.Kept.{IsStateOf};

@@ -1,7 +1,7 @@
 //! What an access of a bus master would reach, without doing it: nothing changes.
 
 ghost use Rattle.std.specs.Prelude.{◌≡◌, ◌≢◌, List};
-ghost use Rattle.board_prelude.specs.Common.{Bytes, Entry, Smram, byte_of};
+ghost use Rattle.board_prelude.specs.{Bytes, Entry, Smram, byte_of};
 ghost use Rattle.board_chipset.specs.Chipset.{IsLeftBy};
 ghost use Rattle.board_chipset.specs.Held.{HoldsBytes};
 ghost use Rattle.board_chipset.specs.Masters.{IsOutsideSmram, master_part};

@@ -1,9 +1,9 @@
 //! Accesses to memory.
 
 ghost use Rattle.std.specs.Prelude.{◌≡◌, List, ◌∷◌};
-ghost use Rattle.board_prelude.specs.Common.{Bytes, Entry, Memory, Setup, IsBusAccess, is_write, memory_answer};
-ghost use Rattle.addr_decode.specs.Common.{StandsFor};
-ghost use Rattle.board_stores.specs.Common.{part_in};
+ghost use Rattle.board_prelude.specs.{Bytes, Entry, Memory, Setup, IsBusAccess, is_write, memory_answer};
+ghost use Rattle.addr_decode.specs.MapRegs.{StandsFor};
+ghost use Rattle.board_stores.specs.Targets.{part_in};
 ghost use Rattle.board_chipset.specs.BusReplies.{reply_of};
 ghost use Rattle.board_chipset.specs.Held.{memory_reply_in};
 ghost use Rattle.board_chipset.specs.Kept.{IsState, IsStateOf, StaysSound};

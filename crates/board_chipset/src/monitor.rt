@@ -2,8 +2,8 @@
 
 ghost use Rattle.std.specs.Prelude.{◌≡◌, ◌≤◌, ◌<◌, ◌↔◌, true, false, List, ◌∷◌, IfSome, IfOk, IfErr, OnErr, IsTrue};
 ghost use Rattle.std.specs.Prelude.{IsErr, MatchResult, is_some};
-ghost use Rattle.board_prelude.specs.Common.{Spurious, Entry, Port, IsInRange, IsAnswer, timer_of, acknowledged_by};
-ghost use Rattle.board_prelude.specs.Common.{version_of, is_hard_reset, interrupt};
+ghost use Rattle.board_prelude.specs.{Spurious, Entry, Port, IsInRange, IsAnswer, timer_of, acknowledged_by};
+ghost use Rattle.board_prelude.specs.{version_of, is_hard_reset, interrupt};
 ghost use Rattle.pit_8254.specs.NextRise.{IsNextRise};
 ghost use Rattle.board_devices.specs.Outside.{is_interrupting};
 ghost use Rattle.board_chipset.specs.Chipset.{IsLeftBy};

@@ -1,7 +1,7 @@
 //! Interrupt acknowledges, and what happens outside the bus: pulses, the clock's time, interrupt lines, bad sectors.
 
 ghost use Rattle.std.specs.Prelude.{◌≡◌, ℕ, List, ◌∷◌, None};
-ghost use Rattle.board_prelude.specs.Common.{Device, Bus, Entry, Setup, IsAnswer};
+ghost use Rattle.board_prelude.specs.{Device, Bus, Entry, Setup, IsAnswer};
 ghost use Rattle.board_chipset.specs.BusReplies.{reply_of};
 ghost use Rattle.board_chipset.specs.Held.{IsByDevice};
 ghost use Rattle.board_chipset.specs.Kept.{CanDo, IsStateOf, StaysSound};

@@ -1,10 +1,11 @@
 //! Accesses at ports.
 
 ghost use Rattle.std.specs.Prelude.{◌≡◌, ℕ, true, false, List, ◌∷◌, Some, None, if◌then◌else◌, is_some};
-ghost use Rattle.board_prelude.specs.Common.{Entry, Port, Reg, Device, Config, Abort, Setup, IsBusAccess, port_answer};
-ghost use Rattle.board_prelude.specs.Common.{port_value, value_at, Bytes};
+ghost use Rattle.board_prelude.specs.{Entry, Port, Reg, Device, Config, Abort, Setup, IsBusAccess, port_answer};
+ghost use Rattle.board_prelude.specs.{port_value, value_at, Bytes};
 ghost use Rattle.board_base.specs.declared.target.Dev.TheVariants.{Reset};
-ghost use Rattle.addr_decode.specs.Common.{HasRegister, as_decoded};
+ghost use Rattle.addr_decode.specs.Found.{HasRegister};
+ghost use Rattle.addr_decode.specs.Ports.{as_decoded};
 ghost use Rattle.board_chipset.specs.BusReplies.{reply_of};
 ghost use Rattle.config_regs.specs.Config.{AreKeptOf};
 ghost use Rattle.board_chipset.specs.Held.{part_told, port_part_in};

@@ -2,13 +2,16 @@
 
 ghost use Rattle.std.specs.Prelude.{◌≡◌, ◌≢◌, ◌+◌, ◌≤◌, ◌<◌, true, false, List, [], ◌∷◌, Some, None, is_some};
 ghost use Rattle.std.specs.Prelude.{if◌then◌else◌};
-ghost use Rattle.board_prelude.specs.Common.{bytes_of, Entry, Port, Store, Reset, Setup, IsCardList, wide};
-ghost use Rattle.board_prelude.specs.Common.{function_exists, reset_byte, byte_of, config_address, is_hard_value};
-ghost use Rattle.board_prelude.specs.Common.{map_change_of, touches_map, Bytes, port_target_of};
+ghost use Rattle.board_prelude.specs.{bytes_of, Entry, Port, Store, Reset, Setup, IsCardList, wide, function_exists};
+ghost use Rattle.board_prelude.specs.{reset_byte, byte_of, config_address, is_hard_value, map_change_of, touches_map};
+ghost use Rattle.board_prelude.specs.{Bytes, port_target_of};
 ghost use Rattle.board_base.specs.declared.target.Dev.TheVariants.{Reset as ResetPort};
 ghost use Rattle.pci_bars.specs.Cards.{AreFitted};
-ghost use Rattle.addr_decode.specs.Common.{HasRegister, IsFoundIn, StandsFor, map_bytes, as_decoded, decoded_as};
-ghost use Rattle.map_builder.specs.Common.{next_version, AreChanged};
+ghost use Rattle.addr_decode.specs.Found.{HasRegister, IsFoundIn, decoded_as};
+ghost use Rattle.addr_decode.specs.MapRegs.{StandsFor, map_bytes};
+ghost use Rattle.addr_decode.specs.Ports.{as_decoded};
+ghost use Rattle.map_builder.specs.Map.{next_version};
+ghost use Rattle.map_builder.specs.Applied.{AreChanged};
 ghost use Rattle.config_regs.specs.Config.{AreKeptOf};
 ghost use Rattle.board_chipset.specs.Kept.{AreSound, HasRegisters, IsFlat};
 ghost use Rattle.board_chipset.specs.Ports.{Writes};

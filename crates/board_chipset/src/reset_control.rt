@@ -1,7 +1,7 @@
 //! The reset control register, port 0CF9h of the 82371SB.
 
 ghost use Rattle.std.specs.Prelude.{◌≡◌, ◌<◌, ◌↔◌, true, Some};
-ghost use Rattle.board_prelude.specs.Common.{Port, control_written, is_hard_value, control_after};
+ghost use Rattle.board_prelude.specs.{Port, control_written, is_hard_value, control_after};
 ghost use Rattle.board_chipset.specs.Resets.{reset_by, reset_by_written};
 
 use board_base::{PortAccess, Width};

@@ -1,7 +1,7 @@
 //! A chipset saved as bytes, and loaded from them.
 
 ghost use Rattle.std.specs.Prelude.{◌≡◌, ◌≤◌, ◌++◌, ◌↔◌, ◌⊎◌, ℕ, List, length, true, false, Ok, Err, OnOk, IfOk, IfErr};
-ghost use Rattle.board_prelude.specs.Common.{Entry, IsSetup};
+ghost use Rattle.board_prelude.specs.{Entry, IsSetup};
 ghost use Rattle.byte_fields.specs.declared.fault.Fault.TheVariants as faults;
 ghost use Rattle.byte_fields.specs.Fields.{Filled};
 ghost use Rattle.board_chipset.specs.Alone.{alone};

@@ -1,6 +1,6 @@
 //! What a board is opened with.
 
-ghost use Rattle.board_prelude.specs.Common.{list_any, IsDiskSize, IsRomSize, card_at};
+ghost use Rattle.board_prelude.specs.{list_any, IsDiskSize, IsRomSize, card_at};
 ghost use Rattle.std.specs.Prelude.{◌≡◌, ◌↔◌, ◌==◌, is_some, IsTrue, option_map};
 
 use ata_pio::AtaOpen;

@@ -1,8 +1,7 @@
 //! What the steps of a chipset change: the registers, the bytes behind the addresses, and the devices.
 
 ghost use Rattle.std.specs.Prelude.{◌≡◌, ◌≤◌, ◌↔◌, [], length, Err, IfOk};
-ghost use Rattle.board_prelude.specs.Common.{most_mib, most_card_memory, IsCardList, IsDisk, IsRomSize};
-ghost use Rattle.board_prelude.specs.Common.{memory_of_cards};
+ghost use Rattle.board_prelude.specs.{most_mib, most_card_memory, IsCardList, IsDisk, IsRomSize, memory_of_cards};
 ghost use Rattle.board_chipset.specs.Kept.{IsSound, IsStateOf};
 
 use crate::registers::Registers;

@@ -2,7 +2,7 @@
 //! devices. The setup is not in them; the head has its sizes.
 
 ghost use Rattle.std.specs.Prelude.{◌≡◌, ◌≤◌, ◌++◌, length, is_some, All, OnOk, IfOk};
-ghost use Rattle.board_prelude.specs.Common.{most_mib, IsCard, IsCardList, IsSetup, Setup as Fitting};
+ghost use Rattle.board_prelude.specs.{most_mib, IsCard, IsCardList, IsSetup, Setup as Fitting};
 ghost use Rattle.byte_fields.specs.Fields.{Took, Filled, flag_byte};
 ghost use Rattle.addr_decode.specs.AddressState.{address_fields};
 ghost use Rattle.dram_store.specs.State.{dram_fields};

@@ -1,7 +1,7 @@
 //! One step of the chipset, by the kind of its event.
 
 ghost use Rattle.std.specs.Prelude.{◌≡◌, List, ◌∷◌};
-ghost use Rattle.board_prelude.specs.Common.{Entry, Setup};
+ghost use Rattle.board_prelude.specs.{Entry, Setup};
 ghost use Rattle.board_chipset.specs.Kept.{CanDo, IsStateOf, StaysSound};
 ghost use Rattle.board_chipset.specs.Versions.{IsAnswerModulo};
 

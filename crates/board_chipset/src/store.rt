@@ -1,7 +1,7 @@
 //! What a bus master needs of a board: the registers of the memory map, the bytes behind its addresses, and the disk.
 
 ghost use Rattle.std.specs.Prelude.{◌≡◌};
-ghost use Rattle.board_prelude.specs.Common.{byte_of, disk_of};
+ghost use Rattle.board_prelude.specs.{byte_of, disk_of};
 ghost use Rattle.addr_decode.specs.MapRegs.{StandsFor, map_bytes};
 ghost use Rattle.dram_store.specs.Dram.{IsDramOf};
 ghost use Rattle.pci_bars.specs.Contents.{IsContentsOf};

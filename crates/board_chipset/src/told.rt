@@ -1,7 +1,7 @@
 //! What a monitor can see of the clock and of the interrupt lines. Nothing changes.
 
 ghost use Rattle.std.specs.Prelude.{◌≡◌, List};
-ghost use Rattle.board_prelude.specs.Common.{Entry, clock_of, levels_of};
+ghost use Rattle.board_prelude.specs.{Entry, clock_of, levels_of};
 ghost use Rattle.board_chipset.specs.Chipset.{IsLeftBy};
 
 use crate::chipset::Chipset;

@@ -1,8 +1,8 @@
 //! Wide accesses to memory: those that take two to four bus cycles.
 
 ghost use Rattle.std.specs.Prelude.{◌≡◌, ◌≤◌, List, ◌∷◌, length};
-ghost use Rattle.board_prelude.specs.Common.{Bytes, Entry, Wide, Setup, IsWideAccess, parts_list, IsAnswer};
-ghost use Rattle.addr_decode.specs.Common.{StandsFor};
+ghost use Rattle.board_prelude.specs.{Bytes, Entry, Wide, Setup, IsWideAccess, parts_list, IsAnswer};
+ghost use Rattle.addr_decode.specs.MapRegs.{StandsFor};
 ghost use Rattle.board_stores.specs.Cycles.{answers};
 ghost use Rattle.board_chipset.specs.BusReplies.{wide_reply_of};
 ghost use Rattle.board_chipset.specs.Held.{ArePartsIn};

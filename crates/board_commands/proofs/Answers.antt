@@ -2,7 +2,8 @@
 use Rattle.std.proofs.Common.{arith, ◌≡◌, ◌≢◌, ℕ, [], ◌∷◌, List, Some, refl, Result, Err, IfOk, IfErr}
 use Rattle.std.proofs.lemmas.Bool.Decides.{nat_tests}
 use Rattle.board_spec.specs.Setup.{Setup}
-use Rattle.script_spec.specs.Common.{Script as Said, DiffersAt}
+use Rattle.script_spec.specs.ScriptText.{Script as Said}
+use Rattle.script_spec.specs.Checks.{DiffersAt}
 use Rattle.log_check.specs.declared.fault.CheckFault.{CheckFault}
 use Rattle.log_check.specs.declared.fault.CheckFault.TheVariants.{Differs as DiffersAtLine}
 use Rattle.command_words.specs.Words.{Command, Check}
@@ -10,10 +11,13 @@ use Rattle.command_files.specs.declared.status.Which.{Which}
 use Rattle.command_files.specs.declared.status.Which.TheVariants.{Script, Rom, Disk}
 use Rattle.command_files.specs.declared.status.Status.{Status}
 use Rattle.command_files.specs.declared.status.Status.TheVariants.{ReadFault, Differs}
-use Rattle.command_files.specs.Common.{status_of_check_fault, Files, Known, AllRead, board_of, CanBeDone, OfCheck}
-use Rattle.command_files.specs.Common.{OfResume, ShelfCall, OfFiles, CanEnd, CompareBoards, IsRefused}
+use Rattle.command_files.specs.Statuses.{status_of_check_fault}
+use Rattle.command_files.specs.Known.{Files, Known, AllRead, board_of}
+use Rattle.command_files.specs.Asked.{CanBeDone, OfCheck, OfResume}
+use Rattle.command_files.specs.Outcomes.{ShelfCall, OfFiles, CanEnd, CompareBoards, IsRefused}
 use Rattle.command_files.proofs.Refusals.{of_files, at_files}
-use Rattle.board_commands.specs.Common.{IsTextFor, HasNoText, IsAnswered}
+use Rattle.board_commands.specs.Texts.{IsTextFor}
+use Rattle.board_commands.specs.Statuses.{HasNoText, IsAnswered}
 
 pub refused_answer : (command : Command) (shelf : ShelfCall) (result : Result (List ℕ) Status) (status : Status) →
     result ≡ Err status → IsRefused command shelf status →

@@ -1,7 +1,7 @@
 -- What each way out of a command says of its cause.
 use Rattle.std.proofs.Common.{arith, ◌≡◌, ◌≢◌, ℕ, List, Some}
 use Rattle.std.proofs.lemmas.Bool.Decides.{nat_tests}
-use Rattle.board_prelude.proofs.Common.{Appends, Keeps}
+use Rattle.board_prelude.proofs.{Appends, Keeps}
 use Rattle.board_outside.specs.Outside.{Rose}
 use Rattle.board_outside.specs.declared.fault.PutFault.{PutFault}
 use Rattle.board_outside.specs.declared.fault.PutFault.TheVariants.{Failed, NoMemory as NoMemoryForPut}
@@ -9,8 +9,11 @@ use Rattle.command_files.specs.declared.status.Which.{Which}
 use Rattle.command_files.specs.declared.status.Status.{Status}
 use Rattle.command_files.specs.declared.status.Status.TheVariants.{Done, ReadFault}
 use Rattle.command_words.specs.Words.{Command}
-use Rattle.board_commands.specs.Common.{IsCommandText, AppendsFront, SinkCall, OfCommand, PutsTextFront, IsCaused}
-use Rattle.command_files.specs.Common.{ShelfCall, OfFiles, status_of_put_fault, IsRefusal, IsRefused}
+use Rattle.board_commands.specs.Texts.{IsCommandText}
+use Rattle.board_commands.specs.Output.{AppendsFront}
+use Rattle.board_commands.specs.Outcomes.{SinkCall, OfCommand, PutsTextFront, IsCaused}
+use Rattle.command_files.specs.Outcomes.{ShelfCall, OfFiles, IsRefused}
+use Rattle.command_files.specs.Statuses.{status_of_put_fault, IsRefusal}
 use Rattle.command_files.proofs.Refusals.{of_files, at_files}
 use Rattle.board_commands.proofs.PutLemmas.{nothing_put, put_refused}
 use Rattle.command_files.proofs.CallLemmas.{none_made, calls_hold}

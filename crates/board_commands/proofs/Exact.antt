@@ -6,8 +6,12 @@ use Rattle.command_files.specs.declared.status.Status.{Status}
 use Rattle.command_files.specs.declared.status.Status.TheVariants.{Done, Usage, ReadFault, WriteFault, TooLong}
 use Rattle.command_files.specs.declared.status.Status.TheVariants.{BadScript, BadImage, Differs, OtherBoard, NoMemory}
 use Rattle.command_words.specs.Words.{Command}
-use Rattle.command_files.specs.Common.{Files, AsksFor, ShelfCall, OfFiles, OneStatus}
-use Rattle.board_commands.specs.Common.{SinkCall, PutsText, PutsTextFront, IsCaused, IsOrNoMemory, IsQuietFor, IsExact}
+use Rattle.command_files.specs.Known.{Files}
+use Rattle.command_files.specs.Asked.{AsksFor}
+use Rattle.command_files.specs.Outcomes.{ShelfCall, OfFiles}
+use Rattle.command_files.specs.Laws.{OneStatus}
+use Rattle.board_commands.specs.Outcomes.{SinkCall, PutsText, PutsTextFront, IsCaused, IsOrNoMemory, IsQuietFor}
+use Rattle.board_commands.specs.Outcomes.{IsExact}
 use Rattle.command_files.proofs.Refusals.{at_files}
 
 -- the shelf is quiet wherever a status is to come

@@ -1,12 +1,14 @@
 -- The puts that were made, one part of a text after another.
 use Rattle.std.proofs.Common.{arith, append_assoc, ℕ, List, [], ◌∷◌, ◌++◌, Option, Some, Result, IsErr}
 use Rattle.std.proofs.lemmas.Bool.Decides.{nat_tests}
-use Rattle.board_prelude.proofs.Common.{result_ok}
+use Rattle.board_prelude.proofs.{result_ok}
 use Rattle.board_outside.specs.Outside.{Put, Made}
 use Rattle.board_outside.specs.declared.fault.PutFault.{PutFault}
 use Rattle.command_words.specs.Words.{Command}
 use Rattle.command_files.specs.declared.status.Status.{Status}
-use Rattle.command_files.specs.Common.{status_of_put_fault, ShelfCall, IsRefused, OfCalls}
+use Rattle.command_files.specs.Statuses.{status_of_put_fault}
+use Rattle.command_files.specs.Outcomes.{ShelfCall, IsRefused}
+use Rattle.command_files.specs.Calls.{OfCalls}
 use Rattle.command_files.proofs.CallLemmas.{calls_hold, call_more, calls_both}
 use Rattle.board_commands.specs.Puts.{AllTook, LatestRefused, ArePutsOf, PutsBy}
 use Rattle.board_commands.proofs.SentLemmas.{then_sent}

@@ -2,7 +2,7 @@
 use Rattle.std.proofs.Common.{arith, ◌≡◌, ℕ, ◌+◌, ◌<◌, List, [], ◌++◌, Option, length, get_or, take, drop, refl}
 use Rattle.std.proofs.Common.{append_assoc, append-nil, Vec, Result, OnErr}
 use Rattle.std.proofs.lemmas.Bool.Decides.{nat_tests}
-use Rattle.board_prelude.proofs.Common.{Global, take-append-drop, flat_map-cons, Appends}
+use Rattle.board_prelude.proofs.{Global, take-append-drop, flat_map-cons, Appends}
 use Rattle.std.proofs.lemmas.List.{at_drop_more}
 use Rattle.logs.specs.Text.{bytes_in, joined}
 use Rattle.board_commands.specs.Output.{Sent, AppendsFront}

@@ -3,4 +3,3 @@ pub mod Output
 pub mod Puts
 pub mod Outcomes
 pub mod Statuses
-pub mod Common

@@ -1,12 +1,14 @@
 -- What the status of a command says of the words, of the files that it read, of the outside, and of what was put.
 use Rattle.std.specs.Prelude.{◌≡◌, ◌≢◌, ℕ, ◌⊎◌, List, Option, Some, None}
-use Rattle.board_prelude.specs.Common.{Appends, Keeps}
+use Rattle.board_prelude.specs.{Appends, Keeps}
 use Rattle.board_outside.specs.Outside.{Rose}
 use Rattle.command_words.specs.Words.{Command}
 use Rattle.command_files.specs.declared.status.Which.{Which}
 use Rattle.command_files.specs.declared.status.Status.{Status}
 use Rattle.command_files.specs.declared.status.Status.TheVariants.{Done, Usage, ReadFault, WriteFault, NoMemory}
-use Rattle.command_files.specs.Common.{Files, AsksFor, ShelfCall, OfFiles, CanEnd, FailsAt}
+use Rattle.command_files.specs.Known.{Files}
+use Rattle.command_files.specs.Asked.{AsksFor}
+use Rattle.command_files.specs.Outcomes.{ShelfCall, OfFiles, CanEnd, FailsAt}
 use Rattle.board_commands.specs.Texts.{IsCommandText}
 use Rattle.board_commands.specs.Output.{AppendsFront}
 

@@ -4,7 +4,9 @@ use Rattle.command_words.specs.Words.{Command}
 use Rattle.command_files.specs.declared.status.Which.{Which}
 use Rattle.command_files.specs.declared.status.Status.{Status}
 use Rattle.command_files.specs.declared.status.Status.TheVariants.{ReadFault, Differs, OtherBoard, NoMemory}
-use Rattle.command_files.specs.Common.{Known, EndsWith, ShelfCall, OfFiles, IsRefused}
+use Rattle.command_files.specs.Known.{Known}
+use Rattle.command_files.specs.Asked.{EndsWith}
+use Rattle.command_files.specs.Outcomes.{ShelfCall, OfFiles, IsRefused}
 use Rattle.board_commands.specs.Texts.{IsCommandText}
 
 -- why a command whose files were read has no text: memory ran out, or what is known asks for another end

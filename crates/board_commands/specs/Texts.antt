@@ -1,12 +1,16 @@
 -- What each command puts.
 use Rattle.std.specs.Prelude.{ℕ, ◌≡◌, List, reverse}
-use Rattle.board_prelude.specs.Common.{Entry, Setup, IsLegal, IsCompleteFor, LockLaw, log_text}
+use Rattle.board_prelude.specs.{Entry, Setup, IsLegal, IsCompleteFor, LockLaw, log_text}
 use Rattle.run_order.specs.Places.{AreAllInPlace}
 use Rattle.script_spec.specs.ScriptText.{Script as Said}
-use Rattle.command_texts.specs.Common.{IsReplayText, IsMapText, IsLegalText, IsMakeText, IsTransferText, IsSaveText}
-use Rattle.command_texts.specs.Common.{IsResumeText, IsSerialText, IsBlameText}
+use Rattle.command_texts.specs.Replays.{IsReplayText, IsMapText, IsLegalText, IsMakeText}
+use Rattle.command_texts.specs.Transfers.{IsTransferText}
+use Rattle.command_texts.specs.Images.{IsSaveText, IsResumeText}
+use Rattle.command_texts.specs.Serial.{IsSerialText}
+use Rattle.command_texts.specs.Blame.{IsBlameText}
 use Rattle.command_words.specs.Words.{Command, Replay, Run, Map, Check, Make, Dma, Save, Resume, Serial, Blame}
-use Rattle.command_files.specs.Common.{Files, Known, AllRead, board_of, OfScript, OfImage, CanBeDone}
+use Rattle.command_files.specs.Known.{Files, Known, AllRead, board_of, OfScript, OfImage}
+use Rattle.command_files.specs.Asked.{CanBeDone}
 
 -- the log of a run of a script: of a legal history that has, phase by phase, each processor's statements once each in
 -- its own order and each look in its place, and in which nothing outside SMM reaches SMRAM once it is locked

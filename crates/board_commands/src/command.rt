@@ -2,9 +2,12 @@
 
 ghost use Rattle.std.specs.Prelude.{◌≡◌, ◌↔◌, Some, None, IfErr};
 ghost use Rattle.board_outside.specs.Outside.{Rose};
-ghost use Rattle.command_words.specs.Common.{command_said, IsCommand, said_by};
+ghost use Rattle.command_words.specs.Words.{command_said, IsCommand};
+ghost use Rattle.command_words.specs.Commands.{said_by};
 ghost use Rattle.command_files.specs.declared.status.Status.{Status};
-ghost use Rattle.command_files.specs.Common.{status_of, IsRefusal, shelf_call, OfCalls, FetchesOf, AreFetchesOf};
+ghost use Rattle.command_files.specs.Statuses.{status_of, IsRefusal};
+ghost use Rattle.command_files.specs.Outcomes.{shelf_call};
+ghost use Rattle.command_files.specs.Calls.{OfCalls, FetchesOf, AreFetchesOf};
 ghost use Rattle.board_commands.specs.Statuses.{IsAnswered};
 ghost use Rattle.board_commands.specs.Outcomes.{IsCaused, IsExact, sink_call};
 ghost use Rattle.board_commands.specs.Puts.{ArePutsOf};

@@ -1,7 +1,7 @@
 //! A whole text, put piece by piece to a sink.
 
 ghost use Rattle.std.specs.Prelude.{◌≡◌, ◌≤◌, drop, length, IfErr, OnOk, OnErr};
-ghost use Rattle.board_prelude.specs.Common.{Appends};
+ghost use Rattle.board_prelude.specs.{Appends};
 ghost use Rattle.board_outside.specs.Outside.{Rose};
 ghost use Rattle.board_commands.specs.Output.{AppendsFront};
 ghost use Rattle.command_files.specs.Calls.{OfCalls};

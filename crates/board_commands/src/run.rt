@@ -1,7 +1,7 @@
 //! Runs of scripts on threads.
 
 ghost use Rattle.std.specs.Prelude.{◌≡◌, [], reverse, IfOk};
-ghost use Rattle.board_prelude.specs.Common.{IsLegal, IsCompleteFor};
+ghost use Rattle.board_prelude.specs.{IsLegal, IsCompleteFor};
 ghost use Rattle.run_order.specs.Places.{AreAllInPlace};
 ghost use Rattle.script_spec.specs.ScriptRange.{IsInRangeScript};
 ghost use Rattle.scripts.specs.Script.{said_of};

@@ -1,10 +1,15 @@
 //! The text of each command, from what it read.
 
 ghost use Rattle.std.specs.Prelude.{ℕ, List, IfOk, IfErr};
-ghost use Rattle.command_texts.specs.Common.{IsReplayText, IsMapText, IsLegalText, IsTransferText, IsSaveText};
-ghost use Rattle.command_texts.specs.Common.{IsSerialText, IsBlameText};
-ghost use Rattle.command_words.specs.Common.{IsTransfer, IsCommand, Check, Resume, said_alone, said_by};
-ghost use Rattle.command_files.specs.Common.{HasBoard, HasImage, HasRead, CanBeDone};
+ghost use Rattle.command_texts.specs.Replays.{IsReplayText, IsMapText, IsLegalText};
+ghost use Rattle.command_texts.specs.Transfers.{IsTransferText};
+ghost use Rattle.command_texts.specs.Images.{IsSaveText};
+ghost use Rattle.command_texts.specs.Serial.{IsSerialText};
+ghost use Rattle.command_texts.specs.Blame.{IsBlameText};
+ghost use Rattle.command_words.specs.Words.{IsTransfer, IsCommand, Check, Resume};
+ghost use Rattle.command_words.specs.Commands.{said_alone, said_by};
+ghost use Rattle.command_files.specs.Known.{HasBoard, HasImage, HasRead};
+ghost use Rattle.command_files.specs.Asked.{CanBeDone};
 ghost use Rattle.board_commands.specs.Texts.{OnBoard, IsRunText, IsTextFor};
 ghost use Rattle.board_commands.specs.Statuses.{HasNoText};
 

@@ -1,10 +1,12 @@
 -- A board that is fresh, and after a step.
 use Rattle.std.proofs.Common.{◌≡◌, ℕ, ◌+◌, ◌<◌, List, ◌∷◌, length, refl, sym, ◌∙◌, ap, subst, arith, ◌↔◌, Result, Ok}
 use Rattle.std.proofs.Common.{Err, slice_index, slice_set}
-use Rattle.board_prelude.proofs.Common.{nat_tests, Entry, Setup, IsSetup, IsLegal, version_of, IsAnswer, entry_limit}
+use Rattle.board_prelude.proofs.{nat_tests, Entry, Setup, IsSetup, IsLegal, version_of, IsAnswer, entry_limit}
 use Rattle.std.proofs.lemmas.Grind.{elements}
-use Rattle.board_chipset.specs.Common.{Running, IsLeftBy, version_count}
-use Rattle.board_chipset.proofs.Common.{few_entries, state_of}
+use Rattle.board_chipset.specs.Chipset.{Running, IsLeftBy}
+use Rattle.board_chipset.specs.Versions.{version_count}
+use Rattle.board_chipset.proofs.Exact.{few_entries}
+use Rattle.board_chipset.proofs.Lefts.{state_of}
 use Rattle.board_core.specs.Kept.{Playing, HasPlayed}
 
 -- ---- a new board

@@ -1,6 +1,6 @@
 -- What a board keeps: its history, the chipset that the history left, and the numbers of entries.
 use Rattle.std.specs.Prelude.{ℕ, ◌≡◌, ◌+◌, ◌<◌, List, length, slice_index}
-use Rattle.board_prelude.specs.Common.{Entry, Event, Reply, Setup, entries_by, IsLegal, entry_limit}
+use Rattle.board_prelude.specs.{Entry, Event, Reply, Setup, entries_by, IsLegal, entry_limit}
 use Rattle.board_chipset.specs.Chipset.{Running, IsLeftBy}
 
 -- what a replay is seen as: its chipset, the number of entries so far, and those of each processor. Its history is not

@@ -1,6 +1,6 @@
 -- What a board that records no history keeps of it.
 use Rattle.std.specs.Prelude.{ℕ, ◌≡◌, ◌+◌, ◌<◌, ◌≤◌, List, length, map, reverse}
-use Rattle.board_prelude.specs.Common.{Entry, entry_limit}
+use Rattle.board_prelude.specs.{Entry, entry_limit}
 use Rattle.board_core.specs.Kept.{Playing, HasPlayed}
 
 -- the processors of the entries, the oldest first

@@ -2,10 +2,10 @@
 
 ghost use Rattle.std.specs.Prelude.{◌≡◌, ◌-◌, ◌+◌, ◌++◌, ◌<◌, ◌≤◌, ◌↔◌, List, [], ◌∷◌, length, max, Err, IsTrue, IfOk};
 ghost use Rattle.std.specs.Prelude.{OnOk, OnErr, true};
-ghost use Rattle.board_prelude.specs.Common.{Entry, Port, is_hard_reset, most_mib, most_card_memory, entry_limit};
-ghost use Rattle.board_prelude.specs.Common.{IsCardList, IsDisk, IsRomSize, IsSetup, memory_of_cards, IsInRange};
-ghost use Rattle.board_prelude.specs.Common.{IsAnswer, IsLegal, entries_by, next_entry, statements_of, byte_of};
-ghost use Rattle.board_prelude.specs.Common.{map_change_of, version_of, IsFlatMapOf, disk_of};
+ghost use Rattle.board_prelude.specs.{Entry, Port, is_hard_reset, most_mib, most_card_memory, entry_limit, IsCardList};
+ghost use Rattle.board_prelude.specs.{IsDisk, IsRomSize, IsSetup, memory_of_cards, IsInRange, IsAnswer, IsLegal};
+ghost use Rattle.board_prelude.specs.{entries_by, next_entry, statements_of, byte_of, map_change_of, version_of};
+ghost use Rattle.board_prelude.specs.{IsFlatMapOf, disk_of};
 ghost use Rattle.addr_decode.specs.MapRegs.{StandsFor, map_bytes};
 ghost use Rattle.dram_store.specs.Dram.{IsDramOf};
 ghost use Rattle.pci_bars.specs.Contents.{IsContentsOf};

@@ -1,9 +1,9 @@
 //! A board that keeps no history: each step returns its entry.
 
 ghost use Rattle.std.specs.Prelude.{◌≡◌, ◌+◌, ◌<◌, ◌≤◌, ◌↔◌, ℕ, true, List, [], ◌∷◌, length, slice_index, Err, IfOk};
-ghost use Rattle.board_prelude.specs.Common.{Entry, Port, is_hard_reset, most_mib, most_card_memory, entry_limit};
-ghost use Rattle.board_prelude.specs.Common.{IsCardList, IsDisk, IsRomSize, IsSetup, memory_of_cards, IsInRange};
-ghost use Rattle.board_prelude.specs.Common.{byte_of, map_change_of, version_of, IsFlatMapOf, disk_of};
+ghost use Rattle.board_prelude.specs.{Entry, Port, is_hard_reset, most_mib, most_card_memory, entry_limit, IsCardList};
+ghost use Rattle.board_prelude.specs.{IsDisk, IsRomSize, IsSetup, memory_of_cards, IsInRange, byte_of, map_change_of};
+ghost use Rattle.board_prelude.specs.{version_of, IsFlatMapOf, disk_of};
 ghost use Rattle.addr_decode.specs.MapRegs.{StandsFor, map_bytes};
 ghost use Rattle.dram_store.specs.Dram.{IsDramOf};
 ghost use Rattle.pci_bars.specs.Contents.{IsContentsOf};

@@ -1,7 +1,7 @@
 //! What callers can share: a board that does one event after another.
 ghost use Rattle.std.specs.Prelude.{◌≡◌, ◌-◌, ◌+◌, ◌<◌, ◌≤◌, ◌∷◌, length, max, OnOk, OnErr};
-ghost use Rattle.board_prelude.specs.Common.{IsInRange, IsAnswer, IsLegal, next_entry, entry_limit, byte_of};
-ghost use Rattle.board_prelude.specs.Common.{map_change_of, version_of, IsFlatMapOf};
+ghost use Rattle.board_prelude.specs.{IsInRange, IsAnswer, IsLegal, next_entry, entry_limit, byte_of, map_change_of};
+ghost use Rattle.board_prelude.specs.{version_of, IsFlatMapOf};
 ghost use Rattle.addr_decode.specs.MapRegs.{StandsFor};
 ghost use Rattle.board_core.specs.Kept.{Standing};
 

@@ -1,6 +1,6 @@
 //! A board that records no history.
 ghost use Rattle.std.specs.Prelude.{◌≡◌, [], map, reverse};
-ghost use Rattle.board_prelude.specs.Common.{IsLegal};
+ghost use Rattle.board_prelude.specs.{IsLegal};
 ghost use Rattle.board_core.specs.Kept.{HasPlayed};
 ghost use Rattle.board_core.specs.Unrecorded.{actors_of};
 

@@ -1,11 +1,11 @@
 -- What a chip of the pair does by itself leaves its inputs, and does not latch line 0.
 use Rattle.std.proofs.Common.{refl, Some, None, arith, ◌≡◌, ℕ, ◌/◌, ◌%◌, Bool, true, false, cond, List, Option, length}
-use Rattle.board_prelude.proofs.Common.{nat_tests, has, levels_where, Chip, Word, interrupt, acknowledged}
-use Rattle.board_prelude.proofs.Common.{acknowledged_if, chip_after_word, chip_after_odd_write, is_complete}
-use Rattle.board_prelude.proofs.Common.{chip_after_ocw2, chip_after_even_write, chip_after_write, chip_after_read}
-use Rattle.board_prelude.proofs.Common.{has-levels_where, Pair, settled, pair_after_write, pair_after_read}
-use Rattle.board_prelude.proofs.Common.{pair_acknowledged, pair_acknowledged_at, pair_after_acknowledge, is_slave_port}
-use Rattle.board_prelude.proofs.Common.{is_odd_port, PortAccess, Event, Port, Ack, Reply, pair_after}
+use Rattle.board_prelude.proofs.{nat_tests, has, levels_where, Chip, Word, interrupt, acknowledged, acknowledged_if}
+use Rattle.board_prelude.proofs.{chip_after_word, chip_after_odd_write, is_complete, chip_after_ocw2}
+use Rattle.board_prelude.proofs.{chip_after_even_write, chip_after_write, chip_after_read, has-levels_where, Pair}
+use Rattle.board_prelude.proofs.{settled, pair_after_write, pair_after_read, pair_acknowledged, pair_acknowledged_at}
+use Rattle.board_prelude.proofs.{pair_after_acknowledge, is_slave_port, is_odd_port, PortAccess, Event, Port, Ack}
+use Rattle.board_prelude.proofs.{Reply, pair_after}
 use Rattle.device_spec.specs.Pic.{ended}
 
 -- a chip before and after a step

@@ -1,25 +1,26 @@
 -- What an entry makes of the devices. All are stepped at once: the machines that an event leaves are the same by
 -- computing, so that no lemma about an entry has a column for each device.
-use Rattle.board_prelude.proofs.Common.{common_steps, or-false, nat_tests, cases_eq, cases_Bool, ext_get_or, length-map}
-use Rattle.board_prelude.proofs.Common.{get_or-map, same-levels, pair_has_seen, reset as timer_at_reset}
-use Rattle.board_prelude.proofs.Common.{after_reset as clock_after_reset, reserved-rest, power_on as disk_at_power_on}
-use Rattle.board_prelude.proofs.Common.{elcr-same, map-same}
-use Rattle.board_prelude.specs.Common.{PortAccess, Dev, Pit, Ata, PitState, out_of, triggers_at_reset, Pair}
-use Rattle.board_prelude.specs.Common.{levels_at_power_on, pair_after_lines, pair_at_reset, Disk, option_map_or}
-use Rattle.board_prelude.specs.Common.{is_disk_length, Event, Port, Pulses, Wire, Line, BadSector, Reply, Entry, Setup}
-use Rattle.board_prelude.specs.Common.{IsDisk, IsDiskSize, is_free_line, is_hard_reset, plain_at_reset, device_reached}
-use Rattle.board_prelude.specs.Common.{wire_set, wire_of, line_set, irq_of, triggers_after, triggers_of, plain_after}
-use Rattle.board_prelude.specs.Common.{plain_of, timer_after, timer_of, clock_after, clock_of, disk_after, disk_with}
-use Rattle.board_prelude.specs.Common.{disk_of, routes_of, own_level, level_with, all_lines, levels_with, levels_of}
-use Rattle.board_prelude.specs.Common.{elcr_of, device_value, pair_after, pair_reset_or_after, pair_of, after_bad}
-use Rattle.board_prelude.specs.Common.{byte_of, config_store, list_any, is_interrupt, config_address}
+use Rattle.board_prelude.proofs.{common_steps, or-false, nat_tests, cases_eq, cases_Bool, ext_get_or, length-map}
+use Rattle.board_prelude.proofs.{get_or-map, same-levels, pair_has_seen, reset as timer_at_reset}
+use Rattle.board_prelude.proofs.{after_reset as clock_after_reset, reserved-rest, power_on as disk_at_power_on}
+use Rattle.board_prelude.proofs.{elcr-same, map-same}
+use Rattle.board_prelude.specs.{PortAccess, Dev, Pit, Ata, PitState, out_of, triggers_at_reset, Pair}
+use Rattle.board_prelude.specs.{levels_at_power_on, pair_after_lines, pair_at_reset, Disk, option_map_or}
+use Rattle.board_prelude.specs.{is_disk_length, Event, Port, Pulses, Wire, Line, BadSector, Reply, Entry, Setup, IsDisk}
+use Rattle.board_prelude.specs.{IsDiskSize, is_free_line, is_hard_reset, plain_at_reset, device_reached, wire_set}
+use Rattle.board_prelude.specs.{wire_of, line_set, irq_of, triggers_after, triggers_of, plain_after, plain_of}
+use Rattle.board_prelude.specs.{timer_after, timer_of, clock_after, clock_of, disk_after, disk_with, disk_of, routes_of}
+use Rattle.board_prelude.specs.{own_level, level_with, all_lines, levels_with, levels_of, elcr_of, device_value}
+use Rattle.board_prelude.specs.{pair_after, pair_reset_or_after, pair_of, after_bad, byte_of, config_store, list_any}
+use Rattle.board_prelude.specs.{is_interrupt, config_address}
 use Rattle.std.proofs.Common.{◌≡◌, ℕ, ◌<◌, ◌≤◌, Bool, true, false, ◌||◌, ◌&&◌, List, [], ◌∷◌, Option, Some, None}
 use Rattle.std.proofs.Common.{length, get_or, refl, sym, ◌∙◌, ap, subst, arith, ◌*◌, ◌/◌, ◌%◌, replicate, eq-eqb}
 use Rattle.std.proofs.Common.{ne_eqb, get_or-set_same, get_or-set_other, length-set, ◌↔◌, Result, Err, ◌==◌, unwrap_or}
 use Rattle.std.proofs.Common.{map, option_map, slice_index_or, slice_set, if◌then◌else◌}
-use Rattle.board_devices.specs.Common.{LeavesDevices, DevicesValue, AreIrqsOf, AreRoutesOf, AreAfter, AreDevicesOf}
-use Rattle.board_devices.specs.Common.{ReachesDevice, Asks, PassesBy, Leaves, value_read, after_read, after_write}
-use Rattle.board_devices.specs.Common.{devices_accessed, driven, fitted_accessed, level_driven}
+use Rattle.board_devices.specs.Laws.{LeavesDevices}
+use Rattle.board_devices.specs.Devices.{DevicesValue, AreIrqsOf, AreRoutesOf, AreAfter, AreDevicesOf}
+use Rattle.board_devices.specs.Events.{ReachesDevice, Asks, PassesBy, Leaves, level_driven}
+use Rattle.board_devices.specs.Steps.{value_read, after_read, after_write, devices_accessed, driven, fitted_accessed}
 use Rattle.ata_pio.specs.declared.ata.AtaOpen.{AtaOpen}
 use Rattle.board_base.specs.declared.target.Dev.TheVariants.{Clock}
 use Rattle.device_spec.specs.Clock.{interrupt_line, power_on as clock_at_power_on}

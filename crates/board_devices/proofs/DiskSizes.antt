@@ -1,9 +1,9 @@
 -- No access, reset or bad sector changes how many sectors a disk has.
-use Rattle.board_prelude.proofs.Common.{common_steps, nat_tests, PortAccess, Dev, Setup, Disk, IsDisk, disk_with}
-use Rattle.board_prelude.proofs.Common.{disk_of}
+use Rattle.board_prelude.proofs.{common_steps, nat_tests, PortAccess, Dev, Setup, Disk, IsDisk, disk_with, disk_of}
 use Rattle.std.proofs.Common.{◌≡◌, ℕ, true, false, eqb, [], Option, Some, arith, option_map, length-set}
-use Rattle.device_spec.proofs.Common.{length-replicate, sectors_of, word_written}
-use Rattle.device_spec.specs.Ata.Steps.{after_bad}
+use Rattle.std.proofs.lemmas.List.{length-replicate}
+use Rattle.device_spec.specs.Ata.State.{sectors_of}
+use Rattle.device_spec.specs.Ata.Steps.{word_written, after_bad}
 use Rattle.board_devices.specs.Devices.{DevicesValue, HasDisk, sectors_fitted}
 use Rattle.board_devices.specs.Steps.{after_read, after_write, devices_accessed, fitted_accessed}
 

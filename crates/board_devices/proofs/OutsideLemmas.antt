@@ -1,9 +1,10 @@
 -- What a monitor asks of the devices, and what it writes to them.
 use Rattle.std.proofs.Common.{arith, ◌≡◌, false, refl, ◌↔◌, is_some}
-use Rattle.board_prelude.proofs.Common.{nat_tests, PortAccess, Spurious, interrupt, Pair, answer_of}
-use Rattle.board_prelude.proofs.Common.{after_write as clock_after_write, who_answered}
+use Rattle.board_prelude.proofs.{nat_tests, PortAccess, Spurious, interrupt, Pair, answer_of}
+use Rattle.board_prelude.proofs.{after_write as clock_after_write, who_answered}
 use Rattle.board_base.specs.declared.target.Dev.TheVariants.{Clock}
-use Rattle.board_devices.specs.Common.{DevicesValue, after_write, devices_accessed}
+use Rattle.board_devices.specs.Devices.{DevicesValue}
+use Rattle.board_devices.specs.Steps.{after_write, devices_accessed}
 
 -- ---- INT, and the spurious answer of the master
 

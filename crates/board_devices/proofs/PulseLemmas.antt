@@ -1,15 +1,21 @@
 -- Many pulses of the timer leave the pair as two sets of levels do.
-use Rattle.board_spec.proofs.Common.{common_steps, cases_Bool, or_parts, true≢false, nat_tests, elcr-same, timer-pulsed}
-use Rattle.board_spec.proofs.Common.{triggers-pulsed, levels-pulsed, pair_has_seen, levels_where-same, has-levels_where}
-use Rattle.board_spec.proofs.Common.{same-levels, inputs-again, settled-asks, settled-quiet, latched, pair-pulsed}
-use Rattle.board_prelude.proofs.Common.{Levels, has, levels_where, with_level, levels_of_byte, Chip, interrupt}
-use Rattle.board_prelude.proofs.Common.{latches_after, chip_after_inputs, Pair, settled, master_inputs, pair_at_reset}
-use Rattle.board_prelude.proofs.Common.{levels_at_power_on, pair_after_lines, PitState, out_of, pulses, rises, Event}
-use Rattle.board_prelude.proofs.Common.{Pulses, Entry, Setup, timer_of, routes_of, levels_with, levels_of, elcr_of}
-use Rattle.board_prelude.proofs.Common.{pair_pulsed, pair_reset_or_after, pair_stepped, pair_of}
+use Rattle.std.proofs.lemmas.Grind.{common_steps}
+use Rattle.std.proofs.lemmas.Bool.{cases_Bool, or_parts, true≢false}
+use Rattle.std.proofs.lemmas.Bool.Decides.{nat_tests}
+use Rattle.board_spec.proofs.DeviceProofs.{elcr-same, timer-pulsed, triggers-pulsed, levels-pulsed, pair_has_seen}
+use Rattle.board_spec.proofs.DeviceProofs.{pair-pulsed}
+use Rattle.device_spec.proofs.Levels.{levels_where-same, has-levels_where}
+use Rattle.device_spec.proofs.PairLaws.{same-levels, inputs-again, settled-asks, settled-quiet, latched}
+use Rattle.board_prelude.proofs.{Levels, has, levels_where, with_level, levels_of_byte, Chip, interrupt, latches_after}
+use Rattle.board_prelude.proofs.{chip_after_inputs, Pair, settled, master_inputs, pair_at_reset, levels_at_power_on}
+use Rattle.board_prelude.proofs.{pair_after_lines, PitState, out_of, pulses, rises, Event, Pulses, Entry, Setup}
+use Rattle.board_prelude.proofs.{timer_of, routes_of, levels_with, levels_of, elcr_of, pair_pulsed, pair_reset_or_after}
+use Rattle.board_prelude.proofs.{pair_stepped, pair_of}
 use Rattle.std.proofs.Common.{◌≡◌, ℕ, zero, suc, ◌+◌, ◌/◌, ◌%◌, ◌<◌, nat_lt, ◌&&◌, ◌||◌, not, Bool, true, false, cond}
 use Rattle.std.proofs.Common.{List, [], ◌∷◌, is_some, take, drop, inl, inr, refl, ap, sym, subst, ◌∙◌, arith, slice_set}
-use Rattle.board_devices.specs.Common.{DevicesValue, AreAfter, AreDevicesOf, Asks, lines_at, pair_after_run}
+use Rattle.board_devices.specs.Devices.{DevicesValue, AreAfter, AreDevicesOf}
+use Rattle.board_devices.specs.Events.{Asks}
+use Rattle.board_devices.specs.PulsedPair.{lines_at, pair_after_run}
 use Rattle.board_devices.proofs.ChipSteps.{Keeps, same_chips, event_keeps}
 use Rattle.board_devices.proofs.DeviceLemmas.{with_pair, routes_stand, others_asked, levels_pulsed}
 

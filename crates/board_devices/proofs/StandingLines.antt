@@ -1,18 +1,19 @@
 -- Events that move no line: the lines reach the pair as it saw them, and leave it.
-use Rattle.board_prelude.proofs.Common.{common_steps, and-true, and-false, nat_tests, Levels, has, levels_of_byte}
-use Rattle.board_prelude.proofs.Common.{levels_where-same, Chip, chip_after_inputs, Pair, settled, master_inputs}
-use Rattle.board_prelude.proofs.Common.{pair_after_lines, same-levels, settled-asks, settled-quiet, PortAccess, Dev}
-use Rattle.board_prelude.proofs.Common.{System, bytes_of, PitState, out_of, set_gate2, port_read, Event, Port, Ack}
-use Rattle.board_prelude.proofs.Common.{Entry, Setup, is_hard_reset, is_config_port, timer_accessed, config_store}
-use Rattle.board_prelude.proofs.Common.{levels_of, elcr_of, pair_accessed, pair_after, pair_of, pair_has_seen}
+use Rattle.board_prelude.proofs.{common_steps, and-true, and-false, nat_tests, Levels, has, levels_of_byte}
+use Rattle.board_prelude.proofs.{levels_where-same, Chip, chip_after_inputs, Pair, settled, master_inputs}
+use Rattle.board_prelude.proofs.{pair_after_lines, same-levels, settled-asks, settled-quiet, PortAccess, Dev, System}
+use Rattle.board_prelude.proofs.{bytes_of, PitState, out_of, set_gate2, port_read, Event, Port, Ack, Entry, Setup}
+use Rattle.board_prelude.proofs.{is_hard_reset, is_config_port, timer_accessed, config_store, levels_of, elcr_of}
+use Rattle.board_prelude.proofs.{pair_accessed, pair_after, pair_of, pair_has_seen}
 use Rattle.std.proofs.Common.{◌≡◌, ℕ, ◌/◌, ◌%◌, ◌&&◌, Bool, true, false, List, ◌∷◌, Option, Some, None, length, take}
 use Rattle.std.proofs.Common.{drop, refl, sym, ap, subst, ◌∙◌, arith}
 use Rattle.device_spec.specs.Pit.{read, read_live}
-use Rattle.device_spec.proofs.Common.{levels_where-has}
+use Rattle.device_spec.proofs.Levels.{levels_where-has}
 use Rattle.board_spec.specs.Registers.{config_address}
-use Rattle.board_devices.specs.Common.{DevicesValue, AreAfter, AreDevicesOf, driven, level_driven, sets_triggers}
-use Rattle.board_devices.specs.Common.{AccessLeavesLines, StillLeavesLines, AcknowledgeLeavesLines, is_chip_port}
-use Rattle.board_devices.specs.Common.{moves_lines, ReachesDevice, devices_accessed}
+use Rattle.board_devices.specs.Devices.{DevicesValue, AreAfter, AreDevicesOf}
+use Rattle.board_devices.specs.Steps.{driven, devices_accessed}
+use Rattle.board_devices.specs.Events.{level_driven, sets_triggers, is_chip_port, moves_lines, ReachesDevice}
+use Rattle.board_devices.specs.Laws.{AccessLeavesLines, StillLeavesLines, AcknowledgeLeavesLines}
 use Rattle.board_devices.proofs.ChipSteps.{Keeps, eight, same_chips, event_keeps}
 use Rattle.board_devices.proofs.DeviceLemmas.{stood_as, pair_soft, with_pair, SetsNoLevel, Stays, passing, lines_stand}
 use Rattle.board_devices.proofs.DeviceLemmas.{routes_stand, others_asked, port_asked, reached_as, devices_after}

@@ -1,5 +1,5 @@
 -- The state of the devices is spelled and read back.
-use Rattle.board_prelude.proofs.Common.{nat_tests, Disk, IsDisk}
+use Rattle.board_prelude.proofs.{nat_tests, Disk, IsDisk}
 use Rattle.std.proofs.Common.{◌≡◌, ℕ, ◌+◌, List, Option, Some, None, refl, ap, arith}
 use Rattle.byte_fields.proofs.Formats.{IsFormat, fields_format, ◌then◌, ◌&◌, last_field}
 use Rattle.pic_pair.proofs.StateFormat.{pair_format, lines_format}

@@ -1,11 +1,10 @@
 -- The devices as they stand are those that a history left.
 use Rattle.std.specs.Prelude.{ℕ, ◌≡◌, ◌*◌, ◌<◌, ◌≤◌, ◌&&◌, Bool, false, List, length, slice_index_or, Option}
 use Rattle.std.specs.Prelude.{option_map}
-use Rattle.device_spec.specs.Common.{sectors_of}
+use Rattle.device_spec.specs.Ata.State.{sectors_of}
 use Rattle.ata_pio.specs.Words.{with_all}
-use Rattle.board_prelude.specs.Common.{PitState, Pair, Clock, Triggers, Disk, Entry, Setup, is_free_line, PlainPorts}
-use Rattle.board_prelude.specs.Common.{triggers_of, plain_of, timer_of, clock_of, disk_of, wire_of, irq_of, routes_of}
-use Rattle.board_prelude.specs.Common.{pair_of}
+use Rattle.board_prelude.specs.{PitState, Pair, Clock, Triggers, Disk, Entry, Setup, is_free_line, PlainPorts}
+use Rattle.board_prelude.specs.{triggers_of, plain_of, timer_of, clock_of, disk_of, wire_of, irq_of, routes_of, pair_of}
 
 -- what the devices hold: the machines, the plain ports, INTA# of the cards by device, and the lines that `irq` set
 pub record DevicesValue : Type 0 where

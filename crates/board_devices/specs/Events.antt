@@ -1,9 +1,8 @@
 -- What an entry asks of the devices.
 use Rattle.std.specs.Prelude.{ℕ, ◌≡◌, ◌&&◌, Bool, true, false, List, Option, Some, None}
-use Rattle.board_prelude.specs.Common.{PortAccess, Dev, Pit, Elcr, Ata, Wires, Vector}
-use Rattle.board_prelude.specs.Common.{Spurious, is_port_of, Event, Memory}
-use Rattle.board_prelude.specs.Common.{Wide, Port, Entry, Setup, is_hard_reset, device_reached, option_map_or, out_of}
-use Rattle.board_prelude.specs.Common.{is_interrupt, timer_of, clock_of, disk_of}
+use Rattle.board_prelude.specs.{PortAccess, Dev, Pit, Elcr, Ata, Wires, Vector, Spurious, is_port_of, Event, Memory}
+use Rattle.board_prelude.specs.{Wide, Port, Entry, Setup, is_hard_reset, device_reached, option_map_or, out_of}
+use Rattle.board_prelude.specs.{is_interrupt, timer_of, clock_of, disk_of}
 use Rattle.device_spec.specs.Clock.{interrupt_line}
 use Rattle.board_base.specs.declared.target.Dev.TheVariants.{Confadd, Reset, Clock}
 use Rattle.board_spec.specs.declared.event.Event.TheVariants.{Look}

@@ -1,7 +1,7 @@
 -- What the laws of this crate say: they are proved on functions of `lines`.
 use Rattle.std.specs.Prelude.{◌≡◌, ◌&&◌, true, false, List, ◌∷◌, Some}
-use Rattle.board_prelude.specs.Common.{PortAccess, Dev, bytes_of, Ack, Entry, Setup, routes_of, pair_after_acknowledge}
-use Rattle.board_prelude.specs.Common.{pair_accessed, pair_of}
+use Rattle.board_prelude.specs.{PortAccess, Dev, bytes_of, Ack, Entry, Setup, routes_of, pair_after_acknowledge}
+use Rattle.board_prelude.specs.{pair_accessed, pair_of}
 use Rattle.board_devices.specs.Devices.{DevicesValue, AreDevicesOf}
 use Rattle.board_devices.specs.Events.{Asks, Leaves, ReachesDevice, is_chip_port, moves_lines, sets_triggers}
 use Rattle.board_devices.specs.Events.{level_driven}

@@ -5,4 +5,3 @@ pub mod Laws
 pub mod PulsedPair
 pub mod Outside
 pub mod State
-pub mod Common

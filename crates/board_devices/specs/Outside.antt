@@ -1,7 +1,7 @@
 -- What is asked of the devices between two events, and what is written to them from outside the bus.
 use Rattle.std.specs.Prelude.{ℕ, ◌≡◌, Bool, true, List, ◌∷◌, is_some}
-use Rattle.board_prelude.specs.Common.{PortAccess, One, interrupt, clock_index_port, clock_data_port, Entry, Setup}
-use Rattle.board_prelude.specs.Common.{clock_of, pair_of}
+use Rattle.board_prelude.specs.{PortAccess, One, interrupt, clock_index_port, clock_data_port, Entry, Setup, clock_of}
+use Rattle.board_prelude.specs.{pair_of}
 use Rattle.board_base.specs.declared.target.Dev.TheVariants.{Clock as ClockChip}
 use Rattle.board_devices.specs.Devices.{AreRoutesOf}
 use Rattle.board_devices.specs.Events.{ReachesDevice}

@@ -1,8 +1,8 @@
 -- The state of the devices as bytes, over the disk as it was fitted.
 use Rattle.std.specs.Prelude.{ℕ, ◌<◌, ◌++◌, List, [], ◌∷◌, Option, Some, None}
-use Rattle.board_base.specs.Common.{w8}
+use Rattle.std.specs.Int.{w8}
 use Rattle.byte_fields.specs.Fields.{Reading, gives, ◌>>=◌, within, flag_byte, flag_field}
-use Rattle.board_prelude.specs.Common.{Disk, SystemPort, PlainPorts}
+use Rattle.board_prelude.specs.{Disk, SystemPort, PlainPorts}
 use Rattle.pic_pair.specs.State.{IsPair, pair_bytes, pair_fields, AreLines, lines_bytes, lines_fields}
 use Rattle.pit_8254.specs.State.{IsPit, pit_bytes, pit_fields}
 use Rattle.cmos_clock.specs.State.{IsClock, clock_bytes, clock_fields}

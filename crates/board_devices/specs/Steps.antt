@@ -1,9 +1,9 @@
 -- What an access at a port does to the devices, before the lines reach the pair.
 use Rattle.std.specs.Prelude.{ℕ, ◌==◌, Bool, true, false, Option, Some, option_map}
-use Rattle.board_prelude.specs.Common.{option_map_or, PortAccess, Dev, Pic0, Pic1, Pit, Elcr, Ata, Disk}
-use Rattle.board_prelude.specs.Common.{largest_of, port_byte, port_read, read_value, trigger_byte, read_of}
-use Rattle.board_prelude.specs.Common.{plain_value, out_of, is_interrupt, pair_accessed, timer_accessed}
-use Rattle.board_prelude.specs.Common.{clock_accessed, disk_accessed, triggers_accessed, plain_accessed}
+use Rattle.board_prelude.specs.{option_map_or, PortAccess, Dev, Pic0, Pic1, Pit, Elcr, Ata, Disk, largest_of, port_byte}
+use Rattle.board_prelude.specs.{port_read, read_value, trigger_byte, read_of, plain_value, out_of, is_interrupt}
+use Rattle.board_prelude.specs.{pair_accessed, timer_accessed, clock_accessed, disk_accessed, triggers_accessed}
+use Rattle.board_prelude.specs.{plain_accessed}
 use Rattle.device_spec.specs.Clock.{interrupt_line}
 use Rattle.board_base.specs.declared.target.Dev.TheVariants.{Clock}
 use Rattle.device_spec.specs.PortNames.{elcr_ports}

@@ -1,10 +1,9 @@
 //! Accesses at the ports of the devices.
 
 ghost use Rattle.std.specs.Prelude.{◌≡◌, ◌∷◌, ◌≤◌, List, Some, true, false, ◌&&◌, option_map};
-ghost use Rattle.board_prelude.specs.Common.{bytes_of, largest_of, Entry, Setup, device_value, vector_of};
-ghost use Rattle.board_prelude.specs.Common.{acknowledged_by, Ack as AckEvent, option_map_or, answer_of};
-ghost use Rattle.board_prelude.specs.Common.{pair_after_acknowledge, set_gate2, is_ata_port, read_of, is_bit};
-ghost use Rattle.board_prelude.specs.Common.{who_answered, System, plain_accessed};
+ghost use Rattle.board_prelude.specs.{bytes_of, largest_of, Entry, Setup, device_value, vector_of, acknowledged_by};
+ghost use Rattle.board_prelude.specs.{Ack as AckEvent, option_map_or, answer_of, pair_after_acknowledge, set_gate2};
+ghost use Rattle.board_prelude.specs.{is_ata_port, read_of, is_bit, who_answered, System, plain_accessed};
 ghost use Rattle.device_spec.specs.Ata.Steps.{after_read as disk_after_read, after_write as disk_after_write};
 ghost use Rattle.pic_pair.specs.View.{answer_shown};
 ghost use Rattle.board_devices.specs.Steps.{value_read, after_read, after_write, driven};

@@ -1,9 +1,8 @@
 //! The devices, and what a hard reset does to them.
 
 ghost use Rattle.std.specs.Prelude.{◌≡◌, ◌↔◌, ◌∷◌, List, [], Err, IfOk, is_some, option_map, true};
-ghost use Rattle.board_prelude.specs.Common.{Entry, Setup, IsDisk, is_hard_reset, reset as timer_at_reset};
-ghost use Rattle.board_prelude.specs.Common.{pair_at_reset, after_reset as clock_after_reset, triggers_at_reset};
-ghost use Rattle.board_prelude.specs.Common.{plain_at_reset, disk_of};
+ghost use Rattle.board_prelude.specs.{Entry, Setup, IsDisk, is_hard_reset, reset as timer_at_reset, pair_at_reset};
+ghost use Rattle.board_prelude.specs.{after_reset as clock_after_reset, triggers_at_reset, plain_at_reset, disk_of};
 ghost use Rattle.device_spec.specs.Ata.Steps.{after_reset as disk_after_reset};
 ghost use Rattle.board_devices.specs.Devices.{AreDevicesOf, AreRoutesOf, sectors_fitted};
 

@@ -1,8 +1,8 @@
 //! The sixteen interrupt lines.
 
 ghost use Rattle.std.specs.Prelude.{◌≡◌, ℕ, ◌+◌, ◌*◌, ◌<◌, ◌∷◌, ◌||◌, List, slice_index_or, false};
-ghost use Rattle.board_prelude.specs.Common.{option_map_or, is_interrupt, pair_after_lines, timer_of, Entry, Setup};
-ghost use Rattle.board_prelude.specs.Common.{pirq_levels, own_level, levels_of, elcr_of};
+ghost use Rattle.board_prelude.specs.{option_map_or, is_interrupt, pair_after_lines, timer_of, Entry, Setup};
+ghost use Rattle.board_prelude.specs.{pirq_levels, own_level, levels_of, elcr_of};
 ghost use Rattle.board_devices.specs.Devices.{AreWiresOf, AreAfter, AreDevicesOf, AreRoutesOf, sectors_fitted};
 ghost use Rattle.board_devices.specs.Events.{Leaves};
 ghost use Rattle.board_devices.specs.Steps.{driven};

@@ -2,9 +2,10 @@
 
 ghost use Rattle.std.specs.Prelude.{◌≡◌, ◌+◌, ◌*◌, ◌<◌, ◌≤◌, ◌↔◌, ◌∷◌, List, length, option_map, IfSome, true, false, is_some};
 ghost use Rattle.board_base.specs.declared.target.Dev.TheVariants.{Clock as ClockChip};
-ghost use Rattle.board_prelude.specs.Common.{Spurious, Entry, Setup, timer_of, clock_of, disk_of, acknowledged_by};
-ghost use Rattle.board_prelude.specs.Common.{after_write, interrupt};
-ghost use Rattle.pit_8254.specs.Common.{most_count, IsNextRise};
+ghost use Rattle.board_prelude.specs.{Spurious, Entry, Setup, timer_of, clock_of, disk_of, acknowledged_by};
+ghost use Rattle.board_prelude.specs.{after_write, interrupt};
+ghost use Rattle.pit_8254.specs.Quiet.{most_count};
+ghost use Rattle.pit_8254.specs.NextRise.{IsNextRise};
 ghost use Rattle.cmos_clock.specs.Outside.{with_byte};
 ghost use Rattle.board_devices.specs.Devices.{AreDevicesOf, HasDisk, sectors_fitted, sectors_in, with_sectors};
 ghost use Rattle.board_devices.specs.Events.{is_chip_port};

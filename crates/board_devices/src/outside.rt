@@ -2,9 +2,9 @@
 //! event, and as if after each single pulse, the lines reach the pair.
 
 ghost use Rattle.std.specs.Prelude.{◌≡◌, ◌<◌, ◌≤◌, ◌∷◌, List, length, nat_lt, slice_set, option_map, true, false};
-ghost use Rattle.board_prelude.specs.Common.{out_of, pulses, rises, after_moment, civil_time, after_bad, IsMoment};
-ghost use Rattle.board_prelude.specs.Common.{Entry, Pulses, Time, Wire, Line, BadSector, Setup, is_free_line};
-ghost use Rattle.board_prelude.specs.Common.{levels_of, elcr_of, stimulus_form, event_applied};
+ghost use Rattle.board_prelude.specs.{out_of, pulses, rises, after_moment, civil_time, after_bad, IsMoment, Entry};
+ghost use Rattle.board_prelude.specs.{Pulses, Time, Wire, Line, BadSector, Setup, is_free_line, levels_of, elcr_of};
+ghost use Rattle.board_prelude.specs.{stimulus_form, event_applied};
 ghost use Rattle.board_devices.specs.Devices.{AreAfter, AreDevicesOf, AreRoutesOf, sectors_fitted};
 ghost use Rattle.board_devices.specs.Events.{Asks};
 ghost use Rattle.board_devices.specs.PulsedPair.{pair_after_run};

@@ -2,7 +2,7 @@
 //! the keyboard controller there is an empty socket.
 
 ghost use Rattle.std.specs.Prelude.{◌≡◌, ◌≤◌, ◌++◌, OnOk, Some, true, false};
-ghost use Rattle.board_prelude.specs.Common.{bytes_of, largest_of, plain_at_reset, plain_accessed, plain_value};
+ghost use Rattle.board_prelude.specs.{bytes_of, largest_of, plain_at_reset, plain_accessed, plain_value};
 ghost use Rattle.byte_fields.specs.Fields.{Took};
 ghost use Rattle.board_devices.specs.Events.{is_chip_port};
 ghost use Rattle.board_devices.specs.State.{IsPlain, plain_bytes, plain_fields};

@@ -1,7 +1,7 @@
 //! The state of the devices as bytes, out and in.
 
 ghost use Rattle.std.specs.Prelude.{◌≡◌, ◌++◌, ℕ, List, Option, Some, OnOk, option_map};
-ghost use Rattle.board_prelude.specs.Common.{IsDisk};
+ghost use Rattle.board_prelude.specs.{IsDisk};
 ghost use Rattle.byte_fields.specs.Fields.{Took, Filled};
 ghost use Rattle.byte_fields.specs.Loads.{LoadsWith, OneSpelling};
 ghost use Rattle.pic_pair.specs.State.{pair_fields, lines_fields};

@@ -1,7 +1,7 @@
 //! What the devices hold, told without a change: the clock, and the sixteen lines.
 
 ghost use Rattle.std.specs.Prelude.{◌≡◌, List};
-ghost use Rattle.board_prelude.specs.Common.{Entry, Setup, clock_of, levels_of};
+ghost use Rattle.board_prelude.specs.{Entry, Setup, clock_of, levels_of};
 ghost use Rattle.board_devices.specs.Devices.{AreDevicesOf, AreRoutesOf};
 
 use crate::devices::Devices;

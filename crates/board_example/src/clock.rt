@@ -1,6 +1,6 @@
 //! The MC146818: the alarm goes off.
 
-ghost use Rattle.board_prelude.specs.Common.{IsMoment};
+ghost use Rattle.board_prelude.specs.{IsMoment};
 
 use board_base::Moment;
 use board_spec::port::{CLOCK_DATA, CLOCK_INDEX};

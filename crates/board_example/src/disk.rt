@@ -1,7 +1,7 @@
 //! The ATA disk: it is identified.
 
 ghost use Rattle.std.specs.Prelude.{◌≡◌, ◌↔◌, Err, false, length};
-ghost use Rattle.board_prelude.specs.Common.{is_disk_length};
+ghost use Rattle.board_prelude.specs.{is_disk_length};
 ghost use Rattle.ata_pio.specs.declared.ata.AtaOpen.{AtaOpen};
 
 use ata_pio::{Ata, AtaOpen};

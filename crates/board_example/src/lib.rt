@@ -34,7 +34,7 @@ pub mod serial;
 pub mod transfer;
 
 ghost use Rattle.std.specs.Prelude.{◌≡◌, ◌≢◌, ◌↔◌, [], false, None, length, Err, IfOk};
-ghost use Rattle.board_prelude.specs.Common.{Kind, Width, Event, IsRomSize, IsAnswer};
+ghost use Rattle.board_prelude.specs.{Kind, Width, Event, IsRomSize, IsAnswer};
 ghost use Rattle.board_chipset.specs.declared.setup.BoardOpen.{BoardOpen};
 
 use board_base::{Access, Kind, Width};

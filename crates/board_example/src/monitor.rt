@@ -1,8 +1,9 @@
 //! A monitor over a chipset: a guest's exits are answered one after another, for as long as the guest runs.
 
 ghost use Rattle.std.specs.Prelude.{◌≡◌, ◌↔◌, ◌++◌, List, IsErr};
-ghost use Rattle.board_prelude.specs.Common.{Entry, IsInRange};
-ghost use Rattle.board_chipset.specs.Common.{IsLeftBy, reset_of};
+ghost use Rattle.board_prelude.specs.{Entry, IsInRange};
+ghost use Rattle.board_chipset.specs.Chipset.{IsLeftBy};
+ghost use Rattle.board_chipset.specs.Resets.{reset_of};
 
 use board_chipset::{Chipset, OutOfRange, ResetKind};
 use board_spec::{Event, Reply};

@@ -1,15 +1,22 @@
 -- The worked texts of logs and maps.
 use Rattle.std.proofs.Common.{ℕ, ◌≡◌, ◌+◌, ◌==◌, true, List, [], ◌∷◌, ◌++◌, length, codes, refl, if◌then◌else◌, get_or}
 use Rattle.std.proofs.Common.{take, arith, inl, inr, sym, ap, ◌∙◌, rules}
-use Rattle.board_prelude.proofs.Common.{digits, All-nil, Entry, line_feed, event_text, reply_text, line_text}
-use Rattle.board_prelude.proofs.Common.{lines_text, log_text, complete_is_whole}
-use Rattle.board_examples.specs.Common.{small_board, phases, look_last, LookLast, NoEntries, NoSuchVersion, EmptyLog}
-use Rattle.board_examples.specs.Common.{EmptyLogDiffers, CutLogDiffers, OpenLogDiffers, LongLogDiffers, order_lines}
-use Rattle.board_examples.specs.Common.{last_line, LookLastLogged, LookFirstLogged, ExpansionRomLogged}
-use Rattle.board_examples.specs.Common.{CutInPartsLogged, OverSmramLogged, MapAfterResetWritten}
-use Rattle.script_spec.specs.Common.{text_of_lines, IsOneLine, IsVersion, IsWellFormed, AreBegun, IsSomeLog, IsLogOf}
-use Rattle.script_spec.proofs.Common.{lacks, front, front-field, lacks-first, lacks-later, line_whole, lacks-line}
-use Rattle.script_spec.proofs.Common.{one_line, nothing_more}
+use Rattle.board_prelude.proofs.{digits, All-nil, Entry, line_feed, event_text, reply_text, line_text, lines_text}
+use Rattle.board_prelude.proofs.{log_text, complete_is_whole}
+use Rattle.board_examples.specs.Basics.{small_board}
+use Rattle.board_examples.specs.Orders.{phases, look_last, LookLast, LookLastLogged, LookFirstLogged}
+use Rattle.board_examples.specs.CheckedLogs.{NoEntries, NoSuchVersion, EmptyLog, EmptyLogDiffers, CutLogDiffers}
+use Rattle.board_examples.specs.CheckedLogs.{OpenLogDiffers, LongLogDiffers, order_lines, last_line}
+use Rattle.board_examples.specs.Roms.{ExpansionRomLogged}
+use Rattle.board_examples.specs.Wide.{CutInPartsLogged, OverSmramLogged}
+use Rattle.board_examples.specs.Maps.{MapAfterResetWritten}
+use Rattle.script_spec.specs.Lines.{text_of_lines, IsOneLine}
+use Rattle.script_spec.specs.ScriptText.{IsVersion}
+use Rattle.script_spec.specs.WellFormed.{IsWellFormed}
+use Rattle.script_spec.specs.Checks.{AreBegun, IsSomeLog, IsLogOf}
+use Rattle.script_spec.proofs.Digits.{lacks, front, front-field, lacks-first, lacks-later}
+use Rattle.script_spec.proofs.LogLaws.{line_whole, nothing_more}
+use Rattle.script_spec.proofs.CheckLaws.{lacks-line, one_line}
 use Rattle.std.proofs.lemmas.List.Elements.{All-from_recursion}
 use Rattle.board_examples.proofs.LookRuns.{orders}
 use Rattle.board_examples.specs.Logs.{VgaBesideSmramLogged, ConfigurationPortsLogged, TwoCardsLogged, XbcsLogged}

@@ -2,49 +2,61 @@
 -- lines are computed from the definitions, and so are the versions and what the lock law says of a history that breaks
 -- it.
 use Rattle.std.proofs.Common.{ℕ, ◌≡◌, ◌%◌, ◌<◌, length, slice_index, arith, ◌/◌, [], ◌∷◌, refl, inl, inr, rules}
-use Rattle.board_prelude.proofs.Common.{length-map-range_with_len, get_or-map-range_with_len, reset, map_change_of}
-use Rattle.board_prelude.proofs.Common.{map_writes_of, wire_of, irq_of, triggers_of, levels_with, pair_pulsed, pair_of}
-use Rattle.board_prelude.specs.Common.{reset_byte, writable_bits, host_bridge, isa_bridge, ide_function, card_function}
-use Rattle.board_prelude.specs.Common.{byte_of, config_address, reset_control, row_of, area_of, denial_of, memory_claim}
-use Rattle.board_prelude.specs.Common.{memory_shut, rom_unselected, io_claim, io_shut, port_target_of, stored_of}
-use Rattle.board_prelude.specs.Common.{port_answer, memory_answer, programmed, out_of, plain_of, timer_of, clock_of}
-use Rattle.board_prelude.specs.Common.{device_value, disk_with, parts_put, parts_from, part_answer, wide_value}
+use Rattle.board_prelude.proofs.{length-map-range_with_len, get_or-map-range_with_len, reset, map_change_of}
+use Rattle.board_prelude.proofs.{map_writes_of, wire_of, irq_of, triggers_of, levels_with, pair_pulsed, pair_of}
+use Rattle.board_prelude.specs.{reset_byte, writable_bits, host_bridge, isa_bridge, ide_function, card_function}
+use Rattle.board_prelude.specs.{byte_of, config_address, reset_control, row_of, area_of, denial_of, memory_claim}
+use Rattle.board_prelude.specs.{memory_shut, rom_unselected, io_claim, io_shut, port_target_of, stored_of, port_answer}
+use Rattle.board_prelude.specs.{memory_answer, programmed, out_of, plain_of, timer_of, clock_of, device_value}
+use Rattle.board_prelude.specs.{disk_with, parts_put, parts_from, part_answer, wide_value}
 use Rattle.board_examples.specs.Basics.{counting_rom, ShadowingTheBios, OneWindowForWrites, MemoryAfterReset}
 use Rattle.board_examples.specs.Basics.{ConfigurationPorts, SmramLockedUntilReset, VgaBesideSmram, NoRowOfDram}
 use Rattle.board_examples.specs.Basics.{CardInTheHole, HoleAt512Kib, XbcsOverASoftReset, RomAfterReset}
 use Rattle.device_spec.specs.Clock.{power_on}
-use Rattle.board_examples.specs.Common.{ExtendedBios, LowerBios, HoleBorders, RowBorders, OpenAndClosed}
-use Rattle.board_examples.specs.Common.{ResetControlWritten, AddressInWords, CardPorts, PortsUnderXbcs, BasesInOrder}
-use Rattle.board_examples.specs.Common.{NobodySelected, WordsAtBytePorts, BasePastThePorts, ShutOverDevices}
-use Rattle.board_examples.specs.Common.{BasesByNumber, HostWritten, IsaWritten, IdeWritten, CardWritten, VgaWritten}
-use Rattle.board_examples.specs.Common.{FunctionsToldApart, BridgesAfterReset, CardsAfterReset, CutInParts, OverSmram}
-use Rattle.board_examples.specs.Common.{PastTheMemory, WindowsByKind, ShutBeforeUnselected, large_rom, given, told}
-use Rattle.board_examples.specs.Common.{after_lines, initialised, NobodyIsReady, SpuriousAnswers, ALevelStays}
-use Rattle.board_examples.specs.Common.{AnEdgeIsKept, TheHigherEndsFirst, ANewBeginning, AShortSequence, SpecialMask}
-use Rattle.board_examples.specs.Common.{ChosenRegisters, Polls, PollsOfOne, ResetAtLevels, EachCommand, AutomaticEnd}
-use Rattle.board_examples.specs.Common.{ModesEnd, FullyNested, Cascaded, Ports, AfterReset, ReadBackOf0, Counters1And2}
-use Rattle.board_examples.specs.Common.{OnePeriod, EachMode, EachCount, EachGate, BytesAndLatches, passed, filled}
-use Rattle.board_examples.specs.Common.{PastTheEnd, BadInTheMiddle, ReadToItsEnd, BadIsWritten, WrittenIsGood}
-use Rattle.board_examples.specs.Common.{WordsOfSector3, LowByteFirst, CommandEnds, WordsTheWrongWay, Writes, Resets}
-use Rattle.board_examples.specs.Common.{Commands, Addresses, Identify, Lengths, DiskPorts, TimerLatched, SystemPort}
-use Rattle.board_examples.specs.Common.{FallenLine, NestedInterrupts, Polled, RoutedWire, ClockTold, EachPulse}
-use Rattle.board_examples.specs.Common.{GatedCounter, ClockInterrupts, DiskInterrupts, SharedWires, FreeLines}
-use Rattle.board_examples.specs.Common.{DevicesOverReset, MaskBeforeIcw1, DiskOverReset, WordsAtChips, four_sectors}
-use Rattle.board_examples.specs.Common.{SectorRead, BadSector, DisabledDisk, NoDisk}
+use Rattle.board_examples.specs.Stories.{ExtendedBios, LowerBios, HoleBorders, RowBorders, OpenAndClosed}
+use Rattle.board_examples.specs.Stories.{ResetControlWritten, AddressInWords, CardPorts, PortsUnderXbcs, BasesInOrder}
+use Rattle.board_examples.specs.Stories.{large_rom}
+use Rattle.board_examples.specs.Ports.{NobodySelected, WordsAtBytePorts, BasePastThePorts, ShutOverDevices}
+use Rattle.board_examples.specs.Ports.{BasesByNumber, WordsAtChips}
+use Rattle.board_examples.specs.Masks.{HostWritten, IsaWritten, IdeWritten, CardWritten, VgaWritten, FunctionsToldApart}
+use Rattle.board_examples.specs.Resets.{BridgesAfterReset, CardsAfterReset}
+use Rattle.board_examples.specs.Wide.{CutInParts, OverSmram, PastTheMemory}
+use Rattle.board_examples.specs.Windows.{WindowsByKind}
+use Rattle.board_examples.specs.Roms.{ShutBeforeUnselected}
+use Rattle.board_examples.specs.Machines.Words.{given, told, after_lines}
+use Rattle.board_examples.specs.Machines.Pair.{initialised, NobodyIsReady, SpuriousAnswers, ALevelStays, AnEdgeIsKept}
+use Rattle.board_examples.specs.Machines.Pair.{TheHigherEndsFirst, ANewBeginning, AShortSequence, SpecialMask}
+use Rattle.board_examples.specs.Machines.Pair.{ChosenRegisters, Polls, PollsOfOne, ResetAtLevels, EachCommand}
+use Rattle.board_examples.specs.Machines.Pair.{AutomaticEnd, ModesEnd, FullyNested, Cascaded}
+use Rattle.board_examples.specs.Machines.Timer.{Ports, AfterReset, ReadBackOf0, Counters1And2, OnePeriod, EachMode}
+use Rattle.board_examples.specs.Machines.Timer.{EachCount, EachGate, BytesAndLatches}
+use Rattle.board_examples.specs.Machines.Disk.{passed, filled, PastTheEnd, BadInTheMiddle, ReadToItsEnd, BadIsWritten}
+use Rattle.board_examples.specs.Machines.Disk.{WrittenIsGood, WordsOfSector3, LowByteFirst, CommandEnds}
+use Rattle.board_examples.specs.Machines.Disk.{WordsTheWrongWay, Writes, Resets, Commands, Addresses, Identify, Lengths}
+use Rattle.board_examples.specs.Machines.Disk.{DiskPorts}
+use Rattle.board_examples.specs.Devices.{TimerLatched, SystemPort, FallenLine, NestedInterrupts, Polled, RoutedWire}
+use Rattle.board_examples.specs.Devices.{ClockTold}
+use Rattle.board_examples.specs.Interrupts.{EachPulse, GatedCounter, ClockInterrupts, DiskInterrupts, SharedWires}
+use Rattle.board_examples.specs.Interrupts.{FreeLines, DevicesOverReset, MaskBeforeIcw1, DiskOverReset}
+use Rattle.board_examples.specs.Disk.{four_sectors, SectorRead, BadSector, DisabledDisk, NoDisk}
 use Rattle.board_examples.proofs.Lines.{legal}
 use Rattle.board_examples.specs.Versions.{UnseenWrites, SeenWrites, AccessBreaksLock, PartBreaksLock, LookBreaksLock}
 use Rattle.board_examples.specs.Versions.{WordBreaksLock}
-use Rattle.board_spec.specs.Common.{levels_where, byte_of_levels, pending, first_selectable, request, chip_after_write}
-use Rattle.board_spec.specs.Common.{byte_read, chip_after_read, first_blocking, answer_of, pair_after_acknowledge}
-use Rattle.board_spec.specs.Common.{begin_read, sector_read, begin_write, sector_written, verified, obeyed, commanded}
-use Rattle.board_spec.specs.Common.{after_word, word_written, register_written, identify_word, is_line_driven}
+use Rattle.device_spec.specs.Levels.{levels_where, byte_of_levels}
+use Rattle.device_spec.specs.Pic.{pending, first_selectable, request, chip_after_write, byte_read, chip_after_read}
+use Rattle.device_spec.specs.Pic.{first_blocking}
+use Rattle.device_spec.specs.Pair.{answer_of, pair_after_acknowledge}
+use Rattle.device_spec.specs.Ata.Commands.{begin_read, sector_read, begin_write, sector_written, verified, obeyed}
+use Rattle.device_spec.specs.Ata.Commands.{commanded}
+use Rattle.device_spec.specs.Ata.Steps.{after_word, word_written, register_written, control_written}
+use Rattle.device_spec.specs.Ata.Identify.{identify_word}
+use Rattle.device_spec.specs.Routing.{is_line_driven}
 use Rattle.device_spec.specs.Pit.{mode_numbered, access_numbered, count_of_number, low_byte, high_byte, element_bytes}
 use Rattle.device_spec.specs.Pit.{status_byte, latch_count, latch_status, control, read_back, read_live, read}
 use Rattle.device_spec.specs.Pit.{asks_for_load, complete, take_low, take_byte, write, gate_rises, gate_falls, load}
 use Rattle.device_spec.specs.Pit.{count_down, count_to_end, count_to_reload, count_half, count_to_strobe, pulse_by_mode}
 use Rattle.device_spec.specs.Pit.{pulse, port_read, read_back_chosen, write_control, port_write, set_gate2, pulse_all}
 use Rattle.device_spec.specs.Pit.{pulses, rises}
-use Rattle.device_spec.specs.Ata.Steps.{control_written}
 
 pub rom_size : length counting_rom ≡ 0x1_0000
 unfolding counting_rom

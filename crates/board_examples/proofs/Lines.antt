@@ -1,9 +1,9 @@
 -- A history is legal where the numbers and the replies of its lines are those that the definitions compute, which is
 -- one equation of two columns, and where its looks are answered.
 use Rattle.std.proofs.Common.{ℕ, ◌≡◌, ◌+◌, List, [], ◌∷◌, length, map, Option, Some, None}
-use Rattle.board_prelude.specs.Common.{Device, Event, Memory, Wide, Port, Ack, Part, Reply, Bus, Entry, Setup, parts_of}
-use Rattle.board_prelude.specs.Common.{parts_list, vector_of, acknowledged_by, IsAnswer, memory_answer, part_answer}
-use Rattle.board_prelude.specs.Common.{wide_value, port_answer, outside_answer, answers_outside, entries_by, IsLegal}
+use Rattle.board_prelude.specs.{Device, Event, Memory, Wide, Port, Ack, Part, Reply, Bus, Entry, Setup, parts_of}
+use Rattle.board_prelude.specs.{parts_list, vector_of, acknowledged_by, IsAnswer, memory_answer, part_answer}
+use Rattle.board_prelude.specs.{wide_value, port_answer, outside_answer, answers_outside, entries_by, IsLegal}
 use Rattle.board_spec.specs.declared.event.Event.TheVariants.{Look as LookAt}
 use Rattle.board_spec.specs.declared.event.Reply.TheVariants.{Parts as InParts}
 

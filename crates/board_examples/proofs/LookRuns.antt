@@ -2,27 +2,27 @@
 -- for two processors.
 use Rattle.std.proofs.Common.{ℕ, ◌≡◌, ◌+◌, ◌-◌, ◌<◌, ◌≤◌, ◌≢◌, Bool, true, false, ◌∷◌, [], nat_lt, refl, List, arith}
 use Rattle.std.proofs.Common.{inr, ◌∙◌, ◌&&◌, not, if◌then◌else◌, map, replicate, All, rules, inl, drop, flat_map}
-use Rattle.board_prelude.proofs.Common.{nat_tests, Kind, is_within, Setup, Bytes, Area, is_rom_selected, is_smram_range}
-use Rattle.board_prelude.proofs.Common.{row_of, area_of, memory_claim, IsSpan, address_count, xbcs, Fetch, Read, Write}
-use Rattle.board_prelude.proofs.Common.{bridge, pam, is_smram_open, fdhc, drb, MapRange, IsRight, NeighboursDiffer}
-use Rattle.board_prelude.proofs.Common.{byte_of, reset_byte, writable_bits, host_bridge, isa_bridge, config_address}
-use Rattle.board_prelude.proofs.Common.{reset_control, card_function, denial_of, memory_shut, rom_unselected}
-use Rattle.board_prelude.proofs.Common.{port_target_of, stored_of, port_answer, memory_answer, map_change_of}
-use Rattle.board_prelude.proofs.Common.{map_writes_of, ide_function, io_claim, io_shut, events_by, statement_of}
-use Rattle.board_prelude.proofs.Common.{AllByRecursion, top_of, first_of, card_area, option_map, Window, is_covered}
-use Rattle.board_prelude.proofs.Common.{memory_windows, is_enabled_for}
+use Rattle.board_prelude.proofs.{nat_tests, Kind, is_within, Setup, Bytes, Area, is_rom_selected, is_smram_range}
+use Rattle.board_prelude.proofs.{row_of, area_of, memory_claim, IsSpan, address_count, xbcs, Fetch, Read, Write, bridge}
+use Rattle.board_prelude.proofs.{pam, is_smram_open, fdhc, drb, MapRange, IsRight, NeighboursDiffer, byte_of}
+use Rattle.board_prelude.proofs.{reset_byte, writable_bits, host_bridge, isa_bridge, config_address, reset_control}
+use Rattle.board_prelude.proofs.{card_function, denial_of, memory_shut, rom_unselected, port_target_of, stored_of}
+use Rattle.board_prelude.proofs.{port_answer, memory_answer, map_change_of, map_writes_of, ide_function, io_claim}
+use Rattle.board_prelude.proofs.{io_shut, events_by, statement_of, AllByRecursion, top_of, first_of, card_area}
+use Rattle.board_prelude.proofs.{option_map, Window, is_covered, memory_windows, is_enabled_for}
 use Rattle.board_base.specs.declared.target.Area.TheVariants.{Abort, Dram, Rom, Smram}
 use Rattle.std.proofs.lemmas.List.Elements.{All-from_recursion}
-use Rattle.board_examples.specs.Common.{small_board, range, smram_range, smram_written, map_round, MapAfterReset}
-use Rattle.board_examples.specs.Common.{MapOpenAndClosed, MapClosedToData, MapOfSmm, from_reset, rom_card_board}
-use Rattle.board_examples.specs.Common.{expansion_rom, ExpansionRom, look_in_smm, LookInSmm, two_cards}
-use Rattle.board_examples.specs.Common.{two_cards_at_one_address, moved_card, card_moved_under_the_rom, addressed}
-use Rattle.board_examples.specs.Common.{opened, sees_rom, look_last, LookLast, LookFirst, LookAlone, LookTooEarly}
-use Rattle.board_examples.specs.Maps.{map_after_reset as ranges, IsMapAfter}
+use Rattle.board_examples.specs.Basics.{small_board, two_cards, two_cards_at_one_address, moved_card}
+use Rattle.board_examples.specs.Basics.{card_moved_under_the_rom, TwoCardsAtOneAddress, CardMovedUnderTheRom}
+use Rattle.board_examples.specs.Maps.{range, smram_range, smram_written, map_round, MapAfterReset, MapOpenAndClosed}
+use Rattle.board_examples.specs.Maps.{MapClosedToData, MapOfSmm, map_after_reset as ranges, IsMapAfter}
+use Rattle.board_examples.specs.Words.{from_reset}
+use Rattle.board_examples.specs.Roms.{rom_card_board, expansion_rom, ExpansionRom}
+use Rattle.board_examples.specs.Windows.{look_in_smm, LookInSmm}
+use Rattle.board_examples.specs.Orders.{addressed, opened, sees_rom, look_last, LookLast, LookFirst, LookAlone}
+use Rattle.board_examples.specs.Orders.{LookTooEarly, look_first}
 use Rattle.board_examples.specs.OutsideBases.{frame_board, outside_base, OutsideBaseRead}
 use Rattle.board_examples.proofs.Lines.{legal}
-use Rattle.board_examples.specs.Basics.{TwoCardsAtOneAddress, CardMovedUnderTheRom}
-use Rattle.board_examples.specs.Orders.{look_first}
 
 -- a span where other areas answer before it and after it
 pub inner_span : {setup : Setup} {bytes : Bytes} {addr lo hi : ℕ} {kind : Kind} {smm : Bool} {area : Area} →

@@ -2,17 +2,18 @@
 -- items is computed: what is counted in one is counted for each length.
 use Rattle.std.proofs.Common.{refl, arith, rules, ℕ, zero, suc, ◌≡◌, ◌+◌, ◌*◌, Bool, true, false, ◌||◌, nat_lt, List}
 use Rattle.std.proofs.Common.{◌∷◌, length, filter, sum_by, ap, ◌∙◌}
-use Rattle.board_prelude.proofs.Common.{All-nil, All-cons, All-head, weekday_of, days_since_1980, days_of_years}
-use Rattle.board_prelude.proofs.Common.{days_of_months, list_any, sum_by-cons, Ack, Pulses, memory_of_cards}
-use Rattle.board_prelude.proofs.Common.{most_statements, most_phases, most_pulses, most_card_memory}
+use Rattle.board_prelude.proofs.{All-nil, All-cons, All-head, weekday_of, days_since_1980, days_of_years}
+use Rattle.board_prelude.proofs.{days_of_months, list_any, sum_by-cons, Ack, Pulses, memory_of_cards, most_statements}
+use Rattle.board_prelude.proofs.{most_phases, most_pulses, most_card_memory}
 use Rattle.board_examples.specs.Setups.{SetupBorders}
 use Rattle.std.proofs.lemmas.List.Elements.{All-from_recursion}
 use Rattle.board_examples.proofs.Histories.{rom_size}
 use Rattle.board_examples.specs.Events.{AccessBorders, WideBorders, OutsideBorders, MomentBorders, StatementBorders}
 use Rattle.board_examples.specs.Limits.{AreaBorders, asks, after_so_many, after_statements, after_phases}
 use Rattle.board_examples.specs.Limits.{after_millions, AmountBorders}
-use Rattle.script_spec.specs.Common.{Item, BeginPhase, is_phase, is_statement, is_cpus_above, cards_of, is_in_range}
-use Rattle.script_spec.specs.Common.{pulses_of, least_reason}
+use Rattle.script_spec.specs.Grammar.{Item, BeginPhase}
+use Rattle.script_spec.specs.Reasons.{is_phase, is_statement, is_cpus_above, cards_of, is_in_range, pulses_of}
+use Rattle.script_spec.specs.Reasons.{least_reason}
 use Rattle.script_spec.proofs.LeastReasons.{first_of}
 use Rattle.std.proofs.lemmas.Bool.Decides.{nat_tests}
 

@@ -1,8 +1,8 @@
 -- Worked examples: what is asked of a board from reset on, line by line, and what it replies. Each is a
 -- legal history of its board, computed from the definitions alone.
 use Rattle.std.specs.Prelude.{ℕ, ◌%◌, List, [], ◌∷◌, map, true, false, None}
-use Rattle.board_prelude.specs.Common.{range_with_len, One, Read, Dram, Shadow, Smram, Rom, Card, Device, Confadd}
-use Rattle.board_prelude.specs.Common.{NoRegister, FittedCard, MemoryBase, Setup, IsLegal}
+use Rattle.board_prelude.specs.{range_with_len, One, Read, Dram, Shadow, Smram, Rom, Card, Device, Confadd, NoRegister}
+use Rattle.board_prelude.specs.{FittedCard, MemoryBase, Setup, IsLegal}
 use Rattle.board_base.specs.declared.access.Width.TheVariants.{Two, Four}
 use Rattle.board_base.specs.declared.target.Area.TheVariants.{Card as CardArea, Abort as AbortArea}
 use Rattle.board_base.specs.declared.target.Dev.TheVariants.{Confadd as AddressPort, Reset}

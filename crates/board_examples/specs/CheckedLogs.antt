@@ -2,7 +2,8 @@
 use Rattle.std.specs.Prelude.{ℕ, List, [], ◌∷◌, ◌++◌, take, codes}
 use Rattle.board_examples.specs.Basics.{small_board}
 use Rattle.board_examples.specs.Orders.{phases}
-use Rattle.script_spec.specs.Common.{text_of_lines, IsLogText, IsBadLog, DiffersAt}
+use Rattle.script_spec.specs.Lines.{text_of_lines}
+use Rattle.script_spec.specs.Checks.{IsLogText, IsBadLog, DiffersAt}
 
 unfoldable pub NoEntries : Type 0
 NoEntries = IsLogText 2 [] (text_of_lines (codes "access log 2" ∷ []))

@@ -1,6 +1,6 @@
 -- Worked examples of the 8259A pair, the 8254, port 61h and the clock, each as a legal history of its board.
 use Rattle.std.specs.Prelude.{List, [], ◌∷◌, ◌++◌, true, false, None}
-use Rattle.board_prelude.specs.Common.{One, Moment, Pic0, Pic1, Pit, System, Elcr, Vector, Spurious, Setup, IsLegal}
+use Rattle.board_prelude.specs.{One, Moment, Pic0, Pic1, Pit, System, Elcr, Vector, Spurious, Setup, IsLegal}
 use Rattle.board_base.specs.declared.target.Dev.TheVariants.{Clock}
 use Rattle.board_examples.specs.Words.{Said, from_reset, selects, outputs, goes_to, register, puts, gets, acknowledges}
 use Rattle.board_examples.specs.Words.{pulses, wire, line, tells}

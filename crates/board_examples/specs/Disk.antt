@@ -1,6 +1,6 @@
 -- Worked examples of the disk: a board of 8 MiB with four sectors.
 use Rattle.std.specs.Prelude.{ℕ, List, [], ◌∷◌, ◌++◌, replicate, Some}
-use Rattle.board_prelude.specs.Common.{One, Ata, Device, NoRegister, Setup, IsLegal}
+use Rattle.board_prelude.specs.{One, Ata, Device, NoRegister, Setup, IsLegal}
 use Rattle.board_base.specs.declared.access.Width.TheVariants.{Two, Four}
 use Rattle.board_examples.specs.Words.{Said, from_reset, selects, inputs, outputs, gives, goes_to, lost, floats}
 use Rattle.board_examples.specs.Words.{register, denied_by, puts, gets, spoils}

@@ -1,7 +1,7 @@
 -- Events at the borders of what a board can be asked: the last that is in range, and the first that is not.
 use Rattle.std.specs.Prelude.{ℕ, true, false}
-use Rattle.board_prelude.specs.Common.{Width, One, Kind, Read, Write, Event, Memory, Wide, Port, Ack, Pulses, Time}
-use Rattle.board_prelude.specs.Common.{Wire, Line, BadSector, IsInRange, IsScripted, moment_of}
+use Rattle.board_prelude.specs.{Width, One, Kind, Read, Write, Event, Memory, Wide, Port, Ack, Pulses, Time, Wire, Line}
+use Rattle.board_prelude.specs.{BadSector, IsInRange, IsScripted, moment_of}
 use Rattle.board_base.specs.declared.access.Width.TheVariants.{Two, Four}
 use Rattle.board_examples.specs.Devices.{plain_card_board}
 

@@ -3,7 +3,7 @@
 use Rattle.std.specs.Prelude.{ℕ, List, [], ◌∷◌, ◌++◌, true, false, None, Some, replicate}
 use Rattle.board_base.specs.declared.access.Width.TheVariants.{Four}
 use Rattle.board_base.specs.declared.target.Dev.TheVariants.{Reset, Clock}
-use Rattle.board_prelude.specs.Common.{Pic0, Pic1, Pit, System, Elcr, Ata, Vector, Spurious, FittedCard, Setup, IsLegal}
+use Rattle.board_prelude.specs.{Pic0, Pic1, Pit, System, Elcr, Ata, Vector, Spurious, FittedCard, Setup, IsLegal}
 use Rattle.board_examples.specs.Words.{Said, from_reset, selects, outputs, goes_to, register, puts, gets, acknowledges}
 use Rattle.board_examples.specs.Words.{pulses, wire, line, tells, spoils}
 use Rattle.board_examples.specs.Basics.{board_of, small_board}

@@ -21,4 +21,3 @@ pub mod Limits
 pub mod Targets
 pub mod CheckedLogs
 pub mod Machines
-pub mod Common

@@ -1,9 +1,11 @@
 -- The last statement, phase and pulse that a script may ask for, and the first too many. The numbers are those of the
 -- README and of the formats, and stand here once more on purpose. And the areas that a look of a log can name.
 use Rattle.std.specs.Prelude.{ℕ, ◌≡◌, List, [], ◌∷◌, ◌++◌, replicate, Option, Some, None, codes}
-use Rattle.board_prelude.specs.Common.{Event, Ack, Pulses}
+use Rattle.board_prelude.specs.{Event, Ack, Pulses}
 use Rattle.board_base.specs.declared.target.Area.TheVariants.{Dram, Shadow, Card}
-use Rattle.script_spec.specs.Common.{Item, SetCpus, SetMemory, SetRom, BeginPhase, Ask, least_reason, FitsArea}
+use Rattle.script_spec.specs.Grammar.{Item, SetCpus, SetMemory, SetRom, BeginPhase, Ask}
+use Rattle.script_spec.specs.Reasons.{least_reason}
+use Rattle.script_spec.specs.WellFormed.{FitsArea}
 
 -- a setup of one processor and its first phase, the newest first
 abbrev pub begun : List Item

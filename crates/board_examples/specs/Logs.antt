@@ -1,7 +1,7 @@
 -- The logs of some worked examples, as they are written.
 use Rattle.std.specs.Prelude.{ℕ, ◌≡◌, ◌++◌, List, [], ◌∷◌, codes, flat_map, true}
-use Rattle.board_prelude.specs.Common.{Pit, Ata, Wires, Vector, Spurious, Device, Ack, Pulses, Time, Wire, Line}
-use Rattle.board_prelude.specs.Common.{BadSector, Entry, log_text, line_feed}
+use Rattle.board_prelude.specs.{Pit, Ata, Wires, Vector, Spurious, Device, Ack, Pulses, Time, Wire, Line, BadSector}
+use Rattle.board_prelude.specs.{Entry, log_text, line_feed}
 use Rattle.board_base.specs.declared.target.Dev.TheVariants.{Clock}
 use Rattle.board_examples.specs.Words.{Said, from_reset, gives, goes_to}
 use Rattle.board_examples.specs.Basics.{vga_beside_smram, configuration_ports, two_cards_at_one_address}

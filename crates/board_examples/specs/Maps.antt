@@ -1,6 +1,6 @@
 -- The flat map of a board after reset and how it is written, and maps whose columns differ.
 use Rattle.std.specs.Prelude.{ℕ, ◌≡◌, List, [], ◌∷◌, codes, replicate}
-use Rattle.board_prelude.specs.Common.{One, Area, Entry, byte_of, MapRange, IsFlatMapOf, map_text}
+use Rattle.board_prelude.specs.{One, Area, Entry, byte_of, MapRange, IsFlatMapOf, map_text}
 use Rattle.board_base.specs.declared.target.Area.TheVariants.{Dram as DramArea, Smram as SmramArea, Rom as RomArea}
 use Rattle.board_base.specs.declared.target.Area.TheVariants.{Abort as AbortArea}
 use Rattle.board_examples.specs.Words.{from_reset, selects, outputs, goes_to, host}

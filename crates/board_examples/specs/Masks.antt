@@ -1,7 +1,7 @@
 -- Every register of each function is written with ones and read back, and so its writable bits are seen; then
 -- those that begin with ones are written with zeros.
 use Rattle.std.specs.Prelude.{ℕ, ◌+◌, ◌*◌, List, [], ◌∷◌, ◌++◌, true, false, None, Some}
-use Rattle.board_prelude.specs.Common.{One, Confadd, NoRegister, FittedCard, MemoryBase, IoBase, Setup, IsLegal}
+use Rattle.board_prelude.specs.{One, Confadd, NoRegister, FittedCard, MemoryBase, IoBase, Setup, IsLegal}
 use Rattle.board_base.specs.declared.access.Width.TheVariants.{Two, Four}
 use Rattle.board_examples.specs.Words.{Said, from_reset, selects, inputs, outputs, gives, goes_to, floats, lost}
 use Rattle.board_examples.specs.Words.{register}

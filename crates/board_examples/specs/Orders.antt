@@ -1,8 +1,8 @@
 -- A script for two processors, with two phases: one opens a shadow window while the other looks at it.
 -- Either order is legal and complete, and each look answers for its place.
 use Rattle.std.specs.Prelude.{◌≡◌, List, [], ◌∷◌, codes}
-use Rattle.board_prelude.specs.Common.{One, Read, Entry, Statement, IsLegal, statement_of, IsReplayOf, IsCompleteFor}
-use Rattle.board_prelude.specs.Common.{IsBegunFor, log_text}
+use Rattle.board_prelude.specs.{One, Read, Entry, Statement, IsLegal, statement_of, IsReplayOf, IsCompleteFor}
+use Rattle.board_prelude.specs.{IsBegunFor, log_text}
 use Rattle.board_base.specs.declared.target.Area.TheVariants.{Rom as RomArea, Shadow as ShadowArea}
 use Rattle.board_examples.specs.Words.{selects, outputs, looks, sees, goes_to, host}
 use Rattle.board_examples.specs.Basics.{small_board}

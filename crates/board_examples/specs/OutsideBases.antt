@@ -1,7 +1,7 @@
 -- A worked example of a base whose bytes the board does not keep: it decodes as any base in memory, its reads give ones
 -- whatever was written, and each reply names card, base and offset.
 use Rattle.std.specs.Prelude.{List, [], ◌∷◌, false, None}
-use Rattle.board_prelude.specs.Common.{One, Read, Card, NoRegister, Setup, FittedCard, MemoryBase, OutsideBase, IsLegal}
+use Rattle.board_prelude.specs.{One, Read, Card, NoRegister, Setup, FittedCard, MemoryBase, OutsideBase, IsLegal}
 use Rattle.board_base.specs.declared.access.Width.TheVariants.{Two, Four}
 use Rattle.board_base.specs.declared.target.Area.TheVariants.{Card as CardArea}
 use Rattle.board_examples.specs.Words.{Said, from_reset, selects, inputs, outputs, reads, writes, looks, sees, gives}

@@ -1,8 +1,8 @@
 -- Worked examples of accesses to ports that reach nobody: by what the configuration address selects, by their width,
 -- and by where a card's ports lie.
 use Rattle.std.specs.Prelude.{List, [], ◌∷◌, ◌++◌, false, None}
-use Rattle.board_prelude.specs.Common.{One, Pic0, Pic1, Pit, System, Elcr, Ata, Card, Device, NoRegister, MemoryBase}
-use Rattle.board_prelude.specs.Common.{IoBase, FittedCard, Setup, IsLegal}
+use Rattle.board_prelude.specs.{One, Pic0, Pic1, Pit, System, Elcr, Ata, Card, Device, NoRegister, MemoryBase, IoBase}
+use Rattle.board_prelude.specs.{FittedCard, Setup, IsLegal}
 use Rattle.board_base.specs.declared.access.Width.TheVariants.{Two, Four}
 use Rattle.board_base.specs.declared.target.Dev.TheVariants.{Confadd as AddressPort, Clock}
 use Rattle.board_examples.specs.Words.{Said, from_reset, selects, inputs, outputs, gives, goes_to, floats, lost}

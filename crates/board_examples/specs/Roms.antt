@@ -1,6 +1,6 @@
 -- Worked examples of expansion ROMs: who answers, and who denies.
 use Rattle.std.specs.Prelude.{List, [], ◌∷◌, codes, false, Some}
-use Rattle.board_prelude.specs.Common.{One, Read, Card, NoRegister, Setup, FittedCard, IsLegal}
+use Rattle.board_prelude.specs.{One, Read, Card, NoRegister, Setup, FittedCard, IsLegal}
 use Rattle.board_base.specs.declared.access.Width.TheVariants.{Four}
 use Rattle.board_base.specs.declared.target.Area.TheVariants.{Card as CardArea, Abort as AbortArea}
 use Rattle.board_examples.specs.Words.{Said, from_reset, selects, inputs, outputs, reads, writes, looks, sees, gives}

@@ -1,10 +1,9 @@
 -- What a board can be fitted with, at the borders: the last that is good on each side, and the first that is bad. The
 -- numbers are those of the README and of the formats, and stand here once more on purpose.
 use Rattle.std.specs.Prelude.{ℕ, ◌≡◌, true, false, List, [], ◌∷◌, ◌++◌, map, replicate, Some, None}
-use Rattle.board_prelude.specs.Common.{Base, MemoryBase, IoBase, OutsideBase, FittedCard, IsBase, IsCard, IsCardList}
-use Rattle.board_prelude.specs.Common.{IsDiskSize, IsExpansionRom, IsRomSize, IsSetup, is_base_in_range}
-use Rattle.board_prelude.specs.Common.{is_rom_in_range, is_rom_size, entry_limit, most_phases, most_pulses}
-use Rattle.board_prelude.specs.Common.{most_statements}
+use Rattle.board_prelude.specs.{Base, MemoryBase, IoBase, OutsideBase, FittedCard, IsBase, IsCard, IsCardList}
+use Rattle.board_prelude.specs.{IsDiskSize, IsExpansionRom, IsRomSize, IsSetup, is_base_in_range, is_rom_in_range}
+use Rattle.board_prelude.specs.{is_rom_size, entry_limit, most_phases, most_pulses, most_statements}
 use Rattle.board_examples.specs.Basics.{board_of}
 
 -- a board of so many MiB with these cards

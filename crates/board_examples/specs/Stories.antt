@@ -1,8 +1,8 @@
 -- Stories of whole boards: the BIOS ranges, the borders of the holes and of the rows, SMRAM with every bit set,
 -- reset control, and the ports of a card.
 use Rattle.std.specs.Prelude.{ℕ, ◌/◌, List, [], ◌∷◌, map, true, false, None, Some}
-use Rattle.board_prelude.specs.Common.{range_with_len, One, System, Keyboard, Dram, Smram, Rom, Card, Device}
-use Rattle.board_prelude.specs.Common.{NoRegister, FittedCard, MemoryBase, IoBase, Setup, IsLegal}
+use Rattle.board_prelude.specs.{range_with_len, One, System, Keyboard, Dram, Smram, Rom, Card, Device, NoRegister}
+use Rattle.board_prelude.specs.{FittedCard, MemoryBase, IoBase, Setup, IsLegal}
 use Rattle.board_base.specs.declared.access.Width.TheVariants.{Two, Four}
 use Rattle.board_base.specs.declared.target.Dev.TheVariants.{Confadd as AddressPort, Reset, Clock}
 use Rattle.board_examples.specs.Words.{Said, from_reset, selects, inputs, outputs, reads, fetches, writes, reads_in_smm}

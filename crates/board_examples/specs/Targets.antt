@@ -1,8 +1,7 @@
 -- The log's text of every kind of target, denial, width and event. These entries are no history of a board.
 use Rattle.std.specs.Prelude.{List, [], ◌∷◌, codes, true, false}
-use Rattle.board_prelude.specs.Common.{One, Fetch, Read, Write, Pic0, Pic1, Pit, System, Keyboard, Elcr, Ata, Dram}
-use Rattle.board_prelude.specs.Common.{Shadow, Smram, Rom, Card, Confadd, NoRegister, Two as TwoParts}
-use Rattle.board_prelude.specs.Common.{Three as ThreeParts}
+use Rattle.board_prelude.specs.{One, Fetch, Read, Write, Pic0, Pic1, Pit, System, Keyboard, Elcr, Ata, Dram, Shadow}
+use Rattle.board_prelude.specs.{Smram, Rom, Card, Confadd, NoRegister, Two as TwoParts, Three as ThreeParts}
 use Rattle.board_base.specs.declared.access.Width.TheVariants.{Two, Four}
 use Rattle.board_base.specs.declared.target.Area.TheVariants.{Dram as DramArea, Shadow as ShadowArea}
 use Rattle.board_base.specs.declared.target.Area.TheVariants.{Smram as SmramArea, Rom as RomArea}

@@ -1,7 +1,7 @@
 -- Which writes raise the version of the map, and which histories break the lock law.
 use Rattle.std.specs.Prelude.{ℕ, ◌≡◌, ◌+◌, ◌*◌, List, [], ◌∷◌, ◌++◌, true, false, None, Some}
-use Rattle.board_prelude.specs.Common.{One, Read, Dram, Smram, Confadd, FittedCard, MemoryBase, Setup, version_of}
-use Rattle.board_prelude.specs.Common.{LockLaw, Two as TwoParts}
+use Rattle.board_prelude.specs.{One, Read, Dram, Smram, Confadd, FittedCard, MemoryBase, Setup, version_of, LockLaw}
+use Rattle.board_prelude.specs.{Two as TwoParts}
 use Rattle.board_base.specs.declared.access.Width.TheVariants.{Two, Four}
 use Rattle.board_base.specs.declared.target.Dev.TheVariants.{Reset}
 use Rattle.board_base.specs.declared.target.Area.TheVariants.{Smram as SmramArea}

@@ -1,7 +1,7 @@
 -- Worked examples of accesses that are not aligned, or have 8 bytes, and their logs.
 use Rattle.std.specs.Prelude.{ℕ, ◌≡◌, List, [], ◌∷◌, codes, true}
-use Rattle.board_prelude.specs.Common.{One, Read, Dram, Shadow, Smram, Abort, Two as TwoParts, Three as ThreeParts}
-use Rattle.board_prelude.specs.Common.{Four as FourParts, IsLegal, log_text}
+use Rattle.board_prelude.specs.{One, Read, Dram, Shadow, Smram, Abort, Two as TwoParts, Three as ThreeParts}
+use Rattle.board_prelude.specs.{Four as FourParts, IsLegal, log_text}
 use Rattle.board_examples.specs.Words.{Said, from_reset, selects, inputs, outputs, reads, writes, gives, goes_to, host}
 use Rattle.board_examples.specs.Words.{denied_by_host, wide_access, reads_wide, writes_wide, part, denied_part}
 use Rattle.board_examples.specs.Words.{gives_parts, goes_in_parts}

@@ -1,6 +1,6 @@
 -- Worked examples of the shadow windows by the kind of access, and of a look in SMM.
 use Rattle.std.specs.Prelude.{List, [], ◌∷◌, true}
-use Rattle.board_prelude.specs.Common.{One, Fetch, Shadow, IsLegal}
+use Rattle.board_prelude.specs.{One, Fetch, Shadow, IsLegal}
 use Rattle.board_base.specs.declared.target.Area.TheVariants.{Smram as SmramArea}
 use Rattle.board_spec.specs.declared.event.Event.TheVariants.{Look as LookAt}
 use Rattle.board_examples.specs.Words.{Said, from_reset, selects, outputs, reads, fetches, writes, sees, gives, goes_to}

@@ -1,8 +1,8 @@
 -- Words of the worked examples: what is asked of a board, and what it replies, line by line.
 use Rattle.std.specs.Prelude.{ℕ, ◌+◌, List, [], ◌∷◌, length, Bool, true, false, Some, None}
-use Rattle.board_prelude.specs.Common.{Width, One, Kind, Fetch, Read, Write, Dev, Pit, Wires, Ata, Moment, Area, Target}
-use Rattle.board_prelude.specs.Common.{Config, Device, Abort, Denial, Register, Event, Memory, Wide, Port, Ack, Pulses}
-use Rattle.board_prelude.specs.Common.{Time, Wire, Line, BadSector, Part, Parts, Reply, Bus, Saw, Entry}
+use Rattle.board_prelude.specs.{Width, One, Kind, Fetch, Read, Write, Dev, Pit, Wires, Ata, Moment, Area, Target}
+use Rattle.board_prelude.specs.{Config, Device, Abort, Denial, Register, Event, Memory, Wide, Port, Ack, Pulses, Time}
+use Rattle.board_prelude.specs.{Wire, Line, BadSector, Part, Parts, Reply, Bus, Saw, Entry}
 use Rattle.board_base.specs.declared.access.Width.TheVariants.{Four}
 use Rattle.board_base.specs.declared.target.Dev.TheVariants.{Confadd as AddressPort, Clock}
 use Rattle.board_spec.specs.declared.event.Event.TheVariants.{Look as LookAt}

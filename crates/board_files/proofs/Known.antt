@@ -1,7 +1,7 @@
 -- What reads leave of known bytes, and what they give of a file.
 use Rattle.std.proofs.Common.{◌≡◌, ℕ, zero, suc, ◌+◌, ◌-◌, ◌≤◌, List, [], ◌++◌, length, take, drop, Option, None, Some}
 use Rattle.std.proofs.Common.{refl, sym, ap, ◌∙◌, arith}
-use Rattle.board_base.proofs.Common.{drop-drop, drop_at, take_at, length-drop}
+use Rattle.std.proofs.lemmas.List.{drop-drop, drop_at, take_at, length-drop}
 use Rattle.board_outside.specs.Outside.{OfFile}
 use Rattle.std.specs.Io.KnownBytes.{Consumes, IsAtEnd}
 

@@ -2,13 +2,14 @@
 use Rattle.std.proofs.Common.{◌≡◌, ℕ, ◌+◌, ◌-◌, ◌*◌, ◌^◌, ◌<◌, ◌≤◌, List, [], ◌∷◌, length, Option, Some, refl, ◌↔◌, Bool, true}
 use Rattle.std.proofs.Common.{false, sym}
 use Rattle.std.proofs.Common.{arith, map, flat_map, sum_by, All, unwrap_or}
-use Rattle.board_prelude.proofs.Common.{AllByRecursion, flat_map-cons, recursion_from_All, sum_by-cons, sum_by-append}
-use Rattle.board_prelude.proofs.Common.{Base, FittedCard, IsBase, IsCard, IsExpansionRom, Rises, memory_of_cards}
-use Rattle.board_prelude.proofs.Common.{memory_size, nat_tests, MemoryBase, IoBase, OutsideBase}
+use Rattle.board_prelude.proofs.{AllByRecursion, flat_map-cons, recursion_from_All, sum_by-cons, sum_by-append, Base}
+use Rattle.board_prelude.proofs.{FittedCard, IsBase, IsCard, IsExpansionRom, Rises, memory_of_cards, memory_size}
+use Rattle.board_prelude.proofs.{nat_tests, MemoryBase, IoBase, OutsideBase}
 use Rattle.std.proofs.lemmas.List.Elements.{All-from_recursion}
 use Rattle.std.proofs.lemmas.List.Concat.{flat_map_single}
-use Rattle.board_image.specs.Common.{base_in, base_of_byte, has_room}
-use Rattle.board_image.specs.Common.{base_byte, can_stand, card_bytes, rom_of, bases_fields, card_fields, cards_fields}
+use Rattle.board_image.specs.ImageFields.{base_in, base_of_byte, has_room, can_stand, rom_of, bases_fields, card_fields}
+use Rattle.board_image.specs.ImageFields.{cards_fields}
+use Rattle.board_image.specs.ImageBytes.{base_byte, card_bytes}
 use Rattle.byte_fields.proofs.Formats.{IsFormat, format_as, fields_format, ◌then◌, ◌&◌, last_field, many_format}
 use Rattle.byte_fields.proofs.Formats.{AreGood}
 use Rattle.byte_fields.proofs.Numbers.{flag_format, byte_format, byte_within, where_ok, Ranges}

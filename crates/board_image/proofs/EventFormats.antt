@@ -1,12 +1,12 @@
 -- The fields of steps.
 use Rattle.std.proofs.Common.{◌≡◌, ℕ, ◌%◌, ◌^◌, ◌<◌, ◌≤◌, [], ◌∷◌, Some, ◌⊎◌, refl, List, arith, ◌==◌}
-use Rattle.board_prelude.proofs.Common.{nat_tests, PortAccess, bytes_of, is_write, IsBusAccess, IsWideAccess}
-use Rattle.board_prelude.proofs.Common.{code_found}
+use Rattle.board_prelude.proofs.{nat_tests, PortAccess, bytes_of, is_write, IsBusAccess, IsWideAccess, code_found}
 use Rattle.std.proofs.Math.Nat.{one-le-pow}
 use Rattle.board_base.specs.declared.access.Access.{Access}
-use Rattle.board_image.specs.Common.{kind_byte, tag_byte, memory_bytes, port_bytes, wide_bytes, kind_field, width_field}
-use Rattle.board_image.specs.Common.{tag_of, most_value, is_wide_size, is_wide_place, memory_fields, port_fields}
-use Rattle.board_image.specs.Common.{wide_fields, Reading}
+use Rattle.board_image.specs.ImageBytes.{kind_byte, tag_byte, memory_bytes, port_bytes, wide_bytes}
+use Rattle.board_image.specs.EventFields.{kind_field, width_field, tag_of, most_value, is_wide_size, is_wide_place}
+use Rattle.board_image.specs.EventFields.{memory_fields, port_fields, wide_fields}
+use Rattle.byte_fields.specs.Fields.{Reading}
 use Rattle.board_image.specs.declared.tag.Tag.{Tag}
 use Rattle.byte_fields.proofs.Formats.{IsFormat, format_as, fields_format, ◌then◌, ◌&◌, last_field}
 use Rattle.byte_fields.proofs.Numbers.{Any, flag_format, wide16, wide32, wide64, byte_format, byte_where, Tells}

@@ -2,15 +2,16 @@
 use Rattle.std.proofs.Common.{◌≡◌, ℕ, ◌+◌, ◌%◌, ◌/◌, ◌^◌, ◌<◌, ◌≤◌, ◌↔◌, IsTrue, inl, inr, Bool, true, false, List, []}
 use Rattle.std.proofs.Common.{◌∷◌, ◌++◌, length, Ok, Err, refl, sym, ap, ◌∙◌, append_assoc, arith, flat_map, All}
 use Rattle.std.proofs.Common.{is_some, unwrap_or, length-append, append-nil}
-use Rattle.board_prelude.specs.Common.{AllByRecursion, w16, w32, to_le_bytes, Statement, Setup, IsRomSize, is_rom_size}
-use Rattle.board_prelude.specs.Common.{IsDisk, IsDiskSize, is_disk_length, most_statements, most_card_memory, most_mib}
-use Rattle.board_prelude.proofs.Common.{nat_tests, nil_from_length, recursion_from_All}
+use Rattle.board_prelude.specs.{AllByRecursion, w16, w32, to_le_bytes, Statement, Setup, IsRomSize, is_rom_size, IsDisk}
+use Rattle.board_prelude.specs.{IsDiskSize, is_disk_length, most_statements, most_card_memory, most_mib}
+use Rattle.board_prelude.proofs.{nat_tests, nil_from_length, recursion_from_All}
 use Rattle.std.proofs.lemmas.List.Elements.{All-from_recursion}
 use Rattle.board_image.specs.declared.head.Head.{Head}
-use Rattle.board_image.specs.Common.{Saved, magic, image_version, flag_byte, card_bytes, disk_bytes, size_bytes}
-use Rattle.board_image.specs.Common.{head_bytes, step_bytes, image_bytes, IsImageStep, IsImage, then_read, gives, ended}
-use Rattle.board_image.specs.Common.{has_disk_size, disk_where, head_fields, setup_fields, steps_fields, saved_fields}
-use Rattle.board_image.specs.Common.{image_fields, AreBytes}
+use Rattle.board_image.specs.ImageBytes.{Saved, magic, image_version, card_bytes, disk_bytes, size_bytes, head_bytes}
+use Rattle.board_image.specs.ImageBytes.{step_bytes, image_bytes, IsImageStep, IsImage}
+use Rattle.byte_fields.specs.Fields.{flag_byte, then_read, gives, ended, AreBytes}
+use Rattle.board_image.specs.ImageFields.{has_disk_size, disk_where, head_fields, setup_fields, steps_fields}
+use Rattle.board_image.specs.ImageFields.{saved_fields, image_fields}
 use Rattle.byte_fields.proofs.Formats.{then_ok, then_err, IsFormat, format_as, fields_format, ◌then◌, ◌&◌, last_field}
 use Rattle.byte_fields.proofs.Formats.{many_format, plain_format, AreGood}
 use Rattle.byte_fields.proofs.Numbers.{flag_format, wide16, wide32, byte_within, within_format, where_format, Ranges}

@@ -1,8 +1,10 @@
 -- Steps, bases and cards are read one after another.
 use Rattle.std.proofs.Common.{ℕ, ◌-◌, Bool, List, [], ◌∷◌, refl}
-use Rattle.board_prelude.proofs.Common.{w8, Statement, Base, FittedCard, Setup, memory_of_cards, memory_size}
-use Rattle.board_image.specs.Common.{Reading, number, step_fields, base_in, bases_fields, card_fields, cards_fields}
-use Rattle.board_image.specs.Common.{steps_fields}
+use Rattle.board_prelude.proofs.{w8, Base, FittedCard, Setup, memory_of_cards, memory_size}
+use Rattle.board_prelude.specs.{Statement}
+use Rattle.byte_fields.specs.Fields.{Reading, number}
+use Rattle.board_image.specs.EventFields.{step_fields}
+use Rattle.board_image.specs.ImageFields.{base_in, bases_fields, card_fields, cards_fields, steps_fields}
 use Rattle.byte_fields.proofs.Loops.{IsLoop}
 
 abbrev pub same_setup : Setup → Statement → Setup

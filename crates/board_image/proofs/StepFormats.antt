@@ -1,17 +1,18 @@
 -- The fields of steps, by their tags.
 use Rattle.std.proofs.Common.{◌≡◌, ℕ, ◌^◌, ◌<◌, ◌&&◌, Bool, true, false, refl, sym, ap, arith}
-use Rattle.board_prelude.proofs.Common.{nat_tests, option_map_or, Kind, Fetch, PortAccess, WideAccess, Moment, IsMoment}
-use Rattle.board_prelude.proofs.Common.{days_in_month, moment_of, Event, Memory, Wide, Port, Ack, Time, Setup}
-use Rattle.board_prelude.proofs.Common.{IsWideAccess, IsInRange, IsScriptSector, Stimulus, stimulus_form, applied_by}
-use Rattle.board_prelude.proofs.Common.{applied_again, event_applied}
+use Rattle.board_prelude.proofs.{nat_tests, option_map_or, Kind, Fetch, PortAccess, WideAccess, Moment, IsMoment}
+use Rattle.board_prelude.proofs.{days_in_month, moment_of, Event, Memory, Wide, Port, Ack, Time, Setup, IsWideAccess}
+use Rattle.board_prelude.proofs.{IsInRange, IsScriptSector, Stimulus, stimulus_form, applied_by, applied_again}
+use Rattle.board_prelude.proofs.{event_applied}
 use Rattle.board_base.specs.declared.access.Access.{Access}
 use Rattle.board_spec.specs.declared.event.Event.TheVariants.{Look as LookAt}
 use Rattle.board_spec.specs.declared.stimulus.Stimulus.TheVariants as stimuli
 use Rattle.board_image.specs.declared.tag.Tag.{Tag}
 use Rattle.board_image.specs.declared.tag.Tag.TheVariants as tags
-use Rattle.board_image.specs.Common.{tag_of_event, look_bytes, moment_bytes, field_bytes, step_bytes, FitsField}
-use Rattle.board_image.specs.Common.{IsImageStep, can_have, look_fields, moment_fields, applied_fields, event_fields}
-use Rattle.board_image.specs.Common.{step_fields, tag_byte}
+use Rattle.board_image.specs.ImageBytes.{tag_of_event, look_bytes, moment_bytes, field_bytes, step_bytes, FitsField}
+use Rattle.board_image.specs.ImageBytes.{IsImageStep, tag_byte}
+use Rattle.board_image.specs.EventFields.{can_have, look_fields, moment_fields, applied_fields, event_fields}
+use Rattle.board_image.specs.EventFields.{step_fields}
 use Rattle.byte_fields.proofs.Formats.{IsFormat, format_as, fields_format, ◌then◌, ◌&◌, last_field, made_format}
 use Rattle.byte_fields.proofs.Formats.{done_format}
 use Rattle.byte_fields.proofs.Numbers.{flag_format, wide8, wide16, wide32, byte_within, where_format, within_format}

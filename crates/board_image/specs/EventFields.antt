@@ -1,10 +1,10 @@
 -- The fields of a step, each with the values that it can have after those before it.
 use Rattle.std.specs.Prelude.{ℕ, ◌-◌, ◌+◌, ◌%◌, ◌^◌, ◌==◌, Bool, true, false, not, nat_le, ◌&&◌, ◌||◌, if◌then◌else◌}
 use Rattle.std.specs.Prelude.{Option, Some, None, is_some}
-use Rattle.board_prelude.specs.Common.{w8, w16, w32, w64, Kind, Fetch, Read, Write, Width, One, PortAccess, WideAccess}
-use Rattle.board_prelude.specs.Common.{Moment, bytes_of, days_in_month, moment_of, Event, Memory, Wide, Port, Ack, Time}
-use Rattle.board_prelude.specs.Common.{Statement, Setup, card_at, is_write, Stimulus, stimulus_form, stimulus_of_code}
-use Rattle.board_prelude.specs.Common.{event_applied, option_map}
+use Rattle.board_prelude.specs.{w8, w16, w32, w64, Kind, Fetch, Read, Write, Width, One, PortAccess, WideAccess, Moment}
+use Rattle.board_prelude.specs.{bytes_of, days_in_month, moment_of, Event, Memory, Wide, Port, Ack, Time, Statement}
+use Rattle.board_prelude.specs.{Setup, card_at, is_write, Stimulus, stimulus_form, stimulus_of_code, event_applied}
+use Rattle.board_prelude.specs.{option_map}
 use Rattle.board_base.specs.declared.access.Width.TheVariants.{Two, Four}
 use Rattle.board_base.specs.declared.access.Access.{Access}
 use Rattle.board_spec.specs.declared.event.Event.TheVariants.{Look as LookAt}

@@ -2,11 +2,10 @@
 -- Numbers have their low byte first.
 use Rattle.std.specs.Prelude.{ℕ, ◌≡◌, ◌≤◌, ◌<◌, ◌+◌, ◌^◌, ◌++◌, Bool, List, [], ◌∷◌, length, map, flat_map, All, is_some}
 use Rattle.std.specs.Prelude.{unwrap_or, codes, true, false, if◌then◌else◌, IfSome}
-use Rattle.board_prelude.specs.Common.{w8, w16, w32, w64, to_le_bytes, Kind, Fetch, Read, Write, PortAccess}
-use Rattle.board_prelude.specs.Common.{WideAccess, Moment, bytes_of, Event, Memory, Wide, Port, Ack, Time, Applied}
-use Rattle.board_prelude.specs.Common.{applied_by, stimulus_form, option_map_or, Statement, Base, MemoryBase, IoBase}
-use Rattle.board_prelude.specs.Common.{OutsideBase, FittedCard, Setup, IsSetup, IsInRange, IsScriptSector}
-use Rattle.board_prelude.specs.Common.{most_statements}
+use Rattle.board_prelude.specs.{w8, w16, w32, w64, to_le_bytes, Kind, Fetch, Read, Write, PortAccess, WideAccess}
+use Rattle.board_prelude.specs.{Moment, bytes_of, Event, Memory, Wide, Port, Ack, Time, Applied, applied_by}
+use Rattle.board_prelude.specs.{stimulus_form, option_map_or, Statement, Base, MemoryBase, IoBase, OutsideBase}
+use Rattle.board_prelude.specs.{FittedCard, Setup, IsSetup, IsInRange, IsScriptSector, most_statements}
 use Rattle.board_base.specs.declared.access.Access.{Access}
 pub use Rattle.byte_fields.specs.Fields.{flag_byte}
 use Rattle.board_spec.specs.declared.event.Event.TheVariants.{Look as LookAt}

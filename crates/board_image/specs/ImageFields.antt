@@ -1,9 +1,9 @@
 -- The fields of an image, each with the values that it can have after those before it, and the first that is bad.
 use Rattle.std.specs.Prelude.{ℕ, zero, suc, ◌≡◌, ◌+◌, ◌-◌, ◌==◌, Bool, true, false, nat_le, ◌&&◌, ◌||◌, if◌then◌else◌, List}
 use Rattle.std.specs.Prelude.{[], ◌∷◌, length, Option, Some, None, Err}
-use Rattle.board_prelude.specs.Common.{w8, w16, w32, Statement, Base, MemoryBase, IoBase, OutsideBase, FittedCard}
-use Rattle.board_prelude.specs.Common.{Setup, is_base_in_range, is_rom_in_range, is_rom_size, is_disk_length}
-use Rattle.board_prelude.specs.Common.{memory_of_cards, memory_size, most_statements, most_card_memory}
+use Rattle.board_prelude.specs.{w8, w16, w32, Statement, Base, MemoryBase, IoBase, OutsideBase, FittedCard, Setup}
+use Rattle.board_prelude.specs.{is_base_in_range, is_rom_in_range, is_rom_size, is_disk_length, memory_of_cards}
+use Rattle.board_prelude.specs.{memory_size, most_statements, most_card_memory}
 use Rattle.board_image.specs.declared.head.Head.{Head}
 use Rattle.board_image.specs.ImageBytes.{Saved, magic, image_version, io_base, keeps_bytes, outside_base}
 use Rattle.byte_fields.specs.Fields.{Reading, gives, ◌>>=◌, number, number_where, within, where_true, plain, exactly}

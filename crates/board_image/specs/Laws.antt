@@ -1,6 +1,6 @@
 -- What the bytes of images and their fields say of one another.
 use Rattle.std.specs.Prelude.{ℕ, ◌≡◌, ◌++◌, ◌⊎◌, List}
-use Rattle.board_prelude.specs.Common.{Entry, Statement, Setup, IsLegal, IsReplayOf, statements_of}
+use Rattle.board_prelude.specs.{Entry, Statement, Setup, IsLegal, IsReplayOf, statements_of}
 use Rattle.board_image.specs.ImageBytes.{image_bytes, IsImage}
 use Rattle.byte_fields.specs.Fields.{AreBytes}
 use Rattle.board_image.specs.ImageFields.{IsBadAt}

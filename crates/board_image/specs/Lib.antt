@@ -1,5 +1,4 @@
 pub mod EventFields
 pub mod ImageFields
 pub mod Laws
-pub mod Common
 pub mod ImageBytes

@@ -1,7 +1,7 @@
 //! Reads cards.
 
 ghost use Rattle.std.specs.Prelude.{◌≡◌, ◌≤◌, ◌-◌, ◌<◌, ◌∷◌, [], map, sum_by, option_map, IfSome, IfOk};
-ghost use Rattle.board_prelude.specs.Common.{w8, most_card_memory, IsBase, memory_of_cards, memory_size};
+ghost use Rattle.board_prelude.specs.{w8, most_card_memory, IsBase, memory_of_cards, memory_size};
 ghost use Rattle.pci_bars.specs.Bases.{base_of};
 ghost use Rattle.byte_fields.specs.Fields.{Took, Filled, number};
 ghost use Rattle.board_image.specs.ImageBytes.{keeps_bytes};

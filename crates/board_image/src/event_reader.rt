@@ -1,8 +1,8 @@
 //! Reads the steps of an image: which processor did which event.
 
 ghost use Rattle.std.specs.Prelude.{◌≡◌, ◌≤◌, ◌-◌, ◌^◌, ◌%◌, ◌==◌, true, false, find, is_some, IfOk};
-ghost use Rattle.board_prelude.specs.Common.{w8, w16, w32, w64, bytes_of, Setup, days_in_month, stimulus_form};
-ghost use Rattle.board_prelude.specs.Common.{stimulus_of_code, option_map};
+ghost use Rattle.board_prelude.specs.{w8, w16, w32, w64, bytes_of, Setup, days_in_month, stimulus_form};
+ghost use Rattle.board_prelude.specs.{stimulus_of_code, option_map};
 ghost use Rattle.board_image.specs.declared.tag.Tag.TheVariants as tags;
 ghost use Rattle.byte_fields.specs.Fields.{Took, number_where, within};
 ghost use Rattle.board_image.specs.EventFields.{kind_of, kind_field, width_of, width_field, tag_of, tag_field};

@@ -1,7 +1,7 @@
 //! Writes the steps of an image: which processor did which event.
 
 ghost use Rattle.std.specs.Prelude.{◌≡◌, ◌++◌, ◌∷◌, map, flat_map, IfOk, OnOk};
-ghost use Rattle.board_prelude.specs.Common.{w32, to_le_bytes, bytes_of, statement_of};
+ghost use Rattle.board_prelude.specs.{w32, to_le_bytes, bytes_of, statement_of};
 ghost use Rattle.board_image.specs.ImageBytes.{flag_byte, kind_byte, memory_bytes, wide_bytes, port_bytes, look_bytes};
 ghost use Rattle.board_image.specs.ImageBytes.{moment_bytes, applied_bytes, field_bytes, step_bytes};
 

@@ -1,7 +1,7 @@
 //! Reads an image.
 
 ghost use Rattle.std.specs.Prelude.{◌≡◌, ◌≤◌, ◌⊎◌, ℕ, List, Ok, Err, IfOk, length};
-ghost use Rattle.board_prelude.specs.Common.{w32, is_rom_size, Statement, Setup as Fitting};
+ghost use Rattle.board_prelude.specs.{w32, is_rom_size, Statement, Setup as Fitting};
 ghost use Rattle.board_image.specs.declared.fault.ImageFault.{ImageFault};
 ghost use Rattle.board_image.specs.ImageBytes.{Saved, image_bytes, IsImage};
 ghost use Rattle.byte_fields.specs.Fields.{Took, Filled, number_where, plain};

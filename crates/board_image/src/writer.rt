@@ -1,7 +1,7 @@
 //! Writes an image.
 
 ghost use Rattle.std.specs.Prelude.{◌≡◌, ◌≤◌, ◌++◌, ◌∷◌, [], length, is_some, flat_map, map, All, IfOk, OnOk};
-ghost use Rattle.board_prelude.specs.Common.{IsBase, IsCard, IsSetup, statements_of};
+ghost use Rattle.board_prelude.specs.{IsBase, IsCard, IsSetup, statements_of};
 ghost use Rattle.pci_bars.specs.Bases.{base_of};
 ghost use Rattle.board_image.specs.ImageBytes.{flag_byte, base_byte, card_bytes, disk_bytes, head_bytes, size_bytes};
 ghost use Rattle.board_image.specs.ImageBytes.{image_bytes};

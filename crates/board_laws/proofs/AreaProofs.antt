@@ -1,10 +1,10 @@
 -- Who answers at an address of memory: each line of the map, and what follows where the lines before it do not hold.
 use Rattle.std.proofs.Common.{◌≡◌, ℕ, zero, suc, ◌+◌, ◌≤◌, ◌<◌, true, Some, is_some, refl, inl, inr, arith, below_more}
 use Rattle.std.proofs.Common.{Bool, false, List, [], ◌∷◌, ◌++◌, option_map, ◌∙◌, ap, find, ◌&&◌, not}
-use Rattle.board_prelude.proofs.Common.{cases_lt, nat_tests, Bytes, boundary, top_of, row_of, Kind, Setup, Window}
-use Rattle.board_prelude.proofs.Common.{memory_claim, area_of, first_of, line_where, card_area, is_bios_selected}
-use Rattle.board_prelude.proofs.Common.{is_smram_range, upper_memory, is_smram_open, is_shadowed, lies_in, is_in_hole}
-use Rattle.board_prelude.proofs.Common.{find-append}
+use Rattle.board_prelude.proofs.{cases_lt, nat_tests, Bytes, boundary, top_of, row_of, Kind, Setup, Window}
+use Rattle.board_prelude.proofs.{memory_claim, area_of, first_of, line_where, card_area, is_bios_selected}
+use Rattle.board_prelude.proofs.{is_smram_range, upper_memory, is_smram_open, is_shadowed, lies_in, is_in_hole}
+use Rattle.board_prelude.proofs.{find-append}
 use Rattle.board_laws.specs.AreaLaws.{IsRow, HasRow, RowBelowTop, IsInSmram, IsInShadow, IsInDram, IsPastDram, claims}
 use Rattle.board_laws.specs.AreaLaws.{memory_windows_of, NoneClaims, WhoAnswers}
 use Rattle.board_base.specs.declared.target.Area.TheVariants.{Rom, Abort}

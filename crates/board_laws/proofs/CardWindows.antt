@@ -1,14 +1,13 @@
 -- A card that answers has a window of 4 bytes or more, and all bytes of an aligned access lie in one area.
-use Rattle.board_prelude.proofs.Common.{nat_tests, All-nil, All-head, All-tail, All-append, enumerate_from, Base}
-use Rattle.board_prelude.proofs.Common.{IoBase, Setup, IsCard, IsCardList, FittedCard, IsExpansionRom, window_bits}
-use Rattle.board_prelude.proofs.Common.{Bytes, Window, memory_window, rom_window, rom_window_of, memory_claim, Kind}
-use Rattle.board_prelude.proofs.Common.{area_of, Width, bytes_of, IsBase, boundary, address_count, base_value}
-use Rattle.board_prelude.proofs.Common.{rom_value, bits_of_base}
+use Rattle.board_prelude.proofs.{nat_tests, All-nil, All-head, All-tail, All-append, enumerate_from, Base, IoBase}
+use Rattle.board_prelude.proofs.{Setup, IsCard, IsCardList, FittedCard, IsExpansionRom, window_bits, Bytes, Window}
+use Rattle.board_prelude.proofs.{memory_window, rom_window, rom_window_of, memory_claim, Kind, area_of, Width, bytes_of}
+use Rattle.board_prelude.proofs.{IsBase, boundary, address_count, base_value, rom_value, bits_of_base}
 use Rattle.std.proofs.Common.{◌≡◌, ℕ, ◌+◌, ◌<◌, ◌≤◌, Bool, List, [], ◌∷◌, Option, Some, None, arith, All, flat_map}
 use Rattle.std.proofs.Common.{◌++◌, ◌%◌, subst}
 use Rattle.board_base.specs.declared.target.Area.TheVariants.{Card as CardArea}
 use Rattle.board_chipset.proofs.HeldTargets.{IsClaim, claim_line}
-use Rattle.pci_bars.specs.Common.{IsBaseNumber}
+use Rattle.pci_bars.specs.Contents.{IsBaseNumber}
 use Rattle.pci_bars.proofs.WindowLemmas.{claim_sized, least_bits, quarter}
 use Rattle.addr_decode.proofs.CardLemmas.{found_cards}
 use Rattle.std.proofs.lemmas.List.Elements.{All-contains, All-from_recursion, All-map}

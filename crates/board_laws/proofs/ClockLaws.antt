@@ -1,9 +1,9 @@
 -- The laws of the clock's machine.
 use Rattle.std.proofs.Common.{◌≡◌, ℕ, ◌%◌, ◌<◌, false, ◌&&◌, List, nat_le, ◌==◌, if◌then◌else◌, suc, length, get_or}
 use Rattle.std.proofs.Common.{set, refl, ◌∙◌, arith, get_or-set_other, get_or-set_same}
-use Rattle.board_prelude.proofs.Common.{cases_eq, nat_tests, get_or-set_at, length-set, CivilTime, Clock, number_byte}
-use Rattle.board_prelude.proofs.Common.{hour_byte, control_of, time_bytes, put, alarm_fits, alarm_rings, control_reset}
-use Rattle.board_prelude.proofs.Common.{written, is_bit}
+use Rattle.board_prelude.proofs.{cases_eq, nat_tests, get_or-set_at, length-set, CivilTime, Clock, number_byte}
+use Rattle.board_prelude.proofs.{hour_byte, control_of, time_bytes, put, alarm_fits, alarm_rings, control_reset}
+use Rattle.board_prelude.proofs.{written, is_bit}
 use Rattle.device_spec.specs.Clock.{power_on}
 use Rattle.board_laws.specs.ClockLaws.{number_read, hour_read, IsShowable, HasAlarm, same_time_of_day, ReadingQuiets}
 use Rattle.board_laws.specs.ClockLaws.{ResetKeepsTheTime, MemoryKeeps, StaysSound, ShowsTheMoment}

@@ -1,9 +1,9 @@
 -- A denial is given exactly where nobody answers, and where the ROM is written.
-use Rattle.board_prelude.proofs.Common.{nat_tests, cases_Bool, All-nil, All-cons, WideAccess, Reg, Dev, Target, Denial}
-use Rattle.board_prelude.proofs.Common.{device_at, Memory, Wide, Port, Part, Reply, Bus, Entry, Setup, is_config_port}
-use Rattle.board_prelude.proofs.Common.{config_register, Bytes, denial_of, Decoded, config_port, device_port}
-use Rattle.board_prelude.proofs.Common.{port_target_of, is_write, part_at, parts_from, memory_target, memory_denial}
-use Rattle.board_prelude.proofs.Common.{memory_answer, part_answer, port_answer, longest_at}
+use Rattle.board_prelude.proofs.{nat_tests, cases_Bool, All-nil, All-cons, WideAccess, Reg, Dev, Target, Denial}
+use Rattle.board_prelude.proofs.{device_at, Memory, Wide, Port, Part, Reply, Bus, Entry, Setup, is_config_port}
+use Rattle.board_prelude.proofs.{config_register, Bytes, denial_of, Decoded, config_port, device_port, port_target_of}
+use Rattle.board_prelude.proofs.{is_write, part_at, parts_from, memory_target, memory_denial, memory_answer}
+use Rattle.board_prelude.proofs.{part_answer, port_answer, longest_at}
 use Rattle.std.proofs.Common.{arith, ℕ, zero, suc, Bool, false, List, Option, sym, subst, inl, inr, ◌==◌, if◌then◌else◌}
 use Rattle.std.proofs.Common.{map, All}
 use Rattle.board_base.specs.declared.access.Access.{Access}

@@ -1,12 +1,11 @@
 -- An entry leaves the devices that its reply does not name, and with their drivers the lines. Pulses and then more
 -- leave what all of them at once leave. A card's INTA# reaches the line to which it is routed.
-use Rattle.board_prelude.proofs.Common.{nat_tests, cond-false, out_of, is_hard_reset, wire_of, irq_of, triggers_of}
-use Rattle.board_prelude.proofs.Common.{plain_of, timer_of, clock_of, disk_with, out-alone, levels-same, pulses, Pair}
-use Rattle.board_prelude.proofs.Common.{PulsesAddUp, Pulses, Entry, Setup, pair_pulsed, timer-pulsed, triggers-pulsed}
-use Rattle.board_prelude.proofs.Common.{levels-pulsed, elcr-same, pair-pulsed, list_any, range_with_len, cases_Bool}
-use Rattle.board_prelude.proofs.Common.{and_parts, eq-eqb, eqb-true, drives, or_right, line_of_route, is_line_driven}
-use Rattle.board_prelude.proofs.Common.{pirq, byte_of, pirq_of_card, own_level, level_with, levels_with, levels_of}
-use Rattle.board_prelude.proofs.Common.{pirq_level, pirq_levels, routes_of}
+use Rattle.board_prelude.proofs.{nat_tests, cond-false, out_of, is_hard_reset, wire_of, irq_of, triggers_of, plain_of}
+use Rattle.board_prelude.proofs.{timer_of, clock_of, disk_with, out-alone, levels-same, pulses, Pair, PulsesAddUp}
+use Rattle.board_prelude.proofs.{Pulses, Entry, Setup, pair_pulsed, timer-pulsed, triggers-pulsed, levels-pulsed}
+use Rattle.board_prelude.proofs.{elcr-same, pair-pulsed, list_any, range_with_len, cases_Bool, and_parts, eq-eqb}
+use Rattle.board_prelude.proofs.{eqb-true, drives, or_right, line_of_route, is_line_driven, pirq, byte_of, pirq_of_card}
+use Rattle.board_prelude.proofs.{own_level, level_with, levels_with, levels_of, pirq_level, pirq_levels, routes_of}
 use Rattle.std.proofs.Common.{arith, ◌∷◌, ◌∙◌, ap, inl, inr, ◌≡◌, ℕ, zero, suc, ◌+◌, List, refl, add-zero, add-suc, ◌≤◌}
 use Rattle.std.proofs.Common.{◌<◌, Bool, true, false, ◌&&◌, get_or, Option, Some, ◌==◌}
 use Rattle.board_laws.specs.DeviceLaws.{OthersStay, LinesStay, PulsesAdd, SomeWire, WireReachesLine, LineHasDriver}

@@ -1,6 +1,6 @@
 -- Histories with the same map writes have the same map.
-use Rattle.board_prelude.proofs.Common.{nat_tests, Kind, MapChange, byte_of, registers_after, area_of, SameMapBytes}
-use Rattle.board_prelude.proofs.Common.{map_writes_decide, map_bytes_decide}
+use Rattle.board_prelude.proofs.{nat_tests, Kind, MapChange, byte_of, registers_after, area_of, SameMapBytes}
+use Rattle.board_prelude.proofs.{map_writes_decide, map_bytes_decide}
 use Rattle.std.proofs.Common.{arith, ◌≡◌, ℕ, ◌∙◌, Bool, List, sym, ap}
 use Rattle.board_laws.specs.MapLaws.{MapWritesDecideMap}
 

@@ -2,14 +2,14 @@
 use Rattle.std.proofs.Common.{◌≡◌, ℕ, ◌+◌, ◌/◌, ◌%◌, ◌<◌, true, false, not, eqb, ◌&&◌, Some, None, List, [], ◌∷◌}
 use Rattle.std.proofs.Common.{get_or, refl, ap, ◌∙◌, inl, inr, arith, is_some, suc, cond, length, drop, sym}
 use Rattle.std.proofs.Common.{length-append, ◌++◌, take, All, ◌≢◌}
-use Rattle.board_prelude.proofs.Common.{cases_Bool, agree_below_at, eqb-true, eq-eqb, and_parts, nat_tests, not-true}
-use Rattle.board_prelude.proofs.Common.{false≢true, Levels, has, levels_where, with_level, without_level, Chip, pending}
-use Rattle.board_prelude.proofs.Common.{priority_order, is_blocking, blocks_itself, is_requested, request, interrupt}
-use Rattle.board_prelude.proofs.Common.{acknowledged_if, chip_after_write, Pair, pair_after_acknowledge, settled}
-use Rattle.board_prelude.proofs.Common.{has-levels_where, scan, request-is, is_bit, cases_lt, get_or-append_seam}
-use Rattle.board_prelude.proofs.Common.{get_or_append_left, first_blocking, first_blocking-is, priority_order-small}
-use Rattle.board_prelude.proofs.Common.{first_selectable, chip_after_read, All-head, All-tail, get_or-take}
-use Rattle.board_prelude.proofs.Common.{get_or_default, take-append-drop, drop-cons, length-take, find-append}
+use Rattle.board_prelude.proofs.{cases_Bool, agree_below_at, eqb-true, eq-eqb, and_parts, nat_tests, not-true}
+use Rattle.board_prelude.proofs.{false≢true, Levels, has, levels_where, with_level, without_level, Chip, pending}
+use Rattle.board_prelude.proofs.{priority_order, is_blocking, blocks_itself, is_requested, request, interrupt}
+use Rattle.board_prelude.proofs.{acknowledged_if, chip_after_write, Pair, pair_after_acknowledge, settled}
+use Rattle.board_prelude.proofs.{has-levels_where, scan, request-is, is_bit, cases_lt, get_or-append_seam}
+use Rattle.board_prelude.proofs.{get_or_append_left, first_blocking, first_blocking-is, priority_order-small}
+use Rattle.board_prelude.proofs.{first_selectable, chip_after_read, All-head, All-tail, get_or-take, get_or_default}
+use Rattle.board_prelude.proofs.{take-append-drop, drop-cons, length-take, find-append}
 use Rattle.std.proofs.lemmas.Bool.{agree_below, false_from_ne_true}
 use Rattle.board_laws.specs.PicLaws.{IsFirstInOrder, EndsOne, StaysLatched, place_of, InterruptIsSelected}
 use Rattle.board_laws.specs.PicLaws.{SelectedInterrupts, NonSpecificEndEndsFirst, NonSpecificEndOfNone}

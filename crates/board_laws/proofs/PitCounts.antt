@@ -1,13 +1,13 @@
 -- Whole counts of modes 0, 1, 4 and 5; and in modes 2 and 3 a count that is written waits for the next load.
 use Rattle.std.proofs.Common.{◌≡◌, ℕ, zero, suc, ◌+◌, ◌-◌, ◌<◌, ◌≤◌, not, Bool, true, false, refl, ap, sym, arith}
 use Rattle.std.proofs.Common.{add-zero, add-suc, ◌⊎◌, inl, inr, Option, Some, unwrap_or}
-use Rattle.board_prelude.proofs.Common.{cases_lt, nat_tests, Mode, TerminalCount, OneShot, SoftwareStrobe}
-use Rattle.board_prelude.proofs.Common.{HardwareStrobe, CounterState, count_down, count_to_end, count_to_strobe}
-use Rattle.board_prelude.proofs.Common.{pulse_by_mode, pulse, pulses_of, IsAtLoad, phase, phase-self, is_periodic}
-use Rattle.board_prelude.proofs.Common.{cases_eq, common_steps, asks_for_load, complete, take_low, take_byte, write}
+use Rattle.board_prelude.proofs.{cases_lt, nat_tests, Mode, TerminalCount, OneShot, SoftwareStrobe, HardwareStrobe}
+use Rattle.board_prelude.proofs.{CounterState, count_down, count_to_end, count_to_strobe, pulse_by_mode, pulse}
+use Rattle.board_prelude.proofs.{pulses_of, IsAtLoad, phase, phase-self, is_periodic, cases_eq, common_steps}
+use Rattle.board_prelude.proofs.{asks_for_load, complete, take_low, take_byte, write}
 use Rattle.board_laws.specs.PitCounts.{EndsOnce, CountsEndOnce, StrobesOnce, CountsStrobeOnce, out_at_load, CountWaits}
 use Rattle.board_laws.specs.PitCounts.{CountIsTaken}
-use Rattle.device_spec.proofs.Common.{load, count_to_reload, count_half}
+use Rattle.device_spec.specs.Pit.{load, count_to_reload, count_half}
 
 -- OUT while the counter counts: 0 in modes 0 and 1, and 1 in modes 4 and 5
 abbrev level_of : Mode → Bool

@@ -1,7 +1,6 @@
 -- A latched count stays until it is read, and a read-back is one latch after another.
 use Rattle.std.proofs.Common.{◌≡◌, ℕ, Bool, List, [], ◌∷◌, length, None, refl, sym, ◌∙◌, arith, true}
-use Rattle.board_prelude.proofs.Common.{nat_tests, access_numbered, status_byte, control, read_back_chosen}
-use Rattle.board_prelude.proofs.Common.{write_control}
+use Rattle.board_prelude.proofs.{nat_tests, access_numbered, status_byte, control, read_back_chosen, write_control}
 use Rattle.device_spec.specs.Pit.{Access, LowByte, HighByte, LowThenHigh, CounterState, low_byte, high_byte}
 use Rattle.device_spec.specs.Pit.{element_bytes, latch_count, latch_status, read_back, read, complete, take_low}
 use Rattle.device_spec.specs.Pit.{take_byte, write, gate_rises, gate_falls, load, count_down, count_to_end}

@@ -1,8 +1,8 @@
 -- Only an entry whose reply names a register changes registers in configuration space.
 use Rattle.std.proofs.Common.{◌≡◌, ℕ, true, List, Option, Some, None, refl, arith, option_map}
-use Rattle.board_prelude.proofs.Common.{cases_Bool, cond-false, and_parts, nat_tests, PortAccess, Reg, Port, Entry}
-use Rattle.board_prelude.proofs.Common.{Store, Setup, is_hard_reset, is_config_port, config_register, config_store}
-use Rattle.board_prelude.proofs.Common.{config_address, byte_with, byte_of, port_target_of, port_answer}
+use Rattle.board_prelude.proofs.{cases_Bool, cond-false, and_parts, nat_tests, PortAccess, Reg, Port, Entry, Store}
+use Rattle.board_prelude.proofs.{Setup, is_hard_reset, is_config_port, config_register, config_store, config_address}
+use Rattle.board_prelude.proofs.{byte_with, byte_of, port_target_of, port_answer}
 use Rattle.board_laws.specs.RegisterLaws.{IsNear, ReachesNear, RegistersStay}
 
 module _ (setup : Setup) (before : List Entry) (reg : Reg) (old : ℕ) where

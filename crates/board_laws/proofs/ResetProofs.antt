@@ -1,14 +1,12 @@
 -- A hard reset puts registers and devices in their reset state, and keeps what is stored.
 use Rattle.std.proofs.Common.{◌≡◌, ℕ, Bool, true, false, List, ◌∷◌, None, arith, take, drop, refl, unwrap_or}
-use Rattle.board_prelude.proofs.Common.{cond-true, nat_tests, false≢true, PortAccess, bytes_of, triggers_at_reset}
-use Rattle.board_prelude.proofs.Common.{Levels, no_levels, levels_where, chip_at_reset, chip_after_inputs}
-use Rattle.board_prelude.proofs.Common.{latches_after, Pair, pair_at_reset, master_inputs, pair_after_lines}
-use Rattle.board_prelude.proofs.Common.{levels_where-same, has-levels_where, Event, Port, Reply, Entry, Setup}
-use Rattle.board_prelude.proofs.Common.{reset_control_port, control_written, is_hard_reset, reset_control}
-use Rattle.board_prelude.proofs.Common.{config_address, byte_of, Cell, entry_put, Bytes, device, port_target_of}
-use Rattle.board_prelude.proofs.Common.{wire_of, irq_of, triggers_of, plain_of, timer_of, clock_of, disk_with}
-use Rattle.board_prelude.proofs.Common.{levels_of, elcr_of, pair_stepped, pair_reset_or_after, pair_of, port_answer}
-use Rattle.board_prelude.proofs.Common.{IsAnswer}
+use Rattle.board_prelude.proofs.{cond-true, nat_tests, false≢true, PortAccess, bytes_of, triggers_at_reset, Levels}
+use Rattle.board_prelude.proofs.{no_levels, levels_where, chip_at_reset, chip_after_inputs, latches_after, Pair}
+use Rattle.board_prelude.proofs.{pair_at_reset, master_inputs, pair_after_lines, levels_where-same, has-levels_where}
+use Rattle.board_prelude.proofs.{Event, Port, Reply, Entry, Setup, reset_control_port, control_written, is_hard_reset}
+use Rattle.board_prelude.proofs.{reset_control, config_address, byte_of, Cell, entry_put, Bytes, device, port_target_of}
+use Rattle.board_prelude.proofs.{wire_of, irq_of, triggers_of, plain_of, timer_of, clock_of, disk_with, levels_of}
+use Rattle.board_prelude.proofs.{elcr_of, pair_stepped, pair_reset_or_after, pair_of, port_answer, IsAnswer}
 use Rattle.board_base.specs.declared.target.Dev.TheVariants.{Reset as ResetPort}
 use Rattle.board_laws.specs.ResetLaws.{HardResetResets, HardResetKeeps}
 use Rattle.board_laws.proofs.StoredLaws.{stored-left}

@@ -1,21 +1,19 @@
 -- Each byte of a read is the one that a read of that byte alone gives.
-use Rattle.board_prelude.proofs.Common.{common_steps, nat_tests, get_or_past, Width, One, bytes_of, largest_of, Entry}
-use Rattle.board_prelude.proofs.Common.{Setup, IsRomSize, Area, Target, Dram, Shadow, Smram, Rom, Card, Device, Config}
-use Rattle.board_prelude.proofs.Common.{Abort, byte, wide, window_bits, target_at, dram_byte, card_byte, value_at}
-use Rattle.board_prelude.proofs.Common.{cases_lt, cond-true, cond-false, ne_eqb, lt-ltb, le-ltb, All-head, All-tail}
-use Rattle.board_prelude.proofs.Common.{further, WideAccess, longest_at, part_at, joined, Covers, parts_from}
-use Rattle.board_prelude.proofs.Common.{AllByRecursion, cases_Bool, eq-eqb, w64, to_le_bytes, from_le_bytes, Denial}
-use Rattle.board_prelude.proofs.Common.{IsSetup, IsInRange, Memory, Wide, Parts, Reply, Bytes, is_write, memory_target}
-use Rattle.board_prelude.proofs.Common.{memory_denial, parts_of, parts_list, address_count, IsPart, AreParts, IsAnswer}
-use Rattle.board_prelude.proofs.Common.{each_below}
+use Rattle.board_prelude.proofs.{common_steps, nat_tests, get_or_past, Width, One, bytes_of, largest_of, Entry, Setup}
+use Rattle.board_prelude.proofs.{IsRomSize, Area, Target, Dram, Shadow, Smram, Rom, Card, Device, Config, Abort, byte}
+use Rattle.board_prelude.proofs.{wide, window_bits, target_at, dram_byte, card_byte, value_at, cases_lt, cond-true}
+use Rattle.board_prelude.proofs.{cond-false, ne_eqb, lt-ltb, le-ltb, All-head, All-tail, further, WideAccess}
+use Rattle.board_prelude.proofs.{longest_at, part_at, joined, Covers, parts_from, AllByRecursion, cases_Bool, eq-eqb}
+use Rattle.board_prelude.proofs.{w64, to_le_bytes, from_le_bytes, Denial, IsSetup, IsInRange, Memory, Wide, Parts}
+use Rattle.board_prelude.proofs.{Reply, Bytes, is_write, memory_target, memory_denial, parts_of, parts_list}
+use Rattle.board_prelude.proofs.{address_count, IsPart, AreParts, IsAnswer, each_below}
 use Rattle.std.proofs.Common.{◌≡◌, ℕ, suc, ◌+◌, ◌-◌, ◌*◌, ◌/◌, ◌%◌, ◌^◌, ◌<◌, ◌≤◌, List, [], length, inl, inr, refl, ap}
 use Rattle.std.proofs.Common.{◌∙◌, arith, slice_index, lit<, zero, false, ◌∷◌, ◌++◌, Some, ◌==◌, nat_lt, All, map, true}
 use Rattle.std.proofs.Common.{get_or, Option, None, sym, rules}
 use Rattle.std.proofs.lemmas.Nat.{mod-pow-add, le_bytes_8}
 use Rattle.board_base.specs.declared.access.Width.TheVariants.{Two, Four}
 use Rattle.board_base.specs.declared.target.Area.TheVariants.{Rom as RomArea, Card as CardArea}
-use Rattle.pci_bars.specs.Common.{IsBaseNumber}
-use Rattle.pci_bars.specs.Contents.{slot_number}
+use Rattle.pci_bars.specs.Contents.{IsBaseNumber, slot_number}
 use Rattle.board_stores.proofs.ValueLemmas.{value_below, wide_below}
 use Rattle.board_laws.proofs.CardWindows.{IsWindow, same_area, card_window}
 use Rattle.board_base.specs.declared.access.Access.{Access}
@@ -25,7 +23,8 @@ use Rattle.machine.specs.Roms.{given}
 use Rattle.machine_records.specs.declared.event.EventRecord.{EventRecord}
 use Rattle.machine_records.specs.declared.reply.ReplyRecord.{ReplyRecord}
 use Rattle.std.proofs.lemmas.Simd.{map-map}
-use Rattle.board_spec.specs.Common.{area_of, memory_answer, part_answer, wide_value}
+use Rattle.board_spec.specs.Decode.{area_of}
+use Rattle.board_spec.specs.Answer.{memory_answer, part_answer, wide_value}
 use Rattle.board_spec.specs.Registers.{byte_of as register_byte}
 use Rattle.board_spec.proofs.PartLawProofs.{cut_into_parts}
 use Rattle.machine_records.specs.Replies.{AfterStep}

@@ -1,8 +1,8 @@
 -- The bytes of memory that a record asks for are those at its address, as many as it says; and each byte that a step
 -- reads is the one that a read of that byte alone gives.
-use Rattle.board_prelude.proofs.Common.{common_steps, cases_Bool, nat_tests, Kind, Width, WideAccess, Event, Wide, Ack}
-use Rattle.board_prelude.proofs.Common.{Stimulus, stimulus_of_code, Target, Denial, Entry, Setup, IsSetup, IsAnswer}
-use Rattle.board_prelude.proofs.Common.{Memory, Parts, Reply, byte, memory_target, memory_denial}
+use Rattle.board_prelude.proofs.{common_steps, cases_Bool, nat_tests, Kind, Width, WideAccess, Event, Wide, Ack}
+use Rattle.board_prelude.proofs.{Stimulus, stimulus_of_code, Target, Denial, Entry, Setup, IsSetup, IsAnswer, Memory}
+use Rattle.board_prelude.proofs.{Parts, Reply, byte, memory_target, memory_denial}
 use Rattle.std.proofs.Common.{◌≡◌, ℕ, ◌==◌, Bool, false, if◌then◌else◌, Option, Some, None, option_map, option_and_then}
 use Rattle.std.proofs.Common.{refl, arith, ◌+◌, ◌<◌, List, sym, ap, subst, ◌∙◌, inl, inr}
 use Rattle.board_spec.specs.declared.event.Event.TheVariants.{Look as LookAt}
@@ -14,16 +14,17 @@ use Rattle.machine_records.specs.Events.{width_said}
 use Rattle.machine_records.specs.Numbers.{ack_event, look_event, memory_event, port_event, time_event}
 use Rattle.board_laws.specs.RomReads.{read_by, AreBytes, SaysRead, byte_read}
 use Rattle.board_base.specs.declared.access.Access.{Access}
-use Rattle.board_spec.specs.Common.{memory_answer}
-use Rattle.board_chipset.specs.Common.{Running}
-use Rattle.uart_16550.specs.Common.{Serial, uart_access}
+use Rattle.board_spec.specs.Answer.{memory_answer}
+use Rattle.board_chipset.specs.Chipset.{Running}
+use Rattle.uart_16550.specs.Serial.{Serial}
+use Rattle.uart_16550.specs.Com1.{uart_access}
 use Rattle.uart_16550.specs.declared.com1.SerialReply.{SerialReply}
 use Rattle.uart_16550.specs.declared.com1.SerialReply.TheVariants.{Board as OfBoard, Uart as OfUart}
 use Rattle.machine.specs.declared.identity.FittedIdentity.{FittedIdentity}
 use Rattle.machine_records.specs.Replies.{AfterStep}
+use Rattle.machine_records.specs.Replies.{blank, bus_said, record_said, serial_said, wide_said}
 use Rattle.machine_records.specs.declared.reply.ReplyRecord.{ReplyRecord}
 use Rattle.machine_records.specs.FittedReplies.{fitted_record, is_config_read}
-use Rattle.machine_records.specs.Replies.{blank, bus_said, record_said, serial_said, wide_said}
 use Rattle.machine_records.proofs.Masters.{said_target}
 use Rattle.machine_records.specs.Steps.{IsEventReply, after_step, reset_by}
 use Rattle.board_laws.specs.StepReads.{StepReadsByteByByte}

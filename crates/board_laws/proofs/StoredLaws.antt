@@ -1,10 +1,10 @@
 -- A cell holds the byte of the last entry that put one there, and a wide access to DRAM reads and writes the bytes from
 -- its address on.
-use Rattle.board_prelude.proofs.Common.{nat_tests, All-head, All-tail, Entry, Cell, stored_of, cases_lt, Width, One}
-use Rattle.board_prelude.proofs.Common.{WideAccess, Target, bytes_of, Wide, Setup, byte, wide, part_at, parts_of}
-use Rattle.board_prelude.proofs.Common.{joined, DramCell, CardCell, first_cell, memory_put, parts_put, entry_put}
-use Rattle.board_prelude.proofs.Common.{is_write, dram_byte, memory_target, part_answer, value_at, wide_value, IsAnswer}
-use Rattle.board_prelude.proofs.Common.{made, total, is_cut, further}
+use Rattle.board_prelude.proofs.{nat_tests, All-head, All-tail, Entry, Cell, stored_of, cases_lt, Width, One}
+use Rattle.board_prelude.proofs.{WideAccess, Target, bytes_of, Wide, Setup, byte, wide, part_at, parts_of, joined}
+use Rattle.board_prelude.proofs.{DramCell, CardCell, first_cell, memory_put, parts_put, entry_put, is_write, dram_byte}
+use Rattle.board_prelude.proofs.{memory_target, part_answer, value_at, wide_value, IsAnswer, made, total, is_cut}
+use Rattle.board_prelude.proofs.{further}
 use Rattle.std.proofs.Common.{◌≡◌, ℕ, List, [], ◌∷◌, ◌++◌, Some, None, refl, ◌∙◌, ap, arith, unwrap_or, suc, ◌+◌, ◌-◌}
 use Rattle.std.proofs.Common.{◌*◌, ◌/◌, ◌%◌, ◌^◌, ◌≤◌, ◌<◌, ◌⊎◌, inl, inr, true, Option, sym, All, map}
 use Rattle.board_laws.specs.StoreLaws.{put_by, LastStays, NothingStored, OutsideGivesOnes, WideStored, low_first}

@@ -1,9 +1,8 @@
 -- Who answers at an address of memory, line by line of the memory map.
 use Rattle.std.specs.Prelude.{ℕ, ◌≡◌, ◌<◌, ◌≤◌, Bool, true, false, ◌&&◌, List, ◌∷◌, ◌++◌, All, flat_map}
-use Rattle.board_prelude.specs.Common.{Kind, Setup, lies_in, smram_range, upper_memory, Bytes}
-use Rattle.board_prelude.specs.Common.{boundary, top_of, is_shadowed}
-use Rattle.board_prelude.specs.Common.{Window, is_covered, is_enabled_for, memory_windows, area_of}
-use Rattle.board_prelude.specs.Common.{is_in_hole, is_bios_selected, is_smram_open}
+use Rattle.board_prelude.specs.{Kind, Setup, lies_in, smram_range, upper_memory, Bytes, boundary, top_of, is_shadowed}
+use Rattle.board_prelude.specs.{Window, is_covered, is_enabled_for, memory_windows, area_of, is_in_hole}
+use Rattle.board_prelude.specs.{is_bios_selected, is_smram_open}
 use Rattle.board_base.specs.declared.target.Area.TheVariants.{Dram, Shadow, Smram, Rom, Card, Abort}
 
 -- the row of DRAM in which an address lies: below the top, the first that ends above the address

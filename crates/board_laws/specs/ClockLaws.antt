@@ -2,11 +2,11 @@
 use Rattle.std.specs.Prelude.{◌≡◌, ◌≢◌, ℕ, ◌+◌, ◌*◌, ◌/◌, ◌%◌, ◌<◌, Bool, true, false, ◌&&◌, ◌||◌, ◌==◌, nat_le}
 use Rattle.std.specs.Prelude.{if◌then◌else◌, length}
 use Rattle.board_base.specs.Bits.{is_bit}
-use Rattle.board_prelude.specs.Common.{CivilTime, Clock, worth, byte_at, control_of, holds_time, is_binary, is_24_hour}
-use Rattle.board_prelude.specs.Common.{number_byte, hour_byte, read_value, after_read, after_write, after_moment}
-use Rattle.board_prelude.specs.Common.{after_reset, second_at, second_alarm_at, minute_at, minute_alarm_at, hour_at}
-use Rattle.board_prelude.specs.Common.{hour_alarm_at, weekday_at, day_at, month_at, year_at, register_a, register_b}
-use Rattle.board_prelude.specs.Common.{register_c, register_d, update_interrupts, clock_index_port, clock_data_port}
+use Rattle.board_prelude.specs.{CivilTime, Clock, worth, byte_at, control_of, holds_time, is_binary, is_24_hour}
+use Rattle.board_prelude.specs.{number_byte, hour_byte, read_value, after_read, after_write, after_moment, after_reset}
+use Rattle.board_prelude.specs.{second_at, second_alarm_at, minute_at, minute_alarm_at, hour_at, hour_alarm_at}
+use Rattle.board_prelude.specs.{weekday_at, day_at, month_at, year_at, register_a, register_b, register_c, register_d}
+use Rattle.board_prelude.specs.{update_interrupts, clock_index_port, clock_data_port}
 use Rattle.device_spec.specs.Clock.{interrupt_line, power_on}
 
 -- The time is shown

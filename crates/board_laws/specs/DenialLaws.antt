@@ -1,7 +1,7 @@
 -- Where an access is denied: exactly where nobody answers it, and where it writes to the ROM.
 use Rattle.std.specs.Prelude.{ℕ, ◌≡◌, Bool, true, false, List, All, Option, is_some}
-use Rattle.board_prelude.specs.Common.{Target, Rom, Abort, Denial, Event, Memory, Wide, Parts, Bus, Entry, Setup}
-use Rattle.board_prelude.specs.Common.{is_write, parts_list, IsAnswer}
+use Rattle.board_prelude.specs.{Target, Rom, Abort, Denial, Event, Memory, Wide, Parts, Bus, Entry, Setup, is_write}
+use Rattle.board_prelude.specs.{parts_list, IsAnswer}
 use Rattle.board_spec.specs.declared.event.Reply.TheVariants.{Parts as InParts}
 
 -- an access with this target reaches nothing, or writes to the ROM

@@ -1,9 +1,8 @@
 -- What leaves a device alone, which lines are driven and by whom, and that pulses add up.
 use Rattle.std.specs.Prelude.{ℕ, ◌≡◌, ◌+◌, ◌-◌, ◌%◌, ◌<◌, ◌≤◌, ◌⊎◌, true, false, List, ◌∷◌, slice_index_or, Some}
-use Rattle.board_prelude.specs.Common.{Pit, System, Elcr, Ata, Wires, line_of_route, Pulses, Reply, Entry, Setup, pirq}
-use Rattle.board_prelude.specs.Common.{is_hard_reset, byte_of, wire_of, irq_of, triggers_of, system_of, timer_of}
-use Rattle.board_prelude.specs.Common.{clock_of, disk_with, own_level, routes_of, levels_of, pair_of, IsNext}
-use Rattle.board_prelude.specs.Common.{NamesDevice}
+use Rattle.board_prelude.specs.{Pit, System, Elcr, Ata, Wires, line_of_route, Pulses, Reply, Entry, Setup, pirq}
+use Rattle.board_prelude.specs.{is_hard_reset, byte_of, wire_of, irq_of, triggers_of, system_of, timer_of, clock_of}
+use Rattle.board_prelude.specs.{disk_with, own_level, routes_of, levels_of, pair_of, IsNext, NamesDevice}
 use Rattle.board_base.specs.declared.target.Dev.TheVariants.{Clock}
 
 -- ---- one device

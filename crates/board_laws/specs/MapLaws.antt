@@ -1,7 +1,7 @@
 -- The address map depends on the map writes alone.
 use Rattle.std.specs.Prelude.{ℕ, ◌≡◌, Bool, List}
-use Rattle.board_prelude.specs.Common.{Kind, Area, Entry, Setup, IsCardList, byte_of, map_writes_of, MapRange}
-use Rattle.board_prelude.specs.Common.{IsFlatMapOf, IsSpan, SameMapBytes}
+use Rattle.board_prelude.specs.{Kind, Area, Entry, Setup, IsCardList, byte_of, map_writes_of, MapRange, IsFlatMapOf}
+use Rattle.board_prelude.specs.{IsSpan, SameMapBytes}
 
 -- two histories have the same map bytes, the same spans and the same flat map
 pub record SameMap (setup : Setup) (history other : List Entry) : Type 0 where

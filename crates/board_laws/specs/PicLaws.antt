@@ -1,10 +1,10 @@
 -- What follows from the definitions of one chip and of the pair.
 use Rattle.std.specs.Prelude.{◌≡◌, ◌≢◌, ℕ, Bool, true, false, Some, List, ◌∷◌, ◌++◌, ◌+◌, ◌-◌, ◌/◌, ◌%◌, ◌<◌, ◌≤◌, ◌&&◌}
 use Rattle.std.specs.Prelude.{not, is_some, slice_index}
-use Rattle.board_prelude.specs.Common.{list_all, has, cascade, last_level, Chip, priority_order, is_blocking}
-use Rattle.board_prelude.specs.Common.{blocks_itself, is_requested, pending, interrupt, chip_after_write, Pair, settled}
-use Rattle.board_prelude.specs.Common.{is_slave_port, pair_at_reset, pair_after_lines, pair_after_write}
-use Rattle.board_prelude.specs.Common.{pair_after_read, answer_of, pair_after_acknowledge}
+use Rattle.board_prelude.specs.{list_all, has, cascade, last_level, Chip, priority_order, is_blocking, blocks_itself}
+use Rattle.board_prelude.specs.{is_requested, pending, interrupt, chip_after_write, Pair, settled, is_slave_port}
+use Rattle.board_prelude.specs.{pair_at_reset, pair_after_lines, pair_after_write, pair_after_read, answer_of}
+use Rattle.board_prelude.specs.{pair_after_acknowledge}
 use Rattle.board_base.specs.Bits.{is_bit}
 
 -- The priorities go round from the level after the lowest to the lowest.

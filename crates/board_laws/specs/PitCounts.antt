@@ -1,7 +1,7 @@
 -- Whole counts of the 8254, from the pulse that loads them on.
 use Rattle.std.specs.Prelude.{◌≡◌, ◌≢◌, ℕ, ◌<◌, ◌≤◌, Bool, true, false, not, ◌&&◌, ◌||◌, Some}
-use Rattle.board_prelude.specs.Common.{Mode, TerminalCount, OneShot, RateGenerator, SquareWave, SoftwareStrobe}
-use Rattle.board_prelude.specs.Common.{HardwareStrobe, CounterState, is_periodic, write, pulse, pulses_of, IsAtLoad}
+use Rattle.board_prelude.specs.{Mode, TerminalCount, OneShot, RateGenerator, SquareWave, SoftwareStrobe, HardwareStrobe}
+use Rattle.board_prelude.specs.{CounterState, is_periodic, write, pulse, pulses_of, IsAtLoad}
 
 -- whether the next pulse loads: by a count that was written, by a rise of the gate, or by either
 abbrev pub is_to_load : Mode → CounterState → Bool

@@ -1,6 +1,6 @@
 -- Which entries change registers in configuration space.
 use Rattle.std.specs.Prelude.{◌≡◌, ◌+◌, ◌<◌, ◌≤◌, false, List, ◌∷◌}
-use Rattle.board_prelude.specs.Common.{Reg, Target, Config, Reply, Bus, Entry, Setup, is_hard_reset, byte_of, IsNext}
+use Rattle.board_prelude.specs.{Reg, Target, Config, Reply, Bus, Entry, Setup, is_hard_reset, byte_of, IsNext}
 
 -- an access to a register can reach this one too: it lies in the same function, at most three bytes after
 pub record IsNear (named reg : Reg) : Type 0 where

@@ -1,10 +1,9 @@
 -- What a hard reset leaves.
 use Rattle.std.specs.Prelude.{ℕ, ◌≡◌, true, List, ◌∷◌}
-use Rattle.board_prelude.specs.Common.{Reg, triggers_at_reset, reset as timer_at_reset}
-use Rattle.board_prelude.specs.Common.{after_reset as clock_after_reset, pair_at_reset, Entry, Setup, reset_byte}
-use Rattle.board_prelude.specs.Common.{is_hard_reset, reset_control, config_address, byte_of, Cell, stored_of, wire_of}
-use Rattle.board_prelude.specs.Common.{irq_of, triggers_of, plain_at_reset, plain_of, timer_of, clock_of, disk_with}
-use Rattle.board_prelude.specs.Common.{levels_of, pair_of, IsNext}
+use Rattle.board_prelude.specs.{Reg, triggers_at_reset, reset as timer_at_reset, after_reset as clock_after_reset}
+use Rattle.board_prelude.specs.{pair_at_reset, Entry, Setup, reset_byte, is_hard_reset, reset_control, config_address}
+use Rattle.board_prelude.specs.{byte_of, Cell, stored_of, wire_of, irq_of, triggers_of, plain_at_reset, plain_of}
+use Rattle.board_prelude.specs.{timer_of, clock_of, disk_with, levels_of, pair_of, IsNext}
 use Rattle.device_spec.specs.Ata.Steps.{after_reset as disk_after_reset}
 
 -- every register and device is in its reset state, and the pair sees the lines as they stand

@@ -1,18 +1,18 @@
 -- What a guest reads of memory where expansion ROMs were given bytes.
 use Rattle.std.specs.Prelude.{ℕ, ◌≡◌, ◌≢◌, ◌+◌, ◌<◌, ◌==◌, Bool, if◌then◌else◌, List, [], All, Option, Some, None}
 use Rattle.std.specs.Prelude.{slice_index}
-use Rattle.board_prelude.specs.Common.{Kind, One, WideAccess, bytes_of, Target, Card, Entry, Setup, Event, Memory, Wide}
-use Rattle.board_prelude.specs.Common.{IsSetup, IsInRange, IsAnswer, byte, is_write, memory_target, value_at, rom_base}
-use Rattle.board_prelude.specs.Common.{address_count}
+use Rattle.board_prelude.specs.{Kind, One, WideAccess, bytes_of, Target, Card, Entry, Setup, Event, Memory, Wide}
+use Rattle.board_prelude.specs.{IsSetup, IsInRange, IsAnswer, byte, is_write, memory_target, value_at, rom_base}
+use Rattle.board_prelude.specs.{address_count}
 use Rattle.board_base.specs.declared.access.Access.{Access}
 use Rattle.board_spec.specs.declared.event.Reply.{Reply}
 use Rattle.machine.specs.Roms.{given, rom_byte}
 use Rattle.machine_records.specs.declared.event.EventRecord.{EventRecord}
 use Rattle.machine_records.specs.Replies.{AfterStep}
+use Rattle.machine_records.specs.Replies.{record_said}
 use Rattle.machine_records.specs.declared.reply.PartRecord.{PartRecord}
 use Rattle.machine_records.specs.declared.reply.ReplyRecord.{ReplyRecord}
 use Rattle.machine_records.specs.Numbers.{card_target}
-use Rattle.machine_records.specs.Replies.{record_said}
 use Rattle.machine_records.specs.RomReplies.{parts_said, with_roms}
 
 -- ---- one byte

@@ -1,6 +1,6 @@
 -- Which lines the PCI interrupt pins can be routed to.
 use Rattle.std.specs.Prelude.{◌≡◌, ◌≤◌, ◌==◌, ℕ, Bool, true, List, [], ◌∷◌, Some, None}
-use Rattle.board_prelude.specs.Common.{list_any, line_of_route}
+use Rattle.board_prelude.specs.{list_any, line_of_route}
 
 -- the lines that a pin can be routed to
 abbrev pub routable_lines : List ℕ

@@ -1,6 +1,6 @@
 -- The SMRAM register of the 82441FX bit by bit.
 use Rattle.std.specs.Prelude.{ℕ, ◌≡◌, ◌%◌, ◌||◌, if◌then◌else◌}
-use Rattle.board_prelude.specs.Common.{bit, is_bit, smram_after}
+use Rattle.board_prelude.specs.{bit, is_bit, smram_after}
 
 -- a register after a write, from what it held and what was written
 pub record SmramBits (old written after : ℕ) : Type 0 where

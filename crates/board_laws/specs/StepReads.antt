@@ -1,6 +1,6 @@
 -- What a step reads of memory where expansion ROMs were given bytes, whatever history left the board.
 use Rattle.std.specs.Prelude.{ℕ, ◌≡◌, ◌+◌, ◌<◌, List, Some}
-use Rattle.board_prelude.specs.Common.{WideAccess, Entry, Event, IsSetup, byte, address_count}
+use Rattle.board_prelude.specs.{WideAccess, Entry, Event, IsSetup, byte, address_count}
 use Rattle.uart_16550.specs.declared.com1.Happening.TheVariants.{Happens}
 use Rattle.machine_records.specs.declared.event.EventRecord.{EventRecord}
 use Rattle.machine_records.specs.declared.reply.ReplyRecord.{ReplyRecord}

@@ -1,10 +1,10 @@
 -- What a byte of DRAM or of a card holds, said of whole histories.
 use Rattle.std.specs.Prelude.{ℕ, zero, suc, ◌≡◌, ◌+◌, ◌*◌, ◌<◌, ◌≤◌, ◌⊎◌, false, true, List, ◌∷◌, ◌++◌, All, Option}
 use Rattle.std.specs.Prelude.{Some, None}
-use Rattle.board_prelude.specs.Common.{Width, WideAccess, Wide, largest_of, Card, Entry, Setup, OutsideBase, card_at}
-use Rattle.board_prelude.specs.Common.{rom_base, base_of_card, value_at, byte, IsWideAccess, parts_of, Cell, DramCell}
-use Rattle.board_prelude.specs.Common.{CardCell, first_cell, entry_put, is_write, stored_of, dram_byte, memory_target}
-use Rattle.board_prelude.specs.Common.{wide_value, IsNext}
+use Rattle.board_prelude.specs.{Width, WideAccess, Wide, largest_of, Card, Entry, Setup, OutsideBase, card_at, rom_base}
+use Rattle.board_prelude.specs.{base_of_card, value_at, byte, IsWideAccess, parts_of, Cell, DramCell, CardCell}
+use Rattle.board_prelude.specs.{first_cell, entry_put, is_write, stored_of, dram_byte, memory_target, wide_value}
+use Rattle.board_prelude.specs.{IsNext}
 
 -- what an entry puts in a cell
 abbrev pub put_by : Cell → Entry → Option ℕ

@@ -1,6 +1,6 @@
 -- What a read of port 61h gives, bit by bit.
 use Rattle.std.specs.Prelude.{ℕ, ◌≡◌, ◌%◌, ◌<◌, false}
-use Rattle.board_prelude.specs.Common.{PitState, out_of, is_bit, SystemPort, system_value}
+use Rattle.board_prelude.specs.{PitState, out_of, is_bit, SystemPort, system_value}
 
 -- bits 1 and 0 are as written, bit 4 is the one that flips, bit 5 is OUT of counter 2, and the others are 0
 pub record SystemPortBits (port : SystemPort) (timer : PitState) (value : ℕ) : Type 0 where

@@ -2,8 +2,8 @@
 //! nothing: its clauses are laws. Those on which code stands are in the `laws` of `board_spec` and `device_spec`.
 #![tactic(auto)]
 
-ghost use Rattle.board_prelude.specs.Common.{MapBytesDecide, MapWritesDecide, OneAnswer, OneSpan, SomeAnswer, SomeSpan};
-ghost use Rattle.board_prelude.specs.Common.{MergedBits, ByteByByte};
+ghost use Rattle.board_prelude.specs.{MapBytesDecide, MapWritesDecide, OneAnswer, OneSpan, SomeAnswer, SomeSpan};
+ghost use Rattle.board_prelude.specs.{MergedBits, ByteByByte};
 ghost use Rattle.board_laws.specs.AreaLaws.{RowBelowTop, WhoAnswers};
 ghost use Rattle.board_laws.specs.DenialLaws.{DeniedInParts, DeniedOnBus};
 ghost use Rattle.board_laws.specs.MapLaws.{MapWritesDecideMap};

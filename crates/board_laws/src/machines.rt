@@ -5,7 +5,7 @@ ghost use Rattle.board_laws.specs.PicLaws.{PrioritiesGoRound, InterruptIsFirst, 
 ghost use Rattle.board_laws.specs.PicLaws.{SelectedInterrupts, NonSpecificEndEndsFirst, NonSpecificEndOfNone};
 ghost use Rattle.board_laws.specs.PicLaws.{ReadsLeaveTheOther, AcknowledgedIsInService, AcknowledgedSlaveIsInService};
 ghost use Rattle.board_laws.specs.PicLaws.{SpecificEndEndsOne, SpuriousLeavesAlone, StaysLatched};
-ghost use Rattle.board_prelude.specs.Common.{CountersAreApart, RateRepeats, SquareRepeats};
+ghost use Rattle.board_prelude.specs.{CountersAreApart, RateRepeats, SquareRepeats};
 ghost use Rattle.board_laws.specs.PitLaws.{LatchedCountStays, LatchedCountIsRead, ReadBackIsOneByOne, ReadBackIsLatch};
 ghost use Rattle.board_laws.specs.PitLaws.{ReadBackOfBoth, CountReadsAsWritten};
 ghost use Rattle.board_laws.specs.PitCounts.{CountIsTaken, CountWaits, CountsEndOnce, CountsStrobeOnce, PulseLoads};

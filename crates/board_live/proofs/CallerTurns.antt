@@ -1,20 +1,25 @@
 -- A caller's pass, before and after a turn.
 use Rattle.std.proofs.Common.{◌≡◌, ℕ, ◌==◌, Option, Some, List, [], ◌∷◌, ◌++◌, length, drop, sym, ap, ◌∙◌, append_assoc}
 use Rattle.std.proofs.Common.{eq-eqb, refl, reverse, take, length-append, arith, All, Any}
-use Rattle.board_prelude.proofs.Common.{reverse-reverse, filter-append, Entry, entries_by, map_writes_of}
-use Rattle.board_prelude.proofs.Common.{take-append-drop, get_or_append_left, take-append_seam, get_or-append_seam}
+use Rattle.board_prelude.proofs.{reverse-reverse, filter-append, Entry, entries_by, map_writes_of, take-append-drop}
+use Rattle.board_prelude.proofs.{get_or_append_left, take-append_seam, get_or-append_seam}
 use mathlib.Core.List.{IsPrefix}
-use Rattle.bus_turn.specs.Common.{IsSameCaller as IsSamePass, number_of, opened_of as opened_by, part_of}
-use Rattle.bus_turn.specs.Common.{seen_of as seen_in, mine_of as mine_in, own_by, joined_of}
+use Rattle.bus_turn.specs.Passes.{IsSameCaller as IsSamePass, number_of, opened_of as opened_by, part_of}
+use Rattle.bus_turn.specs.Passes.{seen_of as seen_in, mine_of as mine_in, joined_of}
+use Rattle.bus_turn.specs.Views.{own_by}
 use Rattle.bus_turn.proofs.Rows.{drop_front}
 use Rattle.map_publish.specs.declared.mark.Mark.{Mark}
 use Rattle.board_core.specs.declared.steps.Steps.{Ghosts}
 use Rattle.board_live.specs.declared.cpu.Cpu.{Cpu}
 use Rattle.board_live.specs.declared.shared.Shared.{Shared}
 use Rattle.board_live.specs.declared.shared.Origin.{Origin}
-use Rattle.board_live.specs.Common.{Extends, oldest, known_after, origin_in, board_of, opened_with, SharedPass}
-use Rattle.board_live.specs.Common.{setup_in, opened_in, setup_of, seen_of, mine_of, known_of, AddsNone, IsSameCaller}
-use Rattle.board_live.specs.Common.{ClosesBoard, HasOwn, IsJoined}
+use Rattle.board_live.specs.Known.{Extends, oldest, known_after}
+use Rattle.board_live.specs.Origins.{origin_in}
+use Rattle.board_live.specs.Steps.{board_of, opened_with}
+use Rattle.board_live.specs.Passes.{SharedPass, setup_in, opened_in}
+use Rattle.board_live.specs.Callers.{setup_of, seen_of, mine_of, known_of, IsSameCaller, ClosesBoard}
+use Rattle.board_live.specs.Bus.{AddsNone}
+use Rattle.board_live.specs.Joins.{HasOwn, IsJoined}
 use Rattle.board_live.proofs.Histories.{extends_prefix, entries_reversed, known_extend, extends_trans, writes_extend}
 use Rattle.std.proofs.lemmas.Bool.Decides.{nat_tests}
 

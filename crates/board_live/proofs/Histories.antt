@@ -1,9 +1,8 @@
 -- Histories that go on, and their map writes.
 use Rattle.std.proofs.Common.{◌≡◌, ℕ, suc, ◌-◌, ◌≤◌, ◌==◌, Bool, List, [], ◌∷◌, ◌++◌, length, filter, refl, sym, ap}
 use Rattle.std.proofs.Common.{◌∙◌, append_assoc, append-nil, arith, reverse, length-append}
-use Rattle.board_prelude.proofs.Common.{option_to_list, reverse-append, filter-append, Entry, MapChange, Setup}
-use Rattle.board_prelude.proofs.Common.{entries_by, map_change_of, map_writes_of, nat_tests, Event, Reply, next_entry}
-use Rattle.board_prelude.proofs.Common.{version_of}
+use Rattle.board_prelude.proofs.{option_to_list, reverse-append, filter-append, Entry, MapChange, Setup, entries_by}
+use Rattle.board_prelude.proofs.{map_change_of, map_writes_of, nat_tests, Event, Reply, next_entry, version_of}
 use mathlib.Core.List.{IsPrefix}
 use Rattle.map_publish.specs.declared.mark.Mark.{Mark}
 use Rattle.map_publish.specs.Lists.{changes_of, opened_of, version_after}

@@ -1,6 +1,6 @@
 -- How many entries a board of few callers has.
 use Rattle.std.proofs.Common.{◌≡◌, cond, nat_lt, ℕ, zero, suc, ◌+◌, ◌*◌, ◌<◌, ◌≤◌, List, [], ◌∷◌, length, All, arith}
-use Rattle.board_prelude.proofs.Common.{nat_tests, All-cons, Entry, entries_by}
+use Rattle.board_prelude.proofs.{nat_tests, All-cons, Entry, entries_by}
 use Rattle.board_live.specs.Known.{AreFew, most_each}
 
 -- the entries of the first so many callers

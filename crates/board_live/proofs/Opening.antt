@@ -1,15 +1,16 @@
 -- Callers of a board that was just opened.
 use Rattle.std.proofs.Common.{◌≡◌, ℕ, zero, suc, ◌+◌, ◌<◌, Some, List, [], ◌∷◌, ◌++◌, length, get_or, map, refl, ap}
 use Rattle.std.proofs.Common.{◌∙◌, arith, add-zero, Any, reverse}
-use Rattle.board_prelude.proofs.Common.{range_with_len, map-append, reverse-reverse, get_or_default}
+use Rattle.board_prelude.proofs.{range_with_len, map-append, reverse-reverse, get_or_default}
 use Rattle.bus_turn.specs.Passes.{opened_of as opened_by, part_of}
 use Rattle.map_publish.specs.declared.viewer.Viewer.{Viewer}
 use Rattle.map_publish.specs.Lists.{changes_of}
 use Rattle.board_core.specs.declared.steps.Steps.{Ghosts}
 use Rattle.board_live.specs.declared.cpu.Cpu.{Cpu}
 use Rattle.board_live.specs.declared.live.Live.{Live}
-use Rattle.board_live.specs.Common.{SharedPass, IsViewerFor, board_of, opened_with, IsCallerOf, IsSameCaller, AreAllOf}
-use Rattle.board_live.specs.Common.{IsNewOf}
+use Rattle.board_live.specs.Passes.{SharedPass, IsViewerFor}
+use Rattle.board_live.specs.Steps.{board_of, opened_with}
+use Rattle.board_live.specs.Callers.{IsCallerOf, IsSameCaller, AreAllOf, IsNewOf}
 use Rattle.board_live.specs.declared.shared.Shared.{Shared}
 use Rattle.board_live.proofs.Histories.{oldest_whole}
 use Rattle.std.proofs.lemmas.Bool.Decides.{nat_tests}

@@ -1,8 +1,8 @@
 -- The opened map stands for the registers after the map writes of the history.
 use Rattle.std.proofs.Common.{◌≡◌, ℕ, ◌+◌, true, ◌||◌, List, Option, Some, None, refl, sym, arith, ◌==◌, is_some, ◌<◌}
-use Rattle.board_prelude.proofs.Common.{nat_tests, Entry, is_within, Setup, card_at, Bytes, SameMapBytes, has_rom}
-use Rattle.board_prelude.proofs.Common.{map_writes_of, registers_after, card_register, expansion_rom, byte_of}
-use Rattle.board_prelude.proofs.Common.{map_writes_decide}
+use Rattle.board_prelude.proofs.{nat_tests, Entry, is_within, Setup, card_at, Bytes, SameMapBytes, has_rom}
+use Rattle.board_prelude.proofs.{map_writes_of, registers_after, card_register, expansion_rom, byte_of}
+use Rattle.board_prelude.proofs.{map_writes_decide}
 use Rattle.pci_bars.specs.Cards.{CardBytes, DecodesAs, HoldsRom}
 use Rattle.pci_bars.proofs.CardLemmas.{holds-same}
 use Rattle.addr_decode.specs.MapRegs.{MapBytes, StandsFor}

@@ -1,6 +1,6 @@
 -- What a call of the bus does.
 use Rattle.std.specs.Prelude.{◌≡◌, List, ◌∷◌, length}
-use Rattle.board_prelude.specs.Common.{Event, Entry, IsAnswer, entries_by, next_entry, map_writes_of}
+use Rattle.board_prelude.specs.{Event, Entry, IsAnswer, entries_by, next_entry, map_writes_of}
 use Rattle.board_spec.specs.declared.event.Event.TheVariants.{Look as LookAt}
 use Rattle.board_core.specs.declared.steps.Steps.{Ghosts}
 use Rattle.board_live.specs.declared.shared.Answered.{Answered}

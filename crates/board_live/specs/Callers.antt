@@ -1,7 +1,8 @@
 -- A caller, and what it knows. Histories and map writes have the newest first.
 use Rattle.std.specs.Prelude.{ℕ, ◌≡◌, ◌<◌, ◌≤◌, List, length, map, reverse, All, Some}
-use Rattle.board_prelude.specs.Common.{Any, range_with_len, Entry, MapChange, Setup, entries_by, map_writes_of}
-use Rattle.bus_turn.specs.Common.{opened_of as opened_by, part_of, seen_of as seen_in, IsOf}
+use Rattle.board_prelude.specs.{Any, range_with_len, Entry, MapChange, Setup, entries_by, map_writes_of}
+use Rattle.bus_turn.specs.Passes.{opened_of as opened_by, part_of, seen_of as seen_in}
+use Rattle.bus_turn.specs.Turns.{IsOf}
 use Rattle.board_core.specs.Kept.{Standing}
 use Rattle.board_core.specs.declared.steps.Steps.{Ghosts}
 use Rattle.board_live.specs.declared.cpu.Cpu.{Cpu}

@@ -1,7 +1,8 @@
 -- What a pass has of a caller whose pass was joined into it.
 use Rattle.std.specs.Prelude.{ℕ, ◌≡◌, List, ◌++◌, reverse}
-use Rattle.board_prelude.specs.Common.{Any, Entry, map_writes_of}
-use Rattle.bus_turn.specs.Common.{opened_of, seen_of as seen_in, joined_of, own_by}
+use Rattle.board_prelude.specs.{Any, Entry, map_writes_of}
+use Rattle.bus_turn.specs.Passes.{opened_of, seen_of as seen_in, joined_of}
+use Rattle.bus_turn.specs.Views.{own_by}
 use Rattle.board_core.specs.declared.steps.Steps.{Ghosts}
 use Rattle.board_live.specs.declared.shared.Shared.{Shared}
 use Rattle.board_live.specs.declared.cpu.Cpu.{Cpu}

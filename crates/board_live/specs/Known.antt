@@ -1,9 +1,10 @@
 -- Histories and map writes of a shared board, the newest first.
 use Rattle.std.specs.Prelude.{ℕ, ◌≡◌, ◌-◌, ◌<◌, ◌≤◌, List, ◌++◌, length, drop, All}
-use Rattle.board_prelude.specs.Common.{Entry, MapChange, most_statements, Setup, entries_by, map_writes_of}
+use Rattle.board_prelude.specs.{Entry, MapChange, most_statements, Setup, entries_by, map_writes_of}
 use Rattle.map_builder.specs.Map.{Mapped}
 use Rattle.map_publish.specs.declared.mark.Mark.{Mark}
-use Rattle.map_publish.specs.Common.{changes_of, IsMapOfWrites}
+use Rattle.map_publish.specs.Lists.{changes_of}
+use Rattle.map_publish.specs.Laws.{IsMapOfWrites}
 
 -- a list begins with another: it has more, which is newer
 abbrev pub Extends : {E : Type 0} → (shorter longer : List E) → Type 0

@@ -2,7 +2,6 @@ pub mod PassProps
 pub mod Callers
 pub mod Bus
 pub mod Joins
-pub mod Common
 pub mod Known
 pub mod Props
 pub mod Origins

@@ -1,7 +1,7 @@
 -- What was opened: the fixed part of a shared board, as each pass knows it.
 use Rattle.std.specs.Prelude.{ℕ, List, [], Option, Some, None}
 use Rattle.logbook.specs.Pages.{Book}
-use Rattle.board_prelude.specs.Common.{Entry, Setup}
+use Rattle.board_prelude.specs.{Entry, Setup}
 use Rattle.board_live.specs.declared.shared.Origin.{Origin}
 
 abbrev pub origin : Setup → ℕ → List Entry → Book → Origin

@@ -3,8 +3,9 @@ use Rattle.std.specs.Prelude.{ℕ, ◌≡◌, ◌+◌, ◌<◌, List, [], ◌++�
 use Rattle.atomic_table.specs.declared.shared.Seat.{Seat}
 use Rattle.logbook.specs.Pages.{Book}
 use Rattle.bus_turn.specs.declared.view.View.{View}
-use Rattle.bus_turn.specs.Common.{number_of, splits_of, opened_of, part_of, seen_of, mine_of, joined_of, own_by}
-use Rattle.board_prelude.specs.Common.{Entry, Setup}
+use Rattle.bus_turn.specs.Passes.{number_of, splits_of, opened_of, part_of, seen_of, mine_of, joined_of}
+use Rattle.bus_turn.specs.Views.{own_by}
+use Rattle.board_prelude.specs.{Entry, Setup}
 use Rattle.board_live.specs.declared.shared.Origin.{Origin}
 use Rattle.map_publish.specs.declared.viewer.Viewer.{Viewer}
 use Rattle.map_publish.specs.Lists.{opened_of as opened_map, changes_of}

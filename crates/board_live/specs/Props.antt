@@ -1,7 +1,7 @@
 -- That these have at most one proof, so that types may keep them.
 use Rattle.std.specs.Prelude.{ℕ, List}
 use Rattle.std.proofs.Props.{props}
-use Rattle.board_prelude.specs.Common.{Entry, Setup}
+use Rattle.board_prelude.specs.{Entry, Setup}
 use Rattle.map_builder.specs.Map.{Mapped}
 use Rattle.map_publish.specs.Props.{HoldsRom-prop}
 use Rattle.board_live.specs.Known.{IsMapOpened, AreFew}

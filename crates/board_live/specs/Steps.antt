@@ -1,6 +1,6 @@
 -- A step of the shared board, of whatever kind it is.
 use Rattle.std.specs.Prelude.{ℕ, ◌≡◌, ◌∷◌, length}
-use Rattle.board_prelude.specs.Common.{Event, IsAnswer, next_entry}
+use Rattle.board_prelude.specs.{Event, IsAnswer, next_entry}
 use Rattle.board_core.specs.Kept.{Standing}
 use Rattle.board_core.specs.declared.steps.Steps.{Ghosts}
 use Rattle.board_live.specs.declared.shared.Answered.{Answered}

@@ -1,7 +1,7 @@
 //! A caller of the shared board.
 ghost use Rattle.std.specs.Prelude.{◌≡◌, ◌+◌, ◌<◌, length, IfOk, OnErr};
 ghost use Rattle.board_spec.specs.InRange.{IsInRange};
-ghost use Rattle.bus_turn.specs.Common.{IsIdle, number_of, splits_of};
+ghost use Rattle.bus_turn.specs.Passes.{IsIdle, number_of, splits_of};
 ghost use Rattle.map_publish.specs.Lists.{opened_of};
 ghost use Rattle.board_live.specs.Known.{IsMapOpened};
 ghost use Rattle.board_live.specs.Passes.{IsPassOf, IsFresh, IsViewerFor, callers_in, setup_in, opened_in};

@@ -3,8 +3,9 @@ ghost use Rattle.std.specs.Prelude.{◌≡◌, ◌+◌, ◌<◌, ◌≤◌, [], 
 ghost use Rattle.std.specs.Prelude.{IfErr};
 ghost use Rattle.std.specs.List.{Any, range_with_len};
 ghost use mathlib.Core.List.{IsPrefix};
-ghost use Rattle.bus_turn.specs.Common.{IsIdle, IsSameCaller as IsSamePass, number_of, splits_of, seen_of as seen_in};
-ghost use Rattle.bus_turn.specs.Common.{mine_of as mine_in, joined_of, IsOf};
+ghost use Rattle.bus_turn.specs.Passes.{IsIdle, IsSameCaller as IsSamePass, number_of, splits_of, seen_of as seen_in};
+ghost use Rattle.bus_turn.specs.Passes.{mine_of as mine_in, joined_of};
+ghost use Rattle.bus_turn.specs.Turns.{IsOf};
 ghost use Rattle.board_live.specs.Known.{AreFew};
 ghost use Rattle.board_live.specs.Passes.{IsFresh, IsViewerFor, callers_in};
 

@@ -1,7 +1,7 @@
 //! What the callers share by turns: the board, and the publisher of its memory map.
 ghost use Rattle.std.specs.Prelude.{◌≡◌, ◌<◌, ◌≤◌, ◌++◌, length, reverse, IfOk, OnOk, OnErr};
 ghost use mathlib.Core.List.{IsPrefix};
-ghost use Rattle.board_prelude.specs.Common.{IsInRange, entries_by, option_to_list, entry_limit};
+ghost use Rattle.board_prelude.specs.{IsInRange, entries_by, option_to_list, entry_limit};
 ghost use Rattle.map_publish.specs.Lists.{opened_of, changes_of, version_after};
 ghost use Rattle.board_live.specs.Known.{oldest, ArePublished, IsMapOpened, most_each, AreFew};
 ghost use Rattle.board_live.specs.Props.{Opens-prop, AreFew-prop};

@@ -2,9 +2,10 @@
 
 ghost use Rattle.std.specs.Prelude.{◌≡◌, length, drop, reverse, Some};
 ghost use mathlib.Core.List.{IsPrefix};
-ghost use Rattle.bus_turn.specs.Common.{IsIdle, IsHolding, IsSameCaller as IsSamePass, HasSameJoined, number_of};
-ghost use Rattle.bus_turn.specs.Common.{opened_of as opened_by, part_of, seen_of as seen_in, mine_of as mine_in, IsOf};
-ghost use Rattle.bus_turn.specs.Common.{own_by};
+ghost use Rattle.bus_turn.specs.Passes.{IsIdle, IsHolding, IsSameCaller as IsSamePass, HasSameJoined, number_of};
+ghost use Rattle.bus_turn.specs.Passes.{opened_of as opened_by, part_of, seen_of as seen_in, mine_of as mine_in};
+ghost use Rattle.bus_turn.specs.Turns.{IsOf};
+ghost use Rattle.bus_turn.specs.Views.{own_by};
 ghost use Rattle.map_publish.specs.Lists.{opened_of};
 ghost use Rattle.board_live.specs.Passes.{callers_in, setup_in, opened_in};
 ghost use Rattle.board_live.specs.Origins.{origin};

@@ -3,7 +3,7 @@ use Rattle.std.proofs.Common.{ℕ, List, ◌++◌, Option, sym, ap, ◌∙◌, a
 use Rattle.board_outside.specs.Counts.{next_fault}
 use Rattle.board_files.specs.declared.out_sink.OutSink.{OutSink}
 use Rattle.board_commands.proofs.SentLemmas.{more_taken}
-use Rattle.board_main.specs.Common.{TookAll, TookFront, IsPut, out_call}
+use Rattle.board_main.specs.Outputs.{TookAll, TookFront, IsPut, out_call}
 
 module _ {W T E : Type 0} (contents : W → Option (List ℕ)) (first second : List ℕ) where
   -- a text was put whole, and then another one with this result

@@ -4,7 +4,10 @@ use Rattle.board_outside.specs.Outside.{Rose, Fetch}
 use Rattle.command_words.specs.Words.{Command, command_of}
 use Rattle.command_files.specs.declared.status.Status.{Status}
 use Rattle.command_files.specs.declared.status.Status.TheVariants.{Done, Usage, WriteFault}
-use Rattle.command_files.specs.Common.{code_of, Files, ShelfCall, AreFetchesOf}
+use Rattle.command_files.specs.Status.{code_of}
+use Rattle.command_files.specs.Known.{Files}
+use Rattle.command_files.specs.Outcomes.{ShelfCall}
+use Rattle.command_files.specs.Calls.{AreFetchesOf}
 use Rattle.board_commands.specs.Outcomes.{SinkCall, IsCaused, IsExact}
 use Rattle.board_main.specs.declared.answers.OwnAnswer.{OwnAnswer}
 use Rattle.board_main.specs.declared.line.WordFault.{WordFault}

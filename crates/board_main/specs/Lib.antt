@@ -2,4 +2,3 @@ pub mod Own
 pub mod Given
 pub mod Outputs
 pub mod Ends
-pub mod Common

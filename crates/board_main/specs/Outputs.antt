@@ -1,6 +1,6 @@
 -- What an output took in a call, and its faults.
 use Rattle.std.specs.Prelude.{ℕ, ◌≡◌, ◌≢◌, ◌⊎◌, ◌++◌, ◌∷◌, [], List, Option, Result, Ok, Err}
-use Rattle.board_prelude.specs.Common.{Appends, Keeps, line_feed}
+use Rattle.board_prelude.specs.{Appends, Keeps, line_feed}
 use Rattle.board_outside.specs.Counts.{next_fault}
 use Rattle.board_files.specs.declared.out_sink.OutSink.{OutSink}
 use Rattle.command_files.specs.declared.status.Status.{Status}

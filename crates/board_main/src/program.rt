@@ -3,7 +3,8 @@
 ghost use Rattle.std.specs.Prelude.{◌≡◌, ◌↔◌, None, map, string_bytes};
 ghost use Rattle.std.specs.Process.{exit_status};
 ghost use Rattle.command_files.specs.declared.status.Status.{Status};
-ghost use Rattle.command_files.specs.Common.{shelf_call, OfCalls, AreFetchesOf};
+ghost use Rattle.command_files.specs.Outcomes.{shelf_call};
+ghost use Rattle.command_files.specs.Calls.{OfCalls, AreFetchesOf};
 ghost use Rattle.command_words.specs.Words.{command_said};
 ghost use Rattle.board_main.specs.Given.{status_of_words};
 ghost use Rattle.board_main.specs.Own.{own_of, own_text};

@@ -1,11 +1,18 @@
 -- What an event leaves of each device, the levels of lines whose drivers stayed, and what the pair has seen of them.
 use Rattle.std.proofs.Common.{arith, ◌≡◌, ℕ, Bool, List, [], ◌∷◌, Option, refl, ap, map, option_map, zero, suc, ◌∙◌}
-use Rattle.board_spec.specs.Common.{Pit, PitState, out_of, set_gate2, Disk, Pair, Setup, wire_of, irq_of, timer_after}
-use Rattle.board_spec.specs.Common.{clock_of, disk_with, routes_of, levels_with, pair_after, IsAnswer, NamesDevice}
-use Rattle.board_spec.specs.Common.{ActsOnPair, pulses, pair_at_reset, pair_after_lines, levels_at_power_on}
-use Rattle.board_spec.specs.Common.{levels_where, SameLevelsAgain, byte_of, triggers_of, timer_of, levels_of, elcr_of}
-use Rattle.board_spec.specs.Common.{pair_pulsed, pair_stepped, pair_reset_or_after, pair_of, PairHasSeen, PairStays}
-use Rattle.board_spec.specs.Common.{plain_of, MemoryLeavesDevices}
+use Rattle.board_base.specs.declared.target.Dev.TheVariants.{Pit}
+use Rattle.device_spec.specs.Pit.{PitState, out_of, set_gate2, pulses}
+use Rattle.device_spec.specs.Ata.State.{Disk}
+use Rattle.device_spec.specs.Pair.{Pair, pair_at_reset, pair_after_lines, levels_at_power_on}
+use Rattle.board_spec.specs.Setup.{Setup}
+use Rattle.board_spec.specs.Devices.{wire_of, irq_of, timer_after, clock_of, disk_with, triggers_of, timer_of, plain_of}
+use Rattle.board_spec.specs.Interrupts.{routes_of, levels_with, pair_after, levels_of, elcr_of, pair_pulsed}
+use Rattle.board_spec.specs.Interrupts.{pair_stepped, pair_reset_or_after, pair_of}
+use Rattle.board_spec.specs.Answer.{IsAnswer}
+use Rattle.board_spec.specs.DeviceLaws.{NamesDevice, ActsOnPair, PairHasSeen, PairStays, MemoryLeavesDevices}
+use Rattle.device_spec.specs.Levels.{levels_where}
+use Rattle.device_spec.specs.PicLaws.{SameLevelsAgain}
+use Rattle.board_spec.specs.Registers.{byte_of}
 use Rattle.board_spec.specs.declared.event.Event.{Event}
 use Rattle.board_spec.specs.declared.event.Reply.{Reply}
 use Rattle.board_spec.specs.declared.event.Entry.{Entry}

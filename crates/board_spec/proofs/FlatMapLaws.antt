@@ -1,8 +1,11 @@
 -- Two flat maps of the same registers are one list, and every address has one span.
 use Rattle.std.proofs.Common.{◌≡◌, ℕ, ◌+◌, ◌≤◌, List, [], ◌∷◌, refl, sym, ◌∙◌, subst, arith}
-use Rattle.board_spec.specs.Common.{AllByRecursion, Setup, Bytes, address_count, six_areas, MapRange, Tiles, Differs}
-use Rattle.board_spec.specs.Common.{NeighboursDiffer, IsRight, OneFlatMap}
-use Rattle.device_spec.proofs.Common.{recursion_from_All}
+use Rattle.std.specs.List.{AllByRecursion}
+use Rattle.board_spec.specs.Setup.{Setup}
+use Rattle.board_spec.specs.Decode.{Bytes}
+use Rattle.board_spec.specs.FlatMap.{address_count, six_areas, MapRange, Tiles, Differs, NeighboursDiffer, IsRight}
+use Rattle.board_spec.specs.Laws.{OneFlatMap}
+use Rattle.std.proofs.lemmas.List.Elements.{recursion_from_All}
 use Rattle.std.proofs.lemmas.Bool.Decides.{nat_tests}
 
 pub tiles_below : (from : ℕ) (ranges : List MapRange) → Tiles from ranges → from ≤ address_count

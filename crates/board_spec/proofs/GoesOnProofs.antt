@@ -1,11 +1,17 @@
 -- A begun history that is not complete goes on by a statement of the phase where it stands.
 use Rattle.std.proofs.Common.{◌≡◌, ℕ, ◌+◌, ◌≤◌, ◌<◌, inl, inr, List, [], ◌∷◌, ◌++◌, length, take, drop, refl, sym, ap}
 use Rattle.std.proofs.Common.{subst, arith, ◌∙◌, append_assoc}
-use Rattle.device_spec.proofs.Common.{nat_tests, drop_of_length-le, take-append-le, drop-append-le, length-append}
-use Rattle.device_spec.proofs.Common.{length-take, take_all, append-nil, nil_from_length, recursion_from_All, cases_eq}
-use Rattle.device_spec.proofs.Common.{cases_lt}
-use Rattle.board_spec.specs.Common.{AllByRecursion, events_by, BeginsWith, IsWholePhase, IsFrontOfPhase, HasPhases}
-use Rattle.board_spec.specs.Common.{HasPhasesSoFar, IsAddressed, in_file_order, BegunGoesOn, next_entry}
+use Rattle.std.proofs.lemmas.Bool.Decides.{nat_tests}
+use Rattle.std.proofs.Math.ListN.{drop_of_length-le}
+use Rattle.std.proofs.lemmas.List.{take-append-le, drop-append-le, length-append, length-take, take_all, append-nil}
+use Rattle.std.proofs.lemmas.List.{nil_from_length}
+use Rattle.std.proofs.lemmas.List.Elements.{recursion_from_All}
+use Rattle.std.proofs.lemmas.Bool.{cases_eq, cases_lt}
+use Rattle.std.specs.List.{AllByRecursion}
+use Rattle.board_spec.specs.Orders.{events_by, BeginsWith, IsWholePhase, IsFrontOfPhase, HasPhases, HasPhasesSoFar}
+use Rattle.board_spec.specs.Laws.{IsAddressed}
+use Rattle.board_spec.specs.OrderLaws.{in_file_order, BegunGoesOn}
+use Rattle.board_spec.specs.Legal.{next_entry}
 use Rattle.board_spec.specs.declared.event.Event.{Event}
 use Rattle.board_spec.specs.declared.event.Statement.{Statement}
 use Rattle.board_spec.proofs.ReplayLaws.{some_answer}

@@ -15,4 +15,3 @@ pub mod PartLawProofs
 mod WordProofs
 pub mod LineProofs
 pub mod DeviceProofs
-pub mod Common

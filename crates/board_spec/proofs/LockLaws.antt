@@ -1,11 +1,25 @@
 -- The lock law holds of every legal history.
 use Rattle.std.proofs.Common.{◌≡◌, ◌≢◌, ℕ, inl, inr, Bool, false, List, [], ◌∷◌, ◌++◌, Option, ◌∙◌, arith, zero, suc}
 use Rattle.std.proofs.Common.{◌==◌, map}
-use Rattle.device_spec.proofs.Common.{nat_tests, cases_Bool}
-use Rattle.board_spec.specs.Common.{Kind, WideAccess, Denial, Area, Target, Smram, Setup, bit, reset_byte, host_bridge}
-use Rattle.board_spec.specs.Common.{byte_with, byte_of, Bytes, Window, area_under, area_of, smram, target_at}
-use Rattle.board_spec.specs.Common.{memory_answer, part_answer, IsAnswer, IsNext, IsLegal, SetsLock, NoHardReset}
-use Rattle.board_spec.specs.Common.{IsOutsideSmm, HasSmram, NamesSmram, parts_from, LegalKeepsLock}
+use Rattle.std.proofs.lemmas.Bool.Decides.{nat_tests}
+use Rattle.std.proofs.lemmas.Bool.{cases_Bool}
+use Rattle.board_base.specs.declared.access.Kind.{Kind}
+use Rattle.board_base.specs.declared.access.WideAccess.{WideAccess}
+use Rattle.board_base.specs.declared.target.Denial.{Denial}
+use Rattle.board_base.specs.declared.target.Area.{Area}
+use Rattle.board_base.specs.declared.target.Target.{Target}
+use Rattle.board_base.specs.declared.target.Target.TheVariants.{Smram}
+use Rattle.board_spec.specs.Setup.{Setup}
+use Rattle.board_base.specs.Bits.{bit}
+use Rattle.board_spec.specs.RegisterTable.{reset_byte, host_bridge}
+use Rattle.board_spec.specs.Registers.{byte_with, byte_of}
+use Rattle.board_spec.specs.Decode.{Bytes, Window, area_under, area_of}
+use Rattle.board_spec.specs.RegisterNames.{smram}
+use Rattle.board_spec.specs.Answer.{target_at, memory_answer, part_answer, IsAnswer}
+use Rattle.board_spec.specs.Legal.{IsNext, IsLegal}
+use Rattle.board_spec.specs.LockLaw.{SetsLock, NoHardReset, IsOutsideSmm, HasSmram, NamesSmram}
+use Rattle.board_spec.specs.WideParts.{parts_from}
+use Rattle.board_spec.specs.Laws.{LegalKeepsLock}
 use Rattle.board_base.specs.declared.target.Area.TheVariants.{Smram as SmramArea}
 use Rattle.board_spec.specs.declared.event.Event.{Event}
 use Rattle.board_spec.specs.declared.event.Event.TheVariants.{Memory, Wide, Look as LookAt}

@@ -1,12 +1,18 @@
 -- Areas and denials depend on the map bytes alone.
 use Rattle.std.proofs.Common.{◌≡◌, ℕ, zero, suc, ◌+◌, ◌<◌, ◌≤◌, Bool, true, not, List, [], ◌∷◌, length, get_or, Option}
 use Rattle.std.proofs.Common.{refl, ◌∙◌, ap, arith, ◌==◌, is_some, find, flat_map, if◌then◌else◌}
-use Rattle.board_spec.specs.Common.{AllByRecursion, enumerate_from, Kind, Base, FittedCard, Setup, IsCardList, Rises}
-use Rattle.board_spec.specs.Common.{card_at, has_rom, Bytes, boundary, row_of, is_shadowed, Window, base_value}
-use Rattle.board_spec.specs.Common.{memory_window, vga_window, memory_windows, rom_window, rom_window_of, is_rom_on}
-use Rattle.board_spec.specs.Common.{unselected_windows, rom_unselected, is_enabled_for, first_window, memory_claim}
-use Rattle.board_spec.specs.Common.{memory_shut, area_of, denial_of, SameMapBytes, MapBytesDecide}
-use Rattle.device_spec.proofs.Common.{nat_tests, recursion_from_All, find-append}
+use Rattle.std.specs.List.{AllByRecursion, enumerate_from}
+use Rattle.board_base.specs.declared.access.Kind.{Kind}
+use Rattle.board_spec.specs.Setup.{Base, FittedCard, Setup, IsCardList, Rises, card_at}
+use Rattle.board_spec.specs.MapWrites.{has_rom}
+use Rattle.board_spec.specs.Decode.{Bytes, boundary, row_of, is_shadowed, Window, base_value, memory_window, vga_window}
+use Rattle.board_spec.specs.Decode.{memory_windows, rom_window, rom_window_of, is_rom_on, unselected_windows}
+use Rattle.board_spec.specs.Decode.{rom_unselected, is_enabled_for, first_window, memory_claim, memory_shut, area_of}
+use Rattle.board_spec.specs.Decode.{denial_of}
+use Rattle.board_spec.specs.Laws.{SameMapBytes, MapBytesDecide}
+use Rattle.std.proofs.lemmas.Bool.Decides.{nat_tests}
+use Rattle.std.proofs.lemmas.List.Elements.{recursion_from_All}
+use Rattle.std.proofs.lemmas.List.Folds.{find-append}
 
 -- ---- the cards
 

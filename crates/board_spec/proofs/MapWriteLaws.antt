@@ -1,10 +1,18 @@
 -- The map registers depend on the map writes alone.
 use Rattle.std.proofs.Common.{◌≡◌, ℕ, ◌+◌, ◌-◌, ◌<◌, ◌≤◌, inl, inr, Bool, true, false, List, [], ◌∷◌, ◌++◌, Option}
 use Rattle.std.proofs.Common.{Some, None, refl, arith, take, if◌then◌else◌, option_and_then}
-use Rattle.board_spec.specs.Common.{list_any, option_to_list, Width, Reg, bytes_of, Setup, covers, changed_byte}
-use Rattle.board_spec.specs.Common.{byte_with, byte_of, register_change, is_map_byte, reg_after, touches_map}
-use Rattle.board_spec.specs.Common.{map_change_of, map_writes_of, registers_after, MapWritesDecide}
-use Rattle.device_spec.proofs.Common.{cases_Bool, nat_tests}
+use Rattle.std.specs.List.{list_any}
+use Rattle.std.specs.Option.{option_to_list}
+use Rattle.board_base.specs.declared.access.Width.{Width}
+use Rattle.board_base.specs.declared.target.Reg.{Reg}
+use Rattle.board_base.specs.Access.{bytes_of}
+use Rattle.board_spec.specs.Setup.{Setup}
+use Rattle.board_spec.specs.Registers.{covers, changed_byte, byte_with, byte_of, register_change}
+use Rattle.board_spec.specs.MapWrites.{is_map_byte, reg_after, touches_map, map_change_of, map_writes_of}
+use Rattle.board_spec.specs.MapWrites.{registers_after}
+use Rattle.board_spec.specs.Laws.{MapWritesDecide}
+use Rattle.std.proofs.lemmas.Bool.{cases_Bool}
+use Rattle.std.proofs.lemmas.Bool.Decides.{nat_tests}
 use Rattle.board_spec.specs.declared.map_change.MapChange.{MapChange}
 use Rattle.board_spec.specs.declared.map_change.MapChange.TheVariants.{Store, Reset}
 

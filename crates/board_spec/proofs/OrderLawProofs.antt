@@ -1,14 +1,17 @@
 -- The orders in which a script may run: complete, begun, and how a begun history goes on.
 use Rattle.std.proofs.Common.{◌≡◌, ℕ, inl, inr, List, [], ◌∷◌, ◌++◌, length, take, drop, refl, sym, ◌∙◌, ap, subst}
 use Rattle.std.proofs.Common.{arith, append_assoc}
-use Rattle.device_spec.proofs.Common.{take-append_seam, drop-append_seam, take-append-le, drop-append-le, length-append}
-use Rattle.device_spec.proofs.Common.{take_all, map-append, append-nil, reverse-append, filter-append, cases_lt}
+use Rattle.std.proofs.Math.Seq.{take-append_seam, drop-append_seam}
+use Rattle.std.proofs.lemmas.List.{take-append-le, drop-append-le, length-append, take_all, map-append, append-nil}
+use Rattle.std.proofs.lemmas.List.{reverse-append}
+use Rattle.std.proofs.lemmas.List.Elements.{filter-append}
+use Rattle.std.proofs.lemmas.Bool.{cases_lt}
 use Rattle.board_spec.specs.declared.event.Event.{Event}
 use Rattle.board_spec.specs.declared.event.Entry.{Entry}
 use Rattle.board_spec.specs.declared.event.Statement.{Statement}
-use Rattle.board_spec.specs.Common.{statement_of, statements_of, events_by, BeginsWith, IsWholePhase, IsFrontOfPhase}
-use Rattle.board_spec.specs.Common.{HasPhases, HasPhasesSoFar, in_file_order, ReplayIsComplete, CompleteIsBegun}
-use Rattle.board_spec.specs.Common.{FrontIsBegun}
+use Rattle.board_spec.specs.Orders.{statement_of, statements_of, events_by, BeginsWith, IsWholePhase, IsFrontOfPhase}
+use Rattle.board_spec.specs.Orders.{HasPhases, HasPhasesSoFar}
+use Rattle.board_spec.specs.OrderLaws.{in_file_order, ReplayIsComplete, CompleteIsBegun, FrontIsBegun}
 
 -- ---- complete
 

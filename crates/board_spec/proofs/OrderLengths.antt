@@ -3,8 +3,8 @@ use Rattle.std.proofs.Common.{◌≡◌, ◌+◌, ◌≤◌, List, [], ◌∷◌
 use Rattle.std.proofs.lemmas.List.{length-append, length-take, length-drop, length-map, length-reverse}
 use Rattle.board_spec.specs.declared.event.Entry.{Entry}
 use Rattle.board_spec.specs.declared.event.Statement.{Statement}
-use Rattle.board_spec.specs.Common.{statements_of, IsWholePhase, HasPhases, HasPhasesSoFar, in_file_order}
-use Rattle.board_spec.specs.Common.{BegunIsBounded, WholeIsComplete, CompleteIsWhole}
+use Rattle.board_spec.specs.Orders.{statements_of, IsWholePhase, HasPhases, HasPhasesSoFar}
+use Rattle.board_spec.specs.OrderLaws.{in_file_order, BegunIsBounded, WholeIsComplete, CompleteIsWhole}
 use Rattle.board_spec.proofs.GoesOnProofs.{none_so_far, whole_front, nothing_left}
 
 -- a whole phase and what follows it

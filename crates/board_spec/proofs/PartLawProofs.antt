@@ -2,12 +2,19 @@
 -- values joined are its value.
 use Rattle.std.proofs.Common.{◌≡◌, ℕ, zero, suc, ◌+◌, ◌-◌, ◌%◌, ◌≤◌, ◌<◌, inl, inr, List, [], ◌∷◌, length, refl, sym}
 use Rattle.std.proofs.Common.{ap, arith, ◌⊎◌, ◌*◌, ◌/◌, ◌^◌, ◌∙◌, subst, All}
-use Rattle.device_spec.proofs.Common.{cases_eq, nat_tests, mod-eq_of_lt, pow-add}
-use Rattle.board_spec.specs.Common.{Width, One, Two, Four, WideAccess, bytes_of, IsWideAccess, longest_at, part_at}
-use Rattle.board_spec.specs.Common.{parts_from, parts_of, FitsBytes, joined, is_write, Covers, IsPart, AreParts}
-use Rattle.board_spec.specs.Common.{CutIntoParts}
+use Rattle.std.proofs.lemmas.Bool.{cases_eq}
+use Rattle.std.proofs.lemmas.Bool.Decides.{nat_tests}
+use Rattle.std.proofs.Math.Nat.{mod-eq_of_lt, div-div-eq-div-mul, mul_comm, div-one, one-le-pow}
+use Rattle.std.proofs.lemmas.Nat.{pow-add}
+use Rattle.board_base.specs.declared.access.Width.{Width}
+use Rattle.board_base.specs.declared.access.Width.TheVariants.{One, Two, Four}
+use Rattle.board_base.specs.declared.access.WideAccess.{WideAccess}
+use Rattle.board_base.specs.Access.{bytes_of}
+use Rattle.board_spec.specs.InRange.{IsWideAccess, FitsBytes}
+use Rattle.board_spec.specs.WideParts.{longest_at, part_at, parts_from, parts_of, joined}
+use Rattle.board_spec.specs.Stored.{is_write}
+use Rattle.board_spec.specs.PartLaws.{Covers, IsPart, AreParts, CutIntoParts}
 use Rattle.board_base.specs.declared.access.Access.{Access}
-use Rattle.std.proofs.Math.Nat.{div-div-eq-div-mul, mul_comm, div-one, one-le-pow}
 use Rattle.std.proofs.Math.Arith.{mod-mul}
 
 -- ---- the parts of widths

@@ -1,11 +1,20 @@
 -- Every event has one answer, and every list of statements one replay.
 use Rattle.std.proofs.Common.{◌≡◌, ℕ, Bool, List, [], ◌∷◌, ◌++◌, refl, sym, ◌∙◌, ap, length, append_assoc, ◌≤◌, map}
 use Rattle.std.proofs.Common.{reverse, arith}
-use Rattle.device_spec.proofs.Common.{length-map, append-nil, reverse-append, recursion_from_All}
-use Rattle.board_spec.specs.Common.{AllByRecursion, Kind, WideAccess, Setup, byte_of, version_of, parts_of, parts_list}
-use Rattle.board_spec.specs.Common.{IsWideAccess, part_answer, wide_value, IsLookAnswer, next_entry, IsNext, IsLegal}
-use Rattle.board_spec.specs.Common.{statement_of, statements_of, IsAddressed, SomeAnswer, OneAnswer, SomeReplay}
-use Rattle.board_spec.specs.Common.{OneReplay}
+use Rattle.std.proofs.lemmas.List.{length-map, append-nil, reverse-append}
+use Rattle.std.proofs.lemmas.List.Elements.{recursion_from_All}
+use Rattle.std.specs.List.{AllByRecursion}
+use Rattle.board_base.specs.declared.access.Kind.{Kind}
+use Rattle.board_base.specs.declared.access.WideAccess.{WideAccess}
+use Rattle.board_spec.specs.Setup.{Setup}
+use Rattle.board_spec.specs.Registers.{byte_of}
+use Rattle.board_spec.specs.MapWrites.{version_of}
+use Rattle.board_spec.specs.WideParts.{parts_of, parts_list}
+use Rattle.board_spec.specs.InRange.{IsWideAccess}
+use Rattle.board_spec.specs.Answer.{part_answer, wide_value, IsLookAnswer}
+use Rattle.board_spec.specs.Legal.{next_entry, IsNext, IsLegal}
+use Rattle.board_spec.specs.Orders.{statement_of, statements_of}
+use Rattle.board_spec.specs.Laws.{IsAddressed, SomeAnswer, OneAnswer, SomeReplay, OneReplay}
 use Rattle.board_spec.specs.declared.event.Event.TheVariants.{Wide, Look as LookAt}
 use Rattle.board_spec.specs.declared.event.Look.{Look}
 use Rattle.board_spec.specs.declared.event.Part.{Part}

@@ -1,7 +1,12 @@
 -- Every address lies in exactly one span of a column.
 use Rattle.std.proofs.Common.{◌≡◌, ◌≢◌, ℕ, zero, suc, ◌+◌, ◌-◌, ◌≤◌, ◌⊎◌, inl, inr, Bool, refl, sym, ◌∙◌, ap, arith}
 use Rattle.std.proofs.lemmas.Bool.{cases_lt}
-use Rattle.board_spec.specs.Common.{Kind, Area, Setup, Bytes, area_of, address_count, IsSpan, SomeSpan, OneSpan}
+use Rattle.board_base.specs.declared.access.Kind.{Kind}
+use Rattle.board_base.specs.declared.target.Area.{Area}
+use Rattle.board_spec.specs.Setup.{Setup}
+use Rattle.board_spec.specs.Decode.{Bytes, area_of}
+use Rattle.board_spec.specs.FlatMap.{address_count, IsSpan}
+use Rattle.board_spec.specs.Laws.{SomeSpan, OneSpan}
 
 cases_area : (a b : Area) → (a ≡ b) ⊎ (a ≢ b)
 cases_area a b = grind arith

@@ -1,9 +1,17 @@
 -- A store of one byte changes the register at its offset, and no other. A store of several is one of each byte.
 use Rattle.std.proofs.Common.{◌≡◌, ◌≢◌, ℕ, zero, suc, ◌+◌, ◌-◌, ◌<◌, Bool, false, ◌&&◌, sym, arith, ◌==◌}
 use Rattle.std.proofs.Common.{nat_le, nat_lt, if◌then◌else◌}
-use Rattle.device_spec.proofs.Common.{nat_tests}
-use Rattle.board_spec.specs.Common.{One, Reg, bytes_of, Setup, byte, merged, smram, is_same, writable_bits, byte_after}
-use Rattle.board_spec.specs.Common.{changed_byte, after_stores, ByteByByte}
+use Rattle.std.proofs.lemmas.Bool.Decides.{nat_tests}
+use Rattle.board_base.specs.declared.access.Width.TheVariants.{One}
+use Rattle.board_base.specs.declared.target.Reg.{Reg}
+use Rattle.board_base.specs.Access.{bytes_of}
+use Rattle.board_spec.specs.Setup.{Setup}
+use Rattle.board_spec.specs.Bits.{byte}
+use Rattle.board_base.specs.Bits.{merged}
+use Rattle.board_spec.specs.RegisterNames.{smram, is_same}
+use Rattle.board_spec.specs.RegisterTable.{writable_bits}
+use Rattle.board_spec.specs.Registers.{byte_after, changed_byte}
+use Rattle.board_spec.specs.WideStores.{after_stores, ByteByByte}
 use Rattle.board_spec.specs.declared.map_change.MapChange.TheVariants.{Store}
 
 pub changed_byte-one_same : (setup : Setup) (reg : Reg) (old written : ℕ) → written < 256 → is_same reg smram ≡ false →

@@ -1,6 +1,7 @@
 -- One line of a table of registers, and what holds from an offset on.
 use Rattle.std.proofs.Common.{◌≡◌, ℕ, zero, suc, ◌+◌, ◌<◌, ◌≤◌, List, ◌∷◌, length, inl, inr, arith}
-use Rattle.device_spec.proofs.Common.{cases_eq, nat_tests}
+use Rattle.std.proofs.lemmas.Bool.{cases_eq}
+use Rattle.std.proofs.lemmas.Bool.Decides.{nat_tests}
 use Rattle.board_spec.specs.RegisterTable.{Line, listed}
 
 module _ (column : Line → List ℕ) (entry : Line) (later : List Line) (off : ℕ) where

@@ -1,6 +1,7 @@
 -- The bytes of a list after a value was written from a place on.
-use Rattle.device_spec.proofs.Common.{nat_tests, append-nil, get_or_append_left, get_or-append_right, get_or-take}
-use Rattle.device_spec.proofs.Common.{get_or-drop, length-take-le, drop-drop, drop_all, take_rest}
+use Rattle.std.proofs.lemmas.Bool.Decides.{nat_tests}
+use Rattle.std.proofs.lemmas.List.{append-nil, get_or_append_left, get_or-append_right, get_or-take, get_or-drop}
+use Rattle.std.proofs.lemmas.List.{length-take-le, drop-drop, drop_all, take_rest}
 use Rattle.std.proofs.Common.{◌≡◌, ℕ, suc, ◌+◌, ◌-◌, ◌/◌, ◌%◌, ◌<◌, ◌≤◌, ◌&&◌, List, [], ◌∷◌, ◌++◌, length, get_or}
 use Rattle.std.proofs.Common.{take, drop, ◌∙◌, refl, ap, arith, length-drop, nat_le, nat_lt, if◌then◌else◌, slice_index}
 use borrow.Rule.Slice.PartMut.{put_mid, post_of}

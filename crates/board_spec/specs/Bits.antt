@@ -1,6 +1,7 @@
 -- Bytes of numbers, byte 0 the lowest, beside the bits.
 use Rattle.std.specs.Prelude.{ℕ, ◌+◌, ◌*◌, ◌/◌, ◌%◌, ◌^◌, List, [], ◌∷◌}
-use Rattle.device_spec.specs.Common.{Width, One, Two, Four}
+use Rattle.board_base.specs.declared.access.Width.{Width}
+use Rattle.board_base.specs.declared.access.Width.TheVariants.{One, Two, Four}
 pub use Rattle.board_base.specs.Bits.{bit, is_bit, is_within, merged}
 
 -- byte k of a number

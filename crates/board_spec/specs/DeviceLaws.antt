@@ -1,6 +1,9 @@
 -- What leaves the 8259A pair and the devices alone, and what the pair has seen.
 use Rattle.std.specs.Prelude.{ℕ, ◌≡◌, ◌⊎◌, false, List, [], ◌∷◌, Some}
-use Rattle.device_spec.specs.Common.{Reg, Dev, Pic0, Pic1, Elcr, levels_at_power_on, pair_after_lines}
+use Rattle.board_base.specs.declared.target.Reg.{Reg}
+use Rattle.board_base.specs.declared.target.Dev.{Dev}
+use Rattle.board_base.specs.declared.target.Dev.TheVariants.{Pic0, Pic1, Elcr}
+use Rattle.device_spec.specs.Pair.{levels_at_power_on, pair_after_lines}
 use Rattle.board_spec.specs.declared.event.Event.{Event}
 use Rattle.board_spec.specs.declared.event.Event.TheVariants.{Memory, Wide, Port, Look as LookAt, Ack, Pulses}
 use Rattle.board_spec.specs.declared.event.Reply.{Reply}

@@ -2,15 +2,20 @@
 -- target names, by the machine of that device; a hard reset puts each in its reset state.
 use Rattle.std.specs.Prelude.{ℕ, ◌+◌, ◌%◌, ◌==◌, Bool, false, not, if◌then◌else◌, List, [], ◌∷◌, Option, Some, None}
 use Rattle.std.specs.Prelude.{unwrap_or, option_map}
-use Rattle.device_spec.specs.Common.{Width, largest_of, PortAccess, Dev, Pit, System, Keyboard, Elcr, Ata, Target}
-use Rattle.device_spec.specs.Common.{Device, Triggers}
-use Rattle.device_spec.specs.Common.{triggers_at_reset, triggers_after_write, PitState, reset as timer_at_reset}
-use Rattle.device_spec.specs.Common.{port_read, port_write, set_gate2, pulses, Clock, after_read, after_write}
-use Rattle.device_spec.specs.Common.{after_moment, after_reset as clock_after_reset, civil_time, Disk}
-use Rattle.device_spec.specs.Common.{power_on as disk_at_power_on, after_bad}
-use Rattle.board_base.specs.declared.target.Dev.TheVariants.{Clock as ClockChip}
+use Rattle.board_base.specs.declared.access.Width.{Width}
+use Rattle.board_base.specs.Access.{largest_of}
+use Rattle.board_base.specs.declared.access.PortAccess.{PortAccess}
+use Rattle.board_base.specs.declared.target.Dev.{Dev}
+use Rattle.board_base.specs.declared.target.Dev.TheVariants.{Pit, System, Keyboard, Elcr, Ata, Clock as ClockChip}
+use Rattle.board_base.specs.declared.target.Target.{Target}
+use Rattle.board_base.specs.declared.target.Target.TheVariants.{Device}
+use Rattle.device_spec.specs.Elcr.{Triggers, triggers_at_reset, triggers_after_write}
+use Rattle.device_spec.specs.Pit.{PitState, reset as timer_at_reset, port_read, port_write, set_gate2, pulses}
+use Rattle.device_spec.specs.Clock.{Clock, after_read, after_write, after_moment, after_reset as clock_after_reset}
 use Rattle.device_spec.specs.Clock.{power_on as clock_at_power_on}
-use Rattle.device_spec.specs.Ata.Steps.{after_read as disk_after_read, after_write as disk_after_write}
+use Rattle.device_spec.specs.Told.{civil_time}
+use Rattle.device_spec.specs.Ata.State.{Disk, power_on as disk_at_power_on}
+use Rattle.device_spec.specs.Ata.Steps.{after_bad, after_read as disk_after_read, after_write as disk_after_write}
 use Rattle.device_spec.specs.Ata.Steps.{after_reset as disk_after_reset}
 use Rattle.board_spec.specs.declared.event.Event.{Event}
 use Rattle.board_spec.specs.declared.event.Event.TheVariants.{Port, Pulses, Time, Wire, Line, BadSector}

@@ -1,6 +1,9 @@
 -- Events that are in range: what a bus can ask, and what the world outside can do.
 use Rattle.std.specs.Prelude.{ℕ, ◌≡◌, ◌≢◌, ◌+◌, ◌%◌, ◌^◌, ◌<◌, ◌≤◌, ◌⊎◌, ◌==◌, Bool, true, false, ◌||◌, is_some}
-use Rattle.device_spec.specs.Common.{Width, WideAccess, bytes_of, largest_of, IsMoment}
+use Rattle.board_base.specs.declared.access.Width.{Width}
+use Rattle.board_base.specs.declared.access.WideAccess.{WideAccess}
+use Rattle.board_base.specs.Access.{bytes_of, largest_of}
+use Rattle.board_base.specs.Calendar.{IsMoment}
 use Rattle.board_spec.specs.declared.event.Event.{Event}
 use Rattle.board_spec.specs.declared.event.Event.TheVariants.{Memory, Wide, Port, Pulses, Time, Wire, Line, BadSector}
 use Rattle.board_spec.specs.declared.event.Statement.{Statement}

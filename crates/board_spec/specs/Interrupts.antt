@@ -1,12 +1,22 @@
 -- The sixteen interrupt lines and the 8259A pair after a history, and what the devices' ports read.
 use Rattle.std.specs.Prelude.{ℕ, zero, suc, ◌+◌, ◌-◌, ◌*◌, ◌%◌, ◌==◌, Bool, false, ◌&&◌, ◌||◌, if◌then◌else◌, List, []}
 use Rattle.std.specs.Prelude.{◌∷◌, map, Option, Some}
-use Rattle.device_spec.specs.Common.{list_any, option_map_or, Width, PortAccess, Dev, Pic0, Pic1, Pit, Elcr}
-use Rattle.device_spec.specs.Common.{Ata, Vector, Spurious, largest_of, Pair, Answer, pair_at_reset, levels_at_power_on}
-use Rattle.device_spec.specs.Common.{pair_after_lines, pair_after_read, pair_after_write, pair_after_acknowledge}
-use Rattle.device_spec.specs.Common.{port_byte, answer_of, trigger_byte, is_line_driven, PitState, out_of, port_read}
-use Rattle.device_spec.specs.Common.{pulses, interrupt_line, read_value, is_interrupt, read_of}
+use Rattle.std.specs.List.{list_any}
+use Rattle.std.specs.Option.{option_map_or}
+use Rattle.board_base.specs.declared.access.Width.{Width}
+use Rattle.board_base.specs.declared.access.PortAccess.{PortAccess}
+use Rattle.board_base.specs.declared.target.Dev.{Dev}
+use Rattle.board_base.specs.declared.target.Dev.TheVariants.{Pic0, Pic1, Pit, Elcr, Ata, Vector, Spurious}
 use Rattle.board_base.specs.declared.target.Dev.TheVariants.{Clock as ClockChip}
+use Rattle.board_base.specs.Access.{largest_of}
+use Rattle.device_spec.specs.Pair.{Pair, Answer, pair_at_reset, levels_at_power_on, pair_after_lines, pair_after_read}
+use Rattle.device_spec.specs.Pair.{pair_after_write, pair_after_acknowledge, port_byte, answer_of}
+use Rattle.device_spec.specs.Elcr.{trigger_byte}
+use Rattle.device_spec.specs.Routing.{is_line_driven}
+use Rattle.device_spec.specs.Pit.{PitState, out_of, port_read, pulses}
+use Rattle.device_spec.specs.Clock.{interrupt_line, read_value}
+use Rattle.device_spec.specs.Ata.State.{is_interrupt}
+use Rattle.device_spec.specs.Ata.Steps.{read_of}
 use Rattle.board_spec.specs.declared.event.Event.{Event}
 use Rattle.board_spec.specs.declared.event.Event.TheVariants.{Port, Ack, Pulses}
 use Rattle.board_spec.specs.declared.event.Reply.{Reply}

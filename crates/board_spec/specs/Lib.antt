@@ -28,4 +28,3 @@ pub mod Laws
 pub mod PartLaws
 pub mod OrderLaws
 pub mod DeviceLaws
-pub mod Common

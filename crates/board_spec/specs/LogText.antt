@@ -1,8 +1,16 @@
 -- The access log of a version, 1 or 2: a heading, and a line for each entry of a history.
 use Rattle.std.specs.Prelude.{ℕ, ◌+◌, ◌/◌, ◌%◌, ◌==◌, ◌++◌, Bool, true, false, List, [], ◌∷◌, length, flat_map}
 use Rattle.std.specs.Prelude.{if◌then◌else◌, Option, Some, None, codes, decimal}
-use Rattle.device_spec.specs.Common.{Width, bytes_of, Kind, Fetch, Read, Write, WideAccess, PortAccess, Moment, Target}
-use Rattle.device_spec.specs.Common.{Denial, option_map_or}
+use Rattle.board_base.specs.declared.access.Width.{Width}
+use Rattle.board_base.specs.Access.{bytes_of}
+use Rattle.board_base.specs.declared.access.Kind.{Kind}
+use Rattle.board_base.specs.declared.access.Kind.TheVariants.{Fetch, Read, Write}
+use Rattle.board_base.specs.declared.access.WideAccess.{WideAccess}
+use Rattle.board_base.specs.declared.access.PortAccess.{PortAccess}
+use Rattle.board_base.specs.declared.moment.Moment.{Moment}
+use Rattle.board_base.specs.declared.target.Target.{Target}
+use Rattle.board_base.specs.declared.target.Denial.{Denial}
+use Rattle.std.specs.Option.{option_map_or}
 use Rattle.board_base.specs.declared.access.Access.{Access}
 use Rattle.board_spec.specs.declared.event.Event.{Event}
 use Rattle.board_spec.specs.declared.event.Event.TheVariants.{Memory, Wide, Port, Look as LookAt, Ack, Time}

@@ -1,7 +1,8 @@
 -- The parts of a wide access: how they cut it.
 use Rattle.std.specs.Prelude.{ℕ, ◌≡◌, ◌+◌, ◌≤◌, List, [], ◌∷◌, length, All}
 use Rattle.board_base.specs.declared.access.Access.{Access}
-use Rattle.device_spec.specs.Common.{WideAccess, bytes_of}
+use Rattle.board_base.specs.declared.access.WideAccess.{WideAccess}
+use Rattle.board_base.specs.Access.{bytes_of}
 use Rattle.board_spec.specs.InRange.{IsBusAccess, IsWideAccess}
 use Rattle.board_spec.specs.WideParts.{parts_of, joined}
 use Rattle.board_spec.specs.Stored.{is_write}

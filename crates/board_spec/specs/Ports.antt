@@ -1,8 +1,15 @@
 -- Where a port access lands, and what denied it.
 use Rattle.std.specs.Prelude.{ℕ, ◌%◌, ◌^◌, Bool, true, false, not, if◌then◌else◌, Option, Some, None, option_map}
 use Rattle.std.specs.Prelude.{unwrap_or}
-use Rattle.device_spec.specs.Common.{Width, Reg, Dev, Target, Card, Device, Config, Abort, Denial, Register, Confadd}
-use Rattle.device_spec.specs.Common.{NoRegister, bytes_of, device_at, select_of}
+use Rattle.board_base.specs.declared.access.Width.{Width}
+use Rattle.board_base.specs.declared.target.Reg.{Reg}
+use Rattle.board_base.specs.declared.target.Dev.{Dev}
+use Rattle.board_base.specs.declared.target.Target.{Target}
+use Rattle.board_base.specs.declared.target.Target.TheVariants.{Card, Device, Config, Abort}
+use Rattle.board_base.specs.declared.target.Denial.{Denial}
+use Rattle.board_base.specs.declared.target.Denial.TheVariants.{Register, Confadd, NoRegister}
+use Rattle.board_base.specs.Access.{bytes_of}
+use Rattle.device_spec.specs.PortTable.{device_at, select_of}
 use Rattle.device_spec.specs.declared.port.Select.{Select}
 use Rattle.device_spec.specs.declared.port.Select.TheVariants.{Always, XbcsBit0, XbcsBit1, IdeChannel}
 use Rattle.board_spec.specs.Setup.{Setup}

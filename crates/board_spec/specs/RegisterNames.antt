@@ -1,6 +1,7 @@
 -- The registers by the names of their datasheets: the 82441FX, the 82371SB, and PCI Local Bus 2.1, section 6.2.
 use Rattle.std.specs.Prelude.{ℕ, ◌+◌, ◌*◌, ◌==◌, Bool, ◌&&◌}
-use Rattle.device_spec.specs.Common.{Reg, first_route}
+use Rattle.board_base.specs.declared.target.Reg.{Reg}
+use Rattle.device_spec.specs.Routing.{first_route}
 
 -- a register of the host bridge, of the ISA bridge, of the IDE function and of a card, by its offset
 abbrev pub bridge : ℕ → Reg

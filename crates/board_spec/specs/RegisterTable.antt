@@ -3,7 +3,8 @@
 -- 2.1, section 6.2. What no line lists reads 00 and ignores writes.
 use Rattle.std.specs.Prelude.{ℕ, ◌+◌, ◌-◌, ◌^◌, ◌==◌, Bool, ◌&&◌, nat_lt, nat_le, if◌then◌else◌, List, [], ◌∷◌, get_or}
 use Rattle.std.specs.Prelude.{length, replicate, flat_map, Option, Some, None, is_some, option_map, unwrap_or}
-use Rattle.device_spec.specs.Common.{Reg, route_mask, route_reset}
+use Rattle.board_base.specs.declared.target.Reg.{Reg}
+use Rattle.device_spec.specs.Routing.{route_mask, route_reset}
 use Rattle.board_spec.specs.Setup.{Base, MemoryBase, IoBase, OutsideBase, FittedCard, Setup, card_at}
 use Rattle.board_spec.specs.Bits.{long_bytes}
 use Rattle.board_spec.specs.RegisterNames.{pam, drb, fdhc, smram, xbcs, pirq, ide_command, idetim, card_command}

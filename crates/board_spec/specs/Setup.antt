@@ -1,7 +1,7 @@
 -- What a board is fitted with. Every definition here is for one fixed setup.
 use Rattle.std.specs.Prelude.{ℕ, ◌≡◌, ◌<◌, ◌≤◌, ◌==◌, ◌*◌, ◌^◌, ◌⊎◌, Bool, true, ◌||◌, if◌then◌else◌, List, [], ◌∷◌}
 use Rattle.std.specs.Prelude.{length, All, sum_by, flat_map, Option, Some, None, find, slice_get}
-use Rattle.device_spec.specs.Common.{option_map_or}
+use Rattle.std.specs.Option.{option_map_or}
 use Rattle.board_base.specs.Bits.{is_within}
 use Rattle.board_spec.specs.Limits.{most_mib, most_card_memory}
 

@@ -1,6 +1,7 @@
 -- What the world outside does to the board where one number says it, and for some a level: one line a stimulus.
 use Rattle.std.specs.Prelude.{ℕ, ◌==◌, Bool, true, false, List, [], ◌∷◌, Option, Some, None, codes, find, bytes_eq}
-use Rattle.device_spec.specs.Common.{Dev, Pit, Ata, Wires}
+use Rattle.board_base.specs.declared.target.Dev.{Dev}
+use Rattle.board_base.specs.declared.target.Dev.TheVariants.{Pit, Ata, Wires}
 use Rattle.board_spec.specs.declared.event.Event.{Event}
 use Rattle.board_spec.specs.declared.event.Event.TheVariants as events
 use Rattle.board_spec.specs.declared.stimulus.Applied.{Applied}

@@ -1,8 +1,14 @@
 -- Stored bytes: what the last write left in DRAM and in the contents of the cards.
 use Rattle.std.specs.Prelude.{ℕ, ◌+◌, ◌-◌, ◌%◌, ◌==◌, Bool, true, false, ◌&&◌, nat_le, nat_lt, if◌then◌else◌, List, []}
 use Rattle.std.specs.Prelude.{◌∷◌, Option, Some, None, unwrap_or, option_and_then}
-use Rattle.device_spec.specs.Common.{option_or, Width, Kind, Fetch, Read, Write, PortAccess, Target, Dram, Shadow}
-use Rattle.device_spec.specs.Common.{Smram, Card, bytes_of}
+use Rattle.std.specs.Option.{option_or}
+use Rattle.board_base.specs.declared.access.Width.{Width}
+use Rattle.board_base.specs.declared.access.Kind.{Kind}
+use Rattle.board_base.specs.declared.access.Kind.TheVariants.{Fetch, Read, Write}
+use Rattle.board_base.specs.declared.access.PortAccess.{PortAccess}
+use Rattle.board_base.specs.declared.target.Target.{Target}
+use Rattle.board_base.specs.declared.target.Target.TheVariants.{Dram, Shadow, Smram, Card}
+use Rattle.board_base.specs.Access.{bytes_of}
 use Rattle.board_base.specs.declared.access.Access.{Access}
 use Rattle.board_spec.specs.declared.event.Event.{Event}
 use Rattle.board_spec.specs.declared.event.Event.TheVariants.{Memory, Wide, Port}

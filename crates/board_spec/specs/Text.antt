@@ -1,10 +1,15 @@
 -- Words of the texts: hexadecimal digits in upper case, areas, registers, targets and denials.
 use Rattle.std.specs.Prelude.{◌≡◌, ℕ, zero, suc, ◌+◌, ◌/◌, ◌%◌, ◌++◌, List, [], ◌∷◌, nat_lt, if◌then◌else◌, Option}
 use Rattle.std.specs.Prelude.{Some, None, codes, decimal, bytes_eq, find, Bool, true, false}
-use Rattle.device_spec.specs.Common.{Reg, Dev, Reset, Pic0, Pic1, Pit, System, Keyboard, Elcr, Ata, Wires, Vector}
-use Rattle.device_spec.specs.Common.{Spurious, Area, Target, Dram, Shadow, Smram, Rom, Card, Device, Config, Abort}
-use Rattle.device_spec.specs.Common.{Denial, Register, Confadd, NoRegister}
-use Rattle.board_base.specs.declared.target.Dev.TheVariants.{Confadd as AddressPort, Clock}
+use Rattle.board_base.specs.declared.target.Reg.{Reg}
+use Rattle.board_base.specs.declared.target.Dev.{Dev}
+use Rattle.board_base.specs.declared.target.Dev.TheVariants.{Reset, Pic0, Pic1, Pit, System, Keyboard, Elcr, Ata, Wires}
+use Rattle.board_base.specs.declared.target.Dev.TheVariants.{Vector, Spurious, Confadd as AddressPort, Clock}
+use Rattle.board_base.specs.declared.target.Area.{Area}
+use Rattle.board_base.specs.declared.target.Target.{Target}
+use Rattle.board_base.specs.declared.target.Target.TheVariants.{Dram, Shadow, Smram, Rom, Card, Device, Config, Abort}
+use Rattle.board_base.specs.declared.target.Denial.{Denial}
+use Rattle.board_base.specs.declared.target.Denial.TheVariants.{Register, Confadd, NoRegister}
 use Rattle.board_base.specs.declared.target.Area.TheVariants.{Dram as DramArea, Shadow as ShadowArea}
 use Rattle.board_base.specs.declared.target.Area.TheVariants.{Smram as SmramArea, Rom as RomArea, Card as CardArea}
 use Rattle.board_base.specs.declared.target.Area.TheVariants.{Abort as AbortArea}

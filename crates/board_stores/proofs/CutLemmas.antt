@@ -1,10 +1,11 @@
 -- A wide access is cut part by part.
 use Rattle.std.proofs.Common.{◌≡◌, ℕ, zero, suc, ◌+◌, ◌-◌, ◌*◌, ◌/◌, ◌^◌, ◌<◌, ◌≤◌, List, [], ◌∷◌, ◌++◌, bit_and, refl}
 use Rattle.std.proofs.Common.{sym, ◌∙◌, arith, map, pow-add, ne_eqb, append-nil, append_assoc}
-use Rattle.board_prelude.proofs.Common.{and_mask, map-append, nat_tests, Width, WideAccess, bytes_of, largest_of, Setup}
-use Rattle.board_prelude.proofs.Common.{Bytes, longest_at, part_at, parts_from, parts_of}
+use Rattle.board_prelude.proofs.{and_mask, map-append, nat_tests, Width, WideAccess, bytes_of, largest_of, Setup, Bytes}
+use Rattle.board_prelude.proofs.{longest_at, part_at, parts_from, parts_of}
 use Rattle.board_base.specs.declared.access.Access.{Access}
-use Rattle.board_stores.specs.Common.{part_in, accesses, answers}
+use Rattle.board_stores.specs.Targets.{part_in}
+use Rattle.board_stores.specs.Cycles.{accesses, answers}
 use Rattle.board_stores.specs.declared.cut.Cycle.{Cycle}
 
 -- ---- one part

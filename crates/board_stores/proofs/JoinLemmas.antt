@@ -1,8 +1,8 @@
 -- The values of cycles, one after the other, make the value of the whole.
 use Rattle.std.proofs.Common.{◌≡◌, ℕ, suc, ◌+◌, ◌*◌, ◌%◌, ◌^◌, ◌<◌, ◌≤◌, List, [], ◌∷◌, length, get_or, drop, bit_or}
 use Rattle.std.proofs.Common.{refl, arith, map}
-use Rattle.board_prelude.proofs.Common.{nat_tests, drop-cons, mod-eq_of_lt, pow-le-pow_right, pow-add, bytes_of}
-use Rattle.board_prelude.proofs.Common.{some_bytes, Entry, Setup, joined, Covers, value_at, memory_target, part_answer}
+use Rattle.board_prelude.proofs.{nat_tests, drop-cons, mod-eq_of_lt, pow-le-pow_right, pow-add, bytes_of, some_bytes}
+use Rattle.board_prelude.proofs.{Entry, Setup, joined, Covers, value_at, memory_target, part_answer}
 use Rattle.std.proofs.Math.Nat.{mul_comm, mul_assoc, add_assoc, mul-one, mul-add, mul-le-mul_left}
 use Rattle.std.specs.Int.Bits.{or_shifted_r}
 use Rattle.board_stores.specs.declared.cut.Cycle.{Cycle}

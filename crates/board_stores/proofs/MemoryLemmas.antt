@@ -1,8 +1,8 @@
 -- What an access to memory reaches: by the register bytes after a history it is the answer to the part.
 use Rattle.std.proofs.Common.{◌≡◌, List, map}
-use Rattle.board_prelude.proofs.Common.{Entry, Part, Setup, byte_of, part_answer}
+use Rattle.board_prelude.proofs.{Entry, Part, Setup, byte_of, part_answer}
 use Rattle.board_base.specs.declared.access.Access.{Access}
-use Rattle.board_stores.specs.Common.{part_in}
+use Rattle.board_stores.specs.Targets.{part_in}
 
 pub part_answered : (setup : Setup) (history : List Entry) (access : Access) (answer : Part) →
     answer ≡ part_in setup (byte_of setup history) access → answer ≡ part_answer setup history access

@@ -1,10 +1,12 @@
 -- Bytes that are put into the stores one after the other.
 use Rattle.std.proofs.Common.{◌≡◌, ℕ, suc, ◌+◌, ◌<◌, List, [], length, get_or, drop, Option, arith}
-use Rattle.board_prelude.proofs.Common.{nat_tests, drop-cons, nil_from_length, option_or, Cell, memory_put, parts_put}
+use Rattle.board_prelude.proofs.{nat_tests, drop-cons, nil_from_length, option_or, Cell, memory_put, parts_put}
 use Rattle.pci_bars.specs.Contents.{held}
 use Rattle.board_stores.specs.declared.stores.Stores.{Stores}
 use Rattle.board_stores.specs.declared.cut.Cycle.{Cycle}
-use Rattle.board_stores.specs.Common.{ArePut, IsReady, accesses, answers}
+use Rattle.board_stores.specs.Puts.{ArePut}
+use Rattle.board_stores.specs.Ready.{IsReady}
+use Rattle.board_stores.specs.Cycles.{accesses, answers}
 
 -- bytes put after others stand over them
 pub put_then : (first later : Cell → Option ℕ) (old mid new : Stores) → ArePut first old mid → ArePut later mid new →

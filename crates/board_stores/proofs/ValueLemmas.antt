@@ -1,7 +1,7 @@
 -- What is read of memory fits the width of the access: each byte that is stored is below 256.
 use Rattle.std.proofs.Common.{◌≡◌, ℕ, ◌+◌, ◌^◌, ◌<◌, List, [], ◌∷◌, Option, Some, None, arith, slice_index}
-use Rattle.board_prelude.proofs.Common.{cases_Bool, Width, Target, bytes_of, Event, Reply, Part, Entry, Setup, wide}
-use Rattle.board_prelude.proofs.Common.{Cell, byte_put, parts_put, entry_put, stored_of, dram_byte, value_at, nat_tests}
+use Rattle.board_prelude.proofs.{cases_Bool, Width, Target, bytes_of, Event, Reply, Part, Entry, Setup, wide, Cell}
+use Rattle.board_prelude.proofs.{byte_put, parts_put, entry_put, stored_of, dram_byte, value_at, nat_tests}
 use Rattle.board_base.specs.declared.access.Access.{Access}
 use Rattle.board_stores.specs.Targets.{IsHeld}
 

@@ -3,4 +3,3 @@ pub mod Puts
 pub mod Ready
 pub mod Cycles
 pub mod Values
-pub mod Common

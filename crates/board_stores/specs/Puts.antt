@@ -1,6 +1,6 @@
 -- Bytes put into the DRAM and behind the bases of the cards.
 use Rattle.std.specs.Prelude.{ℕ, ◌≡◌, ◌<◌, List, length, slice_index, Option, unwrap_or}
-use Rattle.board_prelude.specs.Common.{Entry, Setup, Cell, DramCell, CardCell}
+use Rattle.board_prelude.specs.{Entry, Setup, Cell, DramCell, CardCell}
 use Rattle.dram_store.specs.Dram.{IsDramOf}
 use Rattle.pci_bars.specs.Contents.{IsBaseNumber, held, held_byte, IsContentsOf}
 use Rattle.board_stores.specs.declared.stores.Stores.{Stores}

@@ -1,7 +1,7 @@
 -- Accesses to memory that can be done.
 use Rattle.std.specs.Prelude.{ℕ, List}
 use Rattle.board_base.specs.declared.access.Access.{Access}
-use Rattle.board_prelude.specs.Common.{Part, IsBusAccess, is_write}
+use Rattle.board_prelude.specs.{Part, IsBusAccess, is_write}
 use Rattle.board_stores.specs.Targets.{IsHeld}
 
 -- an access that is aligned, whose value fits, and whose target has its bytes

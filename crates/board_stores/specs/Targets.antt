@@ -1,7 +1,7 @@
 -- What an access reaches, which targets bytes are stored behind, and when an access to them lies within.
 use Rattle.std.specs.Prelude.{ℕ, ◌+◌, ◌≤◌, List, length}
-use Rattle.board_prelude.specs.Common.{bytes_of, Width, Target, Dram, Shadow, Smram, Rom, Card, Abort, Part, Setup}
-use Rattle.board_prelude.specs.Common.{Bytes, area_of, denial_of, target_at}
+use Rattle.board_prelude.specs.{bytes_of, Width, Target, Dram, Shadow, Smram, Rom, Card, Abort, Part, Setup, Bytes}
+use Rattle.board_prelude.specs.{area_of, denial_of, target_at}
 use Rattle.board_base.specs.declared.access.Access.{Access}
 use Rattle.pci_bars.specs.Contents.{LiesIn}
 

@@ -1,6 +1,6 @@
 -- What reads give of the stores as they stand.
 use Rattle.std.specs.Prelude.{ℕ, List, slice_index}
-use Rattle.board_prelude.specs.Common.{Width, Target, Dram, Shadow, Smram, Rom, Card, largest_of, wide}
+use Rattle.board_prelude.specs.{Width, Target, Dram, Shadow, Smram, Rom, Card, largest_of, wide}
 use Rattle.dram_store.specs.Dram.{dram_at}
 use Rattle.pci_bars.specs.Contents.{held_byte}
 use Rattle.board_stores.specs.declared.stores.Stores.{Stores}

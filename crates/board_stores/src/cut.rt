@@ -1,6 +1,6 @@
 //! A wide access is cut into aligned bus cycles.
 ghost use Rattle.std.specs.Prelude.{◌≡◌, ◌≤◌, ◌<◌, ◌+◌, ◌-◌, List, length, map};
-ghost use Rattle.board_prelude.specs.Common.{Setup, IsRomSize, IsWideAccess, longest_at, part_at, parts_of, Bytes};
+ghost use Rattle.board_prelude.specs.{Setup, IsRomSize, IsWideAccess, longest_at, part_at, parts_of, Bytes};
 ghost use Rattle.pci_bars.specs.Cards.{AreFitted};
 ghost use Rattle.addr_decode.specs.MapRegs.{StandsFor, map_bytes};
 ghost use Rattle.board_stores.specs.Targets.{part_in};

@@ -1,7 +1,7 @@
 //! The cycles of a wide access, read or written one after the other.
 ghost use Rattle.std.specs.Prelude.{◌≡◌, ◌≤◌, ◌+◌, ℕ, true, List, map, All};
-ghost use Rattle.board_prelude.specs.Common.{Entry, Setup, is_write, parts_put, joined, Covers, value_at};
-ghost use Rattle.board_prelude.specs.Common.{memory_target, part_answer};
+ghost use Rattle.board_prelude.specs.{Entry, Setup, is_write, parts_put, joined, Covers, value_at, memory_target};
+ghost use Rattle.board_prelude.specs.{part_answer};
 ghost use Rattle.board_stores.specs.Puts.{HasStores, ArePut};
 ghost use Rattle.board_stores.specs.Cycles.{accesses, answers, AreReady};
 

@@ -1,6 +1,6 @@
 //! Accesses to memory: what each reaches, and its bytes read or written there.
 ghost use Rattle.std.specs.Prelude.{◌≡◌, ℕ, true, List, None, length};
-ghost use Rattle.board_prelude.specs.Common.{Entry, Setup, IsRomSize, is_write, memory_put, target_at, value_at, Bytes};
+ghost use Rattle.board_prelude.specs.{Entry, Setup, IsRomSize, is_write, memory_put, target_at, value_at, Bytes};
 ghost use Rattle.pci_bars.specs.Cards.{AreCards, AreFitted, cards_of};
 ghost use Rattle.addr_decode.specs.MapRegs.{StandsFor, map_bytes};
 ghost use Rattle.addr_decode.specs.Memory.{plain_row};

@@ -1,7 +1,6 @@
 //! The DRAM, and the contents of the cards.
 ghost use Rattle.std.specs.Prelude.{◌≡◌, ◌≤◌, ◌%◌, List, [], IfOk};
-ghost use Rattle.board_prelude.specs.Common.{bytes_of, largest_of, Entry, most_mib, Setup, IsCardList, byte_put};
-ghost use Rattle.board_prelude.specs.Common.{value_at};
+ghost use Rattle.board_prelude.specs.{bytes_of, largest_of, Entry, most_mib, Setup, IsCardList, byte_put, value_at};
 ghost use Rattle.board_stores.specs.Targets.{IsStored};
 ghost use Rattle.board_stores.specs.Values.{value_in};
 ghost use Rattle.board_stores.specs.Puts.{HasStores, ArePut};

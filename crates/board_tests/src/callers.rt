@@ -1,8 +1,10 @@
 //! What callers on threads of their own did at one board is in its history, whatever the schedule.
 
 ghost use Rattle.std.specs.Prelude.{◌≡◌, ◌+◌, ◌<◌, ◌≤◌, [], length, All};
-ghost use Rattle.board_prelude.specs.Common.{Setup as Fitting, IsInRange};
-ghost use Rattle.board_live.specs.Common.{most_each, IsNoLook, IsCallerOf, IsSameCaller, AreAllOf, mine_of};
+ghost use Rattle.board_prelude.specs.{Setup as Fitting, IsInRange};
+ghost use Rattle.board_live.specs.Known.{most_each};
+ghost use Rattle.board_live.specs.Bus.{IsNoLook};
+ghost use Rattle.board_live.specs.Callers.{IsCallerOf, IsSameCaller, AreAllOf, mine_of};
 
 use crate::plain::{PAM0, plain_board};
 use access_history::Entries;

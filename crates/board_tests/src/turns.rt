@@ -1,7 +1,8 @@
 //! Two threads that share a history by turns.
 
 ghost use Rattle.std.specs.Prelude.{◌≡◌};
-ghost use Rattle.bus_turn.specs.Common.{IsIdle, IsSameCaller, HasSameJoined, number_of, IsOf};
+ghost use Rattle.bus_turn.specs.Passes.{IsIdle, IsSameCaller, HasSameJoined, number_of};
+ghost use Rattle.bus_turn.specs.Turns.{IsOf};
 
 use crate::plain::acknowledged;
 use access_history::{Entries, Entry, History};

@@ -1,11 +1,12 @@
 -- Words that lie in one area.
 use Rattle.std.proofs.Common.{◌≡◌, ℕ, zero, suc, ◌+◌, ◌-◌, ◌*◌, ◌/◌, ◌<◌, ◌≤◌, max, false, ◌++◌, Option, Some, None}
 use Rattle.std.proofs.Common.{refl, sym, ap, ◌∙◌, arith, lit<, IfSome, IsNone, unwrap_or, flat_map}
-use Rattle.board_prelude.proofs.Common.{nat_tests, Kind, Setup, smram_range, Bytes, area_of, is_smram_range}
-use Rattle.board_prelude.proofs.Common.{address_count, six_areas}
+use Rattle.board_prelude.proofs.{nat_tests, Kind, Setup, smram_range, Bytes, area_of, is_smram_range, address_count}
+use Rattle.board_prelude.proofs.{six_areas}
 use Rattle.std.proofs.lemmas.List.Elements.{Contains-append_left}
-use Rattle.addr_decode.specs.Common.{IsEdge, IsNextEdge, NoEdgeAbove, SameAreas, card_edges, edges_of, fixed_edges}
-use Rattle.addr_decode.specs.Common.{row_edges, master_area}
+use Rattle.addr_decode.specs.Edges.{IsEdge, IsNextEdge, NoEdgeAbove, SameAreas, card_edges, edges_of, fixed_edges}
+use Rattle.addr_decode.specs.Edges.{row_edges}
+use Rattle.addr_decode.specs.Master.{master_area}
 use Rattle.bus_master.specs.Transfer.{address_after}
 
 -- outside the range of SMRAM a bus master reaches what a processor does

@@ -1,7 +1,7 @@
 -- What a bus master reaches has the bytes that it asks for.
 use Rattle.board_base.specs.declared.target.Area.TheVariants.{Rom as RomArea, Card as CardArea}
-use Rattle.board_prelude.proofs.Common.{nat_tests, bytes_of, Kind, Width, Area, Target, Setup, Bytes, memory_claim}
-use Rattle.board_prelude.proofs.Common.{target_at, Cell}
+use Rattle.board_prelude.proofs.{nat_tests, bytes_of, Kind, Width, Area, Target, Setup, Bytes, memory_claim, target_at}
+use Rattle.board_prelude.proofs.{Cell}
 use Rattle.std.proofs.Common.{◌≡◌, ℕ, ◌%◌, List, sym, refl, arith}
 use Rattle.pci_bars.specs.Cards.{AreFitted}
 use Rattle.pci_bars.proofs.WindowLemmas.{IsSized, memory_claim_sized, lies_in_window}
@@ -10,7 +10,10 @@ use Rattle.addr_decode.proofs.CardLemmas.{fitted_list}
 use Rattle.board_stores.specs.Targets.{IsHeld}
 use Rattle.board_chipset.specs.declared.store.Store.{Store}
 use Rattle.board_chipset.proofs.HeldTargets.{IsClaim, claim_line, rom_within, lies_in_base}
-use Rattle.bus_master.specs.Common.{Cells, value_in, master_target, master_value, IsCell, IsReached}
+use Rattle.bus_master.specs.Cells.{Cells, value_in}
+use Rattle.board_chipset.specs.Masters.{master_target}
+use Rattle.bus_master.specs.Transfer.{master_value}
+use Rattle.bus_master.specs.Stores.{IsCell, IsReached}
 use Rattle.board_chipset.specs.Stores.{IsStoreOf}
 
 claimed : (setup : Setup) (bytes : Bytes) (addr : ℕ) (kind : Kind) (dev base : ℕ) →

@@ -1,18 +1,18 @@
 -- What the definition comes to is the same before and after each piece.
 use Rattle.std.proofs.Common.{◌≡◌, ◌≢◌, ℕ, ◌+◌, ◌-◌, ◌*◌, ◌/◌, ◌%◌, ◌≤◌, ◌<◌, Bool, true, false, not, ◌&&◌, List, []}
 use Rattle.std.proofs.Common.{◌∷◌, Some, None, inl, inr, refl, sym, ap, ◌∙◌, arith, ◌==◌, if◌then◌else◌}
-use Rattle.board_prelude.proofs.Common.{cases_Bool, ne_eqb, nat_tests, Kind, Read, Area, Medium, Setup, Bytes}
-use Rattle.board_prelude.proofs.Common.{is_smram_range}
+use Rattle.board_prelude.proofs.{cases_Bool, ne_eqb, nat_tests, Kind, Read, Area, Medium, Setup, Bytes, is_smram_range}
 use Rattle.board_base.specs.declared.access.Width.TheVariants.{Four}
-use Rattle.addr_decode.specs.Common.{master_area}
+use Rattle.addr_decode.specs.Master.{master_area}
 use Rattle.board_chipset.proofs.MasterSteps.{IsOffDram, off_dram}
 use Rattle.bus_master.specs.declared.done.End.{End}
 use Rattle.bus_master.specs.declared.done.End.TheVariants.{Exact, Longer, Shorter, Sector}
 use Rattle.bus_master.specs.declared.piece.Piece.{Piece}
 use Rattle.bus_master.specs.declared.piece.Stretch.{Stretch}
-use Rattle.bus_master.specs.Common.{Cells, Moving, address_after, answered, ended, is_used_up, kind_of, master_value}
-use Rattle.bus_master.specs.Common.{next_moved, next_sector, ready_for, region_found, region_taken, sector_tested}
-use Rattle.bus_master.specs.Common.{table_tested, transferred, words_moved}
+use Rattle.bus_master.specs.Cells.{Cells}
+use Rattle.bus_master.specs.Transfer.{Moving, address_after, answered, ended, is_used_up, kind_of, master_value}
+use Rattle.bus_master.specs.Transfer.{next_moved, next_sector, ready_for, region_found, region_taken, sector_tested}
+use Rattle.bus_master.specs.Transfer.{table_tested, transferred, words_moved}
 use Rattle.bus_master.specs.Pieces.{AreNext, ComesToTheTransfer, Going, HasPassed, IfMove, IsDescriptor, IsEnd}
 use Rattle.bus_master.specs.Pieces.{IsMemory, IsMove, IsStretch, Point, abort_at, all_done, described, is_missing}
 use Rattle.bus_master.specs.Pieces.{once_done, outcome, standing}

@@ -1,14 +1,15 @@
 -- A relation between two transfers under way whose bytes alone may differ. It holds after words that both move.
 use Rattle.std.proofs.Common.{◌≡◌, ℕ, zero, suc, Bool, true, false, not, ◌&&◌, Option, Some, is_some, sym, subst, ◌==◌}
 use Rattle.std.proofs.Common.{if◌then◌else◌, arith}
-use Rattle.board_prelude.proofs.Common.{nat_tests, Setup, Bytes}
+use Rattle.board_prelude.proofs.{nat_tests, Setup, Bytes}
 use Rattle.ata_pio.specs.Words.{is_readable}
 use Rattle.bus_master.specs.declared.done.End.{End}
 use Rattle.bus_master.specs.declared.done.End.TheVariants.{Shorter, Sector}
 use Rattle.bus_master.specs.declared.direction.Direction.{Direction}
-use Rattle.bus_master.specs.Common.{Cells, Moving, ◌and_then◌, answered, is_used_up, kind_of, next_moved, next_sector}
-use Rattle.bus_master.specs.Common.{next_word, ready_for, region_found, region_taken, sector_tested, table_tested}
-use Rattle.bus_master.specs.Common.{word_moved, words_moved}
+use Rattle.bus_master.specs.Cells.{Cells}
+use Rattle.bus_master.specs.Transfer.{Moving, ◌and_then◌, answered, is_used_up, kind_of, next_moved, next_sector}
+use Rattle.bus_master.specs.Transfer.{next_word, ready_for, region_found, region_taken, sector_tested, table_tested}
+use Rattle.bus_master.specs.Transfer.{word_moved, words_moved}
 
 abbrev pub with_cells : Cells → Moving → Moving
 with_cells cells moving = record moving { cells = cells }

@@ -1,11 +1,13 @@
 -- A bus master never reaches SMRAM: it changes no byte of it, and does the same whatever stands there.
 use Rattle.std.proofs.Common.{◌≡◌, ℕ, ◌*◌, ◌%◌, true, false, Option, refl, arith}
-use Rattle.board_prelude.proofs.Common.{cases_Bool, nat_tests, Width, bytes_of, Medium, Setup, Bytes, is_smram_range}
-use Rattle.board_prelude.proofs.Common.{Cell, DramCell}
+use Rattle.board_prelude.proofs.{cases_Bool, nat_tests, Width, bytes_of, Medium, Setup, Bytes, is_smram_range, Cell}
+use Rattle.board_prelude.proofs.{DramCell}
 use Rattle.bus_master.specs.declared.done.End.{End}
 use Rattle.bus_master.specs.declared.direction.Direction.{Direction}
-use Rattle.bus_master.specs.Common.{Cells, Master, Moving, begun, direction_of, master_value, region_taken, transferred}
-use Rattle.bus_master.specs.Common.{word_moved, is_in_smram}
+use Rattle.bus_master.specs.Cells.{Cells}
+use Rattle.bus_master.specs.Registers.{Master}
+use Rattle.bus_master.specs.Transfer.{Moving, begun, direction_of, master_value, region_taken, transferred, word_moved}
+use Rattle.bus_master.specs.Stores.{is_in_smram}
 use Rattle.board_chipset.proofs.MasterSteps.{off_dram}
 use Rattle.bus_master.proofs.Relations.{Keeps, with_cells, words_hold}
 

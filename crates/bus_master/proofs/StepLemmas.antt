@@ -1,14 +1,16 @@
 -- The steps of a transfer under way, one after another.
 use Rattle.std.proofs.Common.{◌≡◌, ◌≢◌, ℕ, ◌%◌, true, false, ◌&&◌, Option, Some, None, refl, sym, arith}
-use Rattle.board_prelude.proofs.Common.{nat_tests, Kind, Read, Setup, Bytes}
+use Rattle.board_prelude.proofs.{nat_tests, Kind, Read, Setup, Bytes}
 use Rattle.board_base.specs.declared.access.Width.TheVariants.{Four}
 use Rattle.ata_pio.specs.Words.{is_readable}
 use Rattle.board_chipset.specs.declared.store.Store.{Store}
 use Rattle.bus_master.specs.declared.done.End.{End}
 use Rattle.bus_master.specs.declared.done.End.TheVariants.{Shorter, Sector}
-use Rattle.bus_master.specs.Common.{Moving, TransferPlace, ◌and_then◌, address_after, answered, descriptor_read}
-use Rattle.bus_master.specs.Common.{is_used_up, master_value, medium_of, next_sector, ready_for, region_found}
-use Rattle.bus_master.specs.Common.{region_taken, sector_tested, table_tested, with_region, cells_of, StandsAt}
+use Rattle.bus_master.specs.Transfer.{Moving, TransferPlace, ◌and_then◌, address_after, answered, descriptor_read}
+use Rattle.bus_master.specs.Transfer.{is_used_up, master_value, medium_of, next_sector, ready_for, region_found}
+use Rattle.bus_master.specs.Transfer.{region_taken, sector_tested, table_tested, with_region}
+use Rattle.bus_master.specs.Stores.{cells_of}
+use Rattle.bus_master.specs.UnderWay.{StandsAt}
 use Rattle.bus_master.specs.Pieces.{abort_at}
 use Rattle.board_chipset.specs.Stores.{IsStoreOf}
 use Rattle.bus_master.proofs.HeldTargets.{master_value_same}

@@ -1,13 +1,15 @@
 -- A whole transfer.
-use Rattle.board_prelude.proofs.Common.{nat_tests, Setup, Bytes, is_smram_range, DramCell}
+use Rattle.board_prelude.proofs.{nat_tests, Setup, Bytes, is_smram_range, DramCell}
 use Rattle.std.proofs.Common.{arith, ◌≡◌, ℕ, ◌*◌, ◌%◌, true, None, refl}
 use Rattle.dram_store.specs.Dram.{dram_at}
 use Rattle.board_chipset.specs.declared.store.Store.{Store}
 use Rattle.bus_master.specs.declared.done.End.{End}
 use Rattle.bus_master.specs.declared.direction.Direction.{Direction}
-use Rattle.bus_master.specs.Common.{Master, Moving, TransferPlace, direction_of, done_of, first_place, medium_of}
-use Rattle.bus_master.specs.Common.{transferred, with_medium, words_moved, cells_of, DiffersInSmramAlone, HasSameShape}
-use Rattle.bus_master.specs.Common.{transfer_of, EndedSo, StandsAt}
+use Rattle.bus_master.specs.Registers.{Master}
+use Rattle.bus_master.specs.Transfer.{Moving, TransferPlace, direction_of, done_of, first_place, medium_of, transferred}
+use Rattle.bus_master.specs.Transfer.{with_medium, words_moved}
+use Rattle.bus_master.specs.Stores.{cells_of, DiffersInSmramAlone, HasSameShape, transfer_of}
+use Rattle.bus_master.specs.UnderWay.{EndedSo, StandsAt}
 use Rattle.bus_master.proofs.SmramLemmas.{hides_smram}
 
 module _ (setup : Setup) (bytes : Bytes) (master : Master) (lba count : ℕ) (direction : Direction) {store new : Store}

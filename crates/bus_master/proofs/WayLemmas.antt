@@ -1,11 +1,12 @@
 -- A transfer to memory changes no sector, and one to the disk no byte of memory.
 use Rattle.std.proofs.Common.{◌≡◌, ℕ, ◌*◌, true, false, Option, refl, ap, ◌∙◌}
-use Rattle.board_prelude.proofs.Common.{Medium, Setup, Bytes, Cell}
+use Rattle.board_prelude.proofs.{Medium, Setup, Bytes, Cell}
 use Rattle.bus_master.specs.declared.done.End.{End}
 use Rattle.bus_master.specs.declared.direction.Direction.{Direction}
 use Rattle.bus_master.specs.declared.direction.Direction.TheVariants.{ToMemory, ToDisk}
-use Rattle.bus_master.specs.Common.{Cells, Master, is_to_memory, Moving, TransferPlace, begun, region_taken}
-use Rattle.bus_master.specs.Common.{transferred, word_moved, words_moved}
+use Rattle.bus_master.specs.Cells.{Cells}
+use Rattle.bus_master.specs.Registers.{Master, is_to_memory}
+use Rattle.bus_master.specs.Transfer.{Moving, TransferPlace, begun, region_taken, transferred, word_moved, words_moved}
 use Rattle.bus_master.proofs.Relations.{words_hold, with_cells}
 
 -- a part of a transfer under way that neither the place nor an end changes

@@ -1,19 +1,22 @@
 -- Words one after another.
 use Rattle.std.proofs.Common.{◌≡◌, ℕ, zero, suc, ◌+◌, ◌-◌, ◌*◌, ◌/◌, ◌%◌, ◌≤◌, ◌<◌, false, Option, Some, None, refl}
 use Rattle.std.proofs.Common.{sym, ap, ◌∙◌, arith, lit≤}
-use Rattle.board_prelude.proofs.Common.{ne_eqb, and_left, nat_tests, Kind, Width, Area, Denial, Medium, word_at, Setup}
-use Rattle.board_prelude.proofs.Common.{Bytes, Cell}
+use Rattle.board_prelude.proofs.{ne_eqb, and_left, nat_tests, Kind, Width, Area, Denial, Medium, word_at, Setup, Bytes}
+use Rattle.board_prelude.proofs.{Cell}
 use Rattle.board_base.specs.declared.target.Area.TheVariants.{Abort as NobodysArea}
 use Rattle.ata_pio.specs.Words.{with_word}
-use Rattle.addr_decode.specs.Common.{master_area}
+use Rattle.addr_decode.specs.Master.{master_area}
 use Rattle.board_chipset.specs.declared.store.Store.{Store}
 use Rattle.bus_master.specs.declared.done.End.{End}
 use Rattle.bus_master.specs.declared.direction.Direction.{Direction}
 use Rattle.bus_master.specs.declared.direction.Direction.TheVariants.{ToMemory, ToDisk}
-use Rattle.bus_master.specs.Common.{Cells, put_in, Moving, TransferPlace, ◌and_then◌, abort_in, address_after, answered}
-use Rattle.bus_master.specs.Common.{is_used_up, kind_of, master_target, master_value, medium_of, moved_on, next_moved}
-use Rattle.bus_master.specs.Common.{next_sector, next_word, ready_for, region_found, sector_tested, table_tested}
-use Rattle.bus_master.specs.Common.{word_moved, words_moved, cells_of, HasSameShape, IsCell, CameOn, StandsAt}
+use Rattle.bus_master.specs.Cells.{Cells, put_in}
+use Rattle.bus_master.specs.Transfer.{Moving, TransferPlace, ◌and_then◌, abort_in, address_after, answered, is_used_up}
+use Rattle.bus_master.specs.Transfer.{kind_of, master_value, medium_of, moved_on, next_moved, next_sector, next_word}
+use Rattle.bus_master.specs.Transfer.{ready_for, region_found, sector_tested, table_tested, word_moved, words_moved}
+use Rattle.board_chipset.specs.Masters.{master_target}
+use Rattle.bus_master.specs.Stores.{cells_of, HasSameShape, IsCell}
+use Rattle.bus_master.specs.UnderWay.{CameOn, StandsAt}
 use Rattle.board_chipset.specs.Stores.{IsStoreOf}
 use Rattle.bus_master.specs.Pieces.{abort_at, copied, is_missing, went_on}
 use Rattle.bus_master.proofs.HeldTargets.{master_value_same}

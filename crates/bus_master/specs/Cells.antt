@@ -1,7 +1,7 @@
 -- The bytes behind the addresses, read and written by target, whatever keeps them.
 use Rattle.std.specs.Prelude.{ℕ, Bool, nat_lt, if◌then◌else◌, slice_index, unwrap_or}
-use Rattle.board_prelude.specs.Common.{Width, Target, Dram, Shadow, Smram, Rom, Card, largest_of, Setup, card_at}
-use Rattle.board_prelude.specs.Common.{installed, kept_size, wide, Cell, DramCell, CardCell, byte_put}
+use Rattle.board_prelude.specs.{Width, Target, Dram, Shadow, Smram, Rom, Card, largest_of, Setup, card_at, installed}
+use Rattle.board_prelude.specs.{kept_size, wide, Cell, DramCell, CardCell, byte_put}
 
 -- what each byte of the DRAM and of the cards reads
 abbrev pub Cells : Type 0

@@ -5,4 +5,3 @@ pub mod Stores
 pub mod UnderWay
 pub mod Pieces
 pub mod States
-pub mod Common

@@ -2,7 +2,7 @@
 -- the definition, whatever that memory holds.
 use Rattle.std.specs.Prelude.{ℕ, zero, suc, ◌≡◌, ◌+◌, ◌-◌, ◌*◌, ◌<◌, ◌≤◌, ◌^◌, ◌==◌, ◌&&◌, Bool, not, false, List, []}
 use Rattle.std.specs.Prelude.{◌∷◌, Option, None}
-use Rattle.board_prelude.specs.Common.{Kind, Area, Medium, Setup, Bytes, is_smram_range}
+use Rattle.board_prelude.specs.{Kind, Area, Medium, Setup, Bytes, is_smram_range}
 use Rattle.board_base.specs.declared.access.Width.TheVariants.{Four}
 use Rattle.board_base.specs.declared.target.Area.TheVariants.{Dram as DramArea, Shadow as ShadowArea}
 use Rattle.ata_pio.specs.Words.{is_readable}

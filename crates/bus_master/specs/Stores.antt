@@ -1,9 +1,10 @@
 -- The store that a transfer works on, and the definition of a transfer over its bytes.
 use Rattle.std.specs.Prelude.{ℕ, ◌≡◌, Bool, false, length}
-use Rattle.board_prelude.specs.Common.{Kind, Area, sectors_of, Setup, Bytes, is_smram_range, Cell, DramCell, CardCell}
+use Rattle.board_prelude.specs.{Kind, Area, sectors_of, Setup, Bytes, is_smram_range, Cell, DramCell, CardCell}
 use Rattle.dram_store.specs.Dram.{dram_at}
 use Rattle.pci_bars.specs.Contents.{IsBaseNumber, held, held_byte}
-use Rattle.addr_decode.specs.Common.{map_bytes, master_area}
+use Rattle.addr_decode.specs.MapRegs.{map_bytes}
+use Rattle.addr_decode.specs.Master.{master_area}
 use Rattle.board_chipset.specs.declared.store.Store.{Store}
 use Rattle.board_chipset.specs.Stores.{IsStoreOf}
 use Rattle.bus_master.specs.Cells.{Cells}

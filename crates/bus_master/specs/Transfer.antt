@@ -2,8 +2,8 @@
 -- table of descriptors names (82371SB, 2.7).
 use Rattle.std.specs.Prelude.{ℕ, zero, suc, ◌+◌, ◌-◌, ◌*◌, ◌/◌, ◌%◌, ◌==◌, Bool, false, not, ◌&&◌, if◌then◌else◌, []}
 use Rattle.std.specs.Prelude.{Option, Some, None, is_some, unwrap_or}
-use Rattle.board_prelude.specs.Common.{Width, Kind, Read, Write, Area, Denial, NoRegister, Medium, Disk, word_at, Setup}
-use Rattle.board_prelude.specs.Common.{is_bit, Bytes}
+use Rattle.board_prelude.specs.{Width, Kind, Read, Write, Area, Denial, NoRegister, Medium, Disk, word_at, Setup}
+use Rattle.board_prelude.specs.{is_bit, Bytes}
 use Rattle.board_base.specs.declared.access.Width.TheVariants.{Two, Four}
 use Rattle.board_base.specs.declared.target.Area.TheVariants.{Abort as NobodysArea}
 use Rattle.ata_pio.specs.Words.{is_readable, with_word}

@@ -1,6 +1,6 @@
 -- What a transfer under way stands for while the code moves words.
 use Rattle.std.specs.Prelude.{ℕ, ◌≡◌, ◌≢◌, ◌<◌, ◌≤◌, ◌+◌, ◌%◌, ◌*◌, Option, Some, None, Result, Ok, Err}
-use Rattle.board_prelude.specs.Common.{sectors_of, Cell, Setup, Bytes}
+use Rattle.board_prelude.specs.{sectors_of, Cell, Setup, Bytes}
 use Rattle.board_chipset.specs.declared.store.Store.{Store}
 use Rattle.bus_master.specs.declared.done.End.{End}
 use Rattle.bus_master.specs.declared.direction.Direction.{Direction}

@@ -1,8 +1,7 @@
 //! Reads and writes of memory, by what the bus master reaches.
 
 ghost use Rattle.std.specs.Prelude.{◌≡◌, ◌%◌, ◌<◌, ◌≤◌, length};
-ghost use Rattle.board_prelude.specs.Common.{bytes_of, largest_of, Kind, sectors_of, word_at, Setup, installed, Bytes};
-ghost use Rattle.board_prelude.specs.Common.{Cell};
+ghost use Rattle.board_prelude.specs.{bytes_of, largest_of, Kind, sectors_of, word_at, Setup, installed, Bytes, Cell};
 ghost use Rattle.ata_pio.specs.Words.{is_readable, with_word};
 ghost use Rattle.pci_bars.specs.Contents.{HaveSizes};
 ghost use Rattle.addr_decode.specs.Master.{master_area};

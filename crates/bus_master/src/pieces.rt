@@ -1,10 +1,10 @@
 //! A transfer in pieces: a caller is told what comes next, and does it to a memory that it keeps itself.
 
 ghost use Rattle.std.specs.Prelude.{ℕ, ◌≡◌, ◌≢◌, ◌<◌, ◌≤◌, ◌+◌, ◌*◌, ◌^◌, ◌==◌, ◌&&◌, true, not, option_map};
-ghost use Rattle.board_prelude.specs.Common.{Setup, Bytes, Medium};
+ghost use Rattle.board_prelude.specs.{Setup, Bytes, Medium};
 ghost use Rattle.ata_pio.specs.Words.{is_readable};
 ghost use Rattle.pci_bars.specs.Cards.{AreFitted};
-ghost use Rattle.addr_decode.specs.Common.{StandsFor, map_bytes};
+ghost use Rattle.addr_decode.specs.MapRegs.{StandsFor, map_bytes};
 ghost use Rattle.bus_master.specs.Cells.{Cells};
 ghost use Rattle.bus_master.specs.Registers.{is_started};
 ghost use Rattle.bus_master.specs.Transfer.{Moving, done_of, kind_of, master_after, medium_of, next_sector, next_word};

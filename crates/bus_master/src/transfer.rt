@@ -1,7 +1,7 @@
 //! Transfers between the disk and memory.
 
 ghost use Rattle.std.specs.Prelude.{ℕ, ◌≡◌, ◌<◌, ◌≤◌, ◌^◌, ◌%◌, true, false};
-ghost use Rattle.board_prelude.specs.Common.{Setup, Bytes, is_smram_range, Cell};
+ghost use Rattle.board_prelude.specs.{Setup, Bytes, is_smram_range, Cell};
 ghost use Rattle.dram_store.specs.Dram.{dram_at};
 ghost use Rattle.bus_master.specs.Registers.{is_started, is_to_memory};
 ghost use Rattle.bus_master.specs.Transfer.{direction_of, done_of, end_of, master_after, Moving, with_medium};

@@ -1,10 +1,11 @@
 //! A transfer under way.
 
 ghost use Rattle.std.specs.Prelude.{ℕ, ◌≡◌, ◌≢◌, ◌<◌, ◌≤◌, ◌+◌, ◌*◌, ◌%◌, ◌^◌, ◌&&◌, None, if◌then◌else◌, IfOk};
-ghost use Rattle.board_prelude.specs.Common.{Kind, Width, sectors_of, word_at, Setup, Bytes, Cell};
+ghost use Rattle.board_prelude.specs.{Kind, Width, sectors_of, word_at, Setup, Bytes, Cell};
 ghost use Rattle.ata_pio.specs.Words.{with_word};
 ghost use Rattle.pci_bars.specs.Cards.{AreFitted};
-ghost use Rattle.addr_decode.specs.Common.{StandsFor, map_bytes, master_area, master_denial};
+ghost use Rattle.addr_decode.specs.MapRegs.{StandsFor, map_bytes};
+ghost use Rattle.addr_decode.specs.Master.{master_area, master_denial};
 ghost use Rattle.bus_master.specs.declared.done.End.{End};
 ghost use Rattle.bus_master.specs.declared.direction.Direction.{Direction};
 ghost use Rattle.bus_master.specs.Cells.{put_in};

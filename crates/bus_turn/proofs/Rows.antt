@@ -7,7 +7,8 @@ use mathlib.Core.List.{IsPrefix}
 use mathlib.Core.Option.{some, some-injective, some-ne-none}
 use lib.ListN.{get_elem?}
 use Rattle.bus_turn.specs.declared.view.View.{View}
-use Rattle.bus_turn.specs.Common.{own_by, total, waits, is_gone, joins}
+use Rattle.bus_turn.specs.Views.{own_by}
+use Rattle.bus_turn.specs.Rule.{total, waits, is_gone, joins}
 
 module _ {A : Type 0} where
   pub at_lt : (l : List A) (i : ℕ) (a : A) → get_elem? l i ≡ some a → i < length l

@@ -17,10 +17,10 @@ use Rattle.atomic_table.proofs.Lists.{set_here, set_else, set_again, at_set, at_
 use Rattle.bus_turn.specs.declared.view.View.{View}
 use Rattle.bus_turn.specs.declared.view.Stage.{Stage}
 use Rattle.bus_turn.specs.declared.view.Stage.TheVariants.{Idle, Waits, Holds, Spent}
-use Rattle.bus_turn.specs.Common.{own_by, spent, staged, sees, commits, starting, after_split, split_off, with_joined}
-use Rattle.bus_turn.specs.Common.{Fits, Closes, drew, called, counted, gave, looked, ticket_of, Place, home, away}
-use Rattle.bus_turn.specs.Common.{slot_of, Book, gone, waiting, waits, is_gone, joins, total, IsSpent, AreJoined}
-use Rattle.bus_turn.specs.Common.{log_of, words_of, AtStage, Knows, Lies, Ordered, Ruled}
+use Rattle.bus_turn.specs.Views.{own_by, spent, staged, sees, commits, starting, after_split, split_off, with_joined}
+use Rattle.bus_turn.specs.Plays.{Fits, Closes, drew, called, counted, gave, looked, ticket_of}
+use Rattle.bus_turn.specs.Rule.{Place, home, away, slot_of, Book, gone, waiting, waits, is_gone, joins, total, IsSpent}
+use Rattle.bus_turn.specs.Rule.{AreJoined, log_of, words_of, AtStage, Knows, Lies, Ordered, Ruled}
 use Rattle.bus_turn.proofs.Rows.{total_set, total_snoc, at_lt, at_end, set_apart, prefix_refl, prefix_trans, drop_front}
 use Rattle.bus_turn.proofs.Rows.{own_more, own_none, few_wait, fewer_wait}
 use Rattle.std.proofs.lemmas.Bool.Decides.{nat_tests}

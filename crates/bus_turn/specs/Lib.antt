@@ -3,4 +3,3 @@ pub mod Passes
 pub mod Turns
 pub mod Plays
 pub mod Rule
-pub mod Common

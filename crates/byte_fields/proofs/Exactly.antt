@@ -1,6 +1,8 @@
 -- Fixed bytes, and that nothing follows.
 use Rattle.std.proofs.Common.{◌≡◌, ℕ, List, [], length, Err, refl, arith, bytes_eq}
-use Rattle.board_base.proofs.Common.{nat_tests, length-take, bytes_eq-Decides}
+use Rattle.std.proofs.lemmas.Bool.Decides.{nat_tests}
+use Rattle.std.proofs.lemmas.List.{length-take}
+use Rattle.std.proofs.lemmas.Slice.Eq.{bytes_eq-Decides}
 use Rattle.byte_fields.specs.Fields.{exactly, ended, where_true}
 use Rattle.byte_fields.proofs.Formats.{IsFormat, read_as, cut_field, cut_format}
 use Rattle.byte_fields.proofs.Numbers.{Any, where_ok}

@@ -2,9 +2,11 @@
 use Rattle.std.proofs.Common.{◌≡◌, ℕ, zero, suc, ◌+◌, ◌*◌, ◌≤◌, ◌⊎◌, inl, inr, false, cond, List, [], ◌∷◌, ◌++◌, length}
 use Rattle.std.proofs.Common.{take, drop, Result, Ok, Err, refl, sym, ap, subst, ◌∙◌, append_assoc, arith, nat_lt}
 use Rattle.std.proofs.Common.{flat_map, Option, Some}
-use Rattle.board_base.proofs.Common.{flat_map-cons, ltb-false, le-ltb, take_at, drop_at, length-append, length-take}
-use Rattle.board_base.proofs.Common.{take-append-drop, get_or-take, get_or_past, nil_from_length, get_or-drop}
-use Rattle.board_base.proofs.Common.{drop-append_seam}
+use Rattle.std.proofs.lemmas.List.Concat.{flat_map-cons}
+use Rattle.std.proofs.lemmas.Bool.{ltb-false, le-ltb}
+use Rattle.std.proofs.lemmas.List.{take_at, drop_at, length-append, length-take, take-append-drop, get_or-take}
+use Rattle.std.proofs.lemmas.List.{get_or_past, nil_from_length, get_or-drop}
+use Rattle.std.proofs.Math.Seq.{drop-append_seam}
 use Rattle.std.proofs.Math.Nat.{mul-suc}
 use Rattle.byte_fields.specs.Fields.{AreBytes, Reading, then_read, gives, said, plain, ◌>>=◌}
 use Rattle.byte_fields.proofs.Loops.{IsLoop}

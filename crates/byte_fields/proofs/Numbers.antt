@@ -1,9 +1,8 @@
 -- Numbers as fields.
 use Rattle.std.proofs.Common.{◌≡◌, ℕ, ◌+◌, ◌-◌, ◌^◌, ◌<◌, ◌≤◌, Bool, true, List, [], ◌∷◌, length, Option, Some, None}
 use Rattle.std.proofs.Common.{refl, sym, ap, ◌∙◌, arith, nat_le, is_some, unwrap_or, ◌==◌, ◌&&◌, if◌then◌else◌}
-use Rattle.std.specs.Int.{Width as Size, byte_len}
-use Rattle.board_base.specs.Common.{w8, w16, w32, w64, to_le_bytes, from_le_bytes}
-use Rattle.board_base.proofs.Common.{nat_tests}
+use Rattle.std.specs.Int.{Width as Size, byte_len, w8, w16, w32, w64, to_le_bytes, from_le_bytes}
+use Rattle.std.proofs.lemmas.Bool.Decides.{nat_tests}
 use Rattle.std.proofs.lemmas.Nat.{le_bytes_2, le_bytes_4, le_bytes_8, from_le_bytes-to_le_bytes_2}
 use Rattle.std.proofs.lemmas.Nat.{from_le_bytes-to_le_bytes_4, from_le_bytes-to_le_bytes_8}
 use Rattle.byte_fields.specs.Fields.{AreBytes, Reading, number, number_where, within, where_true, flag_byte, flag_of}

@@ -2,10 +2,10 @@
 use Rattle.std.proofs.Common.{◌≡◌, ℕ, zero, suc, ◌+◌, ◌-◌, ◌*◌, ◌≤◌, ◌<◌, min, Bool, true, false, not, cond, List, []}
 use Rattle.std.proofs.Common.{◌∷◌, ◌++◌, length, take, drop, replicate, Some, None, Result, Ok, Err, refl, sym, ap, ◌∙◌}
 use Rattle.std.proofs.Common.{append_assoc, arith, bytes_eq}
-use Rattle.board_base.proofs.Common.{take_at, drop_at, length-append, length-take, length-drop, take-append-drop}
-use Rattle.board_base.proofs.Common.{nil_from_length, bytes_eq-Decides, drop-drop, drop_all, take_all, append-nil}
-use Rattle.board_base.proofs.Common.{take-append-le, drop-append-le, length-replicate}
-use Rattle.std.proofs.lemmas.List.{take_min, drop_min, take-replicate, drop-replicate}
+use Rattle.std.proofs.lemmas.List.{take_at, drop_at, length-append, length-take, length-drop, take-append-drop}
+use Rattle.std.proofs.lemmas.List.{nil_from_length, drop-drop, drop_all, take_all, append-nil, take-append-le}
+use Rattle.std.proofs.lemmas.List.{drop-append-le, length-replicate, take_min, drop_min, take-replicate, drop-replicate}
+use Rattle.std.proofs.lemmas.Slice.Eq.{bytes_eq-Decides}
 use Rattle.std.proofs.Math.Nat.{suc-mul, zero-mul}
 use Rattle.byte_fields.specs.Fields.{Reading, then_read, gives, ◌>>=◌, flag_byte}
 use Rattle.byte_fields.specs.Pages.{page_bytes, page_where, page_field, each_page_bytes, each_page_field, cut, pages_of}

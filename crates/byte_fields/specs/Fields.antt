@@ -1,8 +1,7 @@
 -- Reading fields from the front of bytes, one after another. Numbers have their low byte first.
 use Rattle.std.specs.Prelude.{ℕ, ◌≡◌, ◌<◌, ◌≤◌, ◌==◌, Bool, true, false, nat_le, nat_lt, ◌&&◌, if◌then◌else◌, List, []}
 use Rattle.std.specs.Prelude.{◌∷◌, length, take, drop, get_or, Option, Some, None, Result, Ok, Err, bytes_eq}
-use Rattle.board_base.specs.Common.{w8}
-use Rattle.std.specs.Int.{Width as Size, byte_len, from_le_bytes}
+use Rattle.std.specs.Int.{w8, Width as Size, byte_len, from_le_bytes}
 use Rattle.byte_fields.specs.declared.fault.Bad.{Bad}
 use Rattle.byte_fields.specs.declared.fault.Fault.{Fault}
 use Rattle.byte_fields.specs.declared.fault.Fault.TheVariants as faults

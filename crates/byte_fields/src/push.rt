@@ -1,7 +1,7 @@
 //! Adds fields to the end of bytes.
 
 ghost use Rattle.std.specs.Prelude.{◌≡◌, ◌++◌, ◌∷◌, [], OnOk, is_some, unwrap_or};
-ghost use Rattle.board_base.specs.Common.{w16, w32, to_le_bytes};
+ghost use Rattle.std.specs.Int.{w16, w32, to_le_bytes};
 ghost use Rattle.byte_fields.specs.Fields.{flag_byte};
 
 use board_base::NoMemory;

@@ -1,6 +1,7 @@
 -- What a monitor asks of the clock, and what it writes to it, from outside the bus.
 use Rattle.std.specs.Prelude.{ℕ}
-use Rattle.device_spec.specs.Common.{Clock, after_write, read_value, clock_index_port, clock_data_port}
+use Rattle.device_spec.specs.Clock.{Clock, after_write, read_value}
+use Rattle.device_spec.specs.PortNames.{clock_index_port, clock_data_port}
 
 -- The byte that a processor would read that writes the address to port 70h and then reads port 71h.
 abbrev pub peeked : Clock → (address : ℕ) → ℕ

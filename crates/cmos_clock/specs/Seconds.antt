@@ -1,9 +1,9 @@
 -- The second that the clock shows, and the one that an update cycle goes on to.
 use Rattle.std.specs.Prelude.{ℕ, ◌≡◌, ◌+◌, ◌*◌, ◌%◌, ◌<◌, ◌≤◌, ◌⊎◌, true, false, nat_lt, if◌then◌else◌}
-use Rattle.board_base.specs.Calendar.{days_since_1980}
-use Rattle.device_spec.specs.Common.{Clock, Moment, IsMoment, moment_of, days_in_month, byte_at, control_of, holds_time}
-use Rattle.device_spec.specs.Common.{number_byte, hour_byte as hour_byte_of, second_at, minute_at, hour_at, day_at}
-use Rattle.device_spec.specs.Common.{month_at, year_at}
+use Rattle.board_base.specs.Calendar.{days_since_1980, IsMoment, moment_of, days_in_month}
+use Rattle.device_spec.specs.Clock.{Clock, byte_at, control_of, holds_time, number_byte, hour_byte as hour_byte_of}
+use Rattle.device_spec.specs.Clock.{second_at, minute_at, hour_at, day_at, month_at, year_at}
+use Rattle.board_base.specs.declared.moment.Moment.{Moment}
 
 -- The registers say this moment, in the form that register B says (MC146818, Time, Calendar, and Alarm Data Modes),
 -- whatever stands in that of the weekday. Of the year they hold two digits: it is one of 1980 to 2079 (this board's

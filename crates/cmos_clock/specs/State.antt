@@ -1,6 +1,6 @@
 -- The state of the clock as bytes: its index, its two flags, and its 128 bytes by address.
 use Rattle.std.specs.Prelude.{ℕ, ◌≡◌, ◌<◌, List, ◌∷◌, length}
-use Rattle.board_base.specs.Common.{w8}
+use Rattle.std.specs.Int.{w8}
 use Rattle.byte_fields.specs.Fields.{Reading, gives, ◌>>=◌, within, flag_byte, flag_field, plain}
 use Rattle.device_spec.specs.Clock.{Clock}
 

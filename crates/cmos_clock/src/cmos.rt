@@ -1,9 +1,10 @@
 //! The clock: its ports, its time, its alarm and its interrupt line.
 ghost use Rattle.std.specs.Prelude.{◌≡◌, ◌<◌};
-ghost use Rattle.device_spec.specs.Common.{after_moment, after_read, after_reset, after_write, alarm_fits, alarm_rings};
-ghost use Rattle.device_spec.specs.Common.{control_of, data_byte, flags_byte, interrupt_line, put, read_value, store};
-ghost use Rattle.device_spec.specs.Common.{time_bytes, without_flags, IsMoment, civil_time};
-ghost use Rattle.device_spec.specs.Clock.{power_on};
+ghost use Rattle.device_spec.specs.Clock.{after_moment, after_read, after_reset, after_write, alarm_fits, alarm_rings};
+ghost use Rattle.device_spec.specs.Clock.{control_of, data_byte, flags_byte, interrupt_line, put, read_value, store};
+ghost use Rattle.device_spec.specs.Clock.{time_bytes, without_flags, power_on};
+ghost use Rattle.board_base.specs.Calendar.{IsMoment};
+ghost use Rattle.device_spec.specs.Told.{civil_time};
 ghost use Rattle.cmos_clock.specs.Outside.{peeked};
 
 use crate::control::Control;

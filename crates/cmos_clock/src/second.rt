@@ -1,8 +1,7 @@
 //! The second after the one that the clock shows.
 
 ghost use Rattle.std.specs.Prelude.{◌≡◌, ◌≤◌, IfSome, Some, None};
-ghost use Rattle.board_base.specs.Calendar.{IsDate};
-ghost use Rattle.device_spec.specs.Common.{IsMoment, days_in_month, is_leap};
+ghost use Rattle.board_base.specs.Calendar.{IsDate, IsMoment, days_in_month, is_leap};
 ghost use Rattle.cmos_clock.specs.Seconds.{HasNoNext, IsNextSecond, SecondsFollow, midnight_after, second_after};
 
 use crate::cmos::Cmos;

@@ -1,7 +1,8 @@
 //! Which moment the registers of the time and the calendar say.
 
 ghost use Rattle.std.specs.Prelude.{◌≡◌, ◌<◌, ◌+◌, ◌*◌, ◌%◌, ◌≤◌, ℕ, IfSome, None};
-ghost use Rattle.device_spec.specs.Common.{bcd, Moment, number_byte, hour_byte};
+ghost use Rattle.device_spec.specs.Clock.{bcd, number_byte, hour_byte};
+ghost use Rattle.board_base.specs.declared.moment.Moment.{Moment};
 ghost use Rattle.cmos_clock.specs.Seconds.{AreDateBytes, AreTimeBytes, IsShown};
 
 use crate::cmos::Cmos;

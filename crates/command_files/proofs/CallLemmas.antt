@@ -1,7 +1,7 @@
 -- The calls that were made, one after another, and the fetches of one file.
 use Rattle.std.proofs.Common.{◌≡◌, ◌≢◌, ℕ, ◌≤◌, ◌+◌, List, [], ◌∷◌, ◌++◌, Option, Some, None, refl, sym, ap, ◌∙◌}
 use Rattle.std.proofs.Common.{append_assoc, arith, Result, Ok, Err}
-use Rattle.board_prelude.proofs.Common.{nat_tests}
+use Rattle.board_prelude.proofs.{nat_tests}
 use Rattle.board_outside.specs.Outside.{Fetch, Made}
 use Rattle.command_files.specs.Calls.{OfCalls, place_after, BroughtBytes, FoundEnd, IsReading, FetchesOnce, ReadsBy}
 

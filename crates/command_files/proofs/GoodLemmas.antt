@@ -1,13 +1,14 @@
 -- What can be relied on once all files of a command were read.
 use Rattle.std.proofs.Common.{◌≡◌, ℕ, List, [], ◌∷◌, reverse, Option, Some, refl, arith}
-use Rattle.board_prelude.proofs.Common.{nat_tests}
+use Rattle.board_prelude.proofs.{nat_tests}
 use Rattle.command_words.specs.Words.{Command, Check, Make, Resume, Serial, script_name}
 use Rattle.command_files.specs.declared.status.Which.TheVariants.{Script, Rom, Disk}
-use Rattle.command_files.specs.Common.{files_of, Files, Known, HasBoard, HasRead}
+use Rattle.command_files.specs.Table.{files_of}
+use Rattle.command_files.specs.Known.{Files, Known, HasBoard, HasRead}
 use Rattle.command_files.proofs.Places.{AreTaken}
+use Rattle.command_files.proofs.Places.{are_read, taken_next, fetches_next, stops, fetches_last, fetches_all}
 use Rattle.command_files.proofs.CallLemmas.{none_made}
 use Rattle.command_files.proofs.Refusals.{holds_of_error}
-use Rattle.command_files.proofs.Places.{are_read, taken_next, fetches_next, stops, fetches_last, fetches_all}
 use Rattle.std.proofs.lemmas.List.{take_all}
 
 module _ (told : Option Files) where

@@ -3,4 +3,3 @@ pub mod CallLemmas
 pub mod Refusals
 pub mod Places
 pub mod GoodLemmas
-pub mod Common

@@ -2,19 +2,25 @@
 -- of it.
 use Rattle.std.proofs.Common.{◌≡◌, ℕ, ◌<◌, ◌≤◌, ◌++◌, ◌⊎◌, inl, inr, List, [], ◌∷◌, length, reverse, Option, Some, None}
 use Rattle.std.proofs.Common.{arith, refl, ap, sym, ◌∙◌, subst, append_assoc, append-nil}
-use Rattle.board_prelude.proofs.Common.{nat_tests, reverse-append, reverse-reverse}
-use Rattle.script_spec.specs.Common.{IsScriptBad}
-use Rattle.script_spec.proofs.Common.{same_some, not_both, one_refusal, one_script, one_difference}
-use Rattle.board_image.specs.Common.{Saved, OneSpelling}
+use Rattle.board_prelude.proofs.{nat_tests, reverse-append, reverse-reverse}
+use Rattle.script_spec.specs.ScriptText.{IsScriptBad}
+use Rattle.script_spec.proofs.Chains.{some_is as same_some}
+use Rattle.script_spec.proofs.ReadingLaws.{not_both, one_refusal}
+use Rattle.script_spec.proofs.ScriptLaws.{one_script}
+use Rattle.script_spec.proofs.CheckLaws.{one_difference}
+use Rattle.board_image.specs.ImageBytes.{Saved}
+use Rattle.board_image.specs.Laws.{OneSpelling}
 use Rattle.command_words.specs.Words.{Command, Check, Resume}
 use Rattle.command_files.specs.declared.status.Which.{Which}
 use Rattle.command_files.specs.declared.status.Which.TheVariants.{Script, Rom, Disk, Image}
 use Rattle.command_files.specs.declared.status.Status.{Status}
 use Rattle.command_files.specs.declared.status.Status.TheVariants.{Done, TooLong, BadScript, BadImage, Differs}
 use Rattle.command_files.specs.declared.status.Status.TheVariants.{OtherBoard}
-use Rattle.command_files.specs.Common.{files_of, limit_of, Files, Known, nothing_known, file_name, Learns, Passes}
-use Rattle.command_files.specs.Common.{AreReadAs, ComesTo, board_of, IsNoImage, LogIsLegal, LogDiffers, BoardsAgree}
-use Rattle.command_files.specs.Common.{BoardsDiffer, EndsWith, AsksFor, OneStatus}
+use Rattle.command_files.specs.Table.{files_of, limit_of}
+use Rattle.command_files.specs.Known.{Files, Known, nothing_known, file_name, Learns, Passes, AreReadAs, ComesTo}
+use Rattle.command_files.specs.Known.{board_of}
+use Rattle.command_files.specs.Asked.{IsNoImage, LogIsLegal, LogDiffers, BoardsAgree, BoardsDiffer, EndsWith, AsksFor}
+use Rattle.command_files.specs.Laws.{OneStatus}
 
 -- at most one status holds
 abbrev IsOne : (Status → Type 0) → Type 0

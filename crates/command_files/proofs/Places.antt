@@ -2,7 +2,7 @@
 use Rattle.std.proofs.Common.{◌≡◌, ◌≢◌, ℕ, suc, ◌+◌, ◌<◌, ◌⊎◌, inl, inr, List, [], ◌∷◌, ◌++◌, length, take, drop}
 use Rattle.std.proofs.Common.{reverse, get_or, Option, Some, None, refl, sym, ap, ◌∙◌, subst, append_assoc, Result, Ok}
 use Rattle.std.proofs.Common.{OnOk, arith}
-use Rattle.board_prelude.proofs.Common.{nat_tests, reverse-append, reverse-reverse, append-nil}
+use Rattle.board_prelude.proofs.{nat_tests, reverse-append, reverse-reverse, append-nil}
 use Rattle.board_outside.specs.Outside.{Rose, OfFile, Fetch}
 use Rattle.std.proofs.Math.Seq.{split_at}
 use Rattle.script_spec.specs.ScriptText.{IsScriptBad}
@@ -11,10 +11,12 @@ use Rattle.command_files.specs.declared.status.Which.{Which}
 use Rattle.command_files.specs.declared.status.Which.TheVariants.{Script}
 use Rattle.command_files.specs.declared.status.Status.{Status}
 use Rattle.command_files.specs.declared.status.Status.TheVariants.{ReadFault, TooLong, BadScript, BadImage, NoMemory}
-use Rattle.command_files.specs.Common.{files_of, name_in_words, limit_of, Files, Known, nothing_known, file_name}
-use Rattle.command_files.specs.Common.{AreReadAs, ComesTo, ReadsFile, FitsFile, IsNoImage, ShelfCall, OfFiles, CanRead}
-use Rattle.command_files.specs.Common.{FailsAt, IsNotTaken, IsRefused, OfCalls, FoundEnd, ReachesFile, Reads, ReadEach}
-use Rattle.command_files.specs.Common.{FetchesOf, IsPassed, IsNotPassed, ReadsNamed}
+use Rattle.command_files.specs.Table.{files_of, name_in_words, limit_of}
+use Rattle.command_files.specs.Known.{Files, Known, nothing_known, file_name, AreReadAs, ComesTo}
+use Rattle.command_files.specs.Asked.{ReadsFile, FitsFile, IsNoImage}
+use Rattle.command_files.specs.Outcomes.{ShelfCall, OfFiles, CanRead, FailsAt, IsNotTaken, IsRefused}
+use Rattle.command_files.specs.Calls.{OfCalls, FoundEnd, ReachesFile, Reads, ReadEach, FetchesOf}
+use Rattle.command_files.specs.Steps.{IsPassed, IsNotPassed, ReadsNamed}
 use Rattle.command_files.proofs.CallLemmas.{Both, calls_both, calls_hold}
 use Rattle.command_files.proofs.Refusals.{of_files, at_files, at_file, any_file}
 use Rattle.logs.proofs.Lines.{reverse-take_more}

@@ -1,8 +1,9 @@
 -- What holds where the shelf tells its files, and of a result that is an error.
 use Rattle.std.proofs.Common.{◌≡◌, ℕ, List, Option, Some, Result, Err, IfErr, arith}
-use Rattle.board_prelude.proofs.Common.{nat_tests}
+use Rattle.board_prelude.proofs.{nat_tests}
 use Rattle.board_outside.specs.Outside.{OfFile}
-use Rattle.command_files.specs.Common.{Files, OfFiles}
+use Rattle.command_files.specs.Known.{Files}
+use Rattle.command_files.specs.Outcomes.{OfFiles}
 
 pub of_files : (told : Option Files) (P : Files → Type 0) → ((files : Files) → told ≡ Some files → P files)
     → OfFiles told P

@@ -2,7 +2,8 @@
 -- there.
 use Rattle.std.specs.Prelude.{ℕ, ◌<◌, ◌≤◌, List, length}
 use Rattle.board_spec.specs.Setup.{IsRomSize, IsDiskSize}
-use Rattle.script_spec.specs.Common.{IsScriptBad, IsLogOf, DiffersAt}
+use Rattle.script_spec.specs.ScriptText.{IsScriptBad}
+use Rattle.script_spec.specs.Checks.{IsLogOf, DiffersAt}
 use Rattle.board_image.specs.Laws.{IsImageOf}
 use Rattle.script_spec.specs.Boards.{IsForBoard}
 use Rattle.command_words.specs.Words.{Command, Check, Resume}

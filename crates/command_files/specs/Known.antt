@@ -1,8 +1,9 @@
 -- What is known of the files that a command has read.
 use Rattle.std.specs.Prelude.{ℕ, ◌≡◌, ◌≤◌, ◌++◌, List, [], ◌∷◌, length, reverse, Option, Some, None}
 use Rattle.board_spec.specs.Setup.{Setup, IsRomSize, IsDiskSize, IsDisk}
-use Rattle.script_spec.specs.Common.{Script as Said, IsScriptText, IsInRangeScript}
-use Rattle.board_image.specs.Common.{Saved, IsImage, image_bytes}
+use Rattle.script_spec.specs.ScriptText.{Script as Said, IsScriptText}
+use Rattle.script_spec.specs.ScriptRange.{IsInRangeScript}
+use Rattle.board_image.specs.ImageBytes.{Saved, IsImage, image_bytes}
 use Rattle.script_spec.specs.Boards.{fitted}
 use Rattle.command_words.specs.Words.{Command, Make, Resume}
 use Rattle.command_files.specs.declared.status.Which.{Which}

@@ -9,4 +9,3 @@ pub mod Outcomes
 pub mod Calls
 pub mod Laws
 pub mod Steps
-pub mod Common

@@ -1,7 +1,8 @@
 -- What a command knows after one file more, also where the shelf does not tell its files; and why it stops at a file.
 use Rattle.std.specs.Prelude.{ℕ, ◌≡◌, ◌≤◌, List, [], length, Result, Option, Some, None}
 use Rattle.board_outside.specs.Outside.{OfFile, Fetch}
-use Rattle.script_spec.specs.Common.{IsScriptBad, IsInRangeScript}
+use Rattle.script_spec.specs.ScriptText.{IsScriptBad}
+use Rattle.script_spec.specs.ScriptRange.{IsInRangeScript}
 use Rattle.command_files.specs.declared.status.Which.{Which}
 use Rattle.command_files.specs.declared.status.Which.TheVariants.{Script}
 use Rattle.command_files.specs.declared.status.Status.{Status}

@@ -2,9 +2,10 @@
 
 ghost use Rattle.std.specs.Prelude.{◌≡◌, ◌≤◌, length, IfOk, IfErr};
 ghost use Rattle.board_spec.specs.Setup.{IsRomSize, IsDiskSize};
-ghost use Rattle.script_spec.specs.Common.{IsScriptText, IsInRangeScript};
+ghost use Rattle.script_spec.specs.ScriptText.{IsScriptText};
+ghost use Rattle.script_spec.specs.ScriptRange.{IsInRangeScript};
 ghost use Rattle.scripts.specs.Script.{said_of};
-ghost use Rattle.board_image.specs.Common.{IsImage, image_bytes};
+ghost use Rattle.board_image.specs.ImageBytes.{IsImage, image_bytes};
 ghost use Rattle.command_files.specs.declared.status.Which.{Which};
 ghost use Rattle.command_files.specs.Table.{limit_of};
 ghost use Rattle.command_files.specs.Steps.{IsBad};

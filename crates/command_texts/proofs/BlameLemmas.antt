@@ -2,12 +2,14 @@
 use Rattle.std.proofs.lemmas.Bool.Decides.{nat_tests}
 use Rattle.std.proofs.Common.{◌≡◌, ℕ, ◌-◌, ◌≤◌, true, List, length, get_or, subst, arith, refl, All, ◌==◌, ◌++◌}
 use Rattle.std.proofs.Common.{flat_map, Result, IfOk}
-use Rattle.board_prelude.proofs.Common.{eq-eqb, length-map, list_any_at, MapChange, Setup, Entry, IsReplayOf}
-use Rattle.board_prelude.proofs.Common.{map_writes_of, registers_after, IsRight}
+use Rattle.board_prelude.proofs.{eq-eqb, length-map, list_any_at, MapChange, Setup, Entry, IsReplayOf, map_writes_of}
+use Rattle.board_prelude.proofs.{registers_after, IsRight}
 use Rattle.std.proofs.Math.ListN.{get_or-map}
 use Rattle.map_blame.specs.declared.blamed.Blamed.{Blamed}
-use Rattle.map_blame.specs.Common.{is_among, IsKeep, map_range_of, AreBlamed, IsBlame}
-use Rattle.script_spec.specs.Common.{Script as Said, statements_in}
+use Rattle.map_blame.specs.Keep.{is_among, IsKeep}
+use Rattle.map_blame.specs.Report.{map_range_of, AreBlamed, IsBlame}
+use Rattle.script_spec.specs.ScriptText.{Script as Said}
+use Rattle.script_spec.specs.ScriptRange.{statements_in}
 use Rattle.command_texts.specs.Blame.{blamed_text, keep_text, IsBlameText}
 use Rattle.map_blame.proofs.KeptLemmas.{kept_number}
 

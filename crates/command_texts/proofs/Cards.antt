@@ -1,6 +1,6 @@
 -- What `==` says of the bases of cards.
 use Rattle.std.proofs.Common.{◌≡◌, ℕ, false, List, [], ◌∷◌, Decides, map, not, nat_eq, Option, arith}
-use Rattle.board_prelude.proofs.Common.{option_eq, nat_tests, FittedCard}
+use Rattle.board_prelude.proofs.{option_eq, nat_tests, FittedCard}
 use Rattle.std.specs.Cmp.Lexicographic.{pointwise}
 use Rattle.pci_bars.specs.declared.spec.BaseSpec.{BaseSpec}
 use Rattle.pci_bars.specs.contracts.spec.BaseSpecPartialEq.TheImpl.{eq-value}

@@ -1,8 +1,9 @@
 -- What a board did, put together, one phase of a script after another.
 use Rattle.std.proofs.Common.{◌≡◌, List, [], ◌++◌, length, Result, OnOk, arith, OnErr, ℕ, ◌+◌, ◌<◌, ◌≤◌, take, get_or}
 use Rattle.std.proofs.Common.{All, append-nil, length-append, max, ◌∷◌}
-use Rattle.board_prelude.proofs.Common.{nat_tests, take_more, length-map, length-reverse, Entry, Statement, Setup}
-use Rattle.board_prelude.proofs.Common.{IsReplayOf, Vec, Global, in_file_order}
+use Rattle.board_prelude.proofs.{nat_tests, take_more, length-map, length-reverse, Entry, Setup, IsReplayOf, Vec}
+use Rattle.board_prelude.proofs.{Global, in_file_order}
+use Rattle.board_prelude.specs.{Statement}
 use Rattle.std.proofs.lemmas.List.{append_assoc}
 use Rattle.board_core.specs.Kept.{Standing}
 use Rattle.command_texts.specs.Done.{DidStatements}

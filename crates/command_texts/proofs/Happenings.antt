@@ -3,16 +3,22 @@ use Rattle.std.proofs.Common.{arith, ◌≡◌, ℕ, Bool, List, [], ◌∷◌, 
 use Rattle.std.proofs.Common.{◌∙◌, append-nil, append_assoc}
 use Rattle.std.proofs.lemmas.Bool.Decides.{nat_tests}
 use Rattle.board_spec.proofs.OrderLawProofs.{statements-append}
-use Rattle.board_prelude.proofs.Common.{cases_Bool, length-map, length-reverse, nil_from_length, Event, Line, Entry}
-use Rattle.board_prelude.proofs.Common.{Statement, IsAnswer, reset_control, is_hard_reset, statement_of, statements_of}
+use Rattle.board_prelude.proofs.{cases_Bool, length-map, length-reverse, nil_from_length, Event, Line, Entry, IsAnswer}
+use Rattle.board_prelude.proofs.{reset_control, is_hard_reset, statement_of, statements_of}
+use Rattle.board_prelude.specs.{Statement}
 use Rattle.board_core.specs.Kept.{Standing}
 use Rattle.uart_16550.specs.declared.com1.Happening.{Happening}
 use Rattle.uart_16550.specs.declared.com1.Happening.TheVariants.{Comes, Happens}
-use Rattle.uart_16550.specs.Common.{received, differ, com1_actor, com1_at_reset, com1_irq, level_of, line_steps}
-use Rattle.uart_16550.specs.Common.{change_steps, com1_after, board_steps, Serial, GoesOnBy, IsLeftAfter, Sending}
-use Rattle.uart_16550.specs.Common.{sending_after, bytes_sent, after_all}
-use Rattle.uart_16550.proofs.Common.{control_follows}
-use Rattle.command_texts.specs.Common.{steps_for_all, IsStanding, Happened}
+use Rattle.uart_16550.specs.Uart.{received}
+use Rattle.uart_16550.specs.Writes.{differ}
+use Rattle.uart_16550.specs.Com1.{com1_actor, com1_at_reset, com1_irq, level_of, line_steps, change_steps, com1_after}
+use Rattle.uart_16550.specs.Com1.{board_steps}
+use Rattle.uart_16550.specs.Serial.{Serial, GoesOnBy, IsLeftAfter}
+use Rattle.uart_16550.specs.Sent.{Sending, sending_after, bytes_sent}
+use Rattle.uart_16550.specs.SerialOrder.{after_all}
+use Rattle.uart_16550.proofs.ControlProofs.{control_follows}
+use Rattle.command_texts.specs.Serial.{steps_for_all}
+use Rattle.command_texts.specs.SerialSteps.{IsStanding, Happened}
 
 -- ---- lists of happenings, cut
 

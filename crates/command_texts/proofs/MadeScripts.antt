@@ -1,9 +1,11 @@
 -- The script that is made.
 use Rattle.std.proofs.Common.{◌≡◌, ℕ, zero, suc, ◌*◌, ◌<◌, ◌≤◌, List, length, refl, length-append, arith, Result, IfOk}
-use Rattle.board_prelude.proofs.Common.{Entry, IsReplayOf, Setup, flat_map-append, nat_tests}
-use Rattle.script_spec.specs.Common.{statements_in, text_of_lines, Script as Said, IsScriptText}
-use Rattle.make_script.specs.Common.{setup_lines, opening_lines, round_lines, lines_of_rounds, make_text}
-use Rattle.command_texts.specs.Common.{HasSummary, IsMakeText, made_setup_of}
+use Rattle.board_prelude.proofs.{Entry, IsReplayOf, Setup, flat_map-append, nat_tests}
+use Rattle.script_spec.specs.ScriptRange.{statements_in}
+use Rattle.script_spec.specs.Lines.{text_of_lines}
+use Rattle.script_spec.specs.ScriptText.{Script as Said, IsScriptText}
+use Rattle.make_script.specs.MakeText.{setup_lines, opening_lines, round_lines, lines_of_rounds, make_text}
+use Rattle.command_texts.specs.Replays.{HasSummary, IsMakeText, made_setup_of}
 use Rattle.script_spec.proofs.ReadingLaws.{not_both}
 
 -- ---- how long the text is

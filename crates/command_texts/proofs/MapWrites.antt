@@ -1,10 +1,12 @@
 -- The map writes of a history as they are noted. The entry of a version is the first after which the map had it.
 use Rattle.std.proofs.Common.{◌≡◌, ℕ, ◌+◌, ◌<◌, ◌≤◌, inl, inr, List, [], ◌∷◌, ◌++◌, length, refl, sym, ap, ◌∙◌, arith}
 use Rattle.std.proofs.Common.{length-append, Some, None, zero, suc, drop}
-use Rattle.board_prelude.proofs.Common.{cases_lt, nat_tests, common_steps, length-reverse, Entry, MapChange, Setup}
-use Rattle.board_prelude.proofs.Common.{map_change_of, map_writes_of, version_of}
+use Rattle.board_prelude.proofs.{cases_lt, nat_tests, common_steps, length-reverse, Entry, MapChange, Setup}
+use Rattle.board_prelude.proofs.{map_change_of, map_writes_of, version_of}
 use Rattle.command_texts.specs.declared.writes.MapWrites.{MapWrites}
-use Rattle.command_texts.specs.Common.{entry_of_version, AreWritesOf, first_entries, EntryOfVersionIsFirst, IsFirstWith}
+use Rattle.command_texts.specs.Blame.{entry_of_version}
+use Rattle.command_texts.specs.Writes.{AreWritesOf}
+use Rattle.command_texts.specs.Laws.{first_entries, EntryOfVersionIsFirst, IsFirstWith}
 
 pub version_is : (setup : Setup) (history : List Entry) (writes : MapWrites) → AreWritesOf setup history writes →
     version_of setup history ≡ length writes.changes.items

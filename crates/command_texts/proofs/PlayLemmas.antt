@@ -1,11 +1,11 @@
 -- One statement more of a replay that keeps no history.
 use Rattle.std.proofs.Common.{ℕ, ◌≡◌, ◌+◌, ◌<◌, List, [], ◌∷◌, ◌++◌, length, take, get_or, append_assoc}
-use Rattle.board_prelude.proofs.Common.{take_more, Entry, Statement, statements-newest}
+use Rattle.board_prelude.proofs.{take_more, Entry, statements-newest, Setup, IsReplayOf}
+use Rattle.board_prelude.specs.{Statement, byte_of, IsFlatMapOf, MapRange, map_text}
 use Rattle.board_spec.specs.declared.event.Reply.{Reply}
 use Rattle.board_core.specs.Kept.{Playing, HasPlayed, entry_of}
-use Rattle.board_prelude.proofs.Common.{Setup, IsReplayOf}
-use Rattle.board_prelude.specs.Common.{byte_of, IsFlatMapOf, MapRange, map_text}
-use Rattle.script_spec.specs.Common.{Script as Said, statements_in}
+use Rattle.script_spec.specs.ScriptText.{Script as Said}
+use Rattle.script_spec.specs.ScriptRange.{statements_in}
 use Rattle.command_texts.specs.Plays.{HasDone}
 use Rattle.command_texts.specs.Replays.{IsMapText}
 

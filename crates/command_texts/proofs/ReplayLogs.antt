@@ -1,7 +1,8 @@
 -- One entry more in the log of a replay.
 use Rattle.std.proofs.Common.{ℕ, ◌≡◌, ◌+◌, ◌<◌, List, [], ◌∷◌, ◌++◌, length, take, get_or, refl, sym, ap, ◌∙◌}
 use Rattle.std.proofs.Common.{append_assoc, append-nil, add-one, slice_index}
-use Rattle.board_prelude.proofs.Common.{take_more, Entry, Statement, line_feed, line_text, log_text, statements-newest}
+use Rattle.board_prelude.proofs.{take_more, Entry, line_feed, line_text, log_text, statements-newest}
+use Rattle.board_prelude.specs.{Statement}
 use Rattle.board_spec.specs.declared.event.Reply.{Reply}
 use Rattle.board_core.specs.Kept.{Playing, HasPlayed, entry_of}
 use Rattle.logs.specs.LinesFrom.{entry_with}

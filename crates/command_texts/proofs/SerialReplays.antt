@@ -2,16 +2,20 @@
 use Rattle.std.proofs.lemmas.Bool.Decides.{nat_tests}
 use Rattle.std.proofs.Common.{◌≡◌, ℕ, ◌+◌, ◌*◌, ◌<◌, ◌≤◌, List, [], ◌∷◌, ◌++◌, length, map, take, get_or, refl}
 use Rattle.std.proofs.Common.{append-nil, append_assoc, length-append, arith, true, All, slice_index}
-use Rattle.board_prelude.proofs.Common.{common_steps, take_more, length-take-le, Statement, Setup, reset_control}
-use Rattle.board_prelude.proofs.Common.{IsLegal, LegalKeepsLock}
+use Rattle.board_prelude.proofs.{common_steps, take_more, length-take-le, Setup, reset_control, IsLegal, LegalKeepsLock}
+use Rattle.board_prelude.specs.{Statement}
 use Rattle.std.proofs.Math.Nat.{le-add_right}
 use Rattle.board_core.specs.Kept.{Standing}
 use Rattle.uart_16550.specs.declared.com1.Happening.TheVariants.{Comes, Happens}
-use Rattle.uart_16550.specs.Common.{Serial, Sending, sent_by, Uart, has_room, com1_at_reset, sending_at_reset}
-use Rattle.command_texts.specs.Common.{bytes_before, left_after, happenings_in, steps_in, sent_in, IsStanding, Happened}
-use Rattle.command_texts.specs.Common.{SerialPlace, WentOn, port_of, IsSerialText, IsForPort}
+use Rattle.uart_16550.specs.Serial.{Serial}
+use Rattle.uart_16550.specs.Sent.{Sending, sent_by, sending_at_reset}
+use Rattle.uart_16550.specs.Uart.{Uart, has_room}
+use Rattle.uart_16550.specs.Com1.{com1_at_reset}
+use Rattle.command_texts.specs.Serial.{bytes_before, left_after, happenings_in, steps_in, sent_in, IsSerialText}
+use Rattle.command_texts.specs.SerialSteps.{IsStanding, Happened, SerialPlace, WentOn, port_of, IsForPort}
 use Rattle.command_texts.proofs.Happenings.{sent-append, none_sent, happened_twice}
-use Rattle.script_spec.specs.Common.{Script as Said, IsInRangeScript, statements_in}
+use Rattle.script_spec.specs.ScriptText.{Script as Said}
+use Rattle.script_spec.specs.ScriptRange.{IsInRangeScript, statements_in}
 
 pub went_nowhere : (place : SerialPlace) → IsStanding place.serial → WentOn place [] place
 went_nowhere place standing = grind (arith, nat_tests, le-add_right)

@@ -2,7 +2,8 @@
 use Rattle.std.proofs.Common.{◌≡◌}
 use Rattle.board_spec.specs.Setup.{Setup}
 use Rattle.board_core.specs.Steps.{AreInRange}
-use Rattle.script_spec.specs.Common.{Script as Said, IsInRangeScript, statements_in}
+use Rattle.script_spec.specs.ScriptText.{Script as Said}
+use Rattle.script_spec.specs.ScriptRange.{IsInRangeScript, statements_in}
 
 pub in_range : (setup : Setup) (script : Said) → IsInRangeScript script → setup.cards ≡ script.cards →
     AreInRange setup (statements_in script)

@@ -1,12 +1,12 @@
 -- Lines of a text, one after another.
-use Rattle.board_prelude.proofs.Common.{common_steps, take-append_seam, get_or-append_seam, take_more, map-append}
-use Rattle.board_prelude.proofs.Common.{line_feed, MapRange, range_text, map_text}
+use Rattle.board_prelude.proofs.{common_steps, take-append_seam, get_or-append_seam, take_more, map-append, line_feed}
+use Rattle.board_prelude.proofs.{MapRange, range_text, map_text}
 use Rattle.std.proofs.lemmas.Bool.Decides.{nat_tests}
 use Rattle.std.proofs.Common.{◌≡◌, ℕ, ◌+◌, ◌-◌, ◌<◌, List, ◌∷◌, ◌++◌, [], take, length, get_or, append_assoc}
 use Rattle.std.proofs.Common.{length-append, arith, flat_map, slice_index, map}
 use Rattle.std.proofs.lemmas.List.{flat_map_more}
 use Rattle.map_builder.specs.declared.range.Range.{Range}
-use Rattle.map_builder.specs.Common.{range_of}
+use Rattle.map_builder.specs.Ranges.{range_of}
 
 -- the line of the element at i makes the text one line longer
 pub lines_more : {A : Type 0} (line_of : A → List ℕ) (elements : List A) (i : ℕ) (default : A) → i < length elements →

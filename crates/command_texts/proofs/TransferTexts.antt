@@ -3,13 +3,15 @@ use Rattle.std.proofs.lemmas.Bool.Decides.{nat_tests}
 use Rattle.std.proofs.Common.{ap, add-one, ◌≡◌, ℕ, ◌<◌, List, [], ◌++◌, length, refl, slice_index, Result, Ok, Err}
 use Rattle.std.proofs.Common.{IfOk, zero, suc, ◌+◌, ◌-◌, ◌*◌, ◌≤◌, take, drop, add-suc, add-zero, arith, ◌∷◌}
 use Rattle.std.proofs.Common.{append_assoc, OnOk}
-use Rattle.board_prelude.proofs.Common.{Entry, Setup, installed, byte_of, disk_of, Cell, space}
+use Rattle.board_prelude.proofs.{Entry, Setup, installed, byte_of, disk_of, Cell, space}
 use Rattle.dram_store.specs.Dram.{IsDramOf}
 use Rattle.dram_store.proofs.DramLemmas.{read_stored}
 use Rattle.pci_bars.specs.Contents.{IsContentsOf}
 use Rattle.board_chipset.specs.declared.store.Store.{Store}
 use Rattle.bus_master.specs.declared.done.Done.{Done}
-use Rattle.bus_master.specs.Common.{Master, Moving, done_of, master_after, with_medium, cells_of, transfer_of, IsCell}
+use Rattle.bus_master.specs.Registers.{Master}
+use Rattle.bus_master.specs.Transfer.{Moving, done_of, master_after, with_medium}
+use Rattle.bus_master.specs.Stores.{cells_of, transfer_of, IsCell}
 use Rattle.command_words.specs.declared.transfer.Transfer.{Transfer}
 use Rattle.command_texts.specs.Laws.{RomsAreRead}
 use Rattle.command_texts.specs.Transfers.{AreCellsAfter, HasTransferText, started, sum_below, disk_sum, ended_line}

@@ -1,8 +1,8 @@
 -- What `blame` puts: the address map with the entries of the history that made it.
 use Rattle.std.specs.Prelude.{ℕ, ◌≡◌, ◌+◌, ◌++◌, nat_lt, if◌then◌else◌, List, [], ◌∷◌, length, flat_map, codes, decimal}
-use Rattle.board_prelude.specs.Common.{Entry, Setup, IsReplayOf, map_writes_of, version_of, range_text, space}
-use Rattle.board_prelude.specs.Common.{line_feed}
-use Rattle.script_spec.specs.Common.{Script as Said, statements_in}
+use Rattle.board_prelude.specs.{Entry, Setup, IsReplayOf, map_writes_of, version_of, range_text, space, line_feed}
+use Rattle.script_spec.specs.ScriptText.{Script as Said}
+use Rattle.script_spec.specs.ScriptRange.{statements_in}
 use Rattle.map_blame.specs.declared.blamed.Blamed.{Blamed}
 use Rattle.map_blame.specs.Report.{map_range_of, IsBlame}
 

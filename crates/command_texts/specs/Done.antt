@@ -1,6 +1,6 @@
 -- What a board did between two moments.
 use Rattle.std.specs.Prelude.{◌≡◌, ◌++◌, List}
-use Rattle.board_prelude.specs.Common.{Statement, IsLegal, statements_of}
+use Rattle.board_prelude.specs.{Statement, IsLegal, statements_of}
 use Rattle.board_core.specs.Kept.{Standing}
 
 -- the board did these statements in their order, and nothing else. Its history is legal where it was

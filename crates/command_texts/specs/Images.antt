@@ -1,8 +1,9 @@
 -- What `save` and `resume` put: the image of a board, and the log of a board that goes on from its image.
 use Rattle.std.specs.Prelude.{ℕ, ◌≡◌, ◌++◌, List}
-use Rattle.board_prelude.specs.Common.{Entry, Setup, IsReplayOf, statements_of, LockLaw, log_text}
-use Rattle.script_spec.specs.Common.{Script as Said, statements_in}
-use Rattle.board_image.specs.Common.{Saved, image_bytes}
+use Rattle.board_prelude.specs.{Entry, Setup, IsReplayOf, statements_of, LockLaw, log_text}
+use Rattle.script_spec.specs.ScriptText.{Script as Said}
+use Rattle.script_spec.specs.ScriptRange.{statements_in}
+use Rattle.board_image.specs.ImageBytes.{Saved, image_bytes}
 
 -- the image of a board after the replay of a script: its setup, and the statements of its history, which are the
 -- script's in the order of the file. The replies follow from these

@@ -1,7 +1,7 @@
 -- What the laws say: each is proved on a function of `laws`.
 use Rattle.std.specs.Prelude.{ℕ, ◌≡◌, ◌+◌, ◌-◌, ◌%◌, ◌≤◌, List, length, drop}
-use Rattle.board_prelude.specs.Common.{Entry, Setup, CardCell, version_of}
-use Rattle.bus_master.specs.Common.{Cells}
+use Rattle.board_prelude.specs.{Entry, Setup, CardCell, version_of}
+use Rattle.bus_master.specs.Cells.{Cells}
 use Rattle.command_texts.specs.Blame.{entry_of_version}
 use Rattle.command_texts.specs.Transfers.{AreCellsAfter}
 

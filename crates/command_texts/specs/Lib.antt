@@ -10,5 +10,4 @@ pub mod Laws
 pub mod Transfers
 pub mod Serial
 pub mod SerialSteps
-pub mod Common
 pub mod Plays

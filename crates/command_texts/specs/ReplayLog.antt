@@ -1,6 +1,6 @@
 -- The log of what a replay has played so far.
 use Rattle.std.specs.Prelude.{ℕ, ◌≡◌, List}
-use Rattle.board_prelude.specs.Common.{Entry, Statement, statements_of, log_text}
+use Rattle.board_prelude.specs.{Entry, Statement, statements_of, log_text}
 use Rattle.board_core.specs.Kept.{Playing, HasPlayed}
 
 -- the text is the log of a history that the replay has played, and whose statements these are

@@ -1,9 +1,13 @@
 -- The texts that a replay of a script gives: its log, the address map after it, the verdict on a log, and a summary.
 use Rattle.std.specs.Prelude.{ℕ, ◌≡◌, ◌++◌, ◌∷◌, [], List, length, codes, decimal, Some}
-use Rattle.board_prelude.specs.Common.{Entry, line_feed, Setup, byte_of, IsReplayOf, LockLaw, log_text, MapRange}
-use Rattle.board_prelude.specs.Common.{IsFlatMapOf, map_text}
-use Rattle.script_spec.specs.Common.{Script as Said, IsScriptText, statements_in, IsLogOf}
-use Rattle.make_script.specs.Common.{make_text, rom_image, disk_image, summary_of}
+use Rattle.board_prelude.specs.{Entry, line_feed, Setup, byte_of, IsReplayOf, LockLaw, log_text, MapRange, IsFlatMapOf}
+use Rattle.board_prelude.specs.{map_text}
+use Rattle.script_spec.specs.ScriptText.{Script as Said, IsScriptText}
+use Rattle.script_spec.specs.ScriptRange.{statements_in}
+use Rattle.script_spec.specs.Checks.{IsLogOf}
+use Rattle.make_script.specs.MakeText.{make_text}
+use Rattle.make_script.specs.Images.{rom_image, disk_image}
+use Rattle.make_script.specs.Summary.{summary_of}
 use Rattle.script_spec.specs.Boards.{fitted}
 
 -- the log of the replay of a script: of the one legal history whose statements are the script's in the order of the

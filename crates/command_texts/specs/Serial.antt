@@ -1,11 +1,13 @@
 -- What a board with a serial port sends while a script is replayed on it and bytes come from outside.
 use Rattle.std.specs.Prelude.{ℕ, ◌≡◌, ◌++◌, ◌∷◌, [], List, length, map, take, drop, if◌then◌else◌}
-use Rattle.board_prelude.specs.Common.{Entry, Statement, Setup, IsReplayOf, LockLaw}
+use Rattle.board_prelude.specs.{Entry, Statement, Setup, IsReplayOf, LockLaw}
 use Rattle.uart_16550.specs.declared.com1.Happening.{Happening}
 use Rattle.uart_16550.specs.declared.com1.Happening.TheVariants.{Comes, Happens}
-use Rattle.uart_16550.specs.Common.{Uart, has_room, Sending, sending_at_reset, sending_after, steps_for, bytes_sent}
-use Rattle.uart_16550.specs.Common.{after_all}
-use Rattle.script_spec.specs.Common.{Script as Said, statements_in}
+use Rattle.uart_16550.specs.Uart.{Uart, has_room}
+use Rattle.uart_16550.specs.Sent.{Sending, sending_at_reset, sending_after, steps_for, bytes_sent}
+use Rattle.uart_16550.specs.SerialOrder.{after_all}
+use Rattle.script_spec.specs.ScriptText.{Script as Said}
+use Rattle.script_spec.specs.ScriptRange.{statements_in}
 
 -- ---- what happens
 

@@ -1,11 +1,14 @@
 -- How a replay on a board with a serial port goes on.
 use Rattle.std.specs.Prelude.{ℕ, ◌≡◌, ◌+◌, ◌*◌, ◌<◌, ◌≤◌, ◌++◌, List, length, Option, None}
-use Rattle.board_prelude.specs.Common.{Statement, Setup, IsInRange, reset_control, statements_of}
+use Rattle.board_prelude.specs.{Statement, Setup, IsInRange, reset_control, statements_of}
 use Rattle.board_core.specs.Kept.{Standing}
 use Rattle.uart_16550.specs.declared.com1.Happening.{Happening}
 use Rattle.uart_16550.specs.declared.com1.SerialReply.{SerialReply}
 use Rattle.uart_16550.specs.declared.com1.SerialReply.TheVariants.{Board, Uart}
-use Rattle.uart_16550.specs.Common.{com1_actor, Serial, IsLeftBy, Sending, after_all}
+use Rattle.uart_16550.specs.Com1.{com1_actor}
+use Rattle.uart_16550.specs.Serial.{Serial, IsLeftBy}
+use Rattle.uart_16550.specs.Sent.{Sending}
+use Rattle.uart_16550.specs.SerialOrder.{after_all}
 use Rattle.command_texts.specs.Serial.{steps_for_all, steps_in, sent_in}
 
 -- the byte that an access sent

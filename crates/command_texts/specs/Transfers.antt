@@ -1,15 +1,18 @@
 -- What `dma` asks of a bus master after a replay, and the text of the transfer.
 use Rattle.std.specs.Prelude.{ℕ, zero, suc, ◌≡◌, ◌+◌, ◌*◌, ◌++◌, ◌∷◌, [], List, slice_index, codes, decimal, Option}
 use Rattle.std.specs.Prelude.{Some, None, if◌then◌else◌}
-use Rattle.board_prelude.specs.Common.{Disk, sectors_of, Entry, Setup, installed, byte_of, DramCell, CardCell}
-use Rattle.board_prelude.specs.Common.{dram_byte, card_byte, expansion_byte, rom_base, disk_of, IsReplayOf, space}
-use Rattle.board_prelude.specs.Common.{line_feed, hex_byte, hex_long, denial_text}
+use Rattle.board_prelude.specs.{Disk, sectors_of, Entry, Setup, installed, byte_of, DramCell, CardCell, dram_byte}
+use Rattle.board_prelude.specs.{card_byte, expansion_byte, rom_base, disk_of, IsReplayOf, space, line_feed, hex_byte}
+use Rattle.board_prelude.specs.{hex_long, denial_text}
 use Rattle.pci_bars.specs.Contents.{IsBaseNumber}
 use Rattle.bus_master.specs.declared.done.Done.{Done}
 use Rattle.bus_master.specs.declared.done.End.{End}
 use Rattle.bus_master.specs.declared.done.End.TheVariants.{Exact, Longer, Shorter, Abort, Sector}
-use Rattle.bus_master.specs.Common.{Cells, Master, Moving, transferred, done_of, master_after, medium_of, with_medium}
-use Rattle.script_spec.specs.Common.{Script as Said, statements_in}
+use Rattle.bus_master.specs.Cells.{Cells}
+use Rattle.bus_master.specs.Registers.{Master}
+use Rattle.bus_master.specs.Transfer.{Moving, transferred, done_of, master_after, medium_of, with_medium}
+use Rattle.script_spec.specs.ScriptText.{Script as Said}
+use Rattle.script_spec.specs.ScriptRange.{statements_in}
 use Rattle.command_words.specs.declared.transfer.Transfer.{Transfer}
 
 -- ---- the transfer

@@ -1,6 +1,6 @@
 -- The map writes of a history, as they are noted while it is made.
 use Rattle.std.specs.Prelude.{ℕ, ◌≡◌, ◌+◌, ◌<◌, List, length, reverse, slice_index}
-use Rattle.board_prelude.specs.Common.{Entry, Setup, map_writes_of}
+use Rattle.board_prelude.specs.{Entry, Setup, map_writes_of}
 use Rattle.command_texts.specs.declared.writes.MapWrites.{MapWrites}
 use Rattle.command_texts.specs.Blame.{entry_of_version}
 

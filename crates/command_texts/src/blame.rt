@@ -1,7 +1,7 @@
 //! The command `blame`: since which map write each range of the address map stands, and on which map writes it rests.
 
 ghost use Rattle.std.specs.Prelude.{◌≡◌, ◌++◌, ◌≤◌, List, All, length, flat_map, IfOk, OnOk};
-ghost use Rattle.board_prelude.specs.Common.{Entry, Setup, range_text};
+ghost use Rattle.board_prelude.specs.{Entry, Setup, range_text};
 ghost use Rattle.logs.specs.Adds.{AddsWords};
 ghost use Rattle.map_builder.specs.Map.{range_of};
 ghost use Rattle.scripts.specs.Script.{said_of};

@@ -4,7 +4,7 @@ ghost use Rattle.std.specs.Prelude.{◌≡◌, ◌≤◌, ◌↔◌, ◌++◌, t
 ghost use Rattle.board_spec.specs.Orders.{IsReplayOf};
 ghost use Rattle.script_spec.specs.ScriptRange.{IsInRangeScript, statements_in};
 ghost use Rattle.scripts.specs.Script.{said_of};
-ghost use Rattle.board_image.specs.Common.{IsImage};
+ghost use Rattle.board_image.specs.ImageBytes.{IsImage};
 ghost use Rattle.command_texts.specs.Fresh.{IsFreshFor};
 ghost use Rattle.command_texts.specs.Images.{IsSaveText, IsResumeText};
 ghost use Rattle.script_spec.specs.Boards.{IsForBoard};

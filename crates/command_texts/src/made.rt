@@ -1,9 +1,11 @@
 //! The command `make`: the program makes a script of many rounds, replays it and sums it up.
 
 ghost use Rattle.std.specs.Prelude.{◌≡◌, ◌≤◌, [], IfOk};
-ghost use Rattle.script_spec.specs.Common.{IsScriptText, IsInRangeScript};
+ghost use Rattle.script_spec.specs.ScriptText.{IsScriptText};
+ghost use Rattle.script_spec.specs.ScriptRange.{IsInRangeScript};
 ghost use Rattle.scripts.specs.Script.{said_of};
-ghost use Rattle.make_script.specs.Common.{make_text, most_rounds};
+ghost use Rattle.make_script.specs.MakeText.{make_text};
+ghost use Rattle.make_script.specs.Laws.{most_rounds};
 ghost use Rattle.command_texts.specs.Replays.{HasSummary, IsMakeText, made_setup_of};
 
 use crate::board::open_board;

@@ -1,9 +1,10 @@
 //! Replays of a script that need no history: what counts is the board that they leave.
 
 ghost use Rattle.std.specs.Prelude.{◌≡◌, ◌+◌, ◌++◌, ◌<◌, [], List, length};
-ghost use Rattle.board_prelude.specs.Common.{Statement as AStatement, entry_limit};
-ghost use Rattle.board_core.specs.Common.{AreInRange, HasPlayed};
-ghost use Rattle.script_spec.specs.Common.{IsInRangeScript, statements_in};
+ghost use Rattle.board_prelude.specs.{Statement as AStatement, entry_limit};
+ghost use Rattle.board_core.specs.Steps.{AreInRange};
+ghost use Rattle.board_core.specs.Kept.{HasPlayed};
+ghost use Rattle.script_spec.specs.ScriptRange.{IsInRangeScript, statements_in};
 ghost use Rattle.scripts.specs.Script.{said_of};
 ghost use Rattle.command_texts.specs.Fresh.{IsFreshFor};
 ghost use Rattle.command_texts.specs.Plays.{HasDone};

@@ -2,10 +2,10 @@
 
 ghost use Rattle.std.specs.Prelude.{◌≡◌, ◌∷◌, ◌++◌, ◌≤◌, ◌⊎◌, ℕ, [], Ok, Err, length, map, string_bytes, codes};
 ghost use Rattle.std.specs.Prelude.{decimal, IfOk, IfErr, OnOk, OnErr};
-ghost use Rattle.board_prelude.specs.Common.{IsLegal, most_statements, log_text, IsReplayOf, IsBegunFor, line_feed};
-ghost use Rattle.board_prelude.specs.Common.{map_text};
+ghost use Rattle.board_prelude.specs.{IsLegal, most_statements, log_text, IsReplayOf, IsBegunFor, line_feed, map_text};
 ghost use Rattle.map_builder.specs.Map.{range_of};
-ghost use Rattle.script_spec.specs.Common.{IsInRangeScript, statements_in, IsLogOf, DiffersAt};
+ghost use Rattle.script_spec.specs.ScriptRange.{IsInRangeScript, statements_in};
+ghost use Rattle.script_spec.specs.Checks.{IsLogOf, DiffersAt};
 ghost use Rattle.scripts.specs.Script.{said_of};
 ghost use Rattle.log_check.specs.declared.fault.CheckFault.{CheckFault};
 ghost use Rattle.log_check.specs.Checked.{IsCheckedLog, StandsAfter};

@@ -1,9 +1,10 @@
 //! The log of a replay: each line is written as its statement is done, and no history is kept.
 
 ghost use Rattle.std.specs.Prelude.{◌≡◌, ◌+◌, ◌++◌, ◌<◌, ℕ, List, [], length, string_bytes, IfOk, OnOk};
-ghost use Rattle.board_prelude.specs.Common.{Statement as AStatement, entry_limit};
-ghost use Rattle.board_core.specs.Common.{AreInRange, HasPlayed};
-ghost use Rattle.script_spec.specs.Common.{IsInRangeScript, statements_in};
+ghost use Rattle.board_prelude.specs.{Statement as AStatement, entry_limit};
+ghost use Rattle.board_core.specs.Steps.{AreInRange};
+ghost use Rattle.board_core.specs.Kept.{HasPlayed};
+ghost use Rattle.script_spec.specs.ScriptRange.{IsInRangeScript, statements_in};
 ghost use Rattle.scripts.specs.Script.{said_of};
 ghost use Rattle.command_texts.specs.Fresh.{IsFreshFor};
 ghost use Rattle.command_texts.specs.Replays.{IsReplayText};

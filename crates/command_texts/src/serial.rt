@@ -1,10 +1,11 @@
 //! The command `serial`: what a board with a serial port sends during a replay, while bytes come from outside.
 
 ghost use Rattle.std.specs.Prelude.{◌≡◌, ◌++◌, ◌∷◌, ◌+◌, ◌*◌, ◌≤◌, ℕ, [], All, length, map, IfOk, OnOk};
-ghost use Rattle.board_prelude.specs.Common.{most_statements, in_file_order};
+ghost use Rattle.board_prelude.specs.{most_statements, in_file_order};
 ghost use Rattle.script_spec.specs.Phases.{lists_of};
 ghost use Rattle.scripts.specs.Script.{said_of};
-ghost use Rattle.uart_16550.specs.Common.{com1_at_reset, sent_by};
+ghost use Rattle.uart_16550.specs.Com1.{com1_at_reset};
+ghost use Rattle.uart_16550.specs.Sent.{sent_by};
 ghost use Rattle.uart_16550.specs.declared.com1.Happening.TheVariants.{Comes, Happens};
 ghost use Rattle.command_texts.specs.Fresh.{IsFreshFor};
 ghost use Rattle.command_texts.specs.Serial.{IsSerialText, bytes_before, left_after};

@@ -1,8 +1,8 @@
 //! The command `dma`: a transfer of the bus master after a replay.
 
 ghost use Rattle.std.specs.Prelude.{◌≡◌, ◌++◌, ◌*◌, ◌≤◌, List, Some, length, slice_index, IfOk, OnOk};
-ghost use Rattle.board_prelude.specs.Common.{Entry};
-ghost use Rattle.board_core.specs.Common.{HasPlayed};
+ghost use Rattle.board_prelude.specs.{Entry};
+ghost use Rattle.board_core.specs.Kept.{HasPlayed};
 ghost use Rattle.scripts.specs.Script.{said_of};
 ghost use Rattle.dram_store.specs.Bank.{bank_size};
 ghost use Rattle.logs.specs.Adds.{AddsWords};

@@ -1,7 +1,7 @@
 //! The map writes of a replay, noted while its statements are done.
 
 ghost use Rattle.std.specs.Prelude.{◌≡◌, ◌-◌, ◌++◌, ◌≤◌, ◌∷◌, [], List, length, IfOk, OnOk};
-ghost use Rattle.board_prelude.specs.Common.{Entry, Setup, IsInRange, IsReplayOf};
+ghost use Rattle.board_prelude.specs.{Entry, Setup, IsInRange, IsReplayOf};
 ghost use Rattle.board_core.specs.Steps.{AreInRange};
 ghost use Rattle.script_spec.specs.ScriptRange.{statements_in};
 ghost use Rattle.scripts.specs.Script.{said_of};

@@ -1,9 +1,9 @@
 -- The words that ask for a command are those that a user writes.
 use Rattle.std.proofs.Common.{◌≡◌, ℕ, Bool, true, List, [], ◌∷◌, Some, refl, arith, codes, decimal}
 use Rattle.std.proofs.lemmas.Bool.Decides.{nat_tests}
-use Rattle.script_spec.specs.Common.{parse_decimal, parse_hex}
-use Rattle.script_spec.proofs.Chains.{by_word}
-use Rattle.script_spec.proofs.Common.{some_is, guarded, then_said, word_is, decimal_read, decimal_back}
+use Rattle.script_spec.specs.Numbers.{parse_decimal, parse_hex}
+use Rattle.script_spec.proofs.Chains.{by_word, some_is, guarded, then_said, word_is}
+use Rattle.script_spec.proofs.NumberTexts.{decimal_read, decimal_back}
 use Rattle.command_words.specs.declared.transfer.Transfer.{Transfer}
 use Rattle.command_words.specs.Words.{Command, Replay, Run, Map, Check, Make, Dma, Save, Resume, Serial, Blame}
 use Rattle.command_words.specs.Words.{IsTransfer, IsCommand, direction_word, AreWordsOf, with_name, with_names, make_of}

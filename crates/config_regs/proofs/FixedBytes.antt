@@ -1,7 +1,7 @@
 -- A register that nothing changes holds after every history what a reset leaves.
 use Rattle.std.proofs.Common.{◌≡◌, ◌<◌, ℕ, lit<, List, [], ◌∷◌, false, Option, Some, None, refl, arith}
-use Rattle.board_prelude.proofs.Common.{nat_tests, ne_eqb, Reg, Entry, MapChange, Store, Reset, Setup, smram, is_same}
-use Rattle.board_prelude.proofs.Common.{reset_byte, byte_with, register_change, byte_of}
+use Rattle.board_prelude.proofs.{nat_tests, ne_eqb, Reg, Entry, MapChange, Store, Reset, Setup, smram, is_same}
+use Rattle.board_prelude.proofs.{reset_byte, byte_with, register_change, byte_of}
 use Rattle.host_bridge.specs.Pmc.{IsFixedOffset}
 use Rattle.host_bridge.proofs.RowNames.{writable_bits-fixed, reset_byte-small}
 use Rattle.south_bridge.proofs.SelectLemmas.{IsFixedAt, kept_byte, fixed_at}

@@ -1,6 +1,6 @@
 -- What a store leaves of the registers of the 82371SB.
 use Rattle.std.proofs.Common.{◌≡◌, ℕ, sym, ◌∙◌}
-use Rattle.board_prelude.proofs.Common.{Bytes}
+use Rattle.board_prelude.proofs.{Bytes}
 use Rattle.south_bridge.specs.Piix.{piix_register}
 use Rattle.config_regs.specs.declared.south.South.{South}
 use Rattle.config_regs.specs.Config.{IsSouthOf}

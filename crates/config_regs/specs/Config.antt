@@ -1,6 +1,6 @@
 -- The registers in configuration space, among the register bytes of a board.
 use Rattle.std.specs.Prelude.{ℕ, ◌≡◌}
-use Rattle.board_prelude.specs.Common.{Setup, bridge, isa, reset_byte, Bytes}
+use Rattle.board_prelude.specs.{Setup, bridge, isa, reset_byte, Bytes}
 use Rattle.host_bridge.specs.Pmc.{IsFixedOffset}
 use Rattle.south_bridge.specs.Routes.{AreRoutesIn}
 use Rattle.south_bridge.specs.SelectNames.{IsIdeOf, IsIsaFixed}

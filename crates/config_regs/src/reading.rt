@@ -1,9 +1,10 @@
 //! Reads of registers in configuration space, by function and then by offset.
 ghost use Rattle.std.specs.Prelude.{◌≡◌, ◌≢◌, ◌+◌, ◌≤◌, ◌==◌, Some, true};
-ghost use Rattle.board_prelude.specs.Common.{bytes_of, Setup, position, wide, bridge, isa, card_register, xbcs};
-ghost use Rattle.board_prelude.specs.Common.{function_exists, Bytes};
+ghost use Rattle.board_prelude.specs.{bytes_of, Setup, position, wide, bridge, isa, card_register, xbcs};
+ghost use Rattle.board_prelude.specs.{function_exists, Bytes};
 ghost use Rattle.pci_bars.specs.Cards.{AreCards, AreCardsOf, AreFitted};
-ghost use Rattle.addr_decode.specs.Common.{HasRegister, StandsFor, map_bytes};
+ghost use Rattle.addr_decode.specs.Found.{HasRegister};
+ghost use Rattle.addr_decode.specs.MapRegs.{StandsFor, map_bytes};
 ghost use Rattle.config_regs.specs.Config.{AreKeptOf, HasFixed, IsSouthOf};
 
 use crate::south::South;

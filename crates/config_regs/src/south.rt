@@ -1,6 +1,6 @@
 //! The registers of the 82371SB on which the memory map does not depend.
 ghost use Rattle.std.specs.Prelude.{◌≡◌, ◌≢◌, ◌+◌, ◌≤◌, true, false};
-ghost use Rattle.board_prelude.specs.Common.{bytes_of, One, Store, Setup, reset_byte, changed_byte, Bytes};
+ghost use Rattle.board_prelude.specs.{bytes_of, One, Store, Setup, reset_byte, changed_byte, Bytes};
 ghost use Rattle.south_bridge.specs.Piix.{piix_register};
 ghost use Rattle.config_regs.specs.Config.{IsSouthOf};
 

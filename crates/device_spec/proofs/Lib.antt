@@ -5,4 +5,3 @@ pub mod PitPeriods
 pub mod PitPulses
 mod PortLaws
 pub mod RoutingLaws
-pub mod Common

@@ -1,8 +1,10 @@
 -- The pair: levels that are given again.
 use Rattle.std.proofs.Common.{◌≡◌, ℕ, Bool, true, false, cond, eqb, ◌||◌, sym, ap, ◌∙◌, inl, inr, is_some, arith}
 use Rattle.std.proofs.lemmas.Bool.{cases_Bool}
-use Rattle.device_spec.specs.Common.{Levels, has, levels_where, with_level, Chip, interrupt, chip_after_inputs, Pair}
-use Rattle.device_spec.specs.Common.{settled, SameLevelsAgain}
+use Rattle.device_spec.specs.Levels.{Levels, has, levels_where, with_level}
+use Rattle.device_spec.specs.Pic.{Chip, interrupt, chip_after_inputs}
+use Rattle.device_spec.specs.Pair.{Pair, settled}
+use Rattle.device_spec.specs.PicLaws.{SameLevelsAgain}
 use Rattle.device_spec.proofs.Levels.{levels_where-same, has-levels_where}
 use Rattle.std.proofs.lemmas.Bool.Decides.{nat_tests}
 

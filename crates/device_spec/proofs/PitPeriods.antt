@@ -1,9 +1,11 @@
 -- The rate generator and the square wave repeat.
 use Rattle.std.proofs.Common.{◌≡◌, ℕ, zero, suc, ◌+◌, ◌-◌, ◌*◌, ◌/◌, ◌%◌, ◌<◌, ◌==◌, ◌&&◌, not, Bool, true, false, cond}
 use Rattle.std.proofs.Common.{refl, ap, ◌∙◌, arith}
-use Rattle.board_base.proofs.Common.{nat_tests}
-use Rattle.device_spec.specs.Common.{RateGenerator, SquareWave, CounterState, load, count_down, count_to_reload}
-use Rattle.device_spec.specs.Common.{count_half, pulse_by_mode, pulse, pulses_of, IsAtLoad, RateRepeats, SquareRepeats}
+use Rattle.std.proofs.lemmas.Bool.Decides.{nat_tests}
+use Rattle.device_spec.specs.Pit.{RateGenerator, SquareWave, CounterState, load, count_down, count_to_reload}
+use Rattle.device_spec.specs.Pit.{count_half, pulse_by_mode, pulse}
+use Rattle.device_spec.specs.PitLaws.{pulses_of}
+use Rattle.device_spec.specs.PitPeriods.{IsAtLoad, RateRepeats, SquareRepeats}
 
 -- the counter at another place of its period
 abbrev pub phase : CounterState → ℕ → Bool → CounterState

@@ -1,7 +1,7 @@
 -- Pulses of the whole chip.
 use Rattle.std.proofs.Common.{◌≡◌, ℕ, zero, suc, ◌+◌, refl, ap, sym, add-zero, add-suc, add_assoc}
-use Rattle.device_spec.specs.Common.{PitState, pulses, rises, rise_of, pulse_all, PulsesAddUp, CountersAreApart}
-use Rattle.device_spec.specs.Common.{pulses_of}
+use Rattle.device_spec.specs.Pit.{PitState, pulses, rises, rise_of, pulse_all}
+use Rattle.device_spec.specs.PitLaws.{PulsesAddUp, CountersAreApart, pulses_of}
 
 pulses-add : (n m : ℕ) (p : PitState) → pulses (n + m) p ≡ pulses m (pulses n p)
 unfolding pulses

@@ -1,11 +1,13 @@
 -- Each port is one device's: no two lines of the table meet, and none has a port of configuration data.
 use Rattle.std.proofs.Common.{◌≡◌, ℕ, Bool, true, false, ◌&&◌, ◌||◌, nat_le, List, [], ◌∷◌, Option, Some, refl, ◌∙◌}
 use Rattle.std.proofs.Common.{find, arith, inl, inr, sym}
-use Rattle.board_base.proofs.Common.{cond-true, cond-false, false≢true, nat_tests, cases_Bool}
+use Rattle.std.proofs.lemmas.Bool.{cond-true, cond-false, false≢true, cases_Bool}
+use Rattle.std.proofs.lemmas.Bool.Decides.{nat_tests}
 use Rattle.board_base.specs.Bits.{is_within}
-use Rattle.device_spec.specs.PortTable.{Ports, takes, device_line, port_devices}
-use Rattle.device_spec.specs.Common.{Dev, Wires, Vector, Spurious, is_port_of, first_with, PortsApart, ConfigApart}
-use Rattle.board_base.specs.declared.target.Dev.TheVariants.{Confadd}
+use Rattle.device_spec.specs.PortTable.{Ports, takes, device_line, port_devices, is_port_of, first_with}
+use Rattle.board_base.specs.declared.target.Dev.{Dev}
+use Rattle.board_base.specs.declared.target.Dev.TheVariants.{Wires, Vector, Spurious, Confadd}
+use Rattle.device_spec.specs.PortLaws.{PortsApart, ConfigApart}
 
 -- an interval has one of these ports
 abbrev crosses : (first last : ℕ) → List Ports → Bool

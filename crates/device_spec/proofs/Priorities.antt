@@ -1,12 +1,13 @@
 -- The search for the first level that can be selected.
 use Rattle.std.proofs.Common.{◌≡◌, ℕ, ◌<◌, ◌≤◌, Bool, true, false, not, cond, ltb, ◌||◌, ◌&&◌, Option, Some, None, List}
 use Rattle.std.proofs.Common.{[], ◌∷◌, ◌++◌, length, get_or, drop, refl, sym, ap, ◌∙◌, inl, inr, ltb-true, arith}
-use Rattle.board_base.proofs.Common.{or-false, and-false, drop_of_length-le, cases_Bool, agree_below_at, or_from}
-use Rattle.std.proofs.Math.Bool.{or-true}
+use Rattle.std.proofs.Math.Bool.{or-false, and-false, or-true}
+use Rattle.std.proofs.Math.ListN.{drop_of_length-le}
+use Rattle.std.proofs.lemmas.Bool.{cases_Bool, agree_below_at, or_from, agree_below}
 use Rattle.std.proofs.lemmas.List.Folds.{list_any-append}
-use Rattle.device_spec.specs.Common.{find, list_any, Chip, priority_order, is_blocking, blocks_itself, is_requested}
-use Rattle.device_spec.specs.Common.{first_selectable, request, first_blocking}
-use Rattle.std.proofs.lemmas.Bool.{agree_below}
+use Rattle.std.specs.List.{find, list_any}
+use Rattle.device_spec.specs.Pic.{Chip, priority_order, is_blocking, blocks_itself, is_requested, first_selectable}
+use Rattle.device_spec.specs.Pic.{request, first_blocking}
 use Rattle.std.proofs.lemmas.Bool.Decides.{nat_tests}
 
 -- ---- the search for a level

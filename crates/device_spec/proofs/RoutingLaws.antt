@@ -1,7 +1,9 @@
 -- The routing, byte by byte.
 use Rattle.std.proofs.Common.{◌≡◌, ℕ, Bool, true, false, get_or, refl, arith}
-use Rattle.board_base.proofs.Common.{or_from, nat_tests}
-use Rattle.device_spec.specs.Common.{drives, line_of_route, is_line_driven, is_reserved_line, ReservedLinesRest}
+use Rattle.std.proofs.lemmas.Bool.{or_from}
+use Rattle.std.proofs.lemmas.Bool.Decides.{nat_tests}
+use Rattle.device_spec.specs.Routing.{drives, line_of_route, is_line_driven, is_reserved_line}
+use Rattle.device_spec.specs.RoutingLaws.{ReservedLinesRest}
 
 -- no pin drives a reserved line
 drives-reserved : (byte : ℕ) (level : Bool) (line : ℕ) → is_reserved_line line ≡ true →

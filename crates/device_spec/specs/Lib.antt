@@ -14,4 +14,3 @@ pub mod PitPeriods
 pub mod Routing
 pub mod RoutingLaws
 pub mod Told
-pub mod Common

@@ -2,7 +2,8 @@
 -- board's choice.
 use Rattle.std.specs.Prelude.{ℕ, Bool, true, false, Option, Some, None, List, [], ◌∷◌, ◌++◌, ◌+◌, ◌*◌, ◌/◌, ◌%◌, ◌==◌}
 use Rattle.std.specs.Prelude.{◌&&◌, ◌||◌, not, take, drop, if◌then◌else◌}
-use Rattle.board_base.specs.Common.{find, list_any, is_bit}
+use Rattle.std.specs.List.{find, list_any}
+use Rattle.board_base.specs.Bits.{is_bit}
 use Rattle.device_spec.specs.Levels.{Levels, all_levels, has, levels_where, no_levels, with_level, without_level}
 use Rattle.device_spec.specs.Levels.{levels_of_byte, byte_of_levels}
 

@@ -2,7 +2,8 @@
 -- (82371SB, PIRQRC: PIRQx Route Control Registers, of function 0).
 use Rattle.std.specs.Prelude.{ℕ, Bool, false, Option, Some, None, List, [], ◌∷◌, ◌+◌, ◌-◌, ◌%◌, ◌==◌, ◌&&◌, ◌||◌, not}
 use Rattle.std.specs.Prelude.{nat_lt, nat_le, if◌then◌else◌, slice_index, slice_index_or, slice_set}
-use Rattle.board_base.specs.Common.{list_any, merged}
+use Rattle.std.specs.List.{list_any}
+use Rattle.board_base.specs.Bits.{merged}
 
 -- the bits of a route control register that can be written: 7, and 3 to 0 (82371SB, PIRQRC; bits 6 to 4 are reserved)
 abbrev pub route_mask : ℕ

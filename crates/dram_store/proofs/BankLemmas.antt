@@ -1,7 +1,7 @@
 -- The bytes of a bank that are kept, and the zeros above them.
 use Rattle.std.proofs.Common.{◌≡◌, ℕ, ◌-◌, List, ◌++◌, length, replicate, arith, slice_index}
 use Rattle.board_base.proofs.ZeroLemmas.{zero_at}
-use Rattle.board_prelude.proofs.Common.{get_or_past, nat_tests}
+use Rattle.board_prelude.proofs.{get_or_past, nat_tests}
 use Rattle.std.proofs.Math.Seq.{of_parts}
 use Rattle.dram_store.specs.Bank.{bank_size, bank_of, IsPut}
 

@@ -1,13 +1,13 @@
 -- The bytes of banks that follow one another.
 use Rattle.std.proofs.Common.{◌≡◌, ℕ, suc, ◌+◌, ◌-◌, ◌*◌, ◌/◌, ◌%◌, ◌<◌, ◌≤◌, List, [], ◌∷◌, length, set, replicate}
 use Rattle.std.proofs.Common.{refl, arith, slice_index, All}
-use Rattle.board_prelude.proofs.Common.{concat, length-append, length-set, get_or_past, get_or-set_same}
-use Rattle.board_prelude.proofs.Common.{get_or-set_other, All-head, All-tail, cases_lt, nat_tests, Width, One, bytes_of}
-use Rattle.board_prelude.proofs.Common.{wide}
+use Rattle.board_prelude.proofs.{concat, length-append, length-set, get_or_past, get_or-set_same, get_or-set_other}
+use Rattle.board_prelude.proofs.{All-head, All-tail, cases_lt, nat_tests, Width, One, bytes_of, wide}
 use Rattle.std.proofs.Math.ListN.{get_or}
 use Rattle.std.proofs.Math.Seq.{of_parts}
 use Rattle.std.proofs.lemmas.List.{get_or_read}
-use Rattle.dram_store.specs.Common.{bank_size, IsBank, IsZero, IsPut, dram_at, IsWritten}
+use Rattle.dram_store.specs.Bank.{bank_size, IsBank, IsZero, IsPut}
+use Rattle.dram_store.specs.Dram.{dram_at, IsWritten}
 
 -- the bank of an address, empty past the last
 abbrev pub bank_at : List (List ℕ) → ℕ → List ℕ

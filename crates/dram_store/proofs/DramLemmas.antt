@@ -1,7 +1,7 @@
 -- The DRAM after a history, and after one entry more.
 use Rattle.std.proofs.Common.{◌≡◌, ℕ, ◌+◌, List, [], ◌∷◌, length, arith, ◌*◌, All}
-use Rattle.board_prelude.proofs.Common.{concat, length-replicate, get_or-replicate, nat_tests, Width, Dram, bytes_of}
-use Rattle.board_prelude.proofs.Common.{Entry, Setup, byte, wide, DramCell, stored_of, byte_put, entry_put, dram_byte}
+use Rattle.board_prelude.proofs.{concat, length-replicate, get_or-replicate, nat_tests, Width, Dram, bytes_of, Entry}
+use Rattle.board_prelude.proofs.{Setup, byte, wide, DramCell, stored_of, byte_put, entry_put, dram_byte}
 use Rattle.std.proofs.Math.Seq.{of_parts}
 use Rattle.dram_store.proofs.ConcatLemmas.{zero_banks}
 use Rattle.dram_store.specs.Bank.{IsBank, IsZero, bank_size}

@@ -1,7 +1,7 @@
 -- The bytes of a DRAM are spelled bank by bank, and read back.
 use Rattle.std.proofs.Common.{◌≡◌, ℕ, ◌+◌, ◌-◌, ◌*◌, ◌/◌, ◌%◌, ◌≤◌, ◌<◌, List, [], ◌∷◌, ◌++◌, length, replicate, Result}
 use Rattle.std.proofs.Common.{Ok, refl, sym, ap, ◌∙◌, append_assoc, arith}
-use Rattle.board_prelude.proofs.Common.{concat, append-nil, length-append, length-replicate}
+use Rattle.board_prelude.proofs.{concat, append-nil, length-append, length-replicate}
 use Rattle.std.proofs.lemmas.List.{replicate-append-replicate}
 use Rattle.std.proofs.lemmas.List.Folds.{concat-append}
 use Rattle.byte_fields.specs.declared.fault.Fault.{Fault}

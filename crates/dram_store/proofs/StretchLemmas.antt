@@ -2,11 +2,12 @@
 use Rattle.std.proofs.Common.{◌≡◌, ℕ, ◌+◌, ◌-◌, ◌*◌, ◌/◌, ◌%◌, ◌<◌, ◌≤◌, List, [], ◌++◌, length, take, drop, replicate}
 use Rattle.std.proofs.Common.{arith, length-append, length-take-le, length-drop, slice_index, min, All}
 use Rattle.board_base.proofs.ZeroLemmas.{zero_at}
-use Rattle.board_prelude.proofs.Common.{concat, length-replicate, get_or_past, get_or-take, get_or-drop}
-use Rattle.board_prelude.proofs.Common.{get_or-replicate, nat_tests}
+use Rattle.board_prelude.proofs.{concat, length-replicate, get_or_past, get_or-take, get_or-drop, get_or-replicate}
+use Rattle.board_prelude.proofs.{nat_tests}
 use Rattle.std.proofs.Math.ListN.{get_or}
 use Rattle.std.proofs.Math.Seq.{of_parts}
-use Rattle.dram_store.specs.Common.{bank_size, bank_of, page_end, IsBank, IsPut, dram_at}
+use Rattle.dram_store.specs.Bank.{bank_size, bank_of, page_end, IsBank, IsPut}
+use Rattle.dram_store.specs.Dram.{dram_at}
 use Rattle.dram_store.proofs.BankLemmas.{same_byte}
 use Rattle.dram_store.proofs.ConcatLemmas.{bank_at, banks_length, bank_byte}
 

@@ -1,7 +1,7 @@
 -- The DRAM is the list of its bytes, from address 0 on.
 use Rattle.std.specs.Prelude.{ℕ, ◌≡◌, ◌+◌, ◌-◌, ◌≤◌, ◌<◌, ◌&&◌, nat_le, nat_lt, if◌then◌else◌, List, All, length}
 use Rattle.std.specs.Prelude.{slice_index}
-use Rattle.board_prelude.specs.Common.{Entry, most_mib, Setup, installed, DramCell, stored_of}
+use Rattle.board_prelude.specs.{Entry, most_mib, Setup, installed, DramCell, stored_of}
 use Rattle.dram_store.specs.Bank.{IsBank}
 
 -- the banks of a DRAM, one for each MiB, and not more than a board may have

@@ -1,4 +1,3 @@
 pub mod Bank
 pub mod Dram
 pub mod State
-pub mod Common

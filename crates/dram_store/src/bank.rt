@@ -1,7 +1,7 @@
 //! A mebibyte of the DRAM, of which only the bytes up to the highest page written are kept.
 ghost use Rattle.std.specs.Prelude.{◌≡◌, ◌≤◌, ◌<◌, ◌+◌, ◌-◌, ◌%◌, ℕ, [], ◌++◌, length, replicate, slice_index};
 ghost use Rattle.std.specs.Prelude.{vec_capacity, IfOk, OnOk};
-ghost use Rattle.board_prelude.specs.Common.{bytes_of, largest_of, byte, wide};
+ghost use Rattle.board_prelude.specs.{bytes_of, largest_of, byte, wide};
 ghost use Rattle.byte_fields.specs.Fields.{Took, Filled};
 ghost use Rattle.byte_fields.specs.Pages.{memory_bytes, memory_fields};
 ghost use Rattle.dram_store.specs.Bank.{IsBank, IsKept, IsZero, IsPut, bank_of, bank_size, page_end};

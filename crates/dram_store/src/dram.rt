@@ -1,8 +1,8 @@
 //! The installed DRAM: a bank for each MiB.
 ghost use Rattle.std.specs.Prelude.{◌≡◌, ◌≤◌, ◌<◌, ◌+◌, ◌*◌, ◌%◌, ℕ, List, [], ◌∷◌, length, replicate, slice_index};
 ghost use Rattle.std.specs.Prelude.{IfOk, OnOk, OnErr, IfSome, None};
-ghost use Rattle.board_prelude.specs.Common.{bytes_of, largest_of, Dram as DramTarget, Entry, most_mib, Setup};
-ghost use Rattle.board_prelude.specs.Common.{installed, byte, wide, DramCell, byte_put, entry_put, dram_byte};
+ghost use Rattle.board_prelude.specs.{bytes_of, largest_of, Dram as DramTarget, Entry, most_mib, Setup, installed};
+ghost use Rattle.board_prelude.specs.{byte, wide, DramCell, byte_put, entry_put, dram_byte};
 ghost use Rattle.dram_store.specs.Bank.{bank_size};
 ghost use Rattle.dram_store.specs.Dram.{dram_at, IsDramOf, IsWritten};
 

@@ -1,7 +1,7 @@
 //! The state of the DRAM as bytes, out and in.
 ghost use Rattle.std.specs.Prelude.{◌≡◌, ◌≤◌, ◌*◌, ℕ, ◌++◌, All, OnOk};
 ghost use Rattle.std.specs.List.{concat};
-ghost use Rattle.board_prelude.specs.Common.{most_mib};
+ghost use Rattle.board_prelude.specs.{most_mib};
 ghost use Rattle.byte_fields.specs.Fields.{Filled};
 ghost use Rattle.byte_fields.specs.Loads.{LoadsWith, OneSpelling};
 ghost use Rattle.byte_fields.specs.Pages.{memory_bytes};

@@ -1,8 +1,14 @@
 -- The PAM registers in the table of registers.
 use Rattle.std.proofs.Common.{◌≡◌, ◌≢◌, ℕ, ◌-◌, ◌<◌, List, [], ◌∷◌, length, get_or, set, false, ◌∙◌, sym, ap}
 use Rattle.std.proofs.Common.{rules, arith, inl, inr, get_or-set_other, get_or-set_same, map}
-use Rattle.board_prelude.proofs.Common.{cases_eq, Store, Each, each_from, changed_byte-one_same, changed_byte-one_other}
-use Rattle.board_spec.specs.Common.{One, Setup, merged, writable_bits, changed_byte, Bytes, bridge, pam, smram, is_same}
+use Rattle.board_prelude.proofs.{cases_eq, Store, Each, each_from, changed_byte-one_same, changed_byte-one_other}
+use Rattle.board_base.specs.declared.access.Width.TheVariants.{One}
+use Rattle.board_spec.specs.Setup.{Setup}
+use Rattle.board_base.specs.Bits.{merged}
+use Rattle.board_spec.specs.RegisterTable.{writable_bits}
+use Rattle.board_spec.specs.Registers.{changed_byte}
+use Rattle.board_spec.specs.Decode.{Bytes}
+use Rattle.board_spec.specs.RegisterNames.{bridge, pam, smram, is_same}
 use Rattle.host_bridge.specs.Pam.{IsPamOffset, IsPamOf, pam_byte}
 
 -- what holds at each of the seven offsets

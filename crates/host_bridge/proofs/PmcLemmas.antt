@@ -1,9 +1,8 @@
 -- Stores of one byte to the registers of the host bridge.
 use Rattle.std.proofs.Common.{◌≡◌, ◌≢◌, ℕ, ◌+◌, ◌<◌, ◌⊎◌, List, [], length, set, None, refl, arith, get_or-set_other}
 use Rattle.std.proofs.Common.{get_or-set_same}
-use Rattle.board_prelude.proofs.Common.{ne_eqb, One, Store, Setup, merged, reset_byte, writable_bits, changed_byte}
-use Rattle.board_prelude.proofs.Common.{Bytes, bridge, fdhc, merged-all, merged-none, changed_byte-one_same}
-use Rattle.board_prelude.proofs.Common.{changed_byte-one_other}
+use Rattle.board_prelude.proofs.{ne_eqb, One, Store, Setup, merged, reset_byte, writable_bits, changed_byte, Bytes}
+use Rattle.board_prelude.proofs.{bridge, fdhc, merged-all, merged-none, changed_byte-one_same, changed_byte-one_other}
 use Rattle.host_bridge.specs.Pmc.{PmcBytes, IsFixedOffset, IsRowsOf, IsPmcOf}
 use Rattle.host_bridge.proofs.TableLemmas.{header_byte, row_bytes, rows_are, writable_bits-row, reset_byte-header}
 use Rattle.host_bridge.proofs.TableLemmas.{reset_byte-blank, writable_bits-fixed}

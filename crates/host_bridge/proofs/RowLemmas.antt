@@ -1,8 +1,7 @@
 -- The rows of DRAM in the list of their boundary registers.
 use Rattle.std.proofs.Common.{◌≡◌, ℕ, zero, suc, ◌+◌, ◌*◌, ◌<◌, ◌≤◌, List, [], ◌∷◌, length, Bool, None, ◌∙◌, sym, refl}
 use Rattle.std.proofs.Common.{ap, arith, nat_lt, slice_index, IsNone, ◌↔◌}
-use Rattle.board_prelude.proofs.Common.{find, position, lt-ltb, cond-true, nat_tests, Bytes, boundary, top_of, row_of}
-use Rattle.board_prelude.proofs.Common.{bridge}
+use Rattle.board_prelude.proofs.{find, position, lt-ltb, cond-true, nat_tests, Bytes, boundary, top_of, row_of, bridge}
 use Rattle.std.specs.List.{position_from}
 use Rattle.std.proofs.lemmas.Iterator.Adapters.{position_from-zero}
 use Rattle.host_bridge.specs.Pmc.{IsRowsOf}

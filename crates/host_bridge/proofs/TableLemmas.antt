@@ -1,8 +1,8 @@
 -- The registers of the host bridge in the table of registers.
 use Rattle.std.proofs.Common.{◌≡◌, ℕ, ◌+◌, ◌<◌, ◌≤◌, List, [], ◌∷◌, length, refl, arith, map, slice_index, Bool, true}
 use Rattle.std.proofs.Common.{nat_lt, nat_le, ◌&&◌, ◌||◌, rules}
-use Rattle.board_prelude.proofs.Common.{Setup, host_bridge, listed, reset_byte, writable_bits, Bytes, bridge, drb}
-use Rattle.board_prelude.proofs.Common.{listed-past, listed-before, each_below, nat_tests}
+use Rattle.board_prelude.proofs.{Setup, host_bridge, listed, reset_byte, writable_bits, Bytes, bridge, drb, listed-past}
+use Rattle.board_prelude.proofs.{listed-before, each_below, nat_tests}
 use Rattle.board_spec.specs.RegisterTable.{Line}
 use Rattle.host_bridge.specs.Pmc.{IsFixedOffset, IsRowsOf}
 

@@ -1,6 +1,6 @@
 -- The PAM registers are the list of their seven bytes, PAM0 first.
 use Rattle.std.specs.Prelude.{◌≡◌, ◌≤◌, ℕ, ◌-◌, List, slice_index}
-use Rattle.board_prelude.specs.Common.{Bytes, bridge, pam as pam_register}
+use Rattle.board_prelude.specs.{Bytes, bridge, pam as pam_register}
 
 -- the offsets of the PAM registers
 abbrev pub IsPamOffset : ℕ → Type 0

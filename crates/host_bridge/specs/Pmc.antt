@@ -1,6 +1,6 @@
 -- The registers of the host bridge that a board keeps beside PAM and SMRAM: DRB0 to DRB7, and FDHC.
 use Rattle.std.specs.Prelude.{◌≡◌, ◌<◌, ◌⊎◌, ℕ, List, slice_index}
-use Rattle.board_prelude.specs.Common.{Setup, reset_byte, Bytes, bridge, pam, drb, fdhc, smram}
+use Rattle.board_prelude.specs.{Setup, reset_byte, Bytes, bridge, pam, drb, fdhc, smram}
 
 -- the bytes of DRB0 to DRB7, and that of FDHC
 pub record PmcBytes : Type 0 where

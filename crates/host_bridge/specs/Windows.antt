@@ -1,7 +1,7 @@
 -- The shadow windows by their numbers (82441FX, PAM): 0 to 11 have 16 KiB each from the first address of
 -- the expansion range on, and 12 is the system BIOS.
 use Rattle.std.specs.Prelude.{ℕ, ◌+◌, ◌-◌, ◌*◌, ◌/◌, ◌==◌, if◌then◌else◌}
-use Rattle.board_prelude.specs.Common.{pam, expansion_range, system_bios}
+use Rattle.board_prelude.specs.{pam, expansion_range, system_bios}
 
 abbrev pub last_window : ℕ
 last_window = 12

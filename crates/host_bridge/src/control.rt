@@ -1,6 +1,6 @@
 //! The SMRAM control byte: what a write makes of it, and which accesses it lets reach SMRAM.
 ghost use Rattle.std.specs.Prelude.{◌≡◌, ◌<◌, ◌^◌, if◌then◌else◌};
-ghost use Rattle.board_prelude.specs.Common.{smram_after, smram_answers};
+ghost use Rattle.board_prelude.specs.{smram_after, smram_answers};
 
 use board_base::Kind;
 use board_spec::bits::is_set;

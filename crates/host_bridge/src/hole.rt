@@ -1,7 +1,6 @@
 //! The fixed DRAM hole, by its control register FDHC (82441FX).
 ghost use Rattle.std.specs.Prelude.{◌≡◌, ◌↔◌, IsNone};
-ghost use Rattle.board_prelude.specs.Common.{Setup, is_bit, merged, fdhc as hole_register, writable_bits};
-ghost use Rattle.board_prelude.specs.Common.{hole_of as hole_by};
+ghost use Rattle.board_prelude.specs.{Setup, is_bit, merged, fdhc as hole_register, writable_bits, hole_of as hole_by};
 
 use board_spec::bits::merged;
 use board_spec::range::{HOLE_AT_15_MIB, HOLE_AT_512_KIB};
@@ -25,7 +24,7 @@ pub fn hole_of(fdhc: u8) -> Option<(u32, u32)>
 }
 
 /// FDHC after a byte is written to it. Reserved bits stay as they were.
-#[tactic(auto, unfolding(board_spec::specs::Common::host_bridge, board_spec::specs::Common::writable_bits))]
+#[tactic(auto, unfolding(board_spec::specs::RegisterTable::host_bridge, board_spec::specs::RegisterTable::writable_bits))]
 pub fn fdhc_after(old: u8, written: u8) -> u8
     ensures merged { (setup : Setup) → result ≡ merged (writable_bits setup hole_register) old written }
 {

@@ -1,6 +1,6 @@
 //! The programmable attribute map registers, PAM0 to PAM6 (82441FX).
 ghost use Rattle.std.specs.Prelude.{◌≡◌, ◌≤◌, ℕ};
-ghost use Rattle.board_prelude.specs.Common.{One, Store, Setup, reset_byte, changed_byte, Bytes, is_shadowed, bridge};
+ghost use Rattle.board_prelude.specs.{One, Store, Setup, reset_byte, changed_byte, Bytes, is_shadowed, bridge};
 ghost use Rattle.host_bridge.specs.Pam.{IsPamOffset, IsPamOf, pam_byte};
 
 use crate::window::Window;

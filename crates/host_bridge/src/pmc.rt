@@ -9,8 +9,8 @@
 //! | 68     | FDHC            | 00h          | C0       | the hole in DRAM, by bits 7 and 6  |
 //! | others | reserved        | 00h          | 00       |                                    |
 ghost use Rattle.std.specs.Prelude.{◌≡◌, ◌≤◌, ◌<◌, ◌↔◌, IsNone, IfSome};
-ghost use Rattle.board_prelude.specs.Common.{One, Store, Setup, is_bit, largest_top, reset_byte, changed_byte, Bytes};
-ghost use Rattle.board_prelude.specs.Common.{top_of as top_by, row_of as row_by, hole_of as hole_by, bridge, fdhc};
+ghost use Rattle.board_prelude.specs.{One, Store, Setup, is_bit, largest_top, reset_byte, changed_byte, Bytes};
+ghost use Rattle.board_prelude.specs.{top_of as top_by, row_of as row_by, hole_of as hole_by, bridge, fdhc};
 ghost use Rattle.host_bridge.specs.Pmc.{IsPmcOffset, IsFixedOffset, IsPmcOf};
 
 use crate::hole::{fdhc_after, hole_of};
@@ -47,7 +47,7 @@ impl Model for Pmc {
 
 impl Pmc {
     /// The registers after a reset: 8 MiB of DRAM in row 0, and no hole.
-    #[tactic(auto, using(crate::proofs::PmcLemmas::pmc_at_reset), unfolding(board_spec::specs::Common::host_bridge, board_spec::specs::Common::reset_byte))]
+    #[tactic(auto, using(crate::proofs::PmcLemmas::pmc_at_reset), unfolding(board_spec::specs::RegisterTable::host_bridge, board_spec::specs::RegisterTable::reset_byte))]
     pub fn new() -> Pmc
         ensures reset { (setup : Setup) → IsPmcOf (reset_byte setup) result }
     {

@@ -1,6 +1,6 @@
 //! The rows of DRAM, by their boundary registers DRB0 to DRB7 (82441FX).
 ghost use Rattle.std.specs.Prelude.{◌≡◌, ◌≤◌, ◌<◌, ◌*◌, ◌↔◌, nat_lt, position, IsNone, IfSome};
-ghost use Rattle.board_prelude.specs.Common.{Bytes, top_of as top_by, row_of as row_by, largest_top, boundary_unit};
+ghost use Rattle.board_prelude.specs.{Bytes, top_of as top_by, row_of as row_by, largest_top, boundary_unit};
 ghost use Rattle.host_bridge.specs.Pmc.{IsRowsOf};
 
 use board_spec::range::BOUNDARY_UNIT;

@@ -1,7 +1,7 @@
 //! The SMRAM control register (82441FX, offset 72h).
 ghost use Rattle.std.specs.Prelude.{◌≡◌, true, false};
-ghost use Rattle.board_prelude.specs.Common.{One, Store, Setup, reset_byte, smram_after, changed_byte, Bytes};
-ghost use Rattle.board_prelude.specs.Common.{smram_answers, smram};
+ghost use Rattle.board_prelude.specs.{One, Store, Setup, reset_byte, smram_after, changed_byte, Bytes, smram_answers};
+ghost use Rattle.board_prelude.specs.{smram};
 ghost use Rattle.host_bridge.specs.Control.{is_locked, IsSmramByte};
 
 use crate::control::{DLCK, SMRAM_RESET, smram_after, smram_reaches};

@@ -1,6 +1,6 @@
 //! The thirteen windows between C0000h and FFFFFh, and the PAM register of each.
 ghost use Rattle.std.specs.Prelude.{◌≡◌, ◌≤◌, ◌↔◌, ℕ, false, IsNone, IfSome};
-ghost use Rattle.board_prelude.specs.Common.{pam_register, is_high_window, nibble, is_open, is_shadow_range, bridge};
+ghost use Rattle.board_prelude.specs.{pam_register, is_high_window, nibble, is_open, is_shadow_range, bridge};
 ghost use Rattle.host_bridge.specs.Windows.{last_window, first_address, last_address, register_offset};
 
 use board_base::Kind;

@@ -1,6 +1,7 @@
 -- The examples are computed from the definitions.
 use Rattle.std.proofs.Common.{rules}
-use Rattle.board_image.specs.Common.{card_bytes, bases_fields, card_fields, head_fields}
+use Rattle.board_image.specs.ImageBytes.{card_bytes}
+use Rattle.board_image.specs.ImageFields.{bases_fields, card_fields, head_fields}
 use Rattle.library_examples.specs.Images.{CardFieldBorders, HeadBorders, OutsideKept, PortsKept}
 
 pub images : PortsKept × OutsideKept × HeadBorders × CardFieldBorders

@@ -1,8 +1,8 @@
 -- Worked examples of the bytes of an image: the number of a base is its power of two, bit 7 is set where it is for
 -- ports, and bit 6, in a running board alone, where the board keeps no bytes of it.
 use Rattle.std.specs.Prelude.{ℕ, ◌≡◌, ◌++◌, false, true, List, [], ◌∷◌, map, Option, Some, None, Result, Ok, Err}
-use Rattle.board_prelude.specs.Common.{MemoryBase, IoBase, OutsideBase, FittedCard}
-use Rattle.board_image.specs.Common.{card_bytes}
+use Rattle.board_prelude.specs.{MemoryBase, IoBase, OutsideBase, FittedCard}
+use Rattle.board_image.specs.ImageBytes.{card_bytes}
 use Rattle.board_image.specs.ImageFields.{card_fields, head_fields}
 
 -- a plain card at device 3 with 4 KiB of memory and 16 ports, and as an image has it

@@ -1,7 +1,6 @@
 -- Worked examples of records, by the numbers of include/board.h, which stand here once more on purpose.
 use Rattle.std.specs.Prelude.{ℕ, ◌≡◌, true, false, Some, None}
-use Rattle.board_prelude.specs.Common.{Fetch, Read, Write, One, Memory, Wide, Port, Ack, Pulses, Time, Wire, Line}
-use Rattle.board_prelude.specs.Common.{BadSector}
+use Rattle.board_prelude.specs.{Fetch, Read, Write, One, Memory, Wide, Port, Ack, Pulses, Time, Wire, Line, BadSector}
 use Rattle.board_base.specs.declared.access.Width.TheVariants.{Two, Four}
 use Rattle.board_spec.specs.declared.event.Event.TheVariants.{Look as LookAt}
 use Rattle.uart_16550.specs.declared.com1.Happening.TheVariants.{Comes}

@@ -1,8 +1,8 @@
 -- Why no bytes of a sector are told: each cause with its own number of include/board.h, which stands here once more on
 -- purpose. BOARD_NO_SECTOR is 18 and BOARD_BAD_LENGTH is 21.
 use Rattle.std.specs.Prelude.{ℕ, ◌≡◌, ◌≢◌, ◌<◌, ◌≤◌, List, length, Option, Some, None}
-use Rattle.board_prelude.specs.Common.{Disk, sectors_of, sector_bytes, Entry, disk_of}
-use Rattle.board_chipset.specs.Common.{Running, IsLeftBy}
+use Rattle.board_prelude.specs.{Disk, sectors_of, sector_bytes, Entry, disk_of}
+use Rattle.board_chipset.specs.Chipset.{Running, IsLeftBy}
 use Rattle.machine_records.specs.Bytes.{IsSectorRefusal}
 
 -- a history left a chipset with this disk, or with none, and a sector of it was refused

@@ -2,7 +2,7 @@
 -- Locations") and of the calendar, which stand here once more on purpose.
 use Rattle.std.specs.Prelude.{ℕ, ◌≡◌, false, [], ◌∷◌}
 use Rattle.board_base.specs.declared.moment.Moment.{Moment}
-use Rattle.device_spec.specs.Common.{Clock}
+use Rattle.device_spec.specs.Clock.{Clock}
 use Rattle.cmos_clock.specs.Seconds.{IsShown, second_after}
 
 abbrev pub moment : (year month day weekday hour minute second : ℕ) → Moment

@@ -1,6 +1,6 @@
 -- Worked examples of the UART, by the PC16550D data sheet: what is done to it, line by line, and what it gives.
 use Rattle.std.specs.Prelude.{ℕ, ◌≡◌, Bool, true, false, List, [], ◌∷◌, ◌++◌, map, replicate, Some, None}
-use Rattle.board_prelude.specs.Common.{Width, One, PortAccess}
+use Rattle.board_prelude.specs.{Width, One, PortAccess}
 use Rattle.board_base.specs.declared.access.Width.TheVariants.{Two, Four}
 use Rattle.uart_16550.specs.declared.com1.SerialReply.TheVariants.{Uart as FromUart}
 use Rattle.uart_16550.specs.Uart.{Uart, uart_at_reset, received}

@@ -1,13 +1,15 @@
 -- Where a walk stops, the bytes leave the logs of the script.
 use Rattle.std.proofs.Common.{ℕ, zero, suc, ◌≡◌, ◌≢◌, ◌+◌, ◌-◌, List, [], ◌∷◌, ◌++◌, length, reverse, refl, sym, ap}
 use Rattle.std.proofs.Common.{◌∙◌, All, append_assoc, append-nil, arith}
-use Rattle.board_prelude.proofs.Common.{common_steps, nat_tests, All-nil, All-push, All-cons, Entry, Statement, Setup}
-use Rattle.board_prelude.proofs.Common.{IsCompleteFor, in_file_order, line_feed, line_text, lines_text, log_text}
-use Rattle.board_prelude.proofs.Common.{complete_is_begun, none_so_far, reverse-reverse, begun_is_bounded}
-use Rattle.board_prelude.proofs.Common.{whole_is_complete, complete_is_whole, begun_goes_on}
-use Rattle.script_spec.specs.Common.{text_of_lines, IsOneLine, AreBegun, IsLogOf, DiffersAt}
-use Rattle.script_spec.proofs.Common.{log_lines}
-use Rattle.log_check.specs.Common.{GoesOnWithNone, StopsAt}
+use Rattle.board_prelude.proofs.{common_steps, nat_tests, All-nil, All-push, All-cons, Entry, Setup, IsCompleteFor}
+use Rattle.board_prelude.proofs.{in_file_order, line_feed, line_text, lines_text, log_text, complete_is_begun}
+use Rattle.board_prelude.proofs.{none_so_far, reverse-reverse, begun_is_bounded, whole_is_complete, complete_is_whole}
+use Rattle.board_prelude.proofs.{begun_goes_on}
+use Rattle.board_prelude.specs.{Statement}
+use Rattle.script_spec.specs.Lines.{text_of_lines, IsOneLine}
+use Rattle.script_spec.specs.Checks.{AreBegun, IsLogOf, DiffersAt}
+use Rattle.script_spec.proofs.LogLaws.{log_lines}
+use Rattle.log_check.specs.Walks.{GoesOnWithNone, StopsAt}
 use Rattle.log_check.proofs.LogLines.{log-newest, lines_in, lines_are, lines_each, lines_count, stand_first, StandFirst}
 use Rattle.log_check.proofs.Histories.{Known, Runs, same_history, no_longer}
 use Rattle.logs.specs.Reading.{heading}

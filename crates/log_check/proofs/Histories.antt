@@ -2,13 +2,15 @@
 use Rattle.std.proofs.Common.{ℕ, ◌≡◌, ◌+◌, ◌<◌, List, [], ◌∷◌, ◌++◌, length, reverse, All, refl, sym, ap, ◌∙◌}
 use Rattle.std.proofs.Common.{append-nil, length-append, arith, decimal}
 use Rattle.std.proofs.lemmas.List.{same_from_push}
-use Rattle.board_prelude.proofs.Common.{common_steps, nat_tests, nil_from_length, reverse-append, Entry, Statement}
-use Rattle.board_prelude.proofs.Common.{Setup, IsLegal, IsBegunFor, in_file_order, IsAddressed, OneReplay, space}
-use Rattle.board_prelude.proofs.Common.{line_feed, line_text, statement_of, statements_of, statements-newest}
-use Rattle.board_prelude.proofs.Common.{front_is_begun, digits_value}
-use Rattle.script_spec.proofs.Common.{value_of_decimal, front, back, front-field, back-field, lacks-word, decimal_word}
-use Rattle.script_spec.proofs.Common.{log_lines}
-use Rattle.log_check.specs.Common.{IsTyped, GoesOnWithNone}
+use Rattle.board_prelude.proofs.{common_steps, nat_tests, nil_from_length, reverse-append, Entry, Setup, IsLegal}
+use Rattle.board_prelude.proofs.{IsBegunFor, in_file_order, IsAddressed, OneReplay, space, line_feed, line_text}
+use Rattle.board_prelude.proofs.{statement_of, statements_of, statements-newest, front_is_begun, digits_value}
+use Rattle.board_prelude.specs.{Statement}
+use Rattle.script_spec.proofs.Digits.{value_of_decimal, front, back, front-field, back-field}
+use Rattle.script_spec.proofs.PlainText.{lacks-word, decimal_word}
+use Rattle.script_spec.proofs.LogLaws.{log_lines}
+use Rattle.log_check.specs.Phases.{IsTyped}
+use Rattle.log_check.specs.Walks.{GoesOnWithNone}
 use Rattle.log_check.proofs.TextCuts.{named, lacks_stop}
 use Rattle.log_check.proofs.NextStatements.{one_next}
 use Rattle.log_check.proofs.LogLines.{lines_count}

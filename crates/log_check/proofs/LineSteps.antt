@@ -4,14 +4,16 @@ use Rattle.std.proofs.Common.{ap, append_assoc, append-nil, length-append, arith
 use Rattle.std.proofs.Common.{MatchResult}
 use Rattle.std.specs.Borrow.{Bor}
 use Rattle.std.specs.Result.{IsErrAnd}
-use Rattle.board_prelude.proofs.Common.{Event, Entry, Statement, Setup, IsNext, IsLegal, IsBegunFor, IsCompleteFor}
-use Rattle.board_prelude.proofs.Common.{OneReplay, line_feed, line_text, log_text, common_steps, nat_tests}
-use Rattle.board_prelude.proofs.Common.{append_cancel_left, statement_of, statements_of, events_by, BeginsWith}
-use Rattle.board_prelude.proofs.Common.{statements-newest, in_file_order, length-map, length-reverse, whole_is_complete}
-use Rattle.board_prelude.proofs.Common.{complete_is_whole}
+use Rattle.board_prelude.proofs.{Event, Entry, Setup, IsNext, IsLegal, IsBegunFor, IsCompleteFor, OneReplay, line_feed}
+use Rattle.board_prelude.proofs.{line_text, log_text, common_steps, nat_tests, append_cancel_left, statement_of}
+use Rattle.board_prelude.proofs.{statements_of, events_by, BeginsWith, statements-newest, in_file_order, length-map}
+use Rattle.board_prelude.proofs.{length-reverse, whole_is_complete, complete_is_whole}
+use Rattle.board_prelude.specs.{Statement}
 use Rattle.log_check.specs.declared.fault.CheckFault.{CheckFault}
 use Rattle.log_check.specs.declared.fault.CheckFault.TheVariants.{Differs, NoMemory}
-use Rattle.log_check.specs.Common.{IsTyped, IsAtMostNext, WalkPlace, IsWithin, IsPast, StoppedCheck}
+use Rattle.log_check.specs.Phases.{IsTyped}
+use Rattle.log_check.specs.Checked.{IsAtMostNext}
+use Rattle.log_check.specs.Walks.{WalkPlace, IsWithin, IsPast, StoppedCheck}
 use Rattle.log_check.proofs.NextStatements.{done_size, begun_joined, begun_left, goes_first, small_actor}
 use Rattle.log_check.proofs.PhaseLists.{length_cut}
 use Rattle.log_check.proofs.LogLines.{log-newest}

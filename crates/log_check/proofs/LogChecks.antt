@@ -1,14 +1,17 @@
 -- A whole check: passed, or where it fails.
 use Rattle.std.proofs.Common.{ℕ, ◌≡◌, ◌≢◌, ◌+◌, ◌⊎◌, List, [], ◌∷◌, ◌++◌, length, All, refl, ◌∙◌, ◌==◌, true, false}
 use Rattle.std.proofs.Common.{inl, append-nil, arith, Result, Ok, Err, MatchResult}
-use Rattle.board_prelude.proofs.Common.{common_steps, nat_tests, eqb-true, nil_from_length, true≢false, Entry}
-use Rattle.board_prelude.proofs.Common.{Statement, Setup, IsLegal, IsBegunFor, IsCompleteFor, in_file_order, OneReplay}
-use Rattle.board_prelude.proofs.Common.{log_text, complete_is_begun, begun_is_bounded, complete_is_whole, none_so_far}
+use Rattle.board_prelude.proofs.{common_steps, nat_tests, eqb-true, nil_from_length, true≢false, Entry, Setup, IsLegal}
+use Rattle.board_prelude.proofs.{IsBegunFor, IsCompleteFor, in_file_order, OneReplay, log_text, complete_is_begun}
+use Rattle.board_prelude.proofs.{begun_is_bounded, complete_is_whole, none_so_far}
+use Rattle.board_prelude.specs.{Statement}
 use Rattle.board_core.specs.Steps.{AreInRange}
 use Rattle.script_spec.specs.Checks.{IsLogOf}
 use Rattle.log_check.specs.declared.fault.CheckFault.{CheckFault}
 use Rattle.log_check.specs.declared.fault.CheckFault.TheVariants.{Differs, NoMemory}
-use Rattle.log_check.specs.Common.{IsTyped, IsCheckedLog, StoppedCheck, FailedCheck}
+use Rattle.log_check.specs.Phases.{IsTyped}
+use Rattle.log_check.specs.Checked.{IsCheckedLog}
+use Rattle.log_check.specs.Walks.{StoppedCheck, FailedCheck}
 use Rattle.log_check.proofs.Histories.{Known}
 use Rattle.log_check.proofs.Differences.{differs, differs_at_once}
 

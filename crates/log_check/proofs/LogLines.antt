@@ -1,11 +1,13 @@
 -- A log as lines: its heading, and a line for each entry.
 use Rattle.std.proofs.Common.{ℕ, ◌≡◌, ◌+◌, List, [], ◌∷◌, ◌++◌, length, All, refl, append_assoc, append-nil, arith}
 use Rattle.std.proofs.Common.{codes, decimal}
-use Rattle.board_prelude.proofs.Common.{common_steps, nat_tests, append_cancel_left, All-cons, Entry, line_feed}
-use Rattle.board_prelude.proofs.Common.{line_text, lines_text, log_text}
+use Rattle.board_prelude.proofs.{common_steps, nat_tests, append_cancel_left, All-cons, Entry, line_feed, line_text}
+use Rattle.board_prelude.proofs.{lines_text, log_text}
 use Rattle.script_spec.specs.Lines.{text_of_lines, IsOneLine}
-use Rattle.script_spec.proofs.Common.{lacks-append, one_line, lacks-word, decimal_word, lines_whole, lines_joined}
-use Rattle.script_spec.proofs.Common.{log_lines, compared, nothing_more}
+use Rattle.script_spec.proofs.Digits.{lacks-append}
+use Rattle.script_spec.proofs.CheckLaws.{one_line, compared}
+use Rattle.script_spec.proofs.PlainText.{lacks-word, decimal_word}
+use Rattle.script_spec.proofs.LogLaws.{lines_whole, lines_joined, log_lines, nothing_more}
 use Rattle.logs.specs.Reading.{heading}
 
 last_line : (head lines line rest : List ℕ) →

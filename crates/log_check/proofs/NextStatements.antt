@@ -1,10 +1,11 @@
 -- The phases that are done, and what follows them: a processor has one statement that may come next.
 use Rattle.std.proofs.Common.{◌≡◌, ◌<◌, ◌≤◌, List, [], ◌∷◌, ◌++◌, length, drop, inl, inr, length-append, arith, ℕ, All}
 use Rattle.std.proofs.Common.{subst, ap, append_assoc, get_or, add-one}
-use Rattle.board_prelude.proofs.Common.{take-append-le, drop-append-le, length-take, length-drop, take_all, Statement}
-use Rattle.board_prelude.proofs.Common.{HasPhases, HasPhasesSoFar, whole_is_front, BeginsWith, common_steps, nat_tests}
-use Rattle.board_prelude.proofs.Common.{take-append_seam, drop-append_seam, cases_lt, drop-cons, append_cancel_left}
-use Rattle.board_prelude.proofs.Common.{All-head, All-tail, All-drop, events_by, in_file_order}
+use Rattle.board_prelude.proofs.{take-append-le, drop-append-le, length-take, length-drop, take_all, HasPhases}
+use Rattle.board_prelude.proofs.{HasPhasesSoFar, whole_is_front, BeginsWith, common_steps, nat_tests, take-append_seam}
+use Rattle.board_prelude.proofs.{drop-append_seam, cases_lt, drop-cons, append_cancel_left, All-head, All-tail}
+use Rattle.board_prelude.proofs.{All-drop, events_by, in_file_order}
+use Rattle.board_prelude.specs.{Statement}
 use Rattle.std.proofs.lemmas.List.Elements.{All-take}
 use Rattle.board_spec.proofs.OrderLawProofs.{events-append}
 use Rattle.std.proofs.lemmas.Option.{slice_get-get_or}

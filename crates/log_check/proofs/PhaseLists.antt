@@ -1,8 +1,9 @@
 -- The phases of a script as lists.
 use Rattle.std.proofs.Common.{ℕ, ◌≡◌, ◌+◌, ◌<◌, ◌≤◌, List, [], ◌∷◌, ◌++◌, length, take, drop, get_or, All, refl, ap}
 use Rattle.std.proofs.Common.{sym, ◌∙◌, length-append, add-one, arith}
-use Rattle.board_prelude.proofs.Common.{common_steps, nat_tests, Vec, Global, drop-cons, flat_map-append, map-append}
-use Rattle.board_prelude.proofs.Common.{take-append-drop, take_more, Statement, in_file_order}
+use Rattle.board_prelude.proofs.{common_steps, nat_tests, Vec, Global, drop-cons, flat_map-append, map-append}
+use Rattle.board_prelude.proofs.{take-append-drop, take_more, in_file_order}
+use Rattle.board_prelude.specs.{Statement}
 use Rattle.script_spec.specs.Phases.{lists_of}
 use Rattle.log_check.proofs.NextStatements.{all_parts}
 

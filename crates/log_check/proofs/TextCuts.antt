@@ -2,13 +2,13 @@
 use Rattle.std.proofs.Common.{ℕ, ◌≡◌, ◌≢◌, ◌+◌, ◌-◌, ◌<◌, ◌≤◌, IfSome, slice_index_or, true, cond, ltb, List, [], ◌∷◌}
 use Rattle.std.proofs.Common.{◌++◌, length, take, drop, All, Option, Some, None, Result, refl, ap, ◌∙◌, inl}
 use Rattle.std.proofs.Common.{append_assoc, arith, decimal, codes, MatchResult, ◌==◌, ◌/◌, ◌^◌}
-use Rattle.board_prelude.proofs.Common.{length-append, length-drop, common_steps, nat_tests, position, position_or_len}
-use Rattle.board_prelude.proofs.Common.{result_ok, eq-eqb, ne_eqb, eqb-false, lt-ltb, cond-true, take_all, All-nil}
-use Rattle.board_prelude.proofs.Common.{All-cons, All-head, All-tail, Entry, space, event_text, value_bytes, reply_text}
-use Rattle.board_prelude.proofs.Common.{line_text, take-append_seam}
+use Rattle.board_prelude.proofs.{length-append, length-drop, common_steps, nat_tests, position, position_or_len}
+use Rattle.board_prelude.proofs.{result_ok, eq-eqb, ne_eqb, eqb-false, lt-ltb, cond-true, take_all, All-nil, All-cons}
+use Rattle.board_prelude.proofs.{All-head, All-tail, Entry, space, event_text, value_bytes, reply_text, line_text}
+use Rattle.board_prelude.proofs.{take-append_seam}
 use Rattle.std.proofs.lemmas.Fmt.{decimal_injective, decimal_digit, decimal_step, length-decimal-le_succ}
 use Rattle.std.proofs.Math.Seq.{drop-append-add}
-use Rattle.script_spec.proofs.Common.{lacks, front, front-field, lacks-first, lacks-later, lacks-decimal}
+use Rattle.script_spec.proofs.Digits.{lacks, front, front-field, lacks-first, lacks-later, lacks-decimal}
 
 -- ---- the first byte of a kind
 

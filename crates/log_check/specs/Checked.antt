@@ -1,6 +1,6 @@
 -- What stands after a check.
 use Rattle.std.specs.Prelude.{ℕ, ◌≡◌, ◌+◌, ◌⊎◌, ◌++◌, List, [], ◌∷◌, length}
-use Rattle.board_prelude.specs.Common.{Entry, Statement, Setup, log_text}
+use Rattle.board_prelude.specs.{Entry, Statement, Setup, log_text}
 use Rattle.script_spec.specs.Checks.{IsLogOf}
 use Rattle.log_check.specs.declared.fault.CheckFault.{CheckFault}
 use Rattle.log_check.specs.declared.fault.CheckFault.TheVariants.{Differs, NoMemory}

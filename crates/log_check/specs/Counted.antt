@@ -1,6 +1,6 @@
 -- How many entries each processor has.
 use Rattle.std.specs.Prelude.{ℕ, ◌≡◌, ◌<◌, List, length, slice_index}
-use Rattle.board_prelude.specs.Common.{Entry, entries_by}
+use Rattle.board_prelude.specs.{Entry, entries_by}
 use Rattle.log_check.specs.declared.numbers.Numbers.{Numbers}
 
 -- the numbers are those of the processors' last entries in a history

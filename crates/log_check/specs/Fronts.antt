@@ -1,6 +1,6 @@
 -- What the processors have left of a phase.
 use Rattle.std.specs.Prelude.{ℕ, ◌≡◌, ◌+◌, ◌<◌, List, ◌∷◌, length, drop, slice_index, slice_get, Some}
-use Rattle.board_prelude.specs.Common.{Event, Statement, events_by}
+use Rattle.board_prelude.specs.{Event, Statement, events_by}
 use Rattle.log_check.specs.declared.front.Front.{Front}
 
 -- the events of a processor that are not taken

@@ -3,4 +3,3 @@ pub mod Fronts
 pub mod Counted
 pub mod Checked
 pub mod Walks
-pub mod Common

@@ -1,6 +1,6 @@
 -- Statements whose numbers fit their types.
 use Rattle.std.specs.Prelude.{◌<◌}
-use Rattle.board_prelude.specs.Common.{Event, Statement, address_count}
+use Rattle.board_prelude.specs.{Event, Statement, address_count}
 use Rattle.board_spec.specs.declared.event.Event.TheVariants.{Look as LookAt}
 
 -- a look is at an address

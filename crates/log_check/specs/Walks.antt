@@ -1,7 +1,7 @@
 -- The walk over a log: how far it is, and where it stops.
 use Rattle.std.specs.Prelude.{ℕ, ◌≡◌, ◌≢◌, ◌+◌, ◌++◌, List, [], ◌∷◌, length}
-use Rattle.board_prelude.specs.Common.{Event, Entry, Statement, Setup, IsNext, IsLegal, statements_of, events_by}
-use Rattle.board_prelude.specs.Common.{HasPhases, IsCompleteFor, IsBegunFor, line_feed, line_text, log_text}
+use Rattle.board_prelude.specs.{Event, Entry, Statement, Setup, IsNext, IsLegal, statements_of, events_by, HasPhases}
+use Rattle.board_prelude.specs.{IsCompleteFor, IsBegunFor, line_feed, line_text, log_text}
 use Rattle.script_spec.specs.Checks.{DiffersAt}
 use Rattle.log_check.specs.declared.fault.CheckFault.{CheckFault}
 use Rattle.log_check.specs.declared.fault.CheckFault.TheVariants.{Differs, NoMemory}

@@ -2,10 +2,10 @@
 
 ghost use Rattle.std.specs.Prelude.{◌≡◌, ◌+◌, ◌<◌, ◌≤◌, ◌++◌, ◌∷◌, ◌⊎◌, ℕ, [], List, All, length, Ok, Err, IfOk, IfErr};
 ghost use Rattle.std.specs.Prelude.{OnOk, MatchResult};
-ghost use Rattle.board_prelude.specs.Common.{most_statements, IsLegal, log_text, IsBegunFor, IsCompleteFor};
-ghost use Rattle.board_prelude.specs.Common.{in_file_order};
+ghost use Rattle.board_prelude.specs.{most_statements, IsLegal, log_text, IsBegunFor, IsCompleteFor, in_file_order};
 ghost use Rattle.board_core.specs.Steps.{AreInRange};
-ghost use Rattle.script_spec.specs.Common.{IsLogOf, DiffersAt, lists_of};
+ghost use Rattle.script_spec.specs.Checks.{IsLogOf, DiffersAt};
+ghost use Rattle.script_spec.specs.Phases.{lists_of};
 ghost use Rattle.log_check.specs.declared.fault.CheckFault.{CheckFault};
 ghost use Rattle.log_check.specs.Counted.{AreNumbersOf};
 ghost use Rattle.log_check.specs.Phases.{IsTyped};

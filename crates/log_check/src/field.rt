@@ -2,7 +2,7 @@
 
 ghost use Rattle.std.specs.Prelude.{◌≡◌, ◌≢◌, ◌<◌, ◌++◌, ◌∷◌, [], ◌==◌, ℕ, List, Some, All, IfSome, MatchOption};
 ghost use Rattle.std.specs.Prelude.{decimal, length};
-ghost use Rattle.board_prelude.specs.Common.{position, Entry, space, line_text};
+ghost use Rattle.board_prelude.specs.{position, Entry, space, line_text};
 
 /// The place of the first byte that is `mark`.
 fn place_of_mark(mark: u8, bytes: &[u8]) -> Option<usize>

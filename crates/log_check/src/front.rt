@@ -1,7 +1,7 @@
 //! How far each processor is in a phase.
 
 ghost use Rattle.std.specs.Prelude.{◌≡◌, ◌≢◌, ◌<◌, ℕ, [], ◌∷◌, drop, Some, IfSome, MatchOption};
-ghost use Rattle.board_prelude.specs.Common.{Setup, events_by};
+ghost use Rattle.board_prelude.specs.{Setup, events_by};
 ghost use Rattle.board_core.specs.Steps.{AreInRange};
 ghost use Rattle.log_check.specs.Fronts.{left_of, IsNextOf};
 

@@ -1,7 +1,7 @@
 //! The next line of a log: what it must be, and what stands after it.
 
 ghost use Rattle.std.specs.Prelude.{◌≡◌, ◌≢◌, ◌++◌, ◌∷◌, [], ℕ, List, string_bytes, OnOk, MatchResult};
-ghost use Rattle.board_prelude.specs.Common.{line_feed, line_text, log_text};
+ghost use Rattle.board_prelude.specs.{line_feed, line_text, log_text};
 ghost use Rattle.logs.specs.LinesFrom.{entry_with};
 ghost use Rattle.log_check.specs.declared.fault.CheckFault.{CheckFault};
 

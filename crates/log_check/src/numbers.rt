@@ -1,7 +1,7 @@
 //! How many entries each processor has.
 
 ghost use Rattle.std.specs.Prelude.{◌≡◌, ◌≢◌, ◌+◌, ◌<◌, ℕ, [], slice_index};
-ghost use Rattle.board_prelude.specs.Common.{entry_limit};
+ghost use Rattle.board_prelude.specs.{entry_limit};
 ghost use Rattle.log_check.specs.Counted.{AreNumbersOf};
 
 use board_spec::limits::ACTORS;

@@ -1,7 +1,7 @@
 //! The numbers of statements are in the range of their types.
 
 ghost use Rattle.std.specs.Prelude.{◌≡◌, ◌≤◌, All, length};
-ghost use Rattle.board_prelude.specs.Common.{most_statements, in_file_order};
+ghost use Rattle.board_prelude.specs.{most_statements, in_file_order};
 ghost use Rattle.script_spec.specs.Phases.{lists_of};
 ghost use Rattle.log_check.specs.Phases.{IsTyped};
 

@@ -1,7 +1,8 @@
 -- What a statement that was read asks.
-use Rattle.board_prelude.proofs.Common.{nat_tests, IsMoment, Event, Time, Stimulus, stimulus_form}
+use Rattle.board_prelude.proofs.{nat_tests, IsMoment, Event, Time, Stimulus, stimulus_form}
 use Rattle.std.proofs.Common.{◌≡◌, ◌≢◌, ℕ, ◌<◌, ◌≤◌, true, Option, Some, None, List, subst, arith, MatchOption}
-use Rattle.script_spec.specs.Common.{HasForm, ask}
+use Rattle.script_spec.specs.Grammar.{HasForm}
+use Rattle.script_spec.specs.Items.{ask}
 use Rattle.script_spec.proofs.LineReading.{one_item}
 use Rattle.scripts.specs.declared.item.Asked.{Asked}
 use Rattle.scripts.specs.declared.item.Asked.TheVariants.{Event as AnEvent, Moment as AMoment, Stimulus as Applies}

@@ -1,5 +1,5 @@
 -- Where a text is cut.
-use Rattle.board_prelude.proofs.Common.{nat_tests, position_or_len, take_rest}
+use Rattle.board_prelude.proofs.{nat_tests, position_or_len, take_rest}
 use Rattle.std.proofs.Common.{◌≡◌, ℕ, ◌+◌, ◌-◌, Bool, cond, eqb, ltb, Option, Some, None, List, [], ◌∷◌, length, take}
 use Rattle.std.proofs.Common.{drop, refl, arith}
 use Rattle.std.proofs.lemmas.Option.{cond_some}

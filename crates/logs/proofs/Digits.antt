@@ -1,6 +1,6 @@
 -- Bytes of a number, by shifts.
 use Rattle.std.proofs.Common.{pow-suc, ◌≡◌, ℕ, zero, suc, ◌*◌, ◌/◌, ◌%◌, ◌<◌, ◌≤◌, ◌^◌, refl, ap, sym, pow-add, arith}
-use Rattle.board_prelude.proofs.Common.{pow-le-pow_right, byte, hex_number}
+use Rattle.board_prelude.proofs.{pow-le-pow_right, byte, hex_number}
 use Rattle.std.proofs.Math.Nat.{div-eq_of_lt}
 
 byte_power : (n : ℕ) → 2 ^ (8 * n) ≡ 256 ^ n

@@ -2,8 +2,8 @@
 use Rattle.std.proofs.Common.{ap, ◌≡◌, ℕ, ◌+◌, ◌*◌, ◌-◌, ◌<◌, ◌≤◌, ◌++◌, List, [], ◌∷◌, length, get_or, take, drop}
 use Rattle.std.proofs.Common.{refl, ◌∙◌, append_assoc, append-nil, arith, Result, Ok, IfOk, string_bytes, String}
 use Rattle.std.proofs.Common.{reverse, Global, take_all, length-take-le, length-append, length-drop, get_or-drop}
-use Rattle.board_prelude.proofs.Common.{nat_tests, common_steps, drop_all, get_or-append_seam, Entry, line_feed}
-use Rattle.board_prelude.proofs.Common.{line_text, log_text}
+use Rattle.board_prelude.proofs.{nat_tests, common_steps, drop_all, get_or-append_seam, Entry, line_feed, line_text}
+use Rattle.board_prelude.proofs.{log_text}
 use Rattle.std.proofs.Math.Seq.{take-add}
 use Rattle.logs.specs.LinesFrom.{lines_from}
 use Rattle.logs.proofs.Parts.{lines_of_parts, log_text-lines, appended_line}

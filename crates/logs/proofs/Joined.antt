@@ -1,7 +1,7 @@
 -- What two calls in a row append. In the second lemma the last call may still fail.
-use Rattle.board_prelude.specs.Common.{Entry, Wide, WideAccess, event_text, hex_long, is_write, kind_text, line_text}
-use Rattle.board_prelude.specs.Common.{reply_text, size_text, smm_text, space, written_text}
-use Rattle.board_prelude.proofs.Common.{nat_tests}
+use Rattle.board_prelude.specs.{Entry, Wide, WideAccess, event_text, hex_long, is_write, kind_text, line_text}
+use Rattle.board_prelude.specs.{reply_text, size_text, smm_text, space, written_text}
+use Rattle.board_prelude.proofs.{nat_tests}
 use Rattle.std.proofs.Common.{arith, refl, sym, ◌∙◌, [], ◌∷◌, ◌≡◌, ℕ, ◌++◌, List, Result, OnOk, append_assoc, codes, decimal, OnErr}
 use Rattle.logs.specs.Adds.{IsFront}
 use Rattle.logs.specs.Numbered.{tail_text}

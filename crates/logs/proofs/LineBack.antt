@@ -1,8 +1,13 @@
 -- The pieces of a line that was read are those of its entry.
 use Rattle.std.proofs.Common.{◌≡◌, ℕ, Option, Some, List, ◌∷◌, sym, ap, subst, ◌∙◌}
-use Rattle.board_prelude.proofs.Common.{Event, Reply, Entry, space, value_bytes, reply_text, line_text}
-use Rattle.script_spec.specs.Common.{IsEventForm, HasShape, IsWellFormed, ask, Pieces, parse_pieces, parse_actor}
-use Rattle.script_spec.proofs.Common.{some_is, one_item, replied_text, pieces, line_pieces, actor_said, asked_said}
+use Rattle.board_prelude.proofs.{Event, Reply, Entry, space, value_bytes, reply_text, line_text}
+use Rattle.script_spec.specs.Grammar.{IsEventForm}
+use Rattle.script_spec.specs.WellFormed.{HasShape, IsWellFormed}
+use Rattle.script_spec.specs.Items.{ask}
+use Rattle.script_spec.specs.Entries.{Pieces, parse_pieces, parse_actor}
+use Rattle.script_spec.proofs.Chains.{some_is}
+use Rattle.script_spec.proofs.LineReading.{one_item}
+use Rattle.script_spec.proofs.LogLaws.{replied_text, pieces, line_pieces, actor_said, asked_said}
 use Rattle.logs.specs.Asked.{IsAsked}
 use Rattle.logs.proofs.AskedReading.{ask_is}
 

@@ -1,6 +1,6 @@
 -- The history of one entry more.
 use Rattle.std.proofs.Common.{◌≡◌, ℕ, ◌+◌, ◌<◌, List, [], ◌∷◌, length, reverse, take, get_or}
-use Rattle.board_prelude.proofs.Common.{reverse-append, take_at_read}
+use Rattle.board_prelude.proofs.{reverse-append, take_at_read}
 
 -- with the entry at i as the newest, the history is one longer
 pub reverse-take_more : {A : Type 0} (entries : List A) (i : ℕ) (default : A) → i < length entries →

@@ -1,7 +1,7 @@
 -- The lines of a history and of its parts.
 use Rattle.std.proofs.Common.{◌≡◌, ℕ, ◌+◌, ◌<◌, ◌++◌, List, [], ◌∷◌, length, reverse, take, get_or, append_assoc, arith}
-use Rattle.board_prelude.proofs.Common.{reverse-append, append-nil, nat_tests, common_steps, Entry, line_feed}
-use Rattle.board_prelude.proofs.Common.{line_text, lines_text, log_text}
+use Rattle.board_prelude.proofs.{reverse-append, append-nil, nat_tests, common_steps, Entry, line_feed, line_text}
+use Rattle.board_prelude.proofs.{lines_text, log_text}
 use Rattle.logs.specs.LinesFrom.{lines_from}
 
 pub lines_of_parts : (first : ℕ) (early late : List Entry) →

@@ -1,9 +1,14 @@
 -- The lines of a log, read one by one.
-use Rattle.board_prelude.proofs.Common.{nat_tests, common_steps, digits, Entry, line_feed, line_text, lines_text}
+use Rattle.board_prelude.proofs.{nat_tests, common_steps, digits, Entry, line_feed, line_text, lines_text}
 use Rattle.std.proofs.Common.{◌≡◌, ◌≢◌, ℕ, ◌+◌, Option, Some, None, List, [], ◌∷◌, ◌++◌, length, reverse, refl, sym}
 use Rattle.std.proofs.Common.{inl, inr, arith, MatchOption}
-use Rattle.script_spec.specs.Common.{IsVersion, IsWellFormed, cut}
-use Rattle.script_spec.proofs.Common.{lacks-line, line_whole, some_is, word_is, cut_field, cut_joined}
+use Rattle.script_spec.specs.ScriptText.{IsVersion}
+use Rattle.script_spec.specs.WellFormed.{IsWellFormed}
+use Rattle.script_spec.specs.Cuts.{cut}
+use Rattle.script_spec.proofs.CheckLaws.{lacks-line}
+use Rattle.script_spec.proofs.LogLaws.{line_whole}
+use Rattle.script_spec.proofs.Chains.{some_is, word_is}
+use Rattle.script_spec.proofs.Digits.{cut_field, cut_joined}
 use Rattle.logs.specs.Reading.{heading, parse_heading, HasEntry, HasNoEntry}
 
 -- ---- the next line

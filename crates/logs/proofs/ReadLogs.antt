@@ -1,15 +1,21 @@
 -- Where the bytes of a log stop being one.
-use Rattle.board_prelude.proofs.Common.{common_steps, nat_tests, reverse-append, reverse-reverse, append_cancel_left}
-use Rattle.board_prelude.proofs.Common.{length-append, All-nil, All-cons, All-head, All-tail, All-push, Entry}
-use Rattle.board_prelude.proofs.Common.{line_feed, line_text, lines_text, log_text}
+use Rattle.board_prelude.proofs.{common_steps, nat_tests, reverse-append, reverse-reverse, append_cancel_left}
+use Rattle.board_prelude.proofs.{length-append, All-nil, All-cons, All-head, All-tail, All-push, Entry, line_feed}
+use Rattle.board_prelude.proofs.{line_text, lines_text, log_text}
 use Rattle.std.proofs.Common.{◌≡◌, ◌≢◌, ℕ, ◌+◌, true, Some, None, List, [], ◌∷◌, ◌++◌, length, reverse, get_or, All}
 use Rattle.std.proofs.Common.{refl, sym, ap, subst, ◌∙◌, inl, inr, append_assoc, append-nil, arith, Result, IfErr}
 use Rattle.std.proofs.Common.{IsErrAnd, codes, decimal, drop}
 use Rattle.std.proofs.lemmas.List.{same_from_push}
-use Rattle.script_spec.specs.Common.{text_of_lines, IsOneLine, IsVersion, IsWellFormed, IsLogText, IsSomeLog, IsBadLog}
-use Rattle.script_spec.specs.Common.{cut}
-use Rattle.script_spec.proofs.Common.{lacks, lacks-append, lacks-word, decimal_word, one_line, compared, log_lines}
-use Rattle.script_spec.proofs.Common.{lines_joined, lines_whole, nothing_more, some_is, cut_field, cut_joined}
+use Rattle.script_spec.specs.Lines.{text_of_lines, IsOneLine}
+use Rattle.script_spec.specs.ScriptText.{IsVersion}
+use Rattle.script_spec.specs.WellFormed.{IsWellFormed}
+use Rattle.script_spec.specs.Checks.{IsLogText, IsSomeLog, IsBadLog}
+use Rattle.script_spec.specs.Cuts.{cut}
+use Rattle.script_spec.proofs.Digits.{lacks, lacks-append, cut_field, cut_joined}
+use Rattle.script_spec.proofs.PlainText.{lacks-word, decimal_word}
+use Rattle.script_spec.proofs.CheckLaws.{one_line, compared}
+use Rattle.script_spec.proofs.LogLaws.{log_lines, lines_joined, lines_whole, nothing_more}
+use Rattle.script_spec.proofs.Chains.{some_is}
 use Rattle.logs.specs.declared.fault.LogFault.{LogFault}
 use Rattle.logs.specs.declared.fault.LogFault.TheVariants.{Bad, NoMemory}
 use Rattle.logs.specs.Reading.{NamesBad, heading, parse_heading, HasNoEntry, IsBadAfter}

@@ -1,5 +1,5 @@
 -- The words of stimuli are short, and of ASCII.
-use Rattle.board_prelude.proofs.Common.{nat_tests, common_steps, Stimulus, stimulus_form}
+use Rattle.board_prelude.proofs.{nat_tests, common_steps, Stimulus, stimulus_form}
 use Rattle.std.proofs.Common.{◌≤◌, length, arith}
 use Rattle.std.specs.Str.{IsAscii}
 

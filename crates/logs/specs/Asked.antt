@@ -1,7 +1,10 @@
 -- What a line asks: a statement of a script, in range.
 use Rattle.std.specs.Prelude.{ℕ, ◌≡◌, true, List}
-use Rattle.board_prelude.specs.Common.{Event}
-use Rattle.script_spec.specs.Common.{HasForm, is_event_placed, IsNamed, ask}
+use Rattle.board_prelude.specs.{Event}
+use Rattle.script_spec.specs.Grammar.{HasForm}
+use Rattle.script_spec.specs.Reasons.{is_event_placed}
+use Rattle.script_spec.specs.WellFormed.{IsNamed}
+use Rattle.script_spec.specs.Items.{ask}
 use Rattle.scripts.specs.declared.item.Asked.{Asked}
 use Rattle.scripts.specs.Items.{asked_said}
 

@@ -3,6 +3,5 @@ pub mod Tails
 pub mod LinesFrom
 pub mod Numbered
 pub mod Reading
-pub mod Common
 pub mod Text
 pub mod Asked

@@ -1,6 +1,6 @@
 -- The lines of a part of a history. Here the oldest entry stands first.
 use Rattle.std.specs.Prelude.{ℕ, ◌≡◌, ◌+◌, ◌++◌, List, [], ◌∷◌, length, reverse}
-use Rattle.board_prelude.specs.Common.{Entry, Event, Reply, line_feed, line_text, lines_text}
+use Rattle.board_prelude.specs.{Entry, Event, Reply, line_feed, line_text, lines_text}
 
 -- the entry of these parts
 abbrev pub entry_with : (actor seq : ℕ) → Event → Reply → Entry

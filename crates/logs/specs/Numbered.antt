@@ -1,6 +1,6 @@
 -- A line of a log is its number, a space, and the rest, which the entry alone says (`lines_are_numbered`).
 use Rattle.std.specs.Prelude.{ℕ, ◌++◌, List, [], ◌∷◌, codes, decimal}
-use Rattle.board_prelude.specs.Common.{Entry, space, line_feed, value_bytes, event_text, reply_text}
+use Rattle.board_prelude.specs.{Entry, space, line_feed, value_bytes, event_text, reply_text}
 
 -- what follows the number of a line and the space after it, without the line feed
 unfoldable pub tail_text : Entry → List ℕ

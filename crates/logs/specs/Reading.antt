@@ -1,7 +1,7 @@
 -- What reading a log finds.
 use Rattle.std.specs.Prelude.{ℕ, ◌≡◌, ◌≢◌, ◌+◌, List, [], ◌∷◌, ◌++◌, length, All, if◌then◌else◌, Option, Some, None}
 use Rattle.std.specs.Prelude.{codes, bytes_eq, decimal}
-use Rattle.board_prelude.specs.Common.{Entry, line_feed, line_text, lines_text}
+use Rattle.board_prelude.specs.{Entry, line_feed, line_text, lines_text}
 use Rattle.script_spec.specs.WellFormed.{IsWellFormed}
 use Rattle.logs.specs.declared.fault.LogFault.{LogFault}
 use Rattle.logs.specs.declared.fault.LogFault.TheVariants.{Bad, NoMemory}

@@ -1,6 +1,6 @@
 -- The end of a line, which grows to the front.
 use Rattle.std.specs.Prelude.{ℕ, ◌+◌, ◌≤◌, List, length}
-use Rattle.board_prelude.specs.Common.{Event, value_bytes}
+use Rattle.board_prelude.specs.{Event, value_bytes}
 
 -- so many more bytes fit before this end of a line
 abbrev pub HasRoom : List ℕ → ℕ → Type 0

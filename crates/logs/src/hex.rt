@@ -1,7 +1,7 @@
 //! Numbers in hexadecimal, in upper-case digits, two for each byte.
 
 ghost use Rattle.std.specs.Prelude.{◌≡◌, ◌+◌, ◌/◌, ◌<◌, ◌≤◌, ◌++◌, OnOk, OnErr};
-ghost use Rattle.board_prelude.specs.Common.{byte, hex_digit, hex_byte, hex_number, hex_offset};
+ghost use Rattle.board_prelude.specs.{byte, hex_digit, hex_byte, hex_number, hex_offset};
 ghost use Rattle.logs.specs.Adds.{AddsWords, KeepsFront};
 ghost use Rattle.logs.specs.Tails.{HasRoom, GrowsBy};
 

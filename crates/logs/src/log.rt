@@ -2,7 +2,7 @@
 
 ghost use Rattle.std.specs.Prelude.{◌≡◌, ◌+◌, ◌^◌, ◌≤◌, ◌∷◌, ◌++◌, [], length, OnOk, OnErr, IfOk, reverse, decimal};
 ghost use Rattle.std.specs.Prelude.{codes};
-ghost use Rattle.board_prelude.specs.Common.{space, line_feed, Wide, line_text, log_text};
+ghost use Rattle.board_prelude.specs.{space, line_feed, Wide, line_text, log_text};
 ghost use Rattle.logs.specs.Adds.{AddsWords, KeepsFront};
 ghost use Rattle.logs.specs.Numbered.{tail_line, tail_text};
 ghost use Rattle.logs.specs.Tails.{GrowsBy, HasRoom, HasShortValue};

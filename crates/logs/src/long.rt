@@ -1,9 +1,8 @@
 //! The line of a wide access of more than eight bytes, which no processor makes: its values do not fit a `Tail`.
 
 ghost use Rattle.std.specs.Prelude.{◌≡◌, [], ◌∷◌, ◌++◌, ◌≤◌, OnOk, OnErr, Option, MatchOption, flat_map, codes, decimal};
-ghost use Rattle.board_prelude.specs.Common.{space, Wide, is_write, kind_text, size_text, hex_long, look_text};
-ghost use Rattle.board_prelude.specs.Common.{parts_list, value_text, answered_text, written_text, smm_text, reply_text};
-ghost use Rattle.board_prelude.specs.Common.{line_text};
+ghost use Rattle.board_prelude.specs.{space, Wide, is_write, kind_text, size_text, hex_long, look_text, parts_list};
+ghost use Rattle.board_prelude.specs.{value_text, answered_text, written_text, smm_text, reply_text, line_text};
 ghost use Rattle.logs.specs.Adds.{AddsWords, KeepsFront};
 ghost use Rattle.logs.specs.Numbered.{tail_text};
 ghost use Rattle.logs.specs.Tails.{HasShortValue};

@@ -1,7 +1,7 @@
 //! The address map as text: a line for each of its ranges.
 
 ghost use Rattle.std.specs.Prelude.{◌++◌, [], ◌∷◌, OnOk, OnErr};
-ghost use Rattle.board_prelude.specs.Common.{line_feed, areas_text, range_text};
+ghost use Rattle.board_prelude.specs.{line_feed, areas_text, range_text};
 ghost use Rattle.logs.specs.Adds.{AddsWords, KeepsFront};
 
 use crate::reply::push_interval;

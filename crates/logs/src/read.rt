@@ -1,8 +1,10 @@
 //! The log read back: its version and its entries, or the first line that is none of a log.
 
 ghost use Rattle.std.specs.Prelude.{◌≡◌, ◌≢◌, ◌<◌, ◌-◌, ◌^◌, length, reverse, IfOk, IfErr, IfSome, MatchOption, All};
-ghost use Rattle.board_prelude.specs.Common.{Entry, line_text, lines_text};
-ghost use Rattle.script_spec.specs.Common.{IsVersion, IsWellFormed, IsLogText, IsBadLog};
+ghost use Rattle.board_prelude.specs.{Entry, line_text, lines_text};
+ghost use Rattle.script_spec.specs.ScriptText.{IsVersion};
+ghost use Rattle.script_spec.specs.WellFormed.{IsWellFormed};
+ghost use Rattle.script_spec.specs.Checks.{IsLogText, IsBadLog};
 ghost use Rattle.logs.specs.Reading.{NamesBad, parse_heading, HasEntry, HasNoEntry, IsBadAfter};
 
 use crate::cuts::cut;

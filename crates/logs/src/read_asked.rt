@@ -1,7 +1,7 @@
 //! The event of a line: that of a statement of a script, in range.
 
 ghost use Rattle.std.specs.Prelude.{◌≡◌, ◌+◌, ◌↔◌, ℕ, IsTrue, MatchOption, nat_le};
-ghost use Rattle.board_prelude.specs.Common.{Event};
+ghost use Rattle.board_prelude.specs.{Event};
 ghost use Rattle.scripts.specs.declared.item.Asked.{Asked};
 ghost use Rattle.logs.specs.Asked.{IsPlacedEvent, IsEventOf, IsAsked};
 

@@ -1,8 +1,9 @@
 //! A whole line: its number, the processor and the number of its entry, the event, and the reply.
 
 ghost use Rattle.std.specs.Prelude.{◌≡◌, ℕ, IfSome, option_map};
-ghost use Rattle.board_prelude.specs.Common.{Entry, line_text};
-ghost use Rattle.script_spec.specs.Common.{IsWellFormed, but_last, parse_pieces, parse_actor};
+ghost use Rattle.board_prelude.specs.{Entry, line_text};
+ghost use Rattle.script_spec.specs.WellFormed.{IsWellFormed};
+ghost use Rattle.script_spec.specs.Entries.{but_last, parse_pieces, parse_actor};
 
 use crate::cuts::{cut, if_byte};
 use crate::read_asked::parse_numbered_event;

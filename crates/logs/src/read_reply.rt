@@ -1,12 +1,14 @@
 //! The reply that a line says, by its event.
 
 ghost use Rattle.std.specs.Prelude.{◌≡◌, ◌≤◌, ◌<◌, ◌^◌, ◌∷◌, ℕ, false, length, IfSome};
-ghost use Rattle.board_prelude.specs.Common.{Reply, is_write, parts_of, outside_answer, space, value_bytes, reply_text};
-ghost use Rattle.board_prelude.specs.Common.{answers_outside};
-ghost use Rattle.script_spec.specs.Common.{IsDecimal, IsEventForm, IsReplyValue, IsBusReply, IsWideReply, IsLookReply};
-ghost use Rattle.script_spec.specs.Common.{HasShape, parse_decimal, parse_no_value, parse_value, parse_bus_reply};
-ghost use Rattle.script_spec.specs.Common.{parts_with, parse_wide_reply, parse_reply, parse_spaced_reply, IsNarrow};
-ghost use Rattle.script_spec.specs.Replies.{bus_reply, look_reply, parse_look_reply};
+ghost use Rattle.board_prelude.specs.{Reply, is_write, parts_of, outside_answer, space, value_bytes, reply_text};
+ghost use Rattle.board_prelude.specs.{answers_outside};
+ghost use Rattle.script_spec.specs.Grammar.{IsDecimal, IsEventForm};
+ghost use Rattle.script_spec.specs.WellFormed.{IsReplyValue, IsBusReply, IsWideReply, IsLookReply, HasShape};
+ghost use Rattle.script_spec.specs.Numbers.{parse_decimal};
+ghost use Rattle.script_spec.specs.Replies.{parse_no_value, parse_value, parse_bus_reply, parts_with, parse_wide_reply};
+ghost use Rattle.script_spec.specs.Replies.{parse_reply, parse_spaced_reply, IsNarrow, bus_reply, look_reply};
+ghost use Rattle.script_spec.specs.Replies.{parse_look_reply};
 
 use crate::read_target::{parse_area, parse_denial, parse_target};
 use crate::read_wide::{parse_parts, part_count, parts_length};

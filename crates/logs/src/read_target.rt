@@ -1,11 +1,11 @@
 //! What the words of a reply name: registers, denials, areas and targets. Hexadecimal digits are taken in either case.
 
 ghost use Rattle.std.specs.Prelude.{◌≡◌, ◌<◌, IfSome, option_map};
-ghost use Rattle.script_spec.specs.Common.{FitsReg, FitsArea, FitsDevice, FitsTarget, FitsDenial, parse_hex};
-ghost use Rattle.script_spec.specs.Common.{parse_register, parse_denial_word, parse_denial, parse_area_of_kind};
-ghost use Rattle.script_spec.specs.Common.{parse_placed_area, parse_area, parse_target_of_kind, parse_placed_target};
-ghost use Rattle.script_spec.specs.Common.{parse_chip, parse_device, parse_other_target};
-ghost use Rattle.script_spec.specs.Common.{parse_target};
+ghost use Rattle.script_spec.specs.WellFormed.{FitsReg, FitsArea, FitsDevice, FitsTarget, FitsDenial};
+ghost use Rattle.script_spec.specs.Numbers.{parse_hex};
+ghost use Rattle.script_spec.specs.Targets.{parse_register, parse_denial_word, parse_denial, parse_area_of_kind};
+ghost use Rattle.script_spec.specs.Targets.{parse_placed_area, parse_area, parse_target_of_kind, parse_placed_target};
+ghost use Rattle.script_spec.specs.Targets.{parse_chip, parse_device, parse_other_target, parse_target};
 ghost use Rattle.script_spec.specs.Targets.{parse_card_base, parse_card_target};
 
 use crate::cuts::{cut, parse_one_digit};

@@ -2,8 +2,8 @@
 
 ghost use Rattle.std.specs.Prelude.{◌≡◌, ◌≤◌, ◌+◌, ◌^◌, length, IfSome, All, option_map};
 ghost use Rattle.board_spec.specs.WideParts.{longest_at, parts_list};
-ghost use Rattle.script_spec.specs.Common.{FitsPart, parse_last_parts, parse_more_parts, parse_parts, part_count};
-ghost use Rattle.script_spec.specs.Replies.{parse_part};
+ghost use Rattle.script_spec.specs.WellFormed.{FitsPart};
+ghost use Rattle.script_spec.specs.Replies.{parse_last_parts, parse_more_parts, parse_parts, part_count, parse_part};
 
 use crate::read_target::{parse_denial, parse_target};
 use board_base::Width;

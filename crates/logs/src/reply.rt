@@ -1,8 +1,8 @@
 //! What the board replies, as text.
 
 ghost use Rattle.std.specs.Prelude.{◌≡◌, ◌+◌, ◌*◌, ◌≤◌, ◌∷◌, ◌++◌, length, flat_map, OnOk, OnErr, Option, None};
-ghost use Rattle.board_prelude.specs.Common.{space, hex_long, area_text, parts_list, value_text, value_bytes};
-ghost use Rattle.board_prelude.specs.Common.{answered_text, look_text, reply_text};
+ghost use Rattle.board_prelude.specs.{space, hex_long, area_text, parts_list, value_text, value_bytes, answered_text};
+ghost use Rattle.board_prelude.specs.{look_text, reply_text};
 ghost use Rattle.logs.specs.Adds.{AddsWords, KeepsFront};
 ghost use Rattle.logs.specs.Tails.{HasRoom, GrowsBy};
 

@@ -1,9 +1,9 @@
 //! An event, as a script spells it.
 
 ghost use Rattle.std.specs.Prelude.{◌≡◌, [], ◌∷◌, ◌+◌, ◌++◌, ◌/◌, ◌%◌, ◌<◌, ◌≤◌, length, if◌then◌else◌, codes, decimal};
-ghost use Rattle.board_prelude.specs.Common.{space, hex_long, size_text, kind_text, written_text, smm_text};
-ghost use Rattle.board_prelude.specs.Common.{memory_text, access_text, wide_text, port_text, level_text, two_digits};
-ghost use Rattle.board_prelude.specs.Common.{moment_text, event_text, option_map_or, stimulus_form, applied_text};
+ghost use Rattle.board_prelude.specs.{space, hex_long, size_text, kind_text, written_text, smm_text, memory_text};
+ghost use Rattle.board_prelude.specs.{access_text, wide_text, port_text, level_text, two_digits, moment_text};
+ghost use Rattle.board_prelude.specs.{event_text, option_map_or, stimulus_form, applied_text};
 ghost use Rattle.logs.specs.Tails.{HasRoom, GrowsBy, HasShortValue};
 
 use crate::hex::{put_hex, put_hex_long, put_hex_word};

@@ -1,8 +1,9 @@
 //! The log of a history that a board keeps.
 
 ghost use Rattle.std.specs.Prelude.{◌≡◌, reverse, OnOk, IfOk};
-ghost use Rattle.board_prelude.specs.Common.{log_text};
-ghost use Rattle.logs.specs.Common.{AddsWords, lines_from};
+ghost use Rattle.board_prelude.specs.{log_text};
+ghost use Rattle.logs.specs.Adds.{AddsWords};
+ghost use Rattle.logs.specs.LinesFrom.{lines_from};
 
 use crate::log::{push_heading, push_line};
 use crate::text::Text;

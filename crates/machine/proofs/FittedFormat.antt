@@ -3,8 +3,8 @@
 use Rattle.std.proofs.Common.{◌≡◌, ℕ, zero, suc, ◌-◌, ◌*◌, ◌+◌, ◌^◌, ◌<◌, ◌≤◌, true, List, length, Option, Some, None}
 use Rattle.std.proofs.Common.{Err, refl, arith, [], ◌∷◌, ap, ◌∙◌}
 use Rattle.std.proofs.Common.{flat_map, All, ◌↔◌}
-use Rattle.board_prelude.proofs.Common.{eqb-true, nat_tests, nil_from_length, AllByRecursion, recursion_from_All}
-use Rattle.board_prelude.specs.Common.{IsSetup, IsRomSize, is_rom_size, IsDisk, most_card_memory, most_mib}
+use Rattle.board_prelude.proofs.{eqb-true, nat_tests, nil_from_length, AllByRecursion, recursion_from_All}
+use Rattle.board_prelude.specs.{IsSetup, IsRomSize, is_rom_size, IsDisk, most_card_memory, most_mib}
 use Rattle.byte_fields.proofs.Formats.{IsFormat, fields_format, ◌then◌, ◌&◌, last_field, whole_field, format_as}
 use Rattle.byte_fields.proofs.Formats.{many_format, AreGood}
 use Rattle.byte_fields.proofs.Numbers.{wide32, byte_within, within_format, where_format, wide16, any_byte, any_number}

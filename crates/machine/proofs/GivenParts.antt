@@ -1,6 +1,6 @@
 -- A machine that was loaded, with the bytes that are given.
 use Rattle.std.proofs.Common.{arith, ◌≡◌, ℕ, ◌⊎◌, List, [], Result, Ok, Err, IfOk, IfErr}
-use Rattle.board_prelude.proofs.Common.{nat_tests}
+use Rattle.board_prelude.proofs.{nat_tests}
 use Rattle.machine.specs.declared.refusal.Refusal.{Refusal}
 use Rattle.machine.specs.declared.refusal.Refusal.TheVariants.{BadLength, NoMemory}
 use Rattle.machine.specs.Given.{AreAsMany, Given, IsGivenBoard, IsGivenRefusal, on_board, with_given}

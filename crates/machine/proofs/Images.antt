@@ -1,12 +1,12 @@
 -- A board is read from its bytes: what it is fitted with, and then its state.
 use Rattle.std.proofs.Common.{arith, ◌≡◌, ◌⊎◌, ℕ, inl, inr, List, [], ◌++◌, Result, Ok, Err, IfOk, refl, ap}
-use Rattle.board_prelude.proofs.Common.{nat_tests, append-nil, Setup}
+use Rattle.board_prelude.proofs.{nat_tests, append-nil, Setup}
 use Rattle.byte_fields.specs.declared.fault.Fault.{Fault}
 use Rattle.byte_fields.specs.declared.fault.Fault.TheVariants.{NoMemory}
 use Rattle.byte_fields.specs.Fields.{ended}
 use Rattle.byte_fields.specs.Loads.{LoadsWith}
-use Rattle.board_chipset.specs.Common.{Running}
-use Rattle.uart_16550.specs.Common.{Serial}
+use Rattle.board_chipset.specs.Chipset.{Running}
+use Rattle.uart_16550.specs.Serial.{Serial}
 use Rattle.uart_16550.specs.SerialState.{LoadsSerial, serial_bytes}
 use Rattle.machine.specs.declared.identity.FittedIdentity.{FittedIdentity}
 use Rattle.machine.specs.Fitted.{Fitting, IsFitting, fitting_bytes, fitting_fields}

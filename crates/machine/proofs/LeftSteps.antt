@@ -1,11 +1,11 @@
 -- A board that is saved without bytes of its own, and loaded with them.
 use Rattle.std.proofs.Common.{◌≡◌, ◌≢◌, ℕ, Bool, if◌then◌else◌, List, [], ◌∷◌, length, unwrap_or, Option, Some, None}
 use Rattle.std.proofs.Common.{Result, Ok, Err, ◌⊎◌, refl, sym, arith, ◌∙◌}
-use Rattle.board_prelude.proofs.Common.{Disk, nat_tests}
-use Rattle.board_devices.specs.Common.{sectors_in}
+use Rattle.board_prelude.proofs.{Disk, nat_tests}
+use Rattle.board_devices.specs.Devices.{sectors_in}
 use Rattle.board_devices.specs.State.{IsFittedDisk}
 use Rattle.board_chipset.specs.ChipsetState.{IsChipset}
-use Rattle.board_chipset.specs.Common.{Running}
+use Rattle.board_chipset.specs.Chipset.{Running}
 use Rattle.board_chipset.specs.Given.{dram_on, fitted_on, sectors_on, with_dram, with_fitted, with_sectors}
 use Rattle.board_chipset.proofs.LeftBytes.{left_length, left_on}
 use Rattle.machine.specs.declared.saved.LeftOut.{LeftOut}

@@ -2,9 +2,9 @@
 use Rattle.std.proofs.Common.{◌≡◌, ℕ, ◌+◌, ◌-◌, ◌*◌, ◌/◌, ◌%◌, ◌≤◌, ◌<◌, inl, inr, min, true, false, Bool, List, []}
 use Rattle.std.proofs.Common.{◌∷◌, ◌++◌, length, take, drop, get_or, replicate, slice_index, bytes_eq, cond, refl, sym}
 use Rattle.std.proofs.Common.{ap, ◌∙◌, arith}
-use Rattle.board_prelude.proofs.Common.{bytes_eq-Decides, cases_lt, length-append, length-replicate, length-take}
-use Rattle.board_prelude.proofs.Common.{length-drop, take_at, take_all, drop_all, take-append-drop, append-nil}
-use Rattle.board_prelude.proofs.Common.{get_or-take, get_or-drop, get_or_append_left, get_or-append_right, get_or_past}
+use Rattle.board_prelude.proofs.{bytes_eq-Decides, cases_lt, length-append, length-replicate, length-take, length-drop}
+use Rattle.board_prelude.proofs.{take_at, take_all, drop_all, take-append-drop, append-nil, get_or-take, get_or-drop}
+use Rattle.board_prelude.proofs.{get_or_append_left, get_or-append_right, get_or_past}
 use Rattle.std.proofs.lemmas.Grind.{same_number_lists}
 use Rattle.std.proofs.lemmas.List.{take-replicate, drop-replicate, replicate-append-replicate, take_min, take_rest}
 use Rattle.std.specs.Cmp.{both_ways}
@@ -12,7 +12,7 @@ use Rattle.std.proofs.Math.Seq.{take-add}
 use Rattle.board_base.proofs.ZeroLemmas.{zero_at}
 use Rattle.byte_fields.specs.Pages.{memory_page, memory_bytes, page_bytes, pages_bytes}
 use Rattle.byte_fields.proofs.PageFormats.{bytes_first, no_pages, memory_append, memory_format}
-use Rattle.dram_store.specs.Common.{bank_size}
+use Rattle.dram_store.specs.Bank.{bank_size}
 use Rattle.machine.specs.Room.{page_of}
 
 pub page_length : (kept : List ℕ) → length kept ≤ memory_page → length (page_of kept) ≡ memory_page

@@ -1,7 +1,7 @@
 -- The bytes of ROMs after some were written into one of them.
 use Rattle.std.proofs.Common.{◌≡◌, ℕ, ◌+◌, ◌<◌, ◌≤◌, List, [], replicate, length, set, arith, slice_index}
 use Rattle.std.proofs.lemmas.List.{get_or-set_same, get_or-set_other}
-use Rattle.board_prelude.proofs.Common.{nat_tests, get_or-replicate, get_or_past, length-replicate}
+use Rattle.board_prelude.proofs.{nat_tests, get_or-replicate, get_or_past, length-replicate}
 use Rattle.machine.specs.Roms.{byte_after, byte_in, given, put_byte, rom_byte}
 
 pub none_given : (count dev : ℕ) → given (replicate count []) dev ≡ []

@@ -1,6 +1,6 @@
 -- The cards one after another.
 use Rattle.std.proofs.Common.{◌≡◌, ℕ, ◌+◌, ◌<◌, ◌==◌, if◌then◌else◌, List, length, drop, get_or, find, Some, refl}
-use Rattle.board_prelude.proofs.Common.{drop_more}
+use Rattle.board_prelude.proofs.{drop_more}
 use Rattle.board_spec.specs.Setup.{FittedCard}
 
 pub card_next : (cards : List FittedCard) (index dev : ℕ) (last : FittedCard) → index < length cards →

@@ -1,7 +1,7 @@
 -- The bytes of a board in three: those before the DRAM's, these, and those after them.
 use Rattle.std.proofs.Common.{◌≡◌, ℕ, ◌+◌, Bool, List, [], ◌∷◌, ◌++◌, length, take, drop, replicate, Result, Ok, Err}
 use Rattle.std.proofs.Common.{OnOk, true, ◌*◌, refl, sym, ap, ◌∙◌, append_assoc, arith}
-use Rattle.board_prelude.proofs.Common.{take_at, drop_at, Setup}
+use Rattle.board_prelude.proofs.{take_at, drop_at, Setup}
 use Rattle.pit_8254.proofs.Saved.{joined}
 use Rattle.byte_fields.specs.Fields.{flag_byte}
 use Rattle.byte_fields.specs.Pages.{memory_page}
@@ -13,7 +13,7 @@ use Rattle.board_chipset.specs.Given.{disk_left, zeros}
 use Rattle.board_chipset.proofs.LeftBytes.{left_head}
 use Rattle.machine.specs.Given.{on_board, without}
 use Rattle.board_chipset.specs.Around.{after_dram, before_dram}
-use Rattle.board_chipset.specs.Common.{Running}
+use Rattle.board_chipset.specs.Chipset.{Running}
 use Rattle.board_chipset.proofs.AroundDram.{between}
 use Rattle.uart_16550.specs.Serial.{Serial}
 use Rattle.uart_16550.specs.State.{com1_bytes, uart_bytes}

@@ -3,7 +3,7 @@ use Rattle.std.proofs.Common.{◌≡◌, ℕ, ◌+◌, ◌-◌, ◌/◌, ◌^◌
 use Rattle.std.proofs.Common.{length, drop, get_or, find, Some, refl, ap, sym, ◌∙◌}
 use Rattle.std.proofs.lemmas.List.{drop_more, at_drop_all}
 use Rattle.std.proofs.Math.Nat.{div-eq_of_lt, pow-le-pow_right}
-use Rattle.board_prelude.proofs.Common.{byte}
+use Rattle.board_prelude.proofs.{byte}
 use Rattle.machine.specs.declared.field.Field.{Field}
 use Rattle.machine.specs.Header.{byte_said, says}
 

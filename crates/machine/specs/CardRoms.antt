@@ -1,7 +1,7 @@
 -- The bytes of expansion ROMs, out and in.
 use Rattle.std.specs.Prelude.{ℕ, ◌≡◌, ◌≢◌, ◌+◌, ◌<◌, ◌≤◌, ◌^◌, ◌⊎◌, List, [], length, slice_index, Option, Some, None}
 use Rattle.std.specs.Prelude.{option_and_then}
-use Rattle.board_prelude.specs.Common.{Setup, card_at}
+use Rattle.board_prelude.specs.{Setup, card_at}
 use Rattle.machine.specs.Roms.{IsKept, given, put_byte, rom_byte}
 use Rattle.machine.specs.Machines.{MachineState}
 use Rattle.machine.specs.declared.refusal.Refusal.{Refusal}

@@ -1,7 +1,7 @@
 -- What a board is fitted with, as the front of the bytes of a running board: a mark, the version of the format, the
 -- setup, and what the cards say that they are.
 use Rattle.std.specs.Prelude.{ℕ, ◌≡◌, ◌≢◌, ◌++◌, List, Ok, codes}
-use Rattle.board_prelude.specs.Common.{w16, to_le_bytes, Setup, IsSetup}
+use Rattle.board_prelude.specs.{w16, to_le_bytes, Setup, IsSetup}
 use Rattle.byte_fields.specs.Fields.{Reading, gives, ◌>>=◌, within, exactly}
 use Rattle.machine.specs.declared.identity.FittedIdentity.{FittedIdentity}
 use Rattle.machine.specs.Identities.{AreIdentities, identities_bytes, identities_fields}

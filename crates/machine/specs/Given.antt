@@ -3,7 +3,7 @@
 use Rattle.std.specs.Prelude.{ℕ, ◌≡◌, ◌≢◌, ◌⊎◌, if◌then◌else◌, List, [], ◌∷◌, length}
 use Rattle.board_spec.specs.Setup.{Setup, installed}
 use Rattle.board_chipset.specs.ChipsetState.{disk_size}
-use Rattle.board_chipset.specs.Common.{Running}
+use Rattle.board_chipset.specs.Chipset.{Running}
 use Rattle.board_chipset.specs.Given.{dram_left, dram_on, disk_left, fitted_on, sectors_on, with_dram, with_fitted}
 use Rattle.board_chipset.specs.Given.{with_sectors}
 use Rattle.machine.specs.declared.saved.LeftOut.{LeftOut}

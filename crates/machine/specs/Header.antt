@@ -1,6 +1,6 @@
 -- The bytes of a card's configuration header that say what it is (PCI Local Bus 2.1, sections 6.2.1 and 6.2.4).
 use Rattle.std.specs.Prelude.{ℕ, ◌+◌, ◌-◌, ◌==◌, ◌&&◌, nat_le, nat_lt, Bool, not, if◌then◌else◌, List, [], ◌∷◌}
-use Rattle.board_prelude.specs.Common.{byte}
+use Rattle.board_prelude.specs.{byte}
 use Rattle.machine.specs.declared.identity.Identity.{Identity}
 use Rattle.machine.specs.declared.field.Field.{Field}
 

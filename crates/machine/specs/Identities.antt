@@ -1,6 +1,6 @@
 -- What cards say that they are, as bytes: how many say something, and of each its device number and its fields.
 use Rattle.std.specs.Prelude.{ℕ, zero, suc, ◌^◌, ◌<◌, ◌≤◌, ◌++◌, List, [], ◌∷◌, length, flat_map, All}
-use Rattle.board_base.specs.Common.{w8, w16, w32, to_le_bytes}
+use Rattle.std.specs.Int.{w8, w16, w32, to_le_bytes}
 use Rattle.byte_fields.specs.Fields.{Reading, gives, ◌>>=◌, within}
 use Rattle.machine.specs.declared.identity.FittedIdentity.{FittedIdentity}
 

@@ -1,6 +1,6 @@
 -- The bytes of the cards' identities in the place of the fixed ones.
 use Rattle.std.specs.Prelude.{ℕ, ◌+◌, ◌==◌, List, Option, Some, None, find, option_map}
-use Rattle.board_prelude.specs.Common.{Width, byte, wide}
+use Rattle.board_prelude.specs.{Width, byte, wide}
 use Rattle.machine.specs.declared.identity.Identity.{Identity}
 use Rattle.machine.specs.declared.identity.FittedIdentity.{FittedIdentity}
 use Rattle.machine.specs.Header.{identity_byte}

@@ -9,4 +9,3 @@ pub mod Fitted
 pub mod Room
 pub mod Images
 pub mod Given
-pub mod Common

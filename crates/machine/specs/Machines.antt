@@ -1,7 +1,7 @@
 -- What a monitor holds.
 use Rattle.std.specs.Prelude.{ℕ, List, []}
-use Rattle.board_chipset.specs.Common.{Running}
-use Rattle.uart_16550.specs.Common.{Serial}
+use Rattle.board_chipset.specs.Chipset.{Running}
+use Rattle.uart_16550.specs.Serial.{Serial}
 use Rattle.machine.specs.declared.identity.FittedIdentity.{FittedIdentity}
 
 -- what an image has: a chipset with a serial port, and what its cards say that they are

@@ -1,7 +1,7 @@
 -- The bytes that expansion ROMs were given, by the device numbers of their cards.
 use Rattle.std.specs.Prelude.{ℕ, ◌+◌, ◌-◌, ◌≤◌, ◌==◌, ◌&&◌, nat_le, nat_lt, if◌then◌else◌, List, [], get_or, length}
 use Rattle.std.specs.Prelude.{slice_index, Option, unwrap_or}
-use Rattle.board_prelude.specs.Common.{expansion_byte}
+use Rattle.board_prelude.specs.{expansion_byte}
 
 -- where no ROM was given any, nothing is kept
 abbrev pub roms_in : Option (List (List ℕ)) → List (List ℕ)

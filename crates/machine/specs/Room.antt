@@ -1,8 +1,8 @@
 -- Bytes that are put into a room, and a page of memory of which only the front is kept.
 use Rattle.std.specs.Prelude.{ℕ, ◌≡◌, ◌+◌, ◌-◌, ◌*◌, ◌≤◌, ◌++◌, List, length, replicate, take, drop}
-use Rattle.board_prelude.specs.Common.{most_mib}
+use Rattle.board_prelude.specs.{most_mib}
 use Rattle.byte_fields.specs.Pages.{memory_page}
-use Rattle.dram_store.specs.Common.{bank_size}
+use Rattle.dram_store.specs.Bank.{bank_size}
 
 -- bytes stand in a room from a place on, and all around them is as before
 pub record IsPutAt (at : ℕ) (bytes before after : List ℕ) : Type 0 where

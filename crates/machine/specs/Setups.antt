@@ -1,8 +1,7 @@
 -- What a board is fitted with, as bytes. Of the ROM and of the disk the pages that are not all zeros.
 use Rattle.std.specs.Prelude.{ℕ, ◌==◌, ◌||◌, ◌++◌, Bool, true, if◌then◌else◌, List, [], ◌∷◌, length, flat_map, Option}
 use Rattle.std.specs.Prelude.{Some, None, unwrap_or}
-use Rattle.board_prelude.specs.Common.{w8, w32, to_le_bytes, most_mib, most_card_memory, Setup, is_rom_size}
-use Rattle.board_prelude.specs.Common.{is_disk_length}
+use Rattle.board_prelude.specs.{w8, w32, to_le_bytes, most_mib, most_card_memory, Setup, is_rom_size, is_disk_length}
 use Rattle.byte_fields.specs.Fields.{Reading, gives, ◌>>=◌, within, number_where}
 use Rattle.byte_fields.specs.Pages.{memory_bytes, memory_fields}
 use Rattle.board_image.specs.ImageBytes.{card_bytes}

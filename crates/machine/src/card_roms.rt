@@ -2,7 +2,7 @@
 
 ghost use Rattle.std.specs.Prelude.{◌≡◌, ◌≢◌, ◌==◌, ◌+◌, ◌<◌, ◌≤◌, ◌^◌, ℕ, All, find, option_and_then, [], None};
 ghost use Rattle.std.specs.Prelude.{length, slice_index, IfOk, IfErr, OnOk, OnErr, true, false};
-ghost use Rattle.board_prelude.specs.Common.{IsCard, IsExpansionRom, expansion_byte};
+ghost use Rattle.board_prelude.specs.{IsCard, IsExpansionRom, expansion_byte};
 ghost use Rattle.machine.specs.CardRoms.{IsPastRom, IsRomRead, IsRomRefusal, IsRomWritten, rom_size, size_of_rom};
 ghost use Rattle.machine.specs.Roms.{IsKept, given, put_byte, rom_byte, roms_in};
 

@@ -1,7 +1,7 @@
 //! A field of a configuration header.
 
 ghost use Rattle.std.specs.Prelude.{◌≡◌, ◌<◌, ◌-◌, true};
-ghost use Rattle.board_prelude.specs.Common.{byte};
+ghost use Rattle.board_prelude.specs.{byte};
 ghost use Rattle.machine.specs.Header.{field_at, says};
 
 /// A field of the header: its first offset, how many bytes it has, and the number that they make, the low byte first.

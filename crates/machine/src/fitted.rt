@@ -1,7 +1,7 @@
 //! What stands in front of the state of a running board.
 
 ghost use Rattle.std.specs.Prelude.{◌≡◌, ◌++◌, true, false, OnOk, length, ◌≤◌};
-ghost use Rattle.board_prelude.specs.Common.{IsSetup};
+ghost use Rattle.board_prelude.specs.{IsSetup};
 ghost use Rattle.byte_fields.specs.Fields.{Filled, Took};
 ghost use Rattle.byte_fields.specs.Loads.{LoadsWith, OneSpelling};
 ghost use Rattle.machine.specs.Fitted.{IsFitting, IsOtherVersion, fitting_bytes, fitting_fields, version_field};

@@ -1,7 +1,7 @@
 //! The bytes of an identity in a value that was read.
 
 ghost use Rattle.std.specs.Prelude.{◌≡◌, ◌<◌, ◌+◌, Some, option_map};
-ghost use Rattle.board_prelude.specs.Common.{byte};
+ghost use Rattle.board_prelude.specs.{byte};
 ghost use Rattle.machine.specs.Header.{identity_byte};
 ghost use Rattle.machine.specs.IdentityBytes.{identity_at, with_identity};
 

@@ -1,7 +1,7 @@
 //! The bytes that one expansion ROM was given.
 
 ghost use Rattle.std.specs.Prelude.{◌≡◌, ◌<◌, ◌≤◌, ◌+◌, ℕ, [], length, slice_index, IfOk};
-ghost use Rattle.board_prelude.specs.Common.{expansion_byte};
+ghost use Rattle.board_prelude.specs.{expansion_byte};
 ghost use Rattle.machine.specs.Roms.{byte_after, byte_in};
 
 use board_base::NoMemory;

@@ -1,7 +1,7 @@
 //! Reads a setup.
 
 ghost use Rattle.std.specs.Prelude.{◌≡◌, option_map};
-ghost use Rattle.board_prelude.specs.Common.{w32, is_rom_size};
+ghost use Rattle.board_prelude.specs.{w32, is_rom_size};
 ghost use Rattle.byte_fields.specs.Fields.{Filled, Took, number_where};
 ghost use Rattle.machine.specs.Setups.{disk_fields, is_fitted_size, rom_fields, setup_fields};
 

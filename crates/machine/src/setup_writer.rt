@@ -1,7 +1,7 @@
 //! Adds a setup to bytes.
 
 ghost use Rattle.std.specs.Prelude.{◌≡◌, ◌<◌, ◌^◌, ◌++◌, length, flat_map, All, OnOk};
-ghost use Rattle.board_prelude.specs.Common.{IsCard, IsSetup};
+ghost use Rattle.board_prelude.specs.{IsCard, IsSetup};
 ghost use Rattle.board_chipset.specs.Given.{unless_left, zeros};
 ghost use Rattle.board_image.specs.ImageBytes.{card_bytes};
 ghost use Rattle.machine.specs.Setups.{bytes_on, counted_bytes, disk_unless_left, setup_bytes};

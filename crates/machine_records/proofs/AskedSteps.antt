@@ -1,6 +1,6 @@
 -- The record of a reply is what answered, and then what stands after the step.
 use Rattle.std.proofs.Common.{◌≡◌, arith}
-use Rattle.board_prelude.proofs.Common.{nat_tests}
+use Rattle.board_prelude.proofs.{nat_tests}
 use Rattle.uart_16550.specs.declared.com1.SerialReply.{SerialReply}
 use Rattle.machine_records.specs.declared.reply.ReplyRecord.{ReplyRecord}
 use Rattle.machine_records.specs.Replies.{AfterStep, blank, bus_said, look_said, record_said, serial_said, uart_said}

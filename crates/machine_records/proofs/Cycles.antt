@@ -1,7 +1,7 @@
 -- Accesses of one bus cycle have a place.
 use Rattle.std.proofs.Common.{◌≡◌, None, arith}
-use Rattle.board_prelude.proofs.Common.{Bytes, Event, nat_tests}
-use Rattle.board_chipset.specs.Common.{Running}
+use Rattle.board_prelude.proofs.{Bytes, Event, nat_tests}
+use Rattle.board_chipset.specs.Chipset.{Running}
 use Rattle.board_chipset.specs.Held.{HoldsRegisters, held_place}
 use Rattle.machine_records.specs.Places.{IsCycle}
 

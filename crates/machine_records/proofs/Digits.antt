@@ -1,5 +1,5 @@
 -- The digits of a moment, read back.
-use Rattle.board_prelude.proofs.Common.{nat_tests, Moment, IsMoment, Time}
+use Rattle.board_prelude.proofs.{nat_tests, Moment, IsMoment, Time}
 use Rattle.std.proofs.Common.{◌≡◌, ℕ, ◌+◌, ◌*◌, Some, refl, arith}
 use Rattle.board_base.proofs.CalendarLemmas.{days_in_month_bound}
 use Rattle.uart_16550.specs.declared.com1.Happening.TheVariants.{Happens}

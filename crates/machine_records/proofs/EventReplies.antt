@@ -1,12 +1,15 @@
 -- The reply of a chipset with a serial port, by whom the event is for, and the history that goes on from a step.
 use Rattle.std.proofs.Common.{◌≡◌, ℕ, Bool, List, Option, Some, None, refl, ◌∙◌}
-use Rattle.board_prelude.proofs.Common.{Bytes, PortAccess, Event, Memory, Wide, Port, Line, Reply, Entry, Statement}
+use Rattle.board_prelude.proofs.{Bytes, PortAccess, Event, Memory, Wide, Port, Line, Reply, Entry}
+use Rattle.board_prelude.specs.{Statement}
 use Rattle.board_spec.specs.declared.event.Event.TheVariants.{Look as LookAt}
-use Rattle.board_chipset.specs.Common.{Running, IsLeftBy as IsChipsetLeftBy, IsAnswerModulo}
+use Rattle.board_chipset.specs.Chipset.{Running, IsLeftBy as IsChipsetLeftBy}
+use Rattle.board_chipset.specs.Versions.{IsAnswerModulo}
 use Rattle.uart_16550.specs.declared.com1.SerialReply.{SerialReply}
 use Rattle.uart_16550.specs.declared.com1.SerialReply.TheVariants.{Board as OfBoard}
-use Rattle.uart_16550.specs.Common.{uart_reply, board_event, Serial, IsAfter}
-use Rattle.board_chipset.specs.Common.{IsForDevices}
+use Rattle.uart_16550.specs.Com1.{uart_reply, board_event}
+use Rattle.uart_16550.specs.Serial.{Serial, IsAfter}
+use Rattle.board_chipset.specs.Steps.{IsForDevices}
 use Rattle.board_chipset.specs.Held.{IsByDevice}
 use Rattle.machine_records.specs.Steps.{IsHeldBy, IsHeldEvent, IsHistoryOf, IsEventReply}
 

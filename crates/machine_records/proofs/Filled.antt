@@ -1,5 +1,5 @@
 -- Lists that are filled from the front.
-use Rattle.board_prelude.proofs.Common.{common_steps, nat_tests}
+use Rattle.board_prelude.proofs.{common_steps, nat_tests}
 use Rattle.std.proofs.Common.{◌≡◌, ℕ, ◌+◌, ◌<◌, ◌≤◌, List, length, map, set, get_or, sym, ◌∙◌, arith, take, drop}
 use Rattle.std.proofs.lemmas.Grind.{drop_more_same}
 use Rattle.machine_records.specs.Maps.{filled}

@@ -1,9 +1,9 @@
 -- A step of a machine, over one of its chipset with the serial port.
-use Rattle.board_prelude.proofs.Common.{nat_tests}
+use Rattle.board_prelude.proofs.{nat_tests}
 use Rattle.std.proofs.Common.{◌≡◌, ℕ, List, IsSomeAnd, Option, arith}
-use Rattle.board_chipset.specs.Common.{Running}
+use Rattle.board_chipset.specs.Chipset.{Running}
 use Rattle.uart_16550.specs.declared.com1.Happening.{Happening}
-use Rattle.uart_16550.specs.Common.{Serial}
+use Rattle.uart_16550.specs.Serial.{Serial}
 use Rattle.machine.specs.declared.identity.FittedIdentity.{FittedIdentity}
 use Rattle.machine.specs.Machines.{MachineState}
 use Rattle.machine_records.specs.declared.event.EventRecord.{EventRecord}

@@ -1,8 +1,8 @@
 -- What cards say that they are, one after another.
-use Rattle.board_prelude.proofs.Common.{nat_tests, drop_more}
+use Rattle.board_prelude.proofs.{nat_tests, drop_more}
 use Rattle.std.proofs.Common.{◌≡◌, ℕ, ◌+◌, ◌<◌, ◌≤◌, if◌then◌else◌, List, ◌∷◌, length, get_or, drop, IsSomeAnd, ap, arith}
-use Rattle.board_chipset.specs.Common.{Running}
-use Rattle.uart_16550.specs.Common.{Serial}
+use Rattle.board_chipset.specs.Chipset.{Running}
+use Rattle.uart_16550.specs.Serial.{Serial}
 use Rattle.machine.specs.Header.{is_blank}
 use Rattle.machine_records.specs.declared.card.CardRecord.{CardRecord}
 use Rattle.machine_records.specs.Cards.{identities_said, identity_said}

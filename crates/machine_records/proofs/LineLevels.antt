@@ -1,5 +1,5 @@
 -- The number of the levels from a line on.
-use Rattle.board_prelude.proofs.Common.{common_steps, nat_tests, byte_of_levels, Entry, Setup, levels_of, levels_with}
+use Rattle.board_prelude.proofs.{common_steps, nat_tests, byte_of_levels, Entry, Setup, levels_of, levels_with}
 use mir.Val.{bool_byte}
 use Rattle.std.proofs.Common.{◌≡◌, ℕ, ◌+◌, ◌*◌, ◌-◌, ◌<◌, ◌≤◌, ◌^◌, Bool, false, if◌then◌else◌, List, length, get_or}
 use Rattle.std.proofs.Common.{drop, refl, arith}

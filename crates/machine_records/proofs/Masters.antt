@@ -1,7 +1,7 @@
 -- What a bus master reaches, as a record: never SMRAM, nor memory in its range.
 use Rattle.std.proofs.Common.{◌≡◌, ◌≢◌, ℕ, ◌≤◌, ◌⊎◌, false, Option, sym, ◌∙◌, arith}
-use Rattle.board_prelude.proofs.Common.{nat_tests, Target, Smram, Denial, is_smram_range}
-use Rattle.board_chipset.specs.Common.{IsOutsideSmram}
+use Rattle.board_prelude.proofs.{nat_tests, Target, Smram, Denial, is_smram_range}
+use Rattle.board_chipset.specs.Masters.{IsOutsideSmram}
 use Rattle.machine_records.specs.Numbers.{dram_target, shadow_target, smram_target}
 use Rattle.machine_records.specs.Replies.{part_said, target_said}
 

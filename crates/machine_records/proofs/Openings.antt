@@ -1,5 +1,5 @@
 -- What an open looks at before it copies: the cards that records say are as many as the records.
-use Rattle.board_prelude.proofs.Common.{common_steps, nat_tests, drop_more, FittedCard}
+use Rattle.board_prelude.proofs.{common_steps, nat_tests, drop_more, FittedCard}
 use Rattle.std.proofs.Common.{◌≡◌, ℕ, ◌+◌, ◌<◌, ◌&&◌, true, arith, List, [], ◌∷◌, length, get_or, drop, is_some, Some}
 use Rattle.board_chipset.specs.Setups.{IsMemory}
 use Rattle.machine_records.specs.Openings.{IsSetupRefusal, setup_said}

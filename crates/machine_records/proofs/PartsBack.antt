@@ -1,12 +1,13 @@
 -- What the record of a part names is this part.
 use Rattle.std.proofs.Common.{◌≡◌, Option, Some, refl, arith}
-use Rattle.board_prelude.proofs.Common.{lt-ltb, nat_tests, Dev, Area, Target, Denial, Register, Part}
+use Rattle.board_prelude.proofs.{lt-ltb, nat_tests, Dev, Area, Target, Denial, Register, Part}
 use Rattle.board_base.specs.declared.target.Dev.TheVariants as devices
 use Rattle.board_base.specs.declared.target.Area.TheVariants as areas
 use Rattle.board_base.specs.declared.target.Target.TheVariants as targets
 use Rattle.script_spec.specs.WellFormed.{FitsDevice, FitsTarget, FitsPart}
 use Rattle.machine_records.specs.declared.reply.PartRecord.{PartRecord}
-use Rattle.machine_records.specs.Common.{device_number, target_said, area_said, with_denial, part_said, of_part}
+use Rattle.machine_records.specs.Numbers.{device_number}
+use Rattle.machine_records.specs.Replies.{target_said, area_said, with_denial, part_said, of_part}
 use Rattle.machine_records.specs.PartsBack.{device_recorded, config_recorded, target_recorded, denial_recorded, part_recorded}
 use Rattle.machine_records.specs.PartsBack.{area_recorded}
 

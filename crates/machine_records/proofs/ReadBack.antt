@@ -1,16 +1,16 @@
 -- What the record of a reply says is this reply.
 use Rattle.std.proofs.Common.{◌≡◌, ℕ, ◌<◌, ◌≤◌, ◌^◌, Bool, false, Option, Some, None, All, refl, arith, IfSome}
-use Rattle.board_prelude.proofs.Common.{nat_tests, Target, Device, Denial, bytes_of, Event, Memory, Wide, Port, Ack}
-use Rattle.board_prelude.proofs.Common.{Parts, Two, Three, Four, Reply, Bus, Saw, is_write, answers_outside, parts_list}
-use Rattle.board_prelude.proofs.Common.{bytes_few}
+use Rattle.board_prelude.proofs.{nat_tests, Target, Device, Denial, bytes_of, Event, Memory, Wide, Port, Ack, Parts}
+use Rattle.board_prelude.proofs.{Two, Three, Four, Reply, Bus, Saw, is_write, answers_outside, parts_list, bytes_few}
 use Rattle.board_spec.specs.declared.event.Event.TheVariants.{Look as LookAt}
 use Rattle.board_spec.specs.declared.event.Reply.TheVariants.{Parts as InParts}
 use Rattle.script_spec.specs.WellFormed.{FitsPart, IsBusReply, IsLookReply, HasShape}
 use Rattle.machine_records.specs.Replies.{AfterStep}
 use Rattle.machine_records.specs.Replies.{record_said, bus_said, wide_said, look_said, blank}
-use Rattle.machine_records.specs.Common.{bus_recorded, two_parts_recorded, three_parts_recorded, four_parts_recorded}
-use Rattle.machine_records.specs.Common.{parts_recorded, wide_recorded, look_recorded, cycle_value_recorded, form_recorded}
-use Rattle.machine_records.specs.Common.{reply_recorded, RecordSaysReply}
+use Rattle.machine_records.specs.RepliesBack.{bus_recorded, two_parts_recorded, three_parts_recorded}
+use Rattle.machine_records.specs.RepliesBack.{four_parts_recorded, parts_recorded, wide_recorded, look_recorded}
+use Rattle.machine_records.specs.RepliesBack.{cycle_value_recorded, form_recorded, reply_recorded}
+use Rattle.machine_records.specs.Laws.{RecordSaysReply}
 use Rattle.machine_records.proofs.PartsBack.{part_back, area_back}
 use Rattle.script_spec.proofs.ReplyBack.{narrow_value}
 

@@ -1,7 +1,7 @@
 -- Which part moved a byte, and the cards one after another; and replies where no ROM was given bytes.
 use Rattle.std.proofs.Common.{arith, ◌≡◌, ℕ, ◌+◌, ◌-◌, ◌<◌, ◌≤◌, List, [], length, drop, get_or}
 use Rattle.std.proofs.Common.{Some, None, refl, sym}
-use Rattle.board_prelude.proofs.Common.{nat_tests, drop_all, le-ltb, lt-ltb, bytes_of, longest_at, drop_more}
+use Rattle.board_prelude.proofs.{nat_tests, drop_all, le-ltb, lt-ltb, bytes_of, longest_at, drop_more}
 use Rattle.machine_records.specs.declared.event.EventRecord.{EventRecord}
 use Rattle.machine_records.specs.declared.reply.PartRecord.{PartRecord}
 use Rattle.machine_records.specs.declared.reply.ReplyRecord.{ReplyRecord}

@@ -1,9 +1,10 @@
 -- The bytes of a chipset, out and in.
 use Rattle.std.specs.Prelude.{ℕ, ◌≡◌, ◌≢◌, ◌+◌, ◌<◌, ◌≤◌, ◌⊎◌, List, ◌++◌, length, slice_index, Option, IfSome, IsSomeAnd}
-use Rattle.board_prelude.specs.Common.{Disk, sectors_of, sector_bytes, Entry, clock_of, disk_of, installed, dram_byte}
+use Rattle.board_prelude.specs.{Disk, sectors_of, sector_bytes, Entry, clock_of, disk_of, installed, dram_byte}
 use Rattle.dram_store.specs.Dram.{dram_at}
 use Rattle.cmos_clock.specs.Outside.{peeked}
-use Rattle.board_chipset.specs.Common.{Running, IsLeftBy, WriteAll, WriteClockByte}
+use Rattle.board_chipset.specs.Chipset.{Running, IsLeftBy}
+use Rattle.board_chipset.specs.Loads.{WriteAll, WriteClockByte}
 use Rattle.uart_16550.specs.Serial.{Serial, AreOwn}
 use Rattle.machine_records.specs.Statuses.{no_sector, bad_length}
 use Rattle.machine_records.specs.Steps.{IsHistoryOf}

@@ -1,7 +1,8 @@
 -- The bytes of cards, out and in.
 use Rattle.std.specs.Prelude.{ℕ, ◌≡◌, ◌+◌, ◌<◌, ◌≤◌, ◌==◌, Bool, true, false, List, ◌++◌, length, slice_index}
-use Rattle.board_prelude.specs.Common.{Entry, card_byte, rom_base}
-use Rattle.board_chipset.specs.Common.{Running, IsLeftBy, WriteCard, card_size}
+use Rattle.board_prelude.specs.{Entry, card_byte, rom_base}
+use Rattle.board_chipset.specs.Chipset.{Running, IsLeftBy}
+use Rattle.board_chipset.specs.CardLoads.{WriteCard, card_size}
 use Rattle.uart_16550.specs.Serial.{Serial, AreOwn}
 use Rattle.machine.specs.CardRoms.{IsPastRom, IsRomRead, IsRomRefusal, IsRomWritten}
 use Rattle.machine.specs.Machines.{MachineState}

@@ -1,9 +1,8 @@
 -- Which event a record says: none where a number of it names nothing, or does not fit where it goes.
 use Rattle.std.specs.Prelude.{ℕ, ◌==◌, ◌%◌, ◌/◌, ◌^◌, nat_lt, nat_le, Bool, true, false, ◌&&◌, if◌then◌else◌, Option}
 use Rattle.std.specs.Prelude.{Some, None, option_map, option_and_then}
-use Rattle.board_prelude.specs.Common.{Kind, Fetch, Read, Write, Width, One, WideAccess, bytes_of, is_moment, moment_of}
-use Rattle.board_prelude.specs.Common.{Event, Memory, Wide, Port, Ack, Time, Stimulus, stimulus_form}
-use Rattle.board_prelude.specs.Common.{stimulus_of_code, event_applied}
+use Rattle.board_prelude.specs.{Kind, Fetch, Read, Write, Width, One, WideAccess, bytes_of, is_moment, moment_of, Event}
+use Rattle.board_prelude.specs.{Memory, Wide, Port, Ack, Time, Stimulus, stimulus_form, stimulus_of_code, event_applied}
 use Rattle.board_base.specs.declared.access.Width.TheVariants.{Two, Four}
 use Rattle.board_spec.specs.declared.event.Event.TheVariants.{Look as LookAt}
 use Rattle.board_spec.specs.declared.stimulus.Stimulus.TheVariants.{Pulses}

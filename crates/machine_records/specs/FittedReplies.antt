@@ -1,10 +1,10 @@
 -- The record of a reply where cards have identities: that of the chipset's reply, with their bytes in the place of the
 -- fixed ones.
 use Rattle.std.specs.Prelude.{ℕ, ◌≡◌, ◌%◌, ◌^◌, ◌==◌, ◌&&◌, nat_lt, Bool, if◌then◌else◌, List, Option, Some, None}
-use Rattle.board_prelude.specs.Common.{Width}
-use Rattle.board_chipset.specs.Common.{Running}
+use Rattle.board_prelude.specs.{Width}
+use Rattle.board_chipset.specs.Chipset.{Running}
 use Rattle.uart_16550.specs.declared.com1.Happening.{Happening}
-use Rattle.uart_16550.specs.Common.{Serial}
+use Rattle.uart_16550.specs.Serial.{Serial}
 use Rattle.machine.specs.declared.identity.Identity.{Identity}
 use Rattle.machine.specs.declared.identity.FittedIdentity.{FittedIdentity}
 use Rattle.machine.specs.IdentityBytes.{identity_at, with_identity}

@@ -19,4 +19,3 @@ pub mod PartsBack
 pub mod RepliesBack
 pub mod LogLines
 pub mod Laws
-pub mod Common

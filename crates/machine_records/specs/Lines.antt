@@ -1,9 +1,9 @@
 -- What stands between two steps: the interrupt lines, and the serial port.
 use Rattle.std.specs.Prelude.{ℕ, ◌≡◌, List, length, replicate}
-use Rattle.board_prelude.specs.Common.{Entry, byte_of_levels, levels_of}
-use Rattle.board_chipset.specs.Common.{Running, IsLeftBy}
+use Rattle.board_prelude.specs.{Entry, byte_of_levels, levels_of}
+use Rattle.board_chipset.specs.Chipset.{Running, IsLeftBy}
 use Rattle.uart_16550.specs.declared.com1.Com1.{Com1}
-use Rattle.uart_16550.specs.Common.{registers_of}
+use Rattle.uart_16550.specs.Reads.{registers_of}
 use Rattle.machine_records.specs.declared.lines.SerialRecord.{SerialRecord}
 use Rattle.machine_records.specs.Numbers.{flag}
 use Rattle.machine_records.specs.Maps.{filled}

@@ -1,6 +1,6 @@
 -- The line of a log that an event and its reply have, both as records.
 use Rattle.std.specs.Prelude.{ℕ, ◌≡◌, ◌≢◌, ◌<◌, ◌⊎◌, List, [], ◌∷◌, ◌++◌, length, Option, Some, None}
-use Rattle.board_prelude.specs.Common.{Entry, line_feed, line_text}
+use Rattle.board_prelude.specs.{Entry, line_feed, line_text}
 use Rattle.script_spec.specs.Numbers.{◌>>=◌}
 use Rattle.machine_records.specs.declared.event.EventRecord.{EventRecord}
 use Rattle.machine_records.specs.declared.reply.ReplyRecord.{ReplyRecord}

@@ -1,8 +1,9 @@
 -- The memory map as records of numbers.
 use Rattle.std.specs.Prelude.{ℕ, ◌≡◌, ◌%◌, ◌++◌, List, length, map, take, drop}
-use Rattle.board_prelude.specs.Common.{Area, Bytes, Entry, byte_of, version_of, MapRange, IsFlatMapOf}
+use Rattle.board_prelude.specs.{Area, Bytes, Entry, byte_of, version_of, MapRange, IsFlatMapOf}
 use Rattle.map_builder.specs.declared.range.Changed.{Changed}
-use Rattle.board_chipset.specs.Common.{Running, IsLeftBy, version_count, AreLastChanged}
+use Rattle.board_chipset.specs.Chipset.{Running, IsLeftBy}
+use Rattle.board_chipset.specs.Versions.{version_count, AreLastChanged}
 use Rattle.board_chipset.specs.Held.{HoldsBytes, HoldsRegisters}
 use Rattle.machine_records.specs.declared.map.AreaRecord.{AreaRecord}
 use Rattle.machine_records.specs.declared.map.RangeRecord.{RangeRecord}

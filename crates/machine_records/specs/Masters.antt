@@ -1,7 +1,8 @@
 -- Where an access of a bus master would land, in numbers.
 use Rattle.std.specs.Prelude.{ℕ, ◌≡◌, ◌≢◌, ◌⊎◌, ◌%◌, Bool, true, false, List, Some}
-use Rattle.board_prelude.specs.Common.{Bytes, Width, Kind, Read, Write, bytes_of, Entry, byte_of, is_smram_range}
-use Rattle.board_chipset.specs.Common.{Running, IsLeftBy, master_part}
+use Rattle.board_prelude.specs.{Bytes, Width, Kind, Read, Write, bytes_of, Entry, byte_of, is_smram_range}
+use Rattle.board_chipset.specs.Chipset.{Running, IsLeftBy}
+use Rattle.board_chipset.specs.Masters.{master_part}
 use Rattle.board_chipset.specs.Held.{HoldsBytes}
 use Rattle.machine_records.specs.declared.reply.PartRecord.{PartRecord}
 use Rattle.machine_records.specs.Events.{width_said}

@@ -1,6 +1,6 @@
 -- The numbers by which a record names an enum's cases. 0 names none: a record of zeros says nothing.
 use Rattle.std.specs.Prelude.{ℕ, ◌==◌, Bool, true, false, if◌then◌else◌}
-use Rattle.board_prelude.specs.Common.{Dev, Pic0, Pic1, Pit, System, Keyboard, Elcr, Ata, Wires, Vector, Spurious}
+use Rattle.board_prelude.specs.{Dev, Pic0, Pic1, Pit, System, Keyboard, Elcr, Ata, Wires, Vector, Spurious}
 use Rattle.board_base.specs.declared.target.Dev.TheVariants.{Confadd, Reset, Clock}
 use Rattle.board_chipset.specs.declared.reset_control.ResetKind.{ResetKind}
 use Rattle.board_chipset.specs.declared.reset_control.ResetKind.TheVariants.{None as NoReset, Soft, Hard}

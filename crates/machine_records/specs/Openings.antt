@@ -2,8 +2,10 @@
 use Rattle.std.specs.Prelude.{ℕ, ◌≡◌, ◌⊎◌, List, [], ◌∷◌, Option, Some, None, option_map}
 use Rattle.board_spec.specs.Setup.{Setup, IsSetup}
 use Rattle.board_chipset.specs.declared.check.SetupFault.{SetupFault}
-use Rattle.board_chipset.specs.Common.{Running, IsLeftBy, IsSetupFault}
-use Rattle.uart_16550.specs.Common.{com1_at_reset, Serial}
+use Rattle.board_chipset.specs.Chipset.{Running, IsLeftBy}
+use Rattle.board_chipset.specs.Setups.{IsSetupFault}
+use Rattle.uart_16550.specs.Com1.{com1_at_reset}
+use Rattle.uart_16550.specs.Serial.{Serial}
 use Rattle.machine_records.specs.declared.card.CardRecord.{CardRecord}
 use Rattle.machine_records.specs.Cards.{cards_said}
 use Rattle.machine_records.specs.Statuses.{no_memory, bad_cards, setup_status}

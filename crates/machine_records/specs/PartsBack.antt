@@ -1,8 +1,8 @@
 -- What one part of a reply's record names: none where a number of it names nothing, or does not fit where it goes.
 use Rattle.std.specs.Prelude.{ℕ, ◌==◌, nat_lt, if◌then◌else◌, List, [], ◌∷◌, Option, Some, None, option_map}
 use Rattle.std.specs.Prelude.{find}
-use Rattle.board_prelude.specs.Common.{Dev, Area, Target, Denial, Register, Confadd, NoRegister, Part}
-use Rattle.board_prelude.specs.Common.{named_devices, option_or}
+use Rattle.board_prelude.specs.{Dev, Area, Target, Denial, Register, Confadd, NoRegister, Part, named_devices}
+use Rattle.board_prelude.specs.{option_or}
 use Rattle.board_base.specs.declared.target.Dev.TheVariants as devices
 use Rattle.board_base.specs.declared.target.Area.TheVariants as areas
 use Rattle.board_base.specs.declared.target.Target.TheVariants as targets

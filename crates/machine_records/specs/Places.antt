@@ -1,8 +1,9 @@
 -- Where an access would land, in numbers.
 use Rattle.std.specs.Prelude.{ℕ, suc, zero, ◌≡◌, List, Option, Some, None, option_map}
-use Rattle.board_prelude.specs.Common.{Bytes, PortAccess, Event, Memory, Port, Part, Entry, IsInRange, timer_of}
+use Rattle.board_prelude.specs.{Bytes, PortAccess, Event, Memory, Port, Part, Entry, IsInRange, timer_of}
 use Rattle.pit_8254.specs.NextRise.{IsNextRise}
-use Rattle.board_chipset.specs.Common.{Running, IsLeftBy, place_of}
+use Rattle.board_chipset.specs.Chipset.{Running, IsLeftBy}
+use Rattle.board_chipset.specs.Places.{place_of}
 use Rattle.board_chipset.specs.Held.{HoldsRegisters, held_place}
 use Rattle.uart_16550.specs.declared.com1.Happening.{Happening}
 use Rattle.uart_16550.specs.declared.com1.Happening.TheVariants.{Comes, Happens}

@@ -1,7 +1,7 @@
 -- The record of a reply, with what stands after its step.
 use Rattle.std.specs.Prelude.{ℕ, Bool, Option, Some, None}
 use Rattle.board_chipset.specs.declared.reset_control.ResetKind.{ResetKind}
-use Rattle.board_prelude.specs.Common.{Area, Target, Denial, Register, Confadd, NoRegister, Part, Parts, Look, Reply}
+use Rattle.board_prelude.specs.{Area, Target, Denial, Register, Confadd, NoRegister, Part, Parts, Look, Reply}
 use Rattle.board_base.specs.declared.target.Area.TheVariants as areas
 use Rattle.board_base.specs.declared.target.Target.TheVariants as targets
 use Rattle.board_spec.specs.declared.event.Parts.TheVariants as parts

@@ -2,7 +2,7 @@
 -- no
 -- use for is not read, nor what stands after the step.
 use Rattle.std.specs.Prelude.{ℕ, ◌==◌, ◌^◌, nat_lt, nat_le, ◌&&◌, if◌then◌else◌, Option, Some, None}
-use Rattle.board_prelude.specs.Common.{Parts, Reply}
+use Rattle.board_prelude.specs.{Parts, Reply}
 use Rattle.board_spec.specs.declared.event.Parts.TheVariants as parts
 use Rattle.board_spec.specs.declared.event.Reply.TheVariants as replies
 use Rattle.script_spec.specs.Numbers.{◌>>=◌}

@@ -2,7 +2,7 @@
 -- those that it gives them.
 use Rattle.std.specs.Prelude.{ℕ, ◌+◌, ◌-◌, ◌==◌, ◌&&◌, ◌||◌, not, nat_lt, Bool, if◌then◌else◌, length, List, [], ◌∷◌}
 use Rattle.std.specs.Prelude.{Option, Some, None}
-use Rattle.board_prelude.specs.Common.{w64, from_le_bytes, byte, bytes_of, longest_at, rom_base}
+use Rattle.board_prelude.specs.{w64, from_le_bytes, byte, bytes_of, longest_at, rom_base}
 use Rattle.machine.specs.Roms.{byte_over, given}
 use Rattle.machine_records.specs.declared.event.EventRecord.{EventRecord}
 use Rattle.machine_records.specs.declared.reply.PartRecord.{PartRecord}

@@ -1,8 +1,8 @@
 -- One second of the clock, as an event.
 use Rattle.std.specs.Prelude.{◌≡◌, List, Some}
-use Rattle.board_prelude.specs.Common.{Moment, Entry, Time, clock_of}
+use Rattle.board_prelude.specs.{Moment, Entry, Time, clock_of}
 use Rattle.cmos_clock.specs.Seconds.{IsNextSecond, HasNoNext}
-use Rattle.board_chipset.specs.Common.{Running, IsLeftBy}
+use Rattle.board_chipset.specs.Chipset.{Running, IsLeftBy}
 use Rattle.uart_16550.specs.declared.com1.Happening.TheVariants.{Happens}
 use Rattle.uart_16550.specs.Serial.{Serial}
 use Rattle.machine_records.specs.declared.event.EventRecord.{EventRecord}

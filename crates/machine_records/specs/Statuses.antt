@@ -4,10 +4,12 @@ use Rattle.board_chipset.specs.declared.check.SetupFault.{SetupFault}
 use Rattle.board_chipset.specs.declared.check.SetupFault.TheVariants.{Memory, Cards, Windows, Rom, Disk, NoMemory}
 use Rattle.board_chipset.specs.declared.in_range.OutOfRange.{OutOfRange}
 use Rattle.board_chipset.specs.declared.in_range.OutOfRange.TheVariants as faults
-use Rattle.board_chipset.specs.Common.{IsFault, Running}
+use Rattle.board_chipset.specs.OutOfRange.{IsFault}
+use Rattle.board_chipset.specs.Chipset.{Running}
 use Rattle.uart_16550.specs.declared.com1.Happening.{Happening}
 use Rattle.uart_16550.specs.declared.com1.Happening.TheVariants.{Comes, Happens}
-use Rattle.uart_16550.specs.Common.{has_room, Serial}
+use Rattle.uart_16550.specs.Uart.{has_room}
+use Rattle.uart_16550.specs.Serial.{Serial}
 use Rattle.machine.specs.declared.refusal.Refusal.{Refusal}
 use Rattle.machine.specs.declared.refusal.Refusal.TheVariants as refusals
 

@@ -1,19 +1,23 @@
 -- A step that was asked by a record, and told by one.
 use Rattle.std.specs.Prelude.{ℕ, ◌≡◌, ◌%◌, true, List, Option, Some, None, IsSomeAnd, is_some}
-use Rattle.board_prelude.specs.Common.{Bytes, PortAccess, Event, Line, Reply, Entry, Setup, IsInRange, version_of}
-use Rattle.board_prelude.specs.Common.{interrupt, reset_control}
+use Rattle.board_prelude.specs.{Bytes, PortAccess, Event, Line, Reply, Entry, Setup, IsInRange, version_of, interrupt}
+use Rattle.board_prelude.specs.{reset_control}
 use Rattle.board_devices.specs.Outside.{is_interrupting}
 use Rattle.board_chipset.specs.declared.reset_control.ResetKind.{ResetKind}
 use Rattle.board_chipset.specs.declared.reset_control.ResetKind.TheVariants.{None as NoReset}
-use Rattle.board_chipset.specs.Common.{Running, IsLeftBy as IsChipsetLeftBy, reset_of, version_count, IsAnswerModulo}
+use Rattle.board_chipset.specs.Chipset.{Running, IsLeftBy as IsChipsetLeftBy}
+use Rattle.board_chipset.specs.Resets.{reset_of}
+use Rattle.board_chipset.specs.Versions.{version_count, IsAnswerModulo}
 use Rattle.board_chipset.specs.Held.{HoldsRegisters, IsHeldReply}
 use Rattle.uart_16550.specs.declared.com1.Com1.{Com1}
 use Rattle.uart_16550.specs.declared.com1.Happening.{Happening}
 use Rattle.uart_16550.specs.declared.com1.Happening.TheVariants.{Comes, Happens}
 use Rattle.uart_16550.specs.declared.com1.SerialReply.{SerialReply}
 use Rattle.uart_16550.specs.declared.com1.SerialReply.TheVariants.{Board as OfBoard, Uart as OfUart}
-use Rattle.uart_16550.specs.Common.{has_room, level_of, uart_access, uart_reply, board_event, Serial, IsLeftBy, IsAfter}
-use Rattle.uart_16550.specs.Common.{Sending, sending_after, steps_for}
+use Rattle.uart_16550.specs.Uart.{has_room}
+use Rattle.uart_16550.specs.Com1.{level_of, uart_access, uart_reply, board_event}
+use Rattle.uart_16550.specs.Serial.{Serial, IsLeftBy, IsAfter}
+use Rattle.uart_16550.specs.Sent.{Sending, sending_after, steps_for}
 use Rattle.machine_records.specs.declared.reply.ReplyRecord.{ReplyRecord}
 use Rattle.machine_records.specs.Replies.{AfterStep, serial_said}
 use Rattle.machine_records.specs.Statuses.{IsEventRefusal, IsOutcome}

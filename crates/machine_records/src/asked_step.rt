@@ -1,12 +1,12 @@
 //! A step of a machine, asked by a record and told by one.
 
 ghost use Rattle.std.specs.Prelude.{◌≡◌, ◌%◌, ℕ, Bool, true, false, IsSomeAnd, Some};
-ghost use Rattle.board_prelude.specs.Common.{IsBusAccess, IsInRange, IsWideAccess, Line, Memory, Port, Wide, bytes_of};
-ghost use Rattle.board_prelude.specs.Common.{is_write};
+ghost use Rattle.board_prelude.specs.{IsBusAccess, IsInRange, IsWideAccess, Line, Memory, Port, Wide, bytes_of};
+ghost use Rattle.board_prelude.specs.{is_write};
 ghost use Rattle.board_spec.specs.declared.event.Event.TheVariants.{Look as LookAt};
-ghost use Rattle.board_chipset.specs.Common.{IsForDevices};
+ghost use Rattle.board_chipset.specs.Steps.{IsForDevices};
 ghost use Rattle.uart_16550.specs.Com1.{is_for_uart};
-ghost use Rattle.uart_16550.specs.Common.{has_room};
+ghost use Rattle.uart_16550.specs.Uart.{has_room};
 ghost use Rattle.uart_16550.specs.declared.com1.Happening.TheVariants.{Comes, Happens};
 ghost use Rattle.machine_records.specs.Events.{asked_said};
 ghost use Rattle.machine_records.specs.FittedReplies.{IsMachineStep};

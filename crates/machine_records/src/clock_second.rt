@@ -1,7 +1,7 @@
 //! One second of the clock.
 
 ghost use Rattle.std.specs.Prelude.{◌≡◌, Some};
-ghost use Rattle.board_prelude.specs.Common.{IsMoment, Time};
+ghost use Rattle.board_prelude.specs.{IsMoment, Time};
 ghost use Rattle.uart_16550.specs.declared.com1.Happening.TheVariants.{Happens};
 ghost use Rattle.machine_records.specs.Events.{asked_said};
 ghost use Rattle.machine_records.specs.Seconds.{IsSecondStep, HasNoSecond};

@@ -1,7 +1,7 @@
 //! Events as records of numbers.
 
 ghost use Rattle.std.specs.Prelude.{◌≡◌, ◌==◌, ◌%◌, IfSome, Some, option_map, option_and_then};
-ghost use Rattle.board_prelude.specs.Common.{bytes_of, stimulus_of_code};
+ghost use Rattle.board_prelude.specs.{bytes_of, stimulus_of_code};
 ghost use Rattle.board_spec.specs.declared.event.Event.TheVariants.{Look as LookAt, Memory, Port, Wide};
 ghost use Rattle.uart_16550.specs.declared.com1.Happening.TheVariants.{Happens};
 ghost use Rattle.machine_records.specs.Events.{access_said, applied_said, asked_by, asked_said, byte_said, cycle_said};

@@ -1,7 +1,7 @@
 //! The levels of the interrupt lines, and what the serial port holds.
 
 ghost use Rattle.std.specs.Prelude.{◌≡◌, ◌≤◌, length, replicate};
-ghost use Rattle.board_prelude.specs.Common.{byte_of_levels};
+ghost use Rattle.board_prelude.specs.{byte_of_levels};
 ghost use Rattle.machine_records.specs.Maps.{filled};
 ghost use Rattle.machine_records.specs.Lines.{AreLinesOf, serial_state_said};
 

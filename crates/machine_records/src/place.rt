@@ -1,7 +1,7 @@
 //! What an access would reach, and when the timer's line next rises. Nothing in the chipset changes.
 
 ghost use Rattle.std.specs.Prelude.{◌≡◌, IfSome, IsSomeAnd, Some, None, is_some};
-ghost use Rattle.board_prelude.specs.Common.{IsInRange};
+ghost use Rattle.board_prelude.specs.{IsInRange};
 ghost use Rattle.uart_16550.specs.declared.com1.Happening.TheVariants.{Happens};
 ghost use Rattle.uart_16550.specs.Com1.{uart_access};
 ghost use Rattle.machine_records.specs.Events.{asked_said};

@@ -2,8 +2,8 @@
 
 ghost use Rattle.std.specs.Prelude.{◌≡◌, List, Some};
 ghost use Rattle.board_base.specs.declared.target.Denial.TheVariants.{Register};
-ghost use Rattle.board_prelude.specs.Common.{Entry};
-ghost use Rattle.board_chipset.specs.Common.{IsLeftBy as IsChipsetLeftBy};
+ghost use Rattle.board_prelude.specs.{Entry};
+ghost use Rattle.board_chipset.specs.Chipset.{IsLeftBy as IsChipsetLeftBy};
 ghost use Rattle.machine_records.specs.Numbers.{reset_number};
 ghost use Rattle.machine_records.specs.Replies.{area_said, cleared, no_part, of_part, part_said, placed, target_said};
 ghost use Rattle.machine_records.specs.Replies.{uart_part, with_after, with_board, with_cycle, with_denial, with_look};

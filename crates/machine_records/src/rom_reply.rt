@@ -1,7 +1,7 @@
 //! The bytes that expansion ROMs of cards were given, over the record of a reply.
 
 ghost use Rattle.std.specs.Prelude.{◌≡◌, ◌<◌, ◌≤◌, IfSome, Some, length};
-ghost use Rattle.board_prelude.specs.Common.{byte, bytes_of, from_le_bytes, longest_at, w64};
+ghost use Rattle.board_prelude.specs.{byte, bytes_of, from_le_bytes, longest_at, w64};
 ghost use Rattle.machine.specs.Roms.{roms_in};
 ghost use Rattle.machine_records.specs.RomReplies.{byte_by, byte_told, bytes_told, is_given, part_of, reads_given};
 ghost use Rattle.machine_records.specs.RomReplies.{with_roms};

@@ -1,24 +1,29 @@
 -- Statements that are read in turn after a setup and a phase: each of a script that is made can be asked, wherever it
 -- stands.
-use Rattle.board_prelude.proofs.Common.{nat_tests, common_steps, list_any, AllZip, list_all, and_from, and_parts}
-use Rattle.board_prelude.proofs.Common.{reverse-append, All-head, All-tail, sum_by-cons, Statement, memory_of_cards}
-use Rattle.board_prelude.proofs.Common.{line_feed, digits, ltb-true, not-true, All-nil, All-cons, All-append, Read, One}
-use Rattle.board_prelude.proofs.Common.{Moment, bytes_of, weekday_of, days_since_1980, days_of_years, days_of_months}
-use Rattle.board_prelude.proofs.Common.{Event, Memory, Port, Ack, Pulses, Time, is_write, event_text}
+use Rattle.board_prelude.proofs.{nat_tests, common_steps, list_any, AllZip, list_all, and_from, and_parts}
+use Rattle.board_prelude.proofs.{reverse-append, All-head, All-tail, sum_by-cons, memory_of_cards, line_feed, digits}
+use Rattle.board_prelude.proofs.{ltb-true, not-true, All-nil, All-cons, All-append, Read, One, Moment, bytes_of}
+use Rattle.board_prelude.proofs.{weekday_of, days_since_1980, days_of_years, days_of_months, Event, Memory, Port, Ack}
+use Rattle.board_prelude.proofs.{Pulses, Time, is_write, event_text}
+use Rattle.board_prelude.specs.{Statement}
 use Rattle.std.proofs.Common.{ℕ, ◌≡◌, ◌+◌, ◌*◌, ◌<◌, ◌≤◌, true, false, None, List, [], ◌∷◌, ◌++◌, length, map, filter}
 use Rattle.std.proofs.Common.{sum_by, All, refl, sym, ◌∙◌, inl, inr, append_assoc, append-nil, arith, zero, suc, ◌%◌}
 use Rattle.std.proofs.Common.{◌^◌, Bool, ◌&&◌, not, ltb, eqb}
-use Rattle.script_spec.specs.Common.{lines_of, text_of_lines, Item, Ask, StandsFor, IsEventForm, item_text, is_phase}
-use Rattle.script_spec.specs.Common.{is_statement, cards_of, is_event_in_range, is_event_placed, is_cpus_above}
-use Rattle.script_spec.specs.Common.{is_card_there, pulses_of, pulses_of_event, passes_limits, least_reason, most_bytes}
-use Rattle.script_spec.specs.Common.{is_skipped, AreRead}
-use Rattle.script_spec.proofs.Common.{lacks, lacks-later, lacks-append, lacks-word, lacks-plain, decimal_word}
-use Rattle.script_spec.proofs.Common.{event_plain}
+use Rattle.script_spec.specs.Lines.{lines_of, text_of_lines}
+use Rattle.script_spec.specs.Grammar.{Item, Ask, StandsFor, IsEventForm, item_text}
+use Rattle.script_spec.specs.Reasons.{is_phase, is_statement, cards_of, is_event_in_range, is_event_placed}
+use Rattle.script_spec.specs.Reasons.{is_cpus_above, is_card_there, pulses_of, pulses_of_event, passes_limits}
+use Rattle.script_spec.specs.Reasons.{least_reason}
+use Rattle.script_spec.specs.ScriptText.{most_bytes, is_skipped, AreRead}
+use Rattle.script_spec.proofs.Digits.{lacks, lacks-later, lacks-append}
+use Rattle.script_spec.proofs.PlainText.{lacks-word, lacks-plain, decimal_word}
+use Rattle.script_spec.proofs.Words.{event_plain}
 use Rattle.script_spec.proofs.ReadingExists.{run_of}
 use Rattle.board_base.specs.declared.access.Width.TheVariants.{Four}
 use Rattle.board_spec.specs.declared.event.Event.TheVariants.{Look as LookAt}
-use Rattle.make_script.specs.Common.{dram_addr, card_addr, asks, reads, writes, outs, opening_events, round_statements}
-use Rattle.make_script.specs.Common.{statements_of_rounds, made_statements}
+use Rattle.make_script.specs.MakeText.{dram_addr, card_addr}
+use Rattle.make_script.specs.MadeScript.{asks, reads, writes, outs, opening_events, round_statements}
+use Rattle.make_script.specs.MadeScript.{statements_of_rounds, made_statements}
 
 -- ---- lines
 

@@ -1,8 +1,10 @@
 -- The counts of one entry more.
-use Rattle.board_prelude.proofs.Common.{nat_tests, All-head, All-tail, Entry}
+use Rattle.board_prelude.proofs.{nat_tests, All-head, All-tail, Entry}
 use Rattle.std.proofs.Common.{ℕ, ◌≡◌, ◌+◌, ◌≤◌, ◌<◌, Bool, List, [], ◌∷◌, length, refl, arith}
 use mir.Val.{bool_byte}
-use Rattle.make_script.specs.Common.{count_where, IsCycleReply, KindsAddUp, AreCounts, HasRoomForOne, most_counted}
+use Rattle.make_script.specs.Summary.{count_where}
+use Rattle.make_script.specs.Laws.{IsCycleReply, KindsAddUp}
+use Rattle.make_script.specs.Counts.{AreCounts, HasRoomForOne, most_counted}
 use Rattle.make_script.specs.declared.counts.Counts.{Counts}
 
 pub count-more : (test : Entry → Bool) (entry : Entry) (history : List Entry) (mark : Bool) (n more : ℕ) →

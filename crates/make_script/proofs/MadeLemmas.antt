@@ -1,21 +1,25 @@
 -- The text that is made, round after round, is that of the made script.
-use Rattle.script_spec.specs.Lines.{text_of_lines}
+use Rattle.script_spec.specs.Lines.{text_of_lines, lines_of}
 use Rattle.std.proofs.Common.{Result, OnOk, ◌+◌, add-one, ℕ, zero, suc, ◌≡◌, ◌*◌, ◌%◌, ◌/◌, ◌<◌, ◌≤◌, true, false, List}
 use Rattle.std.proofs.Common.{[], ◌∷◌, ◌++◌, length, map, Some, None, refl, sym, ap, ◌∙◌, inl, inr, append_assoc}
 use Rattle.std.proofs.Common.{append-nil, arith, codes}
-use Rattle.board_prelude.proofs.Common.{flat_map-append, nat_tests, find, list_all, digits, and_from, map-append}
-use Rattle.board_prelude.proofs.Common.{length-append, All-nil, All-cons, length-map-range_with_len, IsRomSize, IsDisk}
-use Rattle.board_prelude.proofs.Common.{MemoryBase, IoBase, line_feed, event_text, Statement}
+use Rattle.board_prelude.proofs.{flat_map-append, nat_tests, find, list_all, digits, and_from, map-append}
+use Rattle.board_prelude.proofs.{length-append, All-nil, All-cons, length-map-range_with_len, IsRomSize, IsDisk}
+use Rattle.board_prelude.proofs.{MemoryBase, IoBase, line_feed, event_text}
+use Rattle.board_prelude.specs.{Statement}
 use Rattle.std.proofs.lemmas.List.Folds.{list_all-append}
 use Rattle.std.proofs.lemmas.List.Sorted.{IsPermutation-reverse}
-use Rattle.script_spec.specs.Common.{lines_of, Item, SetCpus, SetMemory, SetRom, SetDisk, FitCard, BeginPhase, Ask}
-use Rattle.script_spec.specs.Common.{IsBaseForm, IsForm, Says, item_text, is_cpus, is_memory, is_rom, is_disk, cards_of}
-use Rattle.script_spec.specs.Common.{lacks_setup, least_reason, most_bytes, is_skipped, IsGoodLine, AreRead, IsSaidBy}
-use Rattle.script_spec.proofs.Common.{lacks, scripts_are_in_range}
-use Rattle.make_script.specs.Common.{setup_lines, opening_lines, round_lines, lines_of_rounds, make_lines, make_text}
-use Rattle.make_script.specs.Common.{asks, opening_events, round_statements, statements_of_rounds, made_statements}
-use Rattle.make_script.specs.Common.{vga_card, plain_card, made_script, rom_image, disk_image, MakeTextIsScript}
-use Rattle.make_script.specs.Common.{MadeIsInRange, StatementCount, MadeSetupFits}
+use Rattle.script_spec.specs.Grammar.{Item, SetCpus, SetMemory, SetRom, SetDisk, FitCard, BeginPhase, Ask, IsBaseForm}
+use Rattle.script_spec.specs.Grammar.{IsForm, Says, item_text}
+use Rattle.script_spec.specs.Reasons.{is_cpus, is_memory, is_rom, is_disk, cards_of, lacks_setup, least_reason}
+use Rattle.script_spec.specs.ScriptText.{most_bytes, is_skipped, IsGoodLine, AreRead, IsSaidBy}
+use Rattle.script_spec.proofs.Digits.{lacks}
+use Rattle.script_spec.proofs.RangeLaws.{scripts_are_in_range}
+use Rattle.make_script.specs.MakeText.{setup_lines, opening_lines, round_lines, lines_of_rounds, make_lines, make_text}
+use Rattle.make_script.specs.MadeScript.{asks, opening_events, round_statements, statements_of_rounds, made_statements}
+use Rattle.make_script.specs.MadeScript.{vga_card, plain_card, made_script}
+use Rattle.make_script.specs.Images.{rom_image, disk_image}
+use Rattle.make_script.specs.Laws.{MakeTextIsScript, MadeIsInRange, StatementCount, MadeSetupFits}
 use Rattle.make_script.proofs.AskedLemmas.{lines-back, said, said-lines, AreAsked, items_asked, asks-read, asked-keeps}
 use Rattle.make_script.proofs.AskedLemmas.{asked-run, made-fine}
 

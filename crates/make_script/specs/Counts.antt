@@ -1,6 +1,6 @@
 -- What the parts of a reply count as, and how many entries of each kind a history has.
 use Rattle.std.specs.Prelude.{ℕ, ◌≡◌, ◌<◌, ◌^◌, ◌-◌, Bool, List, is_some}
-use Rattle.board_prelude.specs.Common.{list_any, Target, Part, Entry}
+use Rattle.board_prelude.specs.{list_any, Target, Part, Entry}
 use Rattle.make_script.specs.Summary.{is_dram, is_shadow, is_smram, is_rom, is_card, is_config, is_device, is_abort}
 use Rattle.make_script.specs.Summary.{answers, is_denied, is_look, count_where}
 use Rattle.make_script.specs.declared.counts.Marks.{Marks}

@@ -1,8 +1,9 @@
 -- What the laws say: each is proved on a function of `laws`.
 use Rattle.std.specs.Prelude.{ℕ, ◌≡◌, ◌≤◌, ◌+◌, ◌*◌, List, length, All}
-use Rattle.board_prelude.specs.Common.{Reply, Bus, Saw, Entry, IsSetup}
+use Rattle.board_prelude.specs.{Reply, Bus, Saw, Entry, IsSetup}
 use Rattle.board_spec.specs.declared.event.Reply.TheVariants.{Parts as InParts}
-use Rattle.script_spec.specs.Common.{IsScriptText, IsInRangeScript}
+use Rattle.script_spec.specs.ScriptText.{IsScriptText}
+use Rattle.script_spec.specs.ScriptRange.{IsInRangeScript}
 use Rattle.make_script.specs.MakeText.{make_text}
 use Rattle.make_script.specs.MadeScript.{made_statements, made_script, made_setup}
 use Rattle.make_script.specs.Summary.{is_dram, is_shadow, is_smram, is_rom, is_card, is_config, is_device, is_abort}

@@ -4,4 +4,3 @@ pub mod Images
 pub mod Summary
 pub mod Laws
 pub mod Counts
-pub mod Common

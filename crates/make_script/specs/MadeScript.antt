@@ -1,7 +1,7 @@
 -- What a script that is made says, as a value: the statements in the order of its lines.
 use Rattle.std.specs.Prelude.{ℕ, zero, suc, ◌++◌, Bool, true, false, List, [], ◌∷◌, map, Some, None, codes}
-use Rattle.board_prelude.specs.Common.{Read, Write, Width, One, moment_of, Event, Memory, Port, Ack, Pulses, Time}
-use Rattle.board_prelude.specs.Common.{Statement, MemoryBase, IoBase, FittedCard, Setup}
+use Rattle.board_prelude.specs.{Read, Write, Width, One, moment_of, Event, Memory, Port, Ack, Pulses, Time, Statement}
+use Rattle.board_prelude.specs.{MemoryBase, IoBase, FittedCard, Setup}
 use Rattle.board_base.specs.declared.access.Width.TheVariants.{Two, Four}
 use Rattle.board_spec.specs.declared.event.Event.TheVariants.{Look as LookAt}
 use Rattle.script_spec.specs.ScriptText.{Script}

@@ -1,7 +1,7 @@
 -- The summary of a history: thirteen lines with a number each.
 use Rattle.std.specs.Prelude.{ℕ, ◌++◌, Bool, true, false, List, [], ◌∷◌, length, filter, is_some, codes, decimal}
-use Rattle.board_prelude.specs.Common.{list_any, Target, Dram, Shadow, Smram, Rom, Card, Device, Config, Abort, Part}
-use Rattle.board_prelude.specs.Common.{Reply, Bus, Saw, Entry, Setup, version_of, parts_list}
+use Rattle.board_prelude.specs.{list_any, Target, Dram, Shadow, Smram, Rom, Card, Device, Config, Abort, Part, Reply}
+use Rattle.board_prelude.specs.{Bus, Saw, Entry, Setup, version_of, parts_list}
 use Rattle.board_spec.specs.declared.event.Reply.TheVariants.{Parts as InParts}
 use Rattle.script_spec.specs.Lines.{text_of_lines}
 

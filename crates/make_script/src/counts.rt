@@ -1,7 +1,7 @@
 //! How many entries of a history there are of each kind.
 
 ghost use Rattle.std.specs.Prelude.{◌≡◌, ◌+◌, ◌++◌, List, [], ◌∷◌};
-ghost use Rattle.board_prelude.specs.Common.{Entry as AnEntry, Part as APart, parts_list};
+ghost use Rattle.board_prelude.specs.{Entry as AnEntry, Part as APart, parts_list};
 ghost use Rattle.make_script.specs.Summary.{parts_in, is_look_reply};
 ghost use Rattle.make_script.specs.Counts.{AreMarks, AreCounts, HasRoomForOne};
 

@@ -1,7 +1,7 @@
 //! The summary of a history: thirteen lines with a number each.
 
 ghost use Rattle.std.specs.Prelude.{◌≡◌, ◌++◌, ◌∷◌, [], List, length, OnOk, OnErr, reverse, flat_map, decimal};
-ghost use Rattle.board_prelude.specs.Common.{Setup, version_of, line_feed, Entry as AnEntry};
+ghost use Rattle.board_prelude.specs.{Setup, version_of, line_feed, Entry as AnEntry};
 ghost use Rattle.script_spec.specs.Lines.{text_of_lines};
 ghost use Rattle.logs.specs.Adds.{AddsWords, KeepsFront};
 ghost use Rattle.make_script.specs.Summary.{entry_lines, map_lines, summary_of};

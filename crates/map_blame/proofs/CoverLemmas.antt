@@ -2,15 +2,16 @@
 use Rattle.std.proofs.Common.{◌≡◌, ℕ, zero, suc, ◌+◌, ◌<◌, ◌≤◌, Bool, true, false, ◌&&◌, List, [], ◌∷◌, length, take}
 use Rattle.std.proofs.Common.{refl, arith, ◌==◌, nat_le, nat_lt, Option, Some, None, is_some, find, slice_index_or}
 use Rattle.std.proofs.Common.{replicate, if◌then◌else◌}
-use Rattle.board_prelude.proofs.Common.{option_or, AllByRecursion, list_any, false≢true, or-false, nat_tests}
-use Rattle.board_prelude.proofs.Common.{get_or-take, length-take, recursion_from_All, list_any_at, Width, One, Reg}
-use Rattle.board_prelude.proofs.Common.{MapChange, Store, Reset, FittedCard, Setup, IsCard, IsCardList, card_at, covers}
-use Rattle.board_prelude.proofs.Common.{has_rom, is_map_byte, touches_map}
+use Rattle.board_prelude.proofs.{option_or, AllByRecursion, list_any, false≢true, or-false, nat_tests, get_or-take}
+use Rattle.board_prelude.proofs.{length-take, recursion_from_All, list_any_at, Width, One, Reg, MapChange, Store, Reset}
+use Rattle.board_prelude.proofs.{FittedCard, Setup, IsCard, IsCardList, card_at, covers, has_rom, is_map_byte}
+use Rattle.board_prelude.proofs.{touches_map}
 use Rattle.std.specs.Bool.{then_some}
 use Rattle.std.proofs.lemmas.List.Folds.{list_any_more}
 use Rattle.addr_decode.proofs.NameLemmas.{offsets, offset_at}
 use Rattle.map_blame.specs.declared.covers.Covers.{Covers}
-use Rattle.map_blame.specs.Common.{last_cover, first_lock, locks, AreCoversOf, is_placed, number_at}
+use Rattle.map_blame.specs.Keep.{last_cover, first_lock, locks}
+use Rattle.map_blame.specs.Covers.{AreCoversOf, is_placed, number_at}
 
 -- the first bytes of a store, so many, cover a register
 abbrev pub covers_first : (at : Reg) (count : ℕ) (reg : Reg) → Bool

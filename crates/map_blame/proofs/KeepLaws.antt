@@ -1,14 +1,14 @@
 -- The kept changes alone leave each map byte as all changes do.
 use Rattle.std.proofs.Common.{◌≡◌, ℕ, ◌+◌, ◌-◌, ◌<◌, ◌≤◌, inl, inr, Bool, true, false, ◌||◌, List, [], ◌∷◌, length}
 use Rattle.std.proofs.Common.{refl, sym, ap, ◌∙◌, arith, Some, bit_and, bit_or, is_some}
-use Rattle.board_prelude.proofs.Common.{and_zero_r, cases_Bool, cases_lt, nat_tests, Width, Reg, MapChange, Store}
-use Rattle.board_prelude.proofs.Common.{Reset, Setup, is_bit, byte, merged, smram, is_same, writable_bits, covers}
-use Rattle.board_prelude.proofs.Common.{smram_after, changed_byte, is_map_byte, registers_after, reset_byte}
-use Rattle.board_prelude.proofs.Common.{host_bridge}
+use Rattle.board_prelude.proofs.{and_zero_r, cases_Bool, cases_lt, nat_tests, Width, Reg, MapChange, Store, Reset}
+use Rattle.board_prelude.proofs.{Setup, is_bit, byte, merged, smram, is_same, writable_bits, covers, smram_after}
+use Rattle.board_prelude.proofs.{changed_byte, is_map_byte, registers_after, reset_byte, host_bridge}
 use Rattle.std.specs.Int.Bits.{and_self}
 use Rattle.std.proofs.lemmas.Nat.{or_comm, and_assoc, and_or_apart}
 use Rattle.std.proofs.lemmas.Grind.{and-not_self}
-use Rattle.map_blame.specs.Common.{last_cover, first_lock, locks, is_among, chosen, KeptSuffice}
+use Rattle.map_blame.specs.Keep.{last_cover, first_lock, locks, is_among, chosen}
+use Rattle.map_blame.specs.Laws.{KeptSuffice}
 use Rattle.addr_decode.proofs.StoreLemmas.{same_register}
 
 -- ---- what a mask leaves

@@ -1,18 +1,18 @@
 -- The kept changes as they are found, one after another.
 use Rattle.std.proofs.Common.{◌≡◌, ℕ, suc, ◌+◌, ◌-◌, ◌<◌, ◌≤◌, ◌⊎◌, inl, inr, Bool, true, false, ◌||◌, List, [], ◌∷◌}
 use Rattle.std.proofs.Common.{◌++◌, length, get_or, reverse, take, refl, sym, ap, ◌∙◌, arith, ◌==◌, Option, Some}
-use Rattle.board_prelude.proofs.Common.{AllPairs, cases_Bool, eq-eqb, and_parts, and_from, false≢true, nat_tests}
-use Rattle.board_prelude.proofs.Common.{get_or_default, length-reverse, list_any_at, One, Reg, bytes_of, bytes_few}
-use Rattle.board_prelude.proofs.Common.{MapChange, Store, Reset, Setup, IsCardList, bridge, covers, is_map_byte}
-use Rattle.board_prelude.proofs.Common.{reg_after, or_right, or-false}
+use Rattle.board_prelude.proofs.{AllPairs, cases_Bool, eq-eqb, and_parts, and_from, false≢true, nat_tests}
+use Rattle.board_prelude.proofs.{get_or_default, length-reverse, list_any_at, One, Reg, bytes_of, bytes_few, MapChange}
+use Rattle.board_prelude.proofs.{Store, Reset, Setup, IsCardList, bridge, covers, is_map_byte, reg_after, or_right}
+use Rattle.board_prelude.proofs.{or-false}
 use Rattle.std.proofs.lemmas.List.{get_or-reverse}
 use Rattle.std.proofs.lemmas.List.Folds.{list_any-append, Any-from_list_any}
 use Rattle.std.proofs.lemmas.List.Quantifiers.{all_pairs_push}
 use Rattle.addr_decode.proofs.NameLemmas.{offsets}
 use Rattle.map_builder.proofs.KeptLemmas.{covered_at}
 use Rattle.map_blame.specs.declared.covers.Covers.{Covers}
-use Rattle.map_blame.specs.Common.{last_cover, is_among, IsLastCover, RestsOn, IsKeep, AreCoversOf, is_number}
-use Rattle.map_blame.specs.Common.{is_last_at, is_last_of, is_kept_of}
+use Rattle.map_blame.specs.Keep.{last_cover, is_among, IsLastCover, RestsOn, IsKeep}
+use Rattle.map_blame.specs.Covers.{AreCoversOf, is_number, is_last_at, is_last_of, is_kept_of}
 use Rattle.map_blame.proofs.CoverLemmas.{map_byte_placed, any_at}
 use Rattle.map_blame.proofs.KeepLaws.{IsNumber, cover_number, lock_number}
 

@@ -1,10 +1,13 @@
 -- There is only one report of a list of changes.
-use Rattle.board_prelude.proofs.Common.{nat_tests, AllPairs, AllByRecursion, eqb-true, recursion_from_All, MapChange}
-use Rattle.board_prelude.proofs.Common.{Setup, registers_after, OneFlatMap}
+use Rattle.board_prelude.proofs.{nat_tests, AllPairs, AllByRecursion, eqb-true, recursion_from_All, MapChange, Setup}
+use Rattle.board_prelude.proofs.{registers_after, OneFlatMap}
 use Rattle.std.proofs.Common.{◌≡◌, ℕ, suc, ◌<◌, true, List, [], ◌∷◌, map, refl, arith, ◌==◌}
 use Rattle.std.proofs.lemmas.List.Folds.{Any-from_list_any}
 use Rattle.map_blame.specs.declared.blamed.Blamed.{Blamed}
-use Rattle.map_blame.specs.Common.{IsSince, is_among, IsKeep, map_range_of, OneReport}
+use Rattle.map_blame.specs.Since.{IsSince}
+use Rattle.map_blame.specs.Keep.{is_among, IsKeep}
+use Rattle.map_blame.specs.Report.{map_range_of}
+use Rattle.map_blame.specs.Laws.{OneReport}
 
 -- ---- numbers that rise
 

@@ -1,9 +1,11 @@
 -- Whether a range stands in a map, by the range of the map that holds its first address.
 use Rattle.std.proofs.Common.{◌≡◌, ◌≢◌, ℕ, ◌+◌, ◌<◌, ◌≤◌, List, map, sym, ◌∙◌, arith}
-use Rattle.board_prelude.proofs.Common.{get_or-map, length-map, Setup, Bytes, six_areas, IsRight, IsFlatMapOf}
+use Rattle.board_prelude.proofs.{get_or-map, length-map, Setup, Bytes, six_areas, IsRight, IsFlatMapOf}
 use Rattle.map_builder.specs.declared.range.Range.{Range}
-use Rattle.map_builder.specs.Common.{range_of, no_range, range_at, Holds}
-use Rattle.map_builder.proofs.Common.{Placed, placed, row_at, differ_at}
+use Rattle.map_builder.specs.Ranges.{range_of}
+use Rattle.map_builder.specs.Find.{no_range, range_at, Holds}
+use Rattle.map_builder.proofs.FindLemmas.{Placed, placed}
+use Rattle.map_builder.proofs.RebuildLemmas.{row_at, differ_at}
 use Rattle.map_blame.specs.Watch.{IsInterval}
 
 module _ (setup : Setup) (bytes : Bytes) (ranges : List Range) (is_map : IsFlatMapOf setup bytes (map range_of ranges))

@@ -1,18 +1,22 @@
 -- What is known of a range that is watched, before and after a change, and of lists of such ranges.
-use Rattle.board_prelude.proofs.Common.{nat_tests, take_more, reverse-append, MapChange, Setup, IsCardList, Bytes}
-use Rattle.board_prelude.proofs.Common.{top_of, reset_byte, host_bridge, registers_after, MapRange, IsRight, six_areas}
-use Rattle.board_prelude.proofs.Common.{get_or_default, get_or-map, length-map, All-nil, All-cons, Tiles, IsFlatMapOf}
+use Rattle.board_prelude.proofs.{nat_tests, take_more, reverse-append, MapChange, Setup, IsCardList, Bytes, top_of}
+use Rattle.board_prelude.proofs.{reset_byte, host_bridge, registers_after, MapRange, IsRight, six_areas, get_or_default}
+use Rattle.board_prelude.proofs.{get_or-map, length-map, All-nil, All-cons, Tiles, IsFlatMapOf}
 use Rattle.std.proofs.Common.{◌≡◌, ℕ, suc, ◌+◌, ◌-◌, ◌<◌, ◌≤◌, ◌⊎◌, Bool, true, false, List, [], ◌∷◌, length, get_or}
 use Rattle.std.proofs.Common.{take, reverse, refl, sym, ◌∙◌, arith, set, map, All, get_or-set_same, get_or-set_other}
 use Rattle.std.proofs.Common.{ext_get_or}
 use Rattle.map_builder.specs.declared.range.Changed.{Changed}
 use Rattle.map_builder.specs.declared.range.Range.{Range}
-use Rattle.map_builder.specs.Common.{Mapped, range_of, changed_windows, bounds_or_zero, no_range}
+use Rattle.map_builder.specs.Map.{Mapped}
+use Rattle.map_builder.specs.Ranges.{range_of}
+use Rattle.map_builder.specs.Changed.{changed_windows, bounds_or_zero}
+use Rattle.map_builder.specs.Find.{no_range}
 use Rattle.addr_decode.specs.MapRegs.{StandsFor}
 use Rattle.map_builder.proofs.KeptLemmas.{top_after, bounds_hold_changes}
 use Rattle.map_blame.specs.declared.watch.Watched.{Watched}
-use Rattle.map_blame.specs.Common.{first_changes, IsRightAfter, StandsFrom, IsSince, map_range_of, IsInterval}
-use Rattle.map_blame.specs.Common.{IsWatched, HoldChange, IsWatchedOn, AreBlamed, IsWatchable}
+use Rattle.map_blame.specs.Since.{first_changes, IsRightAfter, StandsFrom, IsSince}
+use Rattle.map_blame.specs.Report.{map_range_of, AreBlamed}
+use Rattle.map_blame.specs.Watch.{IsInterval, IsWatched, HoldChange, IsWatchedOn, IsWatchable}
 use Rattle.std.proofs.lemmas.Simd.{map-map}
 use Rattle.std.proofs.lemmas.List.Elements.{All-map}
 use Rattle.board_spec.proofs.FlatMapLaws.{tiles_below}

@@ -1,8 +1,8 @@
 -- What is kept of some changes as they are read, by which those are found on which the map rests.
 use Rattle.std.specs.Prelude.{ℕ, ◌≡◌, ◌+◌, ◌*◌, ◌==◌, nat_lt, nat_eq, Bool, true, false, ◌&&◌, ◌||◌, List, [], ◌∷◌}
 use Rattle.std.specs.Prelude.{take, slice_index_or, Option, Some, None, option_and_then, if◌then◌else◌}
-use Rattle.board_prelude.specs.Common.{list_any, option_eq, Reg, bytes_of, MapChange, Store, Reset, Setup, is_map_byte}
-use Rattle.board_prelude.specs.Common.{reg_after}
+use Rattle.board_prelude.specs.{list_any, option_eq, Reg, bytes_of, MapChange, Store, Reset, Setup, is_map_byte}
+use Rattle.board_prelude.specs.{reg_after}
 use Rattle.map_blame.specs.declared.covers.Covers.{Covers}
 use Rattle.map_blame.specs.Keep.{last_cover, first_lock}
 

@@ -2,8 +2,8 @@
 -- change counts from 1, which the oldest has.
 use Rattle.std.specs.Prelude.{ℕ, ◌≡◌, ◌+◌, ◌-◌, ◌<◌, ◌⊎◌, ◌==◌, Bool, true, false, ◌&&◌, if◌then◌else◌, List, [], ◌∷◌}
 use Rattle.std.specs.Prelude.{length, Option, Some, None}
-use Rattle.board_prelude.specs.Common.{list_any, AllPairs, option_or, Reg, MapChange, Store, Reset, Setup, is_bit, byte}
-use Rattle.board_prelude.specs.Common.{smram, covers, is_map_byte}
+use Rattle.board_prelude.specs.{list_any, AllPairs, option_or, Reg, MapChange, Store, Reset, Setup, is_bit, byte, smram}
+use Rattle.board_prelude.specs.{covers, is_map_byte}
 
 -- the number of the last change since the last reset that covers a register, whether or not it changes it
 unfoldable pub last_cover : List MapChange → Reg → Option ℕ

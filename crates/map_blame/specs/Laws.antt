@@ -1,6 +1,6 @@
 -- What the laws say: each is proved on a function of `laws`.
 use Rattle.std.specs.Prelude.{ℕ, ◌≡◌, List, map}
-use Rattle.board_prelude.specs.Common.{MapChange, Setup, SameMapBytes, registers_after}
+use Rattle.board_prelude.specs.{MapChange, Setup, SameMapBytes, registers_after}
 use Rattle.map_blame.specs.declared.blamed.Blamed.{Blamed}
 use Rattle.map_blame.specs.Keep.{IsKeep, chosen}
 use Rattle.map_blame.specs.Report.{IsBlame, map_range_of}

@@ -4,4 +4,3 @@ pub mod Report
 pub mod Laws
 pub mod Covers
 pub mod Watch
-pub mod Common

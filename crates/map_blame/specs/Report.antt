@@ -1,6 +1,6 @@
 -- The whole report: the memory map after some changes, since when each range stands, and the changes on which it rests.
 use Rattle.std.specs.Prelude.{ℕ, List, map, All}
-use Rattle.board_prelude.specs.Common.{MapChange, Setup, registers_after, MapRange, IsFlatMapOf}
+use Rattle.board_prelude.specs.{MapChange, Setup, registers_after, MapRange, IsFlatMapOf}
 use Rattle.map_builder.specs.Map.{range_of}
 use Rattle.map_blame.specs.declared.blamed.Blamed.{Blamed}
 use Rattle.map_blame.specs.Since.{IsSince}

@@ -1,7 +1,7 @@
 -- Since when a range of the memory map is what it is. Changes of the registers are a list with the newest first; the
 -- number of a change counts from 1, which the oldest has.
 use Rattle.std.specs.Prelude.{ℕ, ◌-◌, ◌≤◌, List, length, drop}
-use Rattle.board_prelude.specs.Common.{MapChange, Setup, registers_after, MapRange, IsRight}
+use Rattle.board_prelude.specs.{MapChange, Setup, registers_after, MapRange, IsRight}
 
 -- the first changes, so many
 abbrev pub first_changes : (count : ℕ) → List MapChange → List MapChange

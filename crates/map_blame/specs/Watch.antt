@@ -1,10 +1,11 @@
 -- The ranges of the map at the end, watched while the changes are made one after another.
 use Rattle.std.specs.Prelude.{ℕ, ◌≡◌, ◌+◌, ◌-◌, ◌<◌, ◌≤◌, true, false, List, ◌∷◌, length}
-use Rattle.board_prelude.specs.Common.{MapChange, Setup, registers_after, address_count, six_areas}
+use Rattle.board_prelude.specs.{MapChange, Setup, registers_after, address_count, six_areas}
 use Rattle.addr_decode.specs.MapRegs.{StandsFor}
 use Rattle.map_builder.specs.declared.range.Changed.{Changed}
 use Rattle.map_builder.specs.declared.range.Range.{Range}
-use Rattle.map_builder.specs.Common.{Mapped, IsOutside}
+use Rattle.map_builder.specs.Map.{Mapped}
+use Rattle.map_builder.specs.Changed.{IsOutside}
 use Rattle.map_blame.specs.declared.watch.Watched.{Watched}
 use Rattle.map_blame.specs.Since.{IsRightAfter, StandsFrom}
 use Rattle.map_blame.specs.Report.{map_range_of}

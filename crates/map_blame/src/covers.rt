@@ -1,7 +1,7 @@
 //! The last changes that cover each register, and the first that locks SMRAM.
 ghost use Rattle.std.specs.Prelude.{◌≡◌, ◌<◌, ◌+◌, ◌&&◌, if◌then◌else◌, [], ◌∷◌, List, Some, true, false, length};
-ghost use Rattle.board_prelude.specs.Common.{Reg, MapChange, Store, is_bit, byte, reg_after, is_same};
-ghost use Rattle.board_prelude.specs.Common.{covers as covers_register};
+ghost use Rattle.board_prelude.specs.{Reg, MapChange, Store, is_bit, byte, reg_after, is_same};
+ghost use Rattle.board_prelude.specs.{covers as covers_register};
 ghost use Rattle.map_blame.specs.Keep.{locks as locks_by};
 ghost use Rattle.map_blame.specs.Covers.{AreCoversOf, is_placed, place_of as place_by, number_at};
 

@@ -1,6 +1,6 @@
 //! The changes on which the memory map rests.
 ghost use Rattle.std.specs.Prelude.{◌≡◌, ◌<◌, length, reverse, IfOk};
-ghost use Rattle.board_prelude.specs.Common.{Store, entry_limit, Setup, IsCardList, Bytes, reg_after};
+ghost use Rattle.board_prelude.specs.{Store, entry_limit, Setup, IsCardList, Bytes, reg_after};
 ghost use Rattle.pci_bars.specs.Cards.{AreFitted};
 ghost use Rattle.addr_decode.specs.MapRegs.{StandsFor, map_bytes};
 ghost use Rattle.map_blame.specs.Keep.{IsKeep};

@@ -1,6 +1,6 @@
 //! The report on a list of changes.
 ghost use Rattle.std.specs.Prelude.{◌≡◌, ◌<◌, length, reverse, IfOk};
-ghost use Rattle.board_prelude.specs.Common.{entry_limit, Setup, IsCardList, registers_after, SameMapBytes};
+ghost use Rattle.board_prelude.specs.{entry_limit, Setup, IsCardList, registers_after, SameMapBytes};
 ghost use Rattle.map_blame.specs.Keep.{chosen};
 ghost use Rattle.map_blame.specs.Report.{IsBlame};
 

@@ -1,6 +1,6 @@
 //! The ranges of the map at the end, watched while the changes are made one after another.
 ghost use Rattle.std.specs.Prelude.{◌≡◌, ◌<◌, ℕ, true, false, [], length, map, reverse, slice_index_or, All, IfOk};
-ghost use Rattle.board_prelude.specs.Common.{entry_limit, Setup, IsCardList, Bytes, IsRight};
+ghost use Rattle.board_prelude.specs.{entry_limit, Setup, IsCardList, Bytes, IsRight};
 ghost use Rattle.addr_decode.specs.MapRegs.{StandsFor};
 ghost use Rattle.map_builder.specs.Map.{range_of};
 ghost use Rattle.map_blame.specs.Report.{AreBlamed};

@@ -1,7 +1,7 @@
 -- What `==` says of areas and of rows of areas.
 use Rattle.std.proofs.Common.{◌≡◌, Bool, List, Decides, arith}
 use Rattle.std.specs.Cmp.Lexicographic.{pointwise}
-use Rattle.board_prelude.proofs.Common.{false≢true, eqb-true, nat_tests, Area}
+use Rattle.board_prelude.proofs.{false≢true, eqb-true, nat_tests, Area}
 use Rattle.std.proofs.lemmas.Slice.Eq.{slice_eq-Decides}
 use Rattle.board_base.specs.contracts.target.AreaPartialEq.TheImpl.{eq-value}
 

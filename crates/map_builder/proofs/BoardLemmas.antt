@@ -1,14 +1,15 @@
 -- Registers of the address map are those of some board, whatever its other registers hold: each stands for a byte of
 -- its own.
-use Rattle.board_prelude.proofs.Common.{common_steps, option_map_or, get_or-map, length-map, nat_tests, Setup, Rises}
-use Rattle.board_prelude.proofs.Common.{IsCard, IsCardList, byte, is_within, card_register, bridge, Bytes, Reg}
+use Rattle.board_prelude.proofs.{common_steps, option_map_or, get_or-map, length-map, nat_tests, Setup, Rises, IsCard}
+use Rattle.board_prelude.proofs.{IsCardList, byte, is_within, card_register, bridge, Bytes, Reg}
 use Rattle.std.proofs.Common.{ne_eqb, ◌≡◌, ℕ, zero, suc, ◌+◌, ◌-◌, ◌*◌, ◌/◌, ◌%◌, ◌^◌, ◌<◌, ◌≤◌, List, [], ◌∷◌, length}
 use Rattle.std.proofs.Common.{get_or, Option, Some, None, refl, ◌∙◌, arith, ◌==◌, nat_lt, if◌then◌else◌, false, ◌&&◌}
 use Rattle.std.proofs.Common.{All, find, is_some, slice_index}
 use Rattle.pci_bars.specs.Cards.{CardBytes, HoldsLong, HoldsRom, DecodesAs, AreFitted, cards_of}
 use Rattle.std.proofs.lemmas.List.Elements.{All-map}
 use Rattle.pci_bars.proofs.CardListLemmas.{find-cards}
-use Rattle.addr_decode.specs.Common.{MapBytes, StandsFor, AreSinglesOf, single_number}
+use Rattle.addr_decode.specs.MapRegs.{MapBytes, StandsFor}
+use Rattle.addr_decode.specs.Singles.{AreSinglesOf, single_number}
 use Rattle.addr_decode.proofs.SingleLemmas.{numbered, block_unnumbered, card_unnumbered}
 use Rattle.map_builder.specs.Map.{IsOfSomeBoard, HoldsDoublewords, HaveWidths}
 

@@ -1,7 +1,7 @@
 -- Each window that a change may change ends where it begins or above. Addresses outside windows and outside their
 -- bounds.
-use Rattle.board_prelude.proofs.Common.{common_steps, nat_tests, AllByRecursion, bytes_of, MapChange, Store, Reset}
-use Rattle.board_prelude.proofs.Common.{Setup, Bytes, Window, reg_after, ne_eqb, pow_pos, is_covered, and-false}
+use Rattle.board_prelude.proofs.{common_steps, nat_tests, AllByRecursion, bytes_of, MapChange, Store, Reset, Setup}
+use Rattle.board_prelude.proofs.{Bytes, Window, reg_after, ne_eqb, pow_pos, is_covered, and-false}
 use Rattle.std.proofs.Common.{◌≡◌, ℕ, zero, suc, ◌≤◌, List, [], ◌∷◌, ◌++◌, map, Option, Some, None, refl, arith}
 use Rattle.std.proofs.Common.{flat_map, get_or, take, ◌<◌, ◌⊎◌, inl, inr, Bool, false, ◌&&◌, IfSome, find}
 use Rattle.std.proofs.ByRecursion.{All-append}

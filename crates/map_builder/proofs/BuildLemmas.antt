@@ -1,15 +1,20 @@
 -- The ranges as they are built, from the first address on: the last of them may still go on. A step goes to a later
 -- address, which need not be an edge.
-use Rattle.board_prelude.proofs.Common.{common_steps, cases_lt, All-push, Area, Setup, Bytes, address_count, six_areas}
-use Rattle.board_prelude.proofs.Common.{MapRange, Tiles, NeighboursDiffer, IsRight, IsFlatMapOf, Contains, nat_tests}
-use Rattle.board_prelude.proofs.Common.{length-map, length_push}
+use Rattle.board_prelude.proofs.{common_steps, cases_lt, All-push, Area, Setup, Bytes, address_count, six_areas}
+use Rattle.board_prelude.proofs.{MapRange, Tiles, NeighboursDiffer, IsRight, IsFlatMapOf, Contains, nat_tests}
+use Rattle.board_prelude.proofs.{length-map, length_push}
 use Rattle.std.proofs.Common.{◌≡◌, ◌≢◌, ℕ, ◌+◌, ◌-◌, ◌<◌, ◌≤◌, inl, inr, List, [], ◌∷◌, ◌++◌, length, refl, sym, ◌∙◌}
 use Rattle.std.proofs.Common.{arith, append_assoc, map, nat_lt, filter}
-use Rattle.addr_decode.specs.Common.{SameAreas, MapBytes, StandsFor, edges_of, edges_after}
-use Rattle.map_builder.specs.Common.{most_ranges, ContinuesAt, range_of, IsOfSomeBoard, IsBuilt, IsMapOf, IsWhole}
+use Rattle.addr_decode.specs.Edges.{SameAreas, edges_of, edges_after}
+use Rattle.addr_decode.specs.MapRegs.{MapBytes, StandsFor}
+use Rattle.map_builder.specs.Map.{most_ranges, IsOfSomeBoard, IsMapOf}
+use Rattle.map_builder.specs.Ranges.{ContinuesAt, range_of}
+use Rattle.map_builder.specs.Build.{IsBuilt, IsWhole}
 use Rattle.std.proofs.lemmas.List.{map_push}
 use Rattle.pci_bars.specs.Cards.{AreFitted}
-use Rattle.addr_decode.proofs.Common.{contains_cases, no_more, few_edges_after, areas_change_at_edges}
+use Rattle.addr_decode.proofs.EdgeSearchLemmas.{contains_cases}
+use Rattle.addr_decode.proofs.EdgeCounts.{no_more, few_edges_after}
+use Rattle.addr_decode.proofs.EdgeLaws.{areas_change_at_edges}
 use Rattle.map_builder.specs.declared.range.Range.{Range}
 
 pub ruleset build_steps = (nat_tests, common_steps, length-map)

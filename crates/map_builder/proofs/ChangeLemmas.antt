@@ -1,23 +1,31 @@
 -- After a change the ranges of a map are right again for each address outside the bounds of the changed windows.
 use Rattle.std.proofs.Common.{◌≡◌, ℕ, ◌<◌, ◌≤◌, Bool, true, false, List, [], ◌++◌, Option, refl, sym, ◌∙◌}
 use Rattle.std.proofs.Common.{ap, arith, IfSome, ◌||◌, not, is_some, subst}
-use Rattle.board_prelude.proofs.Common.{list_any, Width, Reg, MapChange, Store, Setup, touches_map}
-use Rattle.board_prelude.proofs.Common.{Bytes, address_count, six_areas, MapRange, nat_tests, false≢true}
+use Rattle.board_prelude.proofs.{list_any, Width, Reg, MapChange, Store, Setup, touches_map, Bytes, address_count}
+use Rattle.board_prelude.proofs.{six_areas, MapRange, nat_tests, false≢true}
 use Rattle.pci_bars.specs.Cards.{CardBytes, AreFitted, cards_of}
-use Rattle.addr_decode.proofs.Common.{no_low_card, names_touch}
+use Rattle.addr_decode.proofs.CardLemmas.{no_low_card}
+use Rattle.addr_decode.proofs.NameLemmas.{names_touch}
 use Rattle.addr_decode.specs.declared.register.MapRegister.{MapRegister}
-use Rattle.addr_decode.specs.Common.{names_from, names_of, MapBytes, StandsFor, edges_after}
-use Rattle.map_builder.specs.Common.{Changed, IsOfSomeBoard, IsMapOf, IsMapWhere, IsBeside, sorted, Rise, rows_in}
-use Rattle.map_builder.specs.Common.{AreChanged, after, rest_on_registers, name_windows, windows_covered}
-use Rattle.map_builder.specs.Common.{changed_windows, most_rows, AreMoved, IsHeldAt, IsSameByte, Mapped}
-use Rattle.map_builder.specs.Changed.{is_card_name}
+use Rattle.addr_decode.specs.MapRegister.{names_from, names_of}
+use Rattle.addr_decode.specs.MapRegs.{MapBytes, StandsFor}
+use Rattle.addr_decode.specs.Edges.{edges_after}
+use Rattle.map_builder.specs.declared.range.Changed.{Changed}
+use Rattle.map_builder.specs.Map.{IsOfSomeBoard, IsMapOf, Mapped}
+use Rattle.map_builder.specs.Build.{IsMapWhere, IsBeside}
+use Rattle.map_builder.specs.Windows.{sorted}
+use Rattle.map_builder.specs.Sorted.{Rise, rows_in}
+use Rattle.map_builder.specs.Applied.{AreChanged, IsApplied, IsStored}
+use Rattle.map_builder.specs.Changed.{after, rest_on_registers, name_windows, windows_covered, changed_windows}
+use Rattle.map_builder.specs.Changed.{most_rows, is_card_name}
+use Rattle.map_builder.specs.Rows.{AreMoved}
+use Rattle.map_builder.specs.Unchanged.{IsHeldAt, IsSameByte}
 use Rattle.map_builder.proofs.BoundsLemmas.{covered_ordered, changed_ordered}
 use Rattle.map_builder.proofs.SortedLemmas.{rise_sorted, outside_sorted, beside_sorted, rows_few, sorted_twice}
 use Rattle.map_builder.proofs.MovedRows.{CoversRows, rows_keep, moved_within}
 use Rattle.map_builder.proofs.KeptLemmas.{same_bytes, top_after, changes_keep}
 use Rattle.map_builder.proofs.SameBoards.{boards_same, untouched_areas}
 use Rattle.map_builder.proofs.RebuildLemmas.{all_right, range_below}
-use Rattle.map_builder.specs.Applied.{IsApplied, IsStored}
 
 -- the registers of a board before a change and after it
 abbrev pub Next : (old new : MapBytes) → MapChange → Type 0

@@ -1,8 +1,8 @@
 -- The ranges of a map by their indices, and the span round an address.
 use Rattle.std.proofs.Common.{◌≡◌, ◌≢◌, ℕ, zero, suc, ◌+◌, ◌-◌, ◌<◌, ◌≤◌, ◌⊎◌, inl, inr, Bool, List, [], ◌∷◌, length}
 use Rattle.std.proofs.Common.{map, sym, ◌∙◌, ap, arith}
-use Rattle.board_prelude.proofs.Common.{cases_lt, get_or-map, length-map, nat_tests, Kind, Setup, Bytes, area_of}
-use Rattle.board_prelude.proofs.Common.{address_count, six_areas, Tiles, IsFlatMapOf, IsSpan}
+use Rattle.board_prelude.proofs.{cases_lt, get_or-map, length-map, nat_tests, Kind, Setup, Bytes, area_of}
+use Rattle.board_prelude.proofs.{address_count, six_areas, Tiles, IsFlatMapOf, IsSpan}
 use Rattle.map_builder.specs.declared.range.Range.{Range}
 use Rattle.map_builder.specs.Ranges.{range_of}
 use Rattle.map_builder.specs.Find.{no_range, range_at, in_column, area_at, Holds, IsFirstAlike, IsLastAlike}

@@ -1,9 +1,8 @@
 -- The card that answers at an address is the same before and after a change that moves no window round it.
-use Rattle.board_prelude.proofs.Common.{option_map_or, common_steps, AllByRecursion, nat_tests, recursion_from_All}
-use Rattle.board_prelude.proofs.Common.{find-append, Reg, Base, IoBase, FittedCard, Setup, IsCard, IsCardList, card_at}
-use Rattle.board_prelude.proofs.Common.{is_bit, Bytes, Window, base_value, is_covered, rom_window, is_rom_on}
-use Rattle.board_prelude.proofs.Common.{vga_window, memory_windows, memory_window, is_enabled_for, memory_claim}
-use Rattle.board_prelude.proofs.Common.{card_register}
+use Rattle.board_prelude.proofs.{option_map_or, common_steps, AllByRecursion, nat_tests, recursion_from_All}
+use Rattle.board_prelude.proofs.{find-append, Reg, Base, IoBase, FittedCard, Setup, IsCard, IsCardList, card_at, is_bit}
+use Rattle.board_prelude.proofs.{Bytes, Window, base_value, is_covered, rom_window, is_rom_on, vga_window}
+use Rattle.board_prelude.proofs.{memory_windows, memory_window, is_enabled_for, memory_claim, card_register}
 use Rattle.std.proofs.Common.{◌≡◌, ℕ, zero, suc, ◌+◌, ◌*◌, ◌<◌, ◌≤◌, ◌⊎◌, inl, inr, Bool, List, [], ◌∷◌, ◌++◌, length}
 use Rattle.std.proofs.Common.{map, get_or, Option, Some, None, refl, sym, ◌∙◌, ap, arith, ◌&&◌, All, find, flat_map}
 use Rattle.std.proofs.Common.{slice_get, if◌then◌else◌, lit<, below_more}
@@ -11,7 +10,9 @@ use Rattle.std.proofs.lemmas.Option.{slice_get_within}
 use Rattle.addr_decode.specs.declared.register.CardRegister.{CardRegister}
 use Rattle.addr_decode.specs.MapRegister.{in_card, map_register}
 use Rattle.addr_decode.proofs.CardLemmas.{find_at}
-use Rattle.map_builder.specs.Common.{decoded, base_windows, card_windows, windows_of, held_by, Changed}
+use Rattle.map_builder.specs.Changed.{decoded, base_windows, card_windows, windows_of}
+use Rattle.map_builder.specs.Held.{held_by}
+use Rattle.map_builder.specs.declared.range.Changed.{Changed}
 use Rattle.map_builder.proofs.BoundsLemmas.{Outside, none_covered}
 use Rattle.map_builder.proofs.WindowLemmas.{from_base, one_held}
 

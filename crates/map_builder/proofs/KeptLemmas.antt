@@ -1,19 +1,21 @@
 -- The areas of an address are the same before and after a change that moves nothing round it.
-use Rattle.board_prelude.proofs.Common.{common_steps, cases_Bool, ne_eqb, nat_tests, Kind, Reg, Setup, IsCardList}
-use Rattle.board_prelude.proofs.Common.{is_within, Bytes, top_of, row_of, is_in, hole_of, is_shadow_range, is_shadowed}
-use Rattle.board_prelude.proofs.Common.{is_smram_range, is_rom_selected, pam_register, area_of, bridge, isa}
-use Rattle.board_prelude.proofs.Common.{card_register, six_areas, each_below, recursion_from_All, Width, bytes_of}
-use Rattle.board_prelude.proofs.Common.{MapChange, Store, Reset, byte, host_bridge, reset_byte, writable_bits, covers}
-use Rattle.board_prelude.proofs.Common.{reg_after, address_count, merged-all, One, FittedCard}
+use Rattle.board_prelude.proofs.{common_steps, cases_Bool, ne_eqb, nat_tests, Kind, Reg, Setup, IsCardList, is_within}
+use Rattle.board_prelude.proofs.{Bytes, top_of, row_of, is_in, hole_of, is_shadow_range, is_shadowed, is_smram_range}
+use Rattle.board_prelude.proofs.{is_rom_selected, pam_register, area_of, bridge, isa, card_register, six_areas}
+use Rattle.board_prelude.proofs.{each_below, recursion_from_All, Width, bytes_of, MapChange, Store, Reset, byte}
+use Rattle.board_prelude.proofs.{host_bridge, reset_byte, writable_bits, covers, reg_after, address_count, merged-all}
+use Rattle.board_prelude.proofs.{One, FittedCard}
 use Rattle.std.proofs.Common.{◌≡◌, ℕ, ◌+◌, ◌-◌, ◌/◌, ◌<◌, ◌≤◌, ◌⊎◌, inl, inr, Bool, true, false, [], ◌∷◌, None, refl}
 use Rattle.std.proofs.Common.{sym, ◌∙◌, arith, ◌==◌, ◌&&◌, nat_le, nat_lt, if◌then◌else◌, find, List, zero, suc, map}
 use Rattle.std.proofs.Common.{slice_index, rules, length, get_or, take, flat_map, Option, IfSome}
 use Rattle.addr_decode.specs.MapRegister.{map_register, names_of}
-use Rattle.map_builder.specs.Changed.{from_to, windows_of}
+use Rattle.map_builder.specs.Changed.{from_to, windows_of, windows_covered, after, changed_windows}
 use Rattle.map_builder.proofs.BoundsLemmas.{Outside, outside_bounds, outside_parts}
 use Rattle.map_builder.proofs.KeptCards.{Kept, claim_same, each_or}
-use Rattle.map_builder.specs.Common.{is_below, Changed, windows_covered, after, changed_windows, WindowsHoldChanges}
-use Rattle.map_builder.specs.Common.{BoundsHoldChanges, IsHeldAt}
+use Rattle.map_builder.specs.Rows.{is_below}
+use Rattle.map_builder.specs.declared.range.Changed.{Changed}
+use Rattle.map_builder.specs.Laws.{WindowsHoldChanges, BoundsHoldChanges}
+use Rattle.map_builder.specs.Unchanged.{IsHeldAt}
 use Rattle.addr_decode.proofs.NameLemmas.{offsets}
 use Rattle.addr_decode.proofs.StoreLemmas.{same_register}
 use Rattle.addr_decode.specs.declared.register.MapRegister.{MapRegister}

@@ -10,7 +10,6 @@ pub mod SortedLemmas
 pub mod SameBoards
 pub mod ChangeLemmas
 pub mod MovedRows
-pub mod Common
 pub mod AreaLemmas
 pub mod FindLemmas
 pub mod OneWindow

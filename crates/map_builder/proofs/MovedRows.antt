@@ -1,20 +1,28 @@
 -- What a store to the boundaries of the rows of DRAM moves, and that no more rows are looked up for it than the bound
 -- says.
-use Rattle.board_base.proofs.Common.{common_steps, cases_Bool, cases_lt, false≢true, and_parts, nat_tests, some_bytes}
-use Rattle.board_prelude.proofs.Common.{AllByRecursion, list_any, Width, One, Reg, bytes_of, MapChange, Store, Reset}
-use Rattle.board_prelude.proofs.Common.{FittedCard, Setup, IsCardList, covers, Bytes, row_of, reg_after, six_areas}
+use Rattle.std.proofs.lemmas.Grind.{common_steps}
+use Rattle.std.proofs.lemmas.Bool.{cases_Bool, cases_lt, false≢true, and_parts}
+use Rattle.std.proofs.lemmas.Bool.Decides.{nat_tests}
+use Rattle.board_base.proofs.WidthLemmas.{some_bytes}
+use Rattle.board_prelude.proofs.{AllByRecursion, list_any, Width, One, Reg, bytes_of, MapChange, Store, Reset}
+use Rattle.board_prelude.proofs.{FittedCard, Setup, IsCardList, covers, Bytes, row_of, reg_after, six_areas}
 use Rattle.std.proofs.Common.{◌≡◌, ℕ, zero, suc, ◌⊎◌, ◌+◌, ◌*◌, ◌<◌, ◌≤◌, inl, inr, true, false, List, [], ◌∷◌, ◌++◌}
 use Rattle.std.proofs.Common.{take, refl, arith, Option, Some, min, max, slice_index, find, flat_map, below_more}
 use Rattle.board_base.specs.declared.access.Width.TheVariants.{Two, Four}
 use Rattle.addr_decode.specs.declared.register.MapRegister.{MapRegister}
 use Rattle.addr_decode.specs.declared.register.MapRegister.TheVariants.{RowBoundary}
-use Rattle.addr_decode.specs.Common.{map_register, names_of, MapBytes, StandsFor, edges_of, edges_after}
-use Rattle.addr_decode.proofs.Common.{is_name}
+use Rattle.addr_decode.specs.MapRegister.{map_register, names_of}
+use Rattle.addr_decode.specs.MapRegs.{MapBytes, StandsFor}
+use Rattle.addr_decode.specs.Edges.{edges_of, edges_after}
+use Rattle.addr_decode.proofs.NameLemmas.{is_name}
 use Rattle.std.proofs.lemmas.List.Folds.{list_all-map}
 use Rattle.map_builder.specs.declared.range.Changed.{Changed}
-use Rattle.map_builder.specs.Common.{from_to, name_windows, windows_of, windows_covered, after, changed_windows}
-use Rattle.map_builder.specs.Common.{is_inside, edges_inside, count_of, IsOutside, is_row_name, stores_rows, is_below}
-use Rattle.map_builder.specs.Common.{IsHidden, StaysOrHidden, RowStays, IsInRows, AreMoved, Rise, rows_in}
+use Rattle.map_builder.specs.Bounds.{from_to}
+use Rattle.map_builder.specs.Changed.{name_windows, windows_of, windows_covered, after, changed_windows, is_inside}
+use Rattle.map_builder.specs.Changed.{edges_inside, count_of, IsOutside}
+use Rattle.map_builder.specs.Rows.{is_row_name, stores_rows, is_below, IsHidden, StaysOrHidden, RowStays, IsInRows}
+use Rattle.map_builder.specs.Rows.{AreMoved}
+use Rattle.map_builder.specs.Sorted.{Rise, rows_in}
 use Rattle.map_builder.proofs.KeptLemmas.{is_boundary, areas_same, covered_at, row_by, rows_from}
 use Rattle.map_builder.proofs.SortedLemmas.{filter_more, rows_rise}
 

@@ -1,15 +1,23 @@
 -- What stays of a map that differs in some windows alone: the ranges below them, between them and above them.
-use Rattle.board_prelude.proofs.Common.{nat_tests, common_steps, get_or-map, length-map, length-drop, drop_more}
-use Rattle.board_prelude.proofs.Common.{drop_all, append-nil, map-append, take_all, take_more, cases_lt}
-use Rattle.board_spec.specs.Common.{Area, Setup, Bytes, address_count, MapRange, NeighboursDiffer, IsFlatMapOf, Tiles}
+use Rattle.board_prelude.proofs.{nat_tests, common_steps, get_or-map, length-map, length-drop, drop_more, drop_all}
+use Rattle.board_prelude.proofs.{append-nil, map-append, take_all, take_more, cases_lt}
+use Rattle.board_base.specs.declared.target.Area.{Area}
+use Rattle.board_spec.specs.Setup.{Setup}
+use Rattle.board_spec.specs.Decode.{Bytes}
+use Rattle.board_spec.specs.FlatMap.{address_count, MapRange, NeighboursDiffer, IsFlatMapOf, Tiles}
 use Rattle.std.proofs.Common.{◌≡◌, ◌≢◌, ℕ, zero, suc, ◌+◌, ◌-◌, ◌<◌, ◌≤◌, inl, inr, List, [], ◌∷◌, ◌++◌, length, map}
 use Rattle.std.proofs.Common.{take, drop, get_or, refl, sym, ap, subst, arith, ◌∙◌, append_assoc}
 use Rattle.std.proofs.lemmas.List.{map_more, get_or-drop}
 use Rattle.board_spec.proofs.FlatMapLaws.{tiles_below}
 use Rattle.addr_decode.specs.MapRegs.{MapBytes, StandsFor}
-use Rattle.map_builder.specs.Common.{Changed, Range, range_of, no_range, range_at, BeginsBelow, Holds, ContinuesAt}
-use Rattle.map_builder.specs.Common.{IsBuilt, IsRightWhere, IsMapWhere, IsBelow, IsBetween, IsBeside, from_to, AreAbove}
-use Rattle.map_builder.specs.Common.{Rise, rows_in, IsOfSomeBoard, IsWhole}
+use Rattle.map_builder.specs.declared.range.Changed.{Changed}
+use Rattle.map_builder.specs.declared.range.Range.{Range}
+use Rattle.map_builder.specs.Ranges.{range_of, ContinuesAt}
+use Rattle.map_builder.specs.Find.{no_range, range_at, BeginsBelow, Holds}
+use Rattle.map_builder.specs.Build.{IsBuilt, IsRightWhere, IsMapWhere, IsBelow, IsBetween, IsBeside, IsWhole}
+use Rattle.map_builder.specs.Bounds.{from_to}
+use Rattle.map_builder.specs.Sorted.{AreAbove, Rise, rows_in}
+use Rattle.map_builder.specs.Map.{IsOfSomeBoard}
 use Rattle.map_builder.proofs.BuildLemmas.{range, AreasAt, one_address, same_at_each, is_built_first, built_step}
 use Rattle.map_builder.proofs.BuildLemmas.{built_over, built_range, is_whole}
 use Rattle.map_builder.proofs.FindLemmas.{Placed, placed}

@@ -1,9 +1,9 @@
 -- Boards that have the same registers have the same areas at each address.
 use Rattle.std.proofs.Common.{◌≡◌, ℕ, ◌+◌, ◌*◌, ◌/◌, ◌%◌, ◌<◌, ◌≤◌, Bool, false, true, Option, Some, None, refl, sym}
 use Rattle.std.proofs.Common.{◌∙◌, arith, ◌==◌, is_some, find, lit<}
-use Rattle.board_prelude.proofs.Common.{common_steps, false≢true, nat_tests, ne_eqb, Kind, Reg, Setup, IsCardList}
-use Rattle.board_prelude.proofs.Common.{Bytes, memory_claim, area_of, card_register, six_areas, touches_map, MapChange}
-use Rattle.board_prelude.proofs.Common.{untouched, SameMapBytes, map_bytes_decide, is_map_byte}
+use Rattle.board_prelude.proofs.{common_steps, false≢true, nat_tests, ne_eqb, Kind, Reg, Setup, IsCardList, Bytes}
+use Rattle.board_prelude.proofs.{memory_claim, area_of, card_register, six_areas, touches_map, MapChange, untouched}
+use Rattle.board_prelude.proofs.{SameMapBytes, map_bytes_decide, is_map_byte}
 use Rattle.map_builder.specs.Changed.{after}
 use Rattle.pci_bars.specs.Cards.{CardBytes, HoldsRom, DecodesAs}
 use Rattle.pci_bars.proofs.CardListLemmas.{found, card_is}

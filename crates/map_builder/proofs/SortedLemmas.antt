@@ -1,13 +1,16 @@
 -- Windows in rising order hold the addresses of those that were sorted, and are no more than there are different ones.
-use Rattle.board_prelude.proofs.Common.{common_steps, AllByRecursion, list_any, false≢true, nat_tests, Setup, Bytes}
+use Rattle.board_prelude.proofs.{common_steps, AllByRecursion, list_any, false≢true, nat_tests, Setup, Bytes}
 use Rattle.std.proofs.Common.{◌≡◌, ℕ, ◌+◌, ◌<◌, ◌≤◌, inl, inr, Bool, true, false, List, [], ◌∷◌, ◌++◌, length, refl}
 use Rattle.std.proofs.Common.{arith, nat_lt, min, max, filter, Some}
-use Rattle.addr_decode.specs.Edges.{edges_of, edges_after}
-use Rattle.addr_decode.specs.Common.{map_register, fixed_edges}
-use Rattle.map_builder.specs.Common.{Changed, both, is_inside, edges_inside, is_window, count_of, IsOutside, bounds}
-use Rattle.map_builder.specs.Common.{with_window, sorted, AreAbove, Rise, rows_in, windows_covered, RowsAreFew}
-use Rattle.addr_decode.proofs.Common.{no_more}
-use Rattle.map_builder.specs.Changed.{joined}
+use Rattle.addr_decode.specs.Edges.{edges_of, edges_after, fixed_edges}
+use Rattle.addr_decode.specs.MapRegister.{map_register}
+use Rattle.map_builder.specs.declared.range.Changed.{Changed}
+use Rattle.map_builder.specs.Bounds.{both, bounds}
+use Rattle.map_builder.specs.Changed.{is_inside, edges_inside, is_window, count_of, IsOutside, windows_covered, joined}
+use Rattle.map_builder.specs.Windows.{with_window, sorted}
+use Rattle.map_builder.specs.Sorted.{AreAbove, Rise, rows_in}
+use Rattle.map_builder.specs.Laws.{RowsAreFew}
+use Rattle.addr_decode.proofs.EdgeCounts.{no_more}
 use Rattle.map_builder.proofs.BoundsLemmas.{Outside, Misses, misses_both, Ordered}
 use Rattle.board_spec.specs.RegisterTable.{reset_byte, host_bridge}
 

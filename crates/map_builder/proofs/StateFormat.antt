@@ -2,7 +2,7 @@
 use Rattle.std.proofs.Common.{◌≡◌, ℕ, ◌+◌, List, [], ◌∷◌, length, Result, Ok, Err, IfOk, refl, ap, subst, ◌∙◌, arith}
 use Rattle.std.proofs.Common.{flat_map, ◌↔◌}
 use Rattle.std.proofs.lemmas.List.Elements.{All-from_recursion}
-use Rattle.board_prelude.proofs.Common.{AllByRecursion, recursion_from_All, FittedCard, MapRange, OneFlatMap}
+use Rattle.board_prelude.proofs.{AllByRecursion, recursion_from_All, FittedCard, MapRange, OneFlatMap}
 use Rattle.byte_fields.specs.declared.fault.Bad.{Bad}
 use Rattle.byte_fields.specs.Fields.{AreBytes, Took}
 use Rattle.byte_fields.specs.Loads.{OneSpelling}

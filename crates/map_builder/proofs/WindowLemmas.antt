@@ -1,8 +1,8 @@
 -- The windows that registers govern, as the code finds them.
-use Rattle.board_prelude.proofs.Common.{append-nil, common_steps, nat_tests, option_map_or, take_more, card_at}
-use Rattle.board_prelude.proofs.Common.{div-lt_iff_lt-mul, Width, Reg, FittedCard, Setup, Bytes, MapChange, Store}
-use Rattle.board_prelude.proofs.Common.{enumerate_from, cases_Bool, map-append, Base, IsCard, Window, base_value}
-use Rattle.board_prelude.proofs.Common.{memory_window, rom_window_of, vga_window}
+use Rattle.board_prelude.proofs.{append-nil, common_steps, nat_tests, option_map_or, take_more, card_at}
+use Rattle.board_prelude.proofs.{div-lt_iff_lt-mul, Width, Reg, FittedCard, Setup, Bytes, MapChange, Store}
+use Rattle.board_prelude.proofs.{enumerate_from, cases_Bool, map-append, Base, IsCard, Window, base_value}
+use Rattle.board_prelude.proofs.{memory_window, rom_window_of, vga_window}
 use Rattle.std.proofs.Common.{pow-add, pow_pos, ◌≡◌, ℕ, zero, suc, ◌+◌, ◌-◌, ◌*◌, ◌/◌, ◌^◌, ◌<◌, ◌≤◌, List, [], ◌∷◌}
 use Rattle.std.proofs.Common.{◌++◌, length, map, get_or, refl, sym, ◌∙◌, ap, arith, mul_comm, Option, None, slice_get}
 use Rattle.std.proofs.Common.{slice_index, flat_map, take, inl, inr, Bool, filter, Some, ◌==◌, find, option_map}
@@ -10,8 +10,9 @@ use Rattle.std.proofs.lemmas.Option.{slice_get-map, slice_get_past, slice_get-ge
 use Rattle.std.proofs.lemmas.Nat.{mul-add-lt}
 use Rattle.pci_bars.specs.declared.spec.BaseSpec.{BaseSpec}
 use Rattle.pci_bars.specs.Bases.{base_of}
-use Rattle.map_builder.specs.Common.{Changed, name_windows, windows_covered, held_by, held_at, decoded, card_windows}
-use Rattle.map_builder.specs.Common.{held_from, rom_held, vga_held, card_held, device_held}
+use Rattle.map_builder.specs.declared.range.Changed.{Changed}
+use Rattle.map_builder.specs.Changed.{name_windows, windows_covered, decoded, card_windows}
+use Rattle.map_builder.specs.Held.{held_by, held_at, held_from, rom_held, vga_held, card_held, device_held}
 use Rattle.addr_decode.specs.declared.register.MapRegister.{MapRegister}
 use Rattle.addr_decode.specs.MapRegister.{names_of, IsCardNumber}
 use Rattle.std.proofs.lemmas.List.{flat_map_more}

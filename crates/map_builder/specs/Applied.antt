@@ -1,6 +1,6 @@
 -- What a change makes of a map.
 use Rattle.std.specs.Prelude.{ℕ, ◌≡◌, ◌<◌, true, false, if◌then◌else◌, List}
-use Rattle.board_prelude.specs.Common.{MapChange, Setup, Bytes, address_count, six_areas, IsFlatMapOf, touches_map}
+use Rattle.board_prelude.specs.{MapChange, Setup, Bytes, address_count, six_areas, IsFlatMapOf, touches_map}
 use Rattle.pci_bars.specs.Cards.{AreCardsOf, cards_of}
 use Rattle.addr_decode.specs.MapRegs.{StandsFor}
 use Rattle.map_builder.specs.declared.range.Changed.{Changed}

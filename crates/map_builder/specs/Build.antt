@@ -1,8 +1,9 @@
 -- The ranges of a map as they are built, from the first address on: the last of them may still go on.
 use Rattle.std.specs.Prelude.{ℕ, ◌≡◌, ◌+◌, ◌-◌, ◌<◌, ◌≤◌, List, [], ◌∷◌, ◌++◌, length, map, All}
-use Rattle.board_prelude.specs.Common.{Setup, Bytes, address_count, MapRange, six_areas, Tiles, NeighboursDiffer}
-use Rattle.board_prelude.specs.Common.{IsRight, IsFlatMapOf, AllByRecursion}
-use Rattle.addr_decode.specs.Common.{MapBytes, StandsFor, edges_after}
+use Rattle.board_prelude.specs.{Setup, Bytes, address_count, MapRange, six_areas, Tiles, NeighboursDiffer, IsRight}
+use Rattle.board_prelude.specs.{IsFlatMapOf, AllByRecursion}
+use Rattle.addr_decode.specs.MapRegs.{MapBytes, StandsFor}
+use Rattle.addr_decode.specs.Edges.{edges_after}
 use Rattle.map_builder.specs.declared.range.Changed.{Changed}
 use Rattle.map_builder.specs.declared.range.Range.{Range}
 pub use Rattle.map_builder.specs.Ranges.{ContinuesAt}

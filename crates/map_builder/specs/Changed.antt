@@ -2,15 +2,16 @@
 use Rattle.std.specs.Prelude.{ℕ, ◌+◌, ◌-◌, ◌*◌, ◌/◌, ◌^◌, ◌<◌, ◌⊎◌, ◌==◌, nat_lt, nat_le, Bool, false, ◌&&◌}
 use Rattle.std.specs.Prelude.{length, if◌then◌else◌, List, [], ◌∷◌, ◌++◌, take, map, filter, flat_map, Option, Some}
 use Rattle.std.specs.Prelude.{None, unwrap_or, get_or}
-use Rattle.board_prelude.specs.Common.{option_map_or, enumerate_from, list_any, Reg, bytes_of, MapChange, Store, Reset}
-use Rattle.board_prelude.specs.Common.{FittedCard, Setup, card_at, Bytes, Window, memory_window, rom_window, vga_window}
-use Rattle.board_prelude.specs.Common.{smram_range, expansion_range, system_bios, hole_at_512_kib, hole_at_15_mib}
-use Rattle.board_prelude.specs.Common.{lower_bios, selectable_bios, largest_top, address_count, changed_byte, reg_after}
+use Rattle.board_prelude.specs.{option_map_or, enumerate_from, list_any, Reg, bytes_of, MapChange, Store, Reset}
+use Rattle.board_prelude.specs.{FittedCard, Setup, card_at, Bytes, Window, memory_window, rom_window, vga_window}
+use Rattle.board_prelude.specs.{smram_range, expansion_range, system_bios, hole_at_512_kib, hole_at_15_mib, lower_bios}
+use Rattle.board_prelude.specs.{selectable_bios, largest_top, address_count, changed_byte, reg_after}
 use Rattle.addr_decode.specs.declared.register.MapRegister.{MapRegister}
 use Rattle.addr_decode.specs.declared.register.MapRegister.TheVariants.{Pam, RowBoundary, Single, Card}
 use Rattle.addr_decode.specs.declared.register.CardRegister.{CardRegister}
 use Rattle.addr_decode.specs.declared.register.CardRegister.TheVariants.{Command, Base, ExpansionRom}
-use Rattle.addr_decode.specs.Common.{is_of_card, map_register, edges_of, first_address}
+use Rattle.addr_decode.specs.MapRegister.{is_of_card, map_register}
+use Rattle.addr_decode.specs.Edges.{edges_of, first_address}
 use Rattle.map_builder.specs.declared.range.Changed.{Changed}
 pub use Rattle.map_builder.specs.Bounds.{from_to, both, joined}
 unfoldable pub use Rattle.map_builder.specs.Bounds.{bounds}

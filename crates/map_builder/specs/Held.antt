@@ -1,7 +1,7 @@
 -- The windows of cards as the code finds them, by what their base registers and that of the expansion ROM hold.
 use Rattle.std.specs.Prelude.{ℕ, ◌+◌, ◌-◌, ◌*◌, ◌/◌, ◌^◌, List, [], ◌∷◌, ◌++◌, Option, Some, None, slice_get}
 use Rattle.std.specs.Prelude.{slice_index, find, ◌==◌, Bool, if◌then◌else◌}
-use Rattle.board_prelude.specs.Common.{option_map_or, Base, MemoryBase, IoBase, OutsideBase, smram_range}
+use Rattle.board_prelude.specs.{option_map_or, Base, MemoryBase, IoBase, OutsideBase, smram_range}
 use Rattle.pci_bars.specs.Cards.{CardBytes}
 use Rattle.map_builder.specs.declared.range.Changed.{Changed}
 use Rattle.addr_decode.specs.declared.register.CardRegister.{CardRegister}

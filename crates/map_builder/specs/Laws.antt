@@ -1,7 +1,7 @@
 -- What the laws say: each is proved on a function of `laws`.
 use Rattle.std.specs.Prelude.{ℕ, ◌≡◌, ◌<◌, ◌≤◌, [], None, All}
-use Rattle.board_prelude.specs.Common.{One, MapChange, Store, Reset, pam, fdhc, reset_byte, Setup, IsCardList}
-use Rattle.board_prelude.specs.Common.{largest_top, Bytes, top_of, address_count, six_areas}
+use Rattle.board_prelude.specs.{One, MapChange, Store, Reset, pam, fdhc, reset_byte, Setup, IsCardList, largest_top}
+use Rattle.board_prelude.specs.{Bytes, top_of, address_count, six_areas}
 use Rattle.map_builder.specs.Changed.{after, changed_windows, bounds_or_zero, most_rows, IsOutside}
 
 -- an address outside the windows that a change may change has the same areas before and after. The last boundary

@@ -8,7 +8,6 @@ pub mod Build
 pub mod Held
 pub mod Applied
 pub mod Laws
-pub mod Common
 pub mod Bounds
 pub mod Windows
 pub mod Ranges

@@ -1,6 +1,6 @@
 -- The memory map as the crate keeps it: the registers, the ranges and the version.
 use Rattle.std.specs.Prelude.{ℕ, ◌+◌, ◌%◌, ◌^◌, ◌<◌, ◌≤◌, List, length, All, slice_index}
-use Rattle.board_prelude.specs.Common.{Setup, IsCardList, largest_top, Bytes, top_of, MapRange, Tiles, IsFlatMapOf}
+use Rattle.board_prelude.specs.{Setup, IsCardList, largest_top, Bytes, top_of, MapRange, Tiles, IsFlatMapOf}
 use Rattle.pci_bars.specs.Cards.{CardBytes, AreFitted}
 use Rattle.addr_decode.specs.Edges.{most_edges}
 use Rattle.addr_decode.specs.MapRegs.{MapBytes, StandsFor}

@@ -1,6 +1,6 @@
 -- The ranges of a map as they are built, of which the last may still go on.
 use Rattle.std.specs.Prelude.{ℕ, ◌≡◌, ◌≢◌, ◌-◌, ◌⊎◌, List, [], ◌∷◌, ◌++◌}
-use Rattle.board_prelude.specs.Common.{Area, address_count, MapRange}
+use Rattle.board_prelude.specs.{Area, address_count, MapRange}
 use Rattle.map_builder.specs.declared.range.Range.{Range}
 
 abbrev pub range_of : Range → MapRange

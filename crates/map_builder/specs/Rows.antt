@@ -1,7 +1,7 @@
 -- What a store to the boundaries of the rows of DRAM moves: addresses between an old boundary and a new one.
 use Rattle.std.specs.Prelude.{ℕ, ◌≡◌, ◌*◌, ◌<◌, ◌≤◌, ◌⊎◌, nat_lt, Bool, true, false, ◌&&◌, List, length, slice_index}
 use Rattle.std.specs.Prelude.{Option, Some}
-use Rattle.board_prelude.specs.Common.{AllByRecursion, list_all, list_any, boundary_unit, largest_top}
+use Rattle.board_prelude.specs.{AllByRecursion, list_all, list_any, boundary_unit, largest_top}
 use Rattle.addr_decode.specs.declared.register.MapRegister.{MapRegister}
 use Rattle.addr_decode.specs.declared.register.MapRegister.TheVariants.{RowBoundary}
 use Rattle.map_builder.specs.declared.range.Changed.{Changed}

@@ -2,7 +2,7 @@
 -- them: registers have one flat map.
 use Rattle.std.specs.Prelude.{ℕ, zero, suc, ◌≡◌, ◌<◌, ◌≤◌, ◌^◌, List, [], ◌∷◌, ◌++◌, length, All, flat_map, Result, Ok}
 use Rattle.std.specs.Prelude.{IfOk}
-use Rattle.board_base.specs.Common.{w8, w32, to_le_bytes}
+use Rattle.std.specs.Int.{w8, w32, to_le_bytes}
 use Rattle.board_spec.specs.Setup.{FittedCard}
 use Rattle.byte_fields.specs.declared.fault.Bad.{Bad}
 use Rattle.byte_fields.specs.Fields.{Reading, gives, ◌>>=◌, within, Took}

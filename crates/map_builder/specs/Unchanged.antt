@@ -1,6 +1,6 @@
 -- A store of one byte to a register that keeps its byte.
 use Rattle.std.specs.Prelude.{ℕ, ◌≡◌, Option, Some}
-use Rattle.board_prelude.specs.Common.{One, MapChange, Store, Bytes}
+use Rattle.board_prelude.specs.{One, MapChange, Store, Bytes}
 
 -- a change stores one byte alone, to a register that holds this byte
 abbrev pub IsHeldAt : MapChange → Bytes → ℕ → Type 0

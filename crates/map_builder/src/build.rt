@@ -1,9 +1,10 @@
 //! The ranges of the memory map, built from the registers on which it depends: all of them, or those that a change of
 //! the registers may have changed.
 ghost use Rattle.std.specs.Prelude.{ℕ, ◌≡◌, ◌≤◌, ◌<◌, ◌+◌, ◌-◌, [], length, map, unwrap_or, IfSome};
-ghost use Rattle.board_prelude.specs.Common.{Setup, Bytes, address_count, Tiles, IsFlatMapOf};
+ghost use Rattle.board_prelude.specs.{Setup, Bytes, address_count, Tiles, IsFlatMapOf};
 ghost use Rattle.pci_bars.specs.Cards.{AreFitted};
-ghost use Rattle.addr_decode.specs.Common.{MapBytes, StandsFor, map_bytes, SameAreas, edges_after};
+ghost use Rattle.addr_decode.specs.MapRegs.{MapBytes, StandsFor, map_bytes};
+ghost use Rattle.addr_decode.specs.Edges.{SameAreas, edges_after};
 ghost use Rattle.map_builder.specs.Map.{range_of, most_ranges, IsOfSomeBoard};
 ghost use Rattle.map_builder.specs.Find.{BeginsBelow, Holds};
 ghost use Rattle.map_builder.specs.Build.{IsBuilt, IsMapWhere, IsBelow, IsBetween, IsBeside, IsBuiltUpTo};

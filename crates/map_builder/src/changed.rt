@@ -1,10 +1,12 @@
 //! The windows of addresses that a change of the registers covers: those in which it may change the areas.
 ghost use Rattle.std.specs.Prelude.{true, false, not, ◌||◌, ◌≡◌, ◌≤◌, ◌<◌, ◌+◌, ◌-◌, ◌*◌, ◌++◌, [], ◌∷◌, All, length};
 ghost use Rattle.std.specs.Prelude.{map, flat_map};
-ghost use Rattle.board_prelude.specs.Common.{Setup, IsBase, IsCard, IsExpansionRom, Bytes};
-ghost use Rattle.pci_bars.specs.Common.{base_of, AreCards, AreFitted, cards_of};
-ghost use Rattle.addr_decode.specs.Common.{AreNumbered, IsCardNumber, IsNumbered, IsNumberedName, names_of, StandsFor};
-ghost use Rattle.addr_decode.specs.Common.{map_bytes, single_count};
+ghost use Rattle.board_prelude.specs.{Setup, IsBase, IsCard, IsExpansionRom, Bytes};
+ghost use Rattle.pci_bars.specs.Bases.{base_of};
+ghost use Rattle.pci_bars.specs.Cards.{AreCards, AreFitted, cards_of};
+ghost use Rattle.addr_decode.specs.MapRegister.{AreNumbered, IsCardNumber, IsNumbered, IsNumberedName, names_of};
+ghost use Rattle.addr_decode.specs.MapRegs.{StandsFor, map_bytes};
+ghost use Rattle.addr_decode.specs.Singles.{single_count};
 ghost use Rattle.map_builder.specs.Changed.{pam_windows, register_windows, name_windows, windows_covered, from_to};
 ghost use Rattle.map_builder.specs.Changed.{is_card_name, rest_on_registers, single_windows};
 ghost use Rattle.map_builder.specs.Held.{block, held_by, held_from, held_at, rom_held, vga_held, card_held};

@@ -1,6 +1,6 @@
 //! The search for an address in the ranges of a map.
 ghost use Rattle.std.specs.Prelude.{◌≡◌, ◌<◌, ℕ, length, map};
-ghost use Rattle.board_prelude.specs.Common.{Setup, Bytes, area_of, Tiles, IsFlatMapOf, IsSpan, six_areas};
+ghost use Rattle.board_prelude.specs.{Setup, Bytes, area_of, Tiles, IsFlatMapOf, IsSpan, six_areas};
 ghost use Rattle.map_builder.specs.Ranges.{range_of};
 ghost use Rattle.map_builder.specs.Find.{Holds, IsFirstAlike, IsLastAlike, area_at as area_at_index, in_column};
 

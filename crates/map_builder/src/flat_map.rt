@@ -1,10 +1,10 @@
 //! The memory map as one list of ranges.
 ghost use Rattle.std.specs.Prelude.{◌≡◌, ◌≤◌, ◌<◌, ◌+◌, [], length, map};
-ghost use Rattle.board_prelude.specs.Common.{Kind, Setup, Store, Bytes, Tiles};
-ghost use Rattle.board_prelude.specs.Common.{IsFlatMapOf, IsSpan};
+ghost use Rattle.board_prelude.specs.{Kind, Setup, Store, Bytes, Tiles, IsFlatMapOf, IsSpan};
 ghost use Rattle.pci_bars.specs.Cards.{AreFitted, cards_of};
-ghost use Rattle.addr_decode.specs.Common.{AreNumbered, HasRegister, names_of, StandsFor};
-ghost use Rattle.addr_decode.specs.Common.{map_bytes};
+ghost use Rattle.addr_decode.specs.MapRegister.{AreNumbered, names_of};
+ghost use Rattle.addr_decode.specs.Found.{HasRegister};
+ghost use Rattle.addr_decode.specs.MapRegs.{StandsFor, map_bytes};
 ghost use Rattle.map_builder.specs.Map.{range_of, most_ranges, IsOfSomeBoard, IsMapOf};
 ghost use Rattle.map_builder.specs.Changed.{most_rows};
 ghost use Rattle.map_builder.specs.Applied.{IsApplied, IsStored};

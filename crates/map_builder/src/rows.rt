@@ -1,6 +1,6 @@
 //! The addresses whose row of DRAM a store to the row boundaries, DRB0 to DRB7, may change.
 ghost use Rattle.std.specs.Prelude.{◌≡◌, ◌≤◌, ◌<◌, ◌*◌, ◌-◌, ◌⊎◌, ℕ, false, true, [], length, IfSome};
-ghost use Rattle.board_prelude.specs.Common.{list_all, list_any, boundary_unit};
+ghost use Rattle.board_prelude.specs.{list_all, list_any, boundary_unit};
 ghost use Rattle.map_builder.specs.Changed.{IsOutside};
 ghost use Rattle.map_builder.specs.Rows.{is_row_name, stores_rows as stores_rows_by, AreMoved, IsInRows, RowStays};
 ghost use Rattle.map_builder.specs.Sorted.{sorted as sorted_by};

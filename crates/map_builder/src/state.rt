@@ -2,7 +2,7 @@
 //! are built anew, since registers have one flat map.
 
 ghost use Rattle.std.specs.Prelude.{◌≡◌, ◌≤◌, ◌<◌, ◌^◌, ◌++◌, List, length, flat_map, All, OnOk, IfOk};
-ghost use Rattle.board_prelude.specs.Common.{FittedCard, Setup, IsCardList, Bytes};
+ghost use Rattle.board_prelude.specs.{FittedCard, Setup, IsCardList, Bytes};
 ghost use Rattle.byte_fields.specs.Fields.{Took};
 ghost use Rattle.byte_fields.specs.Loads.{OneSpelling};
 ghost use Rattle.pci_bars.specs.Cards.{AreCardsOf};

@@ -1,8 +1,9 @@
 //! The byte that a register has where a change stores one byte, so that it can be compared before and after.
 ghost use Rattle.std.specs.Prelude.{◌≡◌, IfSome, None, true, get_or, is_some, length};
-ghost use Rattle.board_prelude.specs.Common.{Reg, MapChange, Setup, Bytes};
+ghost use Rattle.board_prelude.specs.{Reg, MapChange, Setup, Bytes};
 ghost use Rattle.pci_bars.specs.Cards.{AreFitted, cards_of};
-ghost use Rattle.addr_decode.specs.Common.{AreNumbered, IsNumberedName, map_register, names_of, StandsFor, map_bytes};
+ghost use Rattle.addr_decode.specs.MapRegister.{AreNumbered, IsNumberedName, map_register, names_of};
+ghost use Rattle.addr_decode.specs.MapRegs.{StandsFor, map_bytes};
 ghost use Rattle.map_builder.specs.Unchanged.{IsHeldAt, IsSameByte};
 
 use addr_decode::{MapRegister, MapRegs};

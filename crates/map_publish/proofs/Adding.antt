@@ -1,7 +1,7 @@
 -- The steps on the length of the list keep the rule.
 use Rattle.std.proofs.Common.{◌≡◌, ℕ, ◌+◌, ◌==◌, Bool, true, false, List, [], ◌∷◌, ◌++◌, length, refl, ap, sym, arith}
 use Rattle.std.proofs.Common.{inl, length-append, None}
-use Rattle.board_prelude.proofs.Common.{append-nil, nat_tests}
+use Rattle.board_prelude.proofs.{append-nil, nat_tests}
 use mathlib.Core.List.{IsPrefix}
 use prog.Atomic.{either}
 use Rattle.logbook.specs.Pages.{keeps, no_nib, step, Moves, Goes}

@@ -1,11 +1,12 @@
 -- Maps after changes, and the changes of lists.
 use Rattle.std.proofs.Common.{◌≡◌, ◌<◌, ◌≤◌, List, [], ◌∷◌, ◌++◌, length, refl, ◌∙◌, arith, length-append, flat_map}
-use Rattle.board_prelude.proofs.Common.{flat_map-append, reverse-append, MapChange, Setup, registers_after}
+use Rattle.board_prelude.proofs.{flat_map-append, reverse-append, MapChange, Setup, registers_after}
 use mathlib.Core.List.{IsPrefix}
 use Rattle.map_builder.specs.declared.range.Changed.{Changed as Bounds}
-use Rattle.map_builder.specs.Common.{Mapped, IsApplied}
-use Rattle.map_publish.specs.Common.{bytes_after, IsMapAfter, changes_in, changes_of, opened_of, version_after}
-use Rattle.map_publish.specs.Common.{IsMapOfLog}
+use Rattle.map_builder.specs.Map.{Mapped}
+use Rattle.map_builder.specs.Applied.{IsApplied}
+use Rattle.map_publish.specs.Changes.{bytes_after, IsMapAfter}
+use Rattle.map_publish.specs.Lists.{changes_in, changes_of, opened_of, version_after, IsMapOfLog}
 use Rattle.map_publish.specs.declared.mark.Mark.{Mark}
 use Rattle.map_publish.specs.declared.mark.Mark.TheVariants.{Changed}
 

@@ -1,7 +1,8 @@
 -- Looks, by the map writes from reset on.
 use Rattle.std.proofs.Common.{arith, length-append}
-use Rattle.board_prelude.proofs.Common.{registers_after}
-use Rattle.map_publish.specs.Common.{changes_of, LooksGoOn}
+use Rattle.board_prelude.proofs.{registers_after}
+use Rattle.map_publish.specs.Lists.{changes_of}
+use Rattle.map_publish.specs.Laws.{LooksGoOn}
 use Rattle.map_publish.proofs.Changes.{registers_after_more}
 
 pub looks_go_on : LooksGoOn

@@ -11,7 +11,9 @@ use Rattle.map_publish.specs.declared.mark.Mark.TheVariants.{Changed}
 use Rattle.map_publish.specs.declared.shown.Next.{Next}
 use Rattle.map_publish.specs.declared.shown.Next.TheVariants.{Same, Change}
 use Rattle.board_spec.specs.declared.map_change.MapChange.{MapChange}
-use Rattle.map_publish.specs.Common.{version_after, IsMapOfLog, applied, nobody, KnowsBook, AllKnow, LearnsName, Stays}
+use Rattle.map_publish.specs.Lists.{version_after, IsMapOfLog}
+use Rattle.map_publish.specs.Published.{applied}
+use Rattle.map_publish.specs.Names.{nobody, KnowsBook, AllKnow, LearnsName, Stays}
 use Rattle.std.proofs.lemmas.Bool.Decides.{nat_tests}
 
 nobody_knows : (shown : Shown) → KnowsBook shown nobody

@@ -1,10 +1,12 @@
 -- What a viewer keeps of a map.
 use Rattle.std.proofs.Common.{◌≡◌, ◌≤◌, ◌∙◌, ℕ, Bool, List, length, map, take, arith}
-use Rattle.board_prelude.proofs.Common.{length-map, Kind, Area, Setup, Bytes, MapRange, Tiles, IsFlatMapOf}
+use Rattle.board_prelude.proofs.{length-map, Kind, Area, Setup, Bytes, MapRange, Tiles, IsFlatMapOf}
 use Rattle.addr_decode.specs.MapRegs.{StandsFor}
 use Rattle.map_builder.specs.declared.range.Range.{Range}
-use Rattle.map_builder.specs.Common.{Mapped, most_ranges, range_of}
-use Rattle.map_publish.specs.Common.{IsMapOfLog, bytes_after, changes_of}
+use Rattle.map_builder.specs.Map.{Mapped, most_ranges}
+use Rattle.map_builder.specs.Ranges.{range_of}
+use Rattle.map_publish.specs.Lists.{IsMapOfLog, changes_of}
+use Rattle.map_publish.specs.Changes.{bytes_after}
 use Rattle.map_publish.specs.declared.mark.Mark.{Mark}
 use Rattle.map_publish.specs.Sights.{IsSight, IsSightOf, Sighted}
 

@@ -1,9 +1,10 @@
 -- A map after changes of the registers.
 use Rattle.std.specs.Prelude.{◌≡◌, ◌+◌, List, [], ◌∷◌, length}
-use Rattle.board_prelude.specs.Common.{MapChange, Setup, Bytes}
+use Rattle.board_prelude.specs.{MapChange, Setup, Bytes}
 use Rattle.pci_bars.specs.Cards.{cards_of}
 use Rattle.addr_decode.specs.MapRegs.{StandsFor}
-use Rattle.map_builder.specs.Common.{Mapped, after}
+use Rattle.map_builder.specs.Map.{Mapped}
+use Rattle.map_builder.specs.Changed.{after}
 
 -- the registers after changes, the newest first, where they held these bytes before
 unfoldable pub bytes_after : Setup → List MapChange → Bytes → Bytes

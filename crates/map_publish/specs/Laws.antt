@@ -1,6 +1,6 @@
 -- What the laws say: each is proved on a function of `laws`.
 use Rattle.std.specs.Prelude.{ℕ, ◌≡◌, Bool, List, ◌++◌, length}
-use Rattle.board_prelude.specs.Common.{Kind, Look, MapChange, Setup, IsSpan, registers_after}
+use Rattle.board_prelude.specs.{Kind, Look, MapChange, Setup, IsSpan, registers_after}
 use Rattle.addr_decode.specs.MapRegs.{StandsFor}
 use Rattle.map_builder.specs.Map.{Mapped}
 use Rattle.map_publish.specs.declared.mark.Mark.{Mark}

@@ -6,4 +6,3 @@ pub mod Fronts
 pub mod Names
 pub mod Laws
 pub mod Published
-pub mod Common

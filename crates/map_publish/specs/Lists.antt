@@ -1,6 +1,6 @@
 -- The list of what was published: the map that was opened, and the changes since, the oldest first.
 use Rattle.std.specs.Prelude.{ℕ, ◌≡◌, ◌+◌, nat_lt, Bool, if◌then◌else◌, List, [], ◌∷◌, ◌++◌, length, flat_map, reverse}
-use Rattle.board_prelude.specs.Common.{Kind, Look, MapChange, entry_limit, Setup, Bytes, IsSpan}
+use Rattle.board_prelude.specs.{Kind, Look, MapChange, entry_limit, Setup, Bytes, IsSpan}
 use Rattle.addr_decode.specs.MapRegs.{StandsFor}
 use Rattle.map_builder.specs.Map.{Mapped}
 use Rattle.map_publish.specs.declared.mark.Mark.{Mark}

@@ -2,7 +2,7 @@
 use Rattle.std.specs.Prelude.{ℕ, ◌+◌, List, [], ◌∷◌, All, Option, Some, None}
 use Rattle.std.specs.Coded.{Unit-prop}
 use Rattle.std.proofs.Props.{props}
-use Rattle.board_prelude.specs.Common.{Bytes, IsRight, MapChange, MapRange, NeighboursDiffer, Setup, Tiles}
+use Rattle.board_prelude.specs.{Bytes, IsRight, MapChange, MapRange, NeighboursDiffer, Setup, Tiles}
 use Rattle.pci_bars.specs.Cards.{HoldsRom}
 use Rattle.map_builder.specs.Map.{Mapped}
 use Rattle.map_publish.specs.Changes.{IsMapAfter}

@@ -1,6 +1,6 @@
 -- What a viewer keeps of a map.
 use Rattle.std.specs.Prelude.{ℕ, ◌≡◌, ◌≤◌, Bool, List, length, map, take}
-use Rattle.board_prelude.specs.Common.{Kind, Setup, Bytes, MapRange, Tiles, IsFlatMapOf, IsSpan}
+use Rattle.board_prelude.specs.{Kind, Setup, Bytes, MapRange, Tiles, IsFlatMapOf, IsSpan}
 use Rattle.addr_decode.specs.MapRegs.{StandsFor}
 use Rattle.map_builder.specs.Map.{most_ranges, range_of}
 use Rattle.map_builder.specs.declared.range.Range.{Range}

@@ -1,7 +1,7 @@
 //! What a look needs of a map.
 ghost use Rattle.std.specs.Prelude.{◌≡◌, ◌≤◌, length, take};
-ghost use Rattle.board_prelude.specs.Common.{Setup, Bytes, IsFlatMapOf, IsSpan};
-ghost use Rattle.addr_decode.specs.Common.{StandsFor};
+ghost use Rattle.board_prelude.specs.{Setup, Bytes, IsFlatMapOf, IsSpan};
+ghost use Rattle.addr_decode.specs.MapRegs.{StandsFor};
 ghost use Rattle.map_builder.specs.Map.{most_ranges};
 
 use board_base::{Area, Kind};

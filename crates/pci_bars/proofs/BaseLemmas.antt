@@ -1,8 +1,8 @@
 -- Base registers as four bytes, and the bases of a card by their numbers.
 use Rattle.std.proofs.Common.{◌≡◌, ◌≢◌, ℕ, ◌^◌, ◌<◌, ◌≤◌, List, length, get_or, set, map, Some, ◌∙◌, sym, ap, Option}
 use Rattle.std.proofs.Common.{option_map, arith, length-set, get_or-set_other, All, slice_get}
-use Rattle.board_prelude.proofs.Common.{w32, from_le_bytes, to_le_bytes, get_or_past, All-get_or, get_or-map}
-use Rattle.board_prelude.proofs.Common.{get_or-set_at, length-map, Base, IsBase, byte, each_below}
+use Rattle.board_prelude.proofs.{w32, from_le_bytes, to_le_bytes, get_or_past, All-get_or, get_or-map, get_or-set_at}
+use Rattle.board_prelude.proofs.{length-map, Base, IsBase, byte, each_below}
 use Rattle.std.proofs.lemmas.Nat.{le_bytes_4}
 use Rattle.std.proofs.Math.Pow.{pow_mono}
 use Rattle.std.proofs.lemmas.Option.{slice_get_within, get_or_from_slice_get}

@@ -3,14 +3,13 @@ use Rattle.std.proofs.Common.{◌≡◌, ◌≢◌, ◌⊎◌, ℕ, ◌+◌, ◌
 use Rattle.std.proofs.Common.{List, length, get_or, set, Some, inl, inr, ◌∙◌, refl, sym, ap, arith, lit<, lit≤}
 use Rattle.std.proofs.Common.{add-zero, ◌==◌, get_or-set_other, slice_index, slice_get, ◌&&◌, ◌||◌, nat_lt}
 use Rattle.std.proofs.Common.{if◌then◌else◌, is_some}
-use Rattle.board_prelude.proofs.Common.{get_or-set_at, and-true, cases_Bool, cases_eq, cases_lt, nat_tests, Reg, Base}
-use Rattle.board_prelude.proofs.Common.{FittedCard, Setup, IsCard, card_at, byte, merged, wide, is_within}
-use Rattle.board_prelude.proofs.Common.{card_function, listed, base_reset, base_writable, rom_writable, reset_byte}
-use Rattle.board_prelude.proofs.Common.{reg_after, Bytes, card_register, option_map_or, is_map_byte, merged-all}
-use Rattle.board_prelude.proofs.Common.{merged-none}
+use Rattle.board_prelude.proofs.{get_or-set_at, and-true, cases_Bool, cases_eq, cases_lt, nat_tests, Reg, Base}
+use Rattle.board_prelude.proofs.{FittedCard, Setup, IsCard, card_at, byte, merged, wide, is_within, card_function}
+use Rattle.board_prelude.proofs.{listed, base_reset, base_writable, rom_writable, reset_byte, reg_after, Bytes}
+use Rattle.board_prelude.proofs.{card_register, option_map_or, is_map_byte, merged-all, merged-none}
 use Rattle.board_base.specs.declared.access.Width.TheVariants.{Four}
-use Rattle.pci_bars.specs.Common.{of_base, CardBytes, HoldsLong, HoldsRom, DecodesAs, IsCardOf, is_kept_offset}
-use Rattle.pci_bars.specs.Common.{header_of, stored}
+use Rattle.pci_bars.specs.Bases.{of_base}
+use Rattle.pci_bars.specs.Cards.{CardBytes, HoldsLong, HoldsRom, DecodesAs, IsCardOf, is_kept_offset, header_of, stored}
 use Rattle.pci_bars.specs.Cards.{IsDecodedWritten, IsWritten}
 use Rattle.pci_bars.proofs.TableLemmas.{is_fixed, reset_byte-card, writable_bits-card, reset_past, writable_past}
 use Rattle.pci_bars.proofs.TableLemmas.{writable-base, header_at_reset}

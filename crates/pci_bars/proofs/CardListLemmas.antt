@@ -2,8 +2,8 @@
 use Rattle.std.proofs.Common.{◌≡◌, ℕ, Bor, get_or, List, [], ◌∷◌, length, ◌++◌, ◌+◌, Option, Some, None, refl, arith}
 use Rattle.std.proofs.Common.{◌==◌, All, find, option_map, nat_lt, is_some, slice_get}
 use Rattle.std.specs.Option.{IfSome}
-use Rattle.board_prelude.proofs.Common.{position, nat_tests, All-nil, All-cons, All-append, All-head, All-tail}
-use Rattle.board_prelude.proofs.Common.{length-append, map-append, FittedCard, Setup, card_at}
+use Rattle.board_prelude.proofs.{position, nat_tests, All-nil, All-cons, All-append, All-head, All-tail, length-append}
+use Rattle.board_prelude.proofs.{map-append, FittedCard, Setup, card_at}
 use Rattle.std.proofs.lemmas.List.Folds.{find_at}
 use Rattle.std.proofs.lemmas.Option.{slice_get_past, slice_get-get_or}
 use Rattle.pci_bars.specs.declared.regs.CardRegs.{CardRegs}

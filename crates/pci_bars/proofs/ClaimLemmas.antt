@@ -1,17 +1,17 @@
 -- Claims of the cards' registers are those of the windows that a board's registers make.
 use Rattle.std.proofs.Common.{◌≡◌, ℕ, ◌+◌, ◌<◌, ◌≤◌, Bool, List, [], ◌∷◌, ◌++◌, length, Option, Some, None, ◌∙◌, refl}
 use Rattle.std.proofs.Common.{sym, ap, arith, ◌&&◌, All, flat_map, option_map, if◌then◌else◌, slice_index}
-use Rattle.board_prelude.proofs.Common.{enumerate_from, option_or, append-nil, All-head, All-tail, find-append, Base}
-use Rattle.board_prelude.proofs.Common.{FittedCard, Setup, IsCard, Bytes, Window, is_covered, base_value, memory_window}
-use Rattle.board_prelude.proofs.Common.{rom_window_of, io_window, is_rom_on, vga_window, unselected_windows, io_windows}
-use Rattle.board_prelude.proofs.Common.{is_enabled_for, first_window}
+use Rattle.board_prelude.proofs.{enumerate_from, option_or, append-nil, All-head, All-tail, find-append, Base}
+use Rattle.board_prelude.proofs.{FittedCard, Setup, IsCard, Bytes, Window, is_covered, base_value, memory_window}
+use Rattle.board_prelude.proofs.{rom_window_of, io_window, is_rom_on, vga_window, unselected_windows, io_windows}
+use Rattle.board_prelude.proofs.{is_enabled_for, first_window}
 use Rattle.pci_bars.specs.declared.claims.Gate.{Gate}
 use Rattle.pci_bars.specs.declared.claims.Windows.{Windows}
 pub use Rattle.pci_bars.specs.declared.claims.Windows.TheVariants.{Memory, UnselectedRom, Ports}
 pub use Rattle.pci_bars.specs.declared.claims.Gate.TheVariants.{Open, Shut}
-use Rattle.pci_bars.specs.Common.{CardBytes, HoldsRom, DecodesAs, AreCards, AreDecoded, cards_of, agrees, covering}
-use Rattle.pci_bars.specs.Common.{rom_claim, vga_claim, covering_base, is_enabled, is_gate, first_claim}
-use Rattle.pci_bars.specs.Claims.{base_covers}
+use Rattle.pci_bars.specs.Cards.{CardBytes, HoldsRom, DecodesAs, AreCards, AreDecoded, cards_of}
+use Rattle.pci_bars.specs.Claims.{agrees, covering, rom_claim, vga_claim, covering_base, is_enabled, is_gate}
+use Rattle.pci_bars.specs.Claims.{first_claim, base_covers}
 use Rattle.std.proofs.lemmas.Bool.Decides.{nat_tests}
 use Rattle.std.proofs.lemmas.Grind.{common_steps}
 

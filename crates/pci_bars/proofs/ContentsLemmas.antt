@@ -2,10 +2,9 @@
 use Rattle.std.proofs.Common.{◌≡◌, ◌≢◌, ℕ, ◌+◌, ◌-◌, ◌<◌, ◌≤◌, List, [], ◌∷◌, map, Vec, Global, length, get_or, set}
 use Rattle.std.proofs.Common.{take, drop, ◌++◌, replicate, ◌∙◌, refl, sym, arith, get_or-set_other, length-append}
 use Rattle.std.proofs.Common.{length-drop, length-take-le, ◌==◌, find, slice_index, unwrap_or, vec_len}
-use Rattle.board_prelude.proofs.Common.{with_items, cases_lt, cases_eq, nat_tests, get_or_past, length-replicate}
-use Rattle.board_prelude.proofs.Common.{length-map, map-set, get_or-map, with_items_is, Width, Card, bytes_of, Entry}
-use Rattle.board_prelude.proofs.Common.{FittedCard, Setup, card_at, kept_size, CardCell, byte_put, card_byte, entry_put}
-use Rattle.board_prelude.proofs.Common.{stored_of, get_or-set_at}
+use Rattle.board_prelude.proofs.{with_items, cases_lt, cases_eq, nat_tests, get_or_past, length-replicate, length-map}
+use Rattle.board_prelude.proofs.{map-set, get_or-map, with_items_is, Width, Card, bytes_of, Entry, FittedCard, Setup}
+use Rattle.board_prelude.proofs.{card_at, kept_size, CardCell, byte_put, card_byte, entry_put, stored_of, get_or-set_at}
 use Rattle.std.proofs.lemmas.List.{set_past}
 use Rattle.board_base.proofs.ZeroLemmas.{zero_at}
 use Rattle.board_spec.proofs.WideLemmas.{put_byte}

@@ -2,9 +2,8 @@
 use Rattle.std.proofs.Common.{◌≡◌, ℕ, zero, suc, ◌+◌, ◌-◌, ◌/◌, ◌%◌, ◌≤◌, ◌<◌, List, [], ◌∷◌, ◌++◌, Vec, Global, length}
 use Rattle.std.proofs.Common.{drop, get_or, Option, Some, None, Result, refl, sym, ◌∙◌, append_assoc, arith, All, find}
 use Rattle.std.proofs.Common.{◌==◌}
-use Rattle.board_prelude.proofs.Common.{append-nil, flat_map-cons, drop_more, drop_all, All-head, All-tail}
-use Rattle.board_prelude.proofs.Common.{option_map_or, Base, OutsideBase, IsBase, FittedCard, IsCard, kept_of_base}
-use Rattle.board_prelude.proofs.Common.{kept_size}
+use Rattle.board_prelude.proofs.{append-nil, flat_map-cons, drop_more, drop_all, All-head, All-tail, option_map_or}
+use Rattle.board_prelude.proofs.{Base, OutsideBase, IsBase, FittedCard, IsCard, kept_of_base, kept_size}
 use Rattle.std.proofs.Math.Pow.{pow_mono}
 use Rattle.byte_fields.specs.declared.fault.Fault.{Fault}
 use Rattle.byte_fields.specs.declared.fault.Fault.TheVariants as faults

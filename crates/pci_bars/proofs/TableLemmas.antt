@@ -1,12 +1,13 @@
 -- A card in the table of registers.
 use Rattle.std.proofs.Common.{◌≡◌, ℕ, zero, suc, ◌+◌, ◌-◌, ◌*◌, ◌/◌, ◌%◌, ◌<◌, ◌≤◌, false, List, [], ◌∷◌, length}
 use Rattle.std.proofs.Common.{get_or, Some, refl, ap, arith, ◌==◌, flat_map, if◌then◌else◌, replicate}
-use Rattle.board_prelude.proofs.Common.{ne_eqb, nat_tests, get_or_append_left, get_or-append_right, get_or_past, Base}
-use Rattle.board_prelude.proofs.Common.{FittedCard, Setup, IsCard, card_at, byte, is_within, long_bytes, line}
-use Rattle.board_prelude.proofs.Common.{card_function, function_lines, listed, base_reset, base_writable, rom_writable}
-use Rattle.board_prelude.proofs.Common.{reset_byte, writable_bits, card_register, each_below, get_or-replicate}
+use Rattle.board_prelude.proofs.{ne_eqb, nat_tests, get_or_append_left, get_or-append_right, get_or_past, Base}
+use Rattle.board_prelude.proofs.{FittedCard, Setup, IsCard, card_at, byte, is_within, long_bytes, line, card_function}
+use Rattle.board_prelude.proofs.{function_lines, listed, base_reset, base_writable, rom_writable, reset_byte}
+use Rattle.board_prelude.proofs.{writable_bits, card_register, each_below, get_or-replicate}
 use Rattle.board_spec.specs.RegisterTable.{Line}
-use Rattle.pci_bars.specs.Common.{of_base, CardBytes, is_kept_offset, header_of}
+use Rattle.pci_bars.specs.Bases.{of_base}
+use Rattle.pci_bars.specs.Cards.{CardBytes, is_kept_offset, header_of}
 use Rattle.std.proofs.lemmas.Grind.{common_steps}
 
 module _ (setup : Setup) (card : FittedCard) (off : ℕ) (above : 2 ≤ card.dev)

@@ -1,14 +1,15 @@
 -- The window that claims a place has the size of its base, and an access that it claims lies in its contents.
 use Rattle.std.proofs.Common.{sym, subst, ◌≡◌, ◌≢◌, ◌⊎◌, ℕ, suc, ◌+◌, ◌-◌, ◌*◌, ◌%◌, ◌^◌, ◌<◌, ◌≤◌, Bool, List, [], ◌∷◌}
 use Rattle.std.proofs.Common.{◌++◌, length, Some, ◌∙◌, ap, arith, All, find, flat_map, slice_get, pow-add, pow_pos}
-use Rattle.board_prelude.proofs.Common.{nil_from_length, All-nil, All-cons, All-head, All-tail, All-append, base_value}
-use Rattle.board_prelude.proofs.Common.{Base, FittedCard, Setup, IsBase, IsCard, card_at, kept_size, Width, bytes_of}
-use Rattle.board_prelude.proofs.Common.{window_bits, bits_of_base, Bytes, Window, io_windows, memory_claim, io_claim}
+use Rattle.board_prelude.proofs.{nil_from_length, All-nil, All-cons, All-head, All-tail, All-append, base_value, Base}
+use Rattle.board_prelude.proofs.{FittedCard, Setup, IsBase, IsCard, card_at, kept_size, Width, bytes_of, window_bits}
+use Rattle.board_prelude.proofs.{bits_of_base, Bytes, Window, io_windows, memory_claim, io_claim}
 use Rattle.std.proofs.lemmas.Nat.{mod-pow-add}
 use Rattle.std.proofs.lemmas.List.Elements.{All-map}
 use Rattle.std.proofs.Math.Nat.{mod-lt}
 use Rattle.pci_bars.specs.declared.claims.Windows.{Windows}
-use Rattle.pci_bars.specs.Common.{CardBytes, AreCards, AreDecoded, cards_of, IsBaseNumber, LiesIn, HaveSizes}
+use Rattle.pci_bars.specs.Cards.{CardBytes, AreCards, AreDecoded, cards_of}
+use Rattle.pci_bars.specs.Contents.{IsBaseNumber, LiesIn, HaveSizes}
 use Rattle.pci_bars.proofs.BaseLemmas.{is_base}
 use Rattle.pci_bars.proofs.ClaimLemmas.{window_in, base_windows, rom_windows, vga_windows, windows_in, windows_are}
 use Rattle.pci_bars.proofs.ClaimLemmas.{io_windows_are, Memory, Ports, Open}

@@ -1,7 +1,7 @@
 -- The base address registers of a card by their numbers.
 use Rattle.std.specs.Prelude.{ℕ, ◌^◌, ◌==◌, if◌then◌else◌, List, Option, slice_get}
-use Rattle.board_prelude.specs.Common.{option_map_or, Base, MemoryBase, IoBase, OutsideBase, FittedCard, rom_base}
-use Rattle.board_prelude.specs.Common.{vga_base, vga_bits, bits_of_base, base_of_card, rom_bits}
+use Rattle.board_prelude.specs.{option_map_or, Base, MemoryBase, IoBase, OutsideBase, FittedCard, rom_base, vga_base}
+use Rattle.board_prelude.specs.{vga_bits, bits_of_base, base_of_card, rom_bits}
 use Rattle.pci_bars.specs.declared.spec.BaseSpec.{BaseSpec}
 use Rattle.pci_bars.specs.declared.spec.BaseSpec.TheVariants.{Memory, Io, Outside}
 

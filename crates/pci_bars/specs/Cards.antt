@@ -2,9 +2,9 @@
 use Rattle.std.specs.Prelude.{◌≡◌, ℕ, ◌+◌, ◌<◌, ◌==◌, Bool, false, ◌&&◌, ◌||◌, List, map, All, slice_index, Option}
 use Rattle.std.specs.Prelude.{Some, None, is_some, [], ◌∷◌, ◌++◌, if◌then◌else◌}
 use Rattle.board_base.specs.declared.access.Width.TheVariants.{Four}
-use Rattle.board_prelude.specs.Common.{Reg, FittedCard, Setup, IsCard, Rises, card_at, byte, is_within, wide}
-use Rattle.board_prelude.specs.Common.{card_register, card_command, base_register, expansion_rom, interrupt_line}
-use Rattle.board_prelude.specs.Common.{One, Store, reset_byte, changed_byte, reg_after, Bytes}
+use Rattle.board_prelude.specs.{Reg, FittedCard, Setup, IsCard, Rises, card_at, byte, is_within, wide, card_register}
+use Rattle.board_prelude.specs.{card_command, base_register, expansion_rom, interrupt_line, One, Store, reset_byte}
+use Rattle.board_prelude.specs.{changed_byte, reg_after, Bytes}
 
 -- a card, its command register, its interrupt line, its six base address registers, and the register of its
 -- expansion ROM

@@ -1,8 +1,8 @@
 -- Claims as the cards' own registers decide them.
 use Rattle.std.specs.Prelude.{ℕ, ◌+◌, ◌/◌, ◌^◌, ◌==◌, Bool, true, false, not, ◌&&◌, if◌then◌else◌, List, [], ◌∷◌}
 use Rattle.std.specs.Prelude.{Option, Some, None, option_map, slice_index}
-use Rattle.board_prelude.specs.Common.{option_or, Base, MemoryBase, IoBase, OutsideBase, rom_base, vga_base, vga_bits}
-use Rattle.board_prelude.specs.Common.{is_bit, smram_range}
+use Rattle.board_prelude.specs.{option_or, Base, MemoryBase, IoBase, OutsideBase, rom_base, vga_base, vga_bits, is_bit}
+use Rattle.board_prelude.specs.{smram_range}
 use Rattle.pci_bars.specs.declared.claims.Gate.{Gate}
 use Rattle.pci_bars.specs.declared.claims.Gate.TheVariants.{Open, Shut}
 use Rattle.pci_bars.specs.declared.claims.Windows.{Windows}

@@ -1,8 +1,8 @@
 -- The contents of the cards' bases: a list of bytes each, found by device and base.
 use Rattle.std.specs.Prelude.{◌≡◌, ◌≢◌, ℕ, ◌+◌, ◌-◌, ◌*◌, ◌/◌, ◌%◌, ◌<◌, ◌≤◌, ◌==◌, ◌⊎◌, nat_lt, if◌then◌else◌, List}
 use Rattle.std.specs.Prelude.{[], find, get_or, length, slice_index}
-use Rattle.board_prelude.specs.Common.{Width, bytes_of, Entry, FittedCard, Setup, card_at, rom_base, kept_size}
-use Rattle.board_prelude.specs.Common.{card_byte, expansion_byte}
+use Rattle.board_prelude.specs.{Width, bytes_of, Entry, FittedCard, Setup, card_at, rom_base, kept_size, card_byte}
+use Rattle.board_prelude.specs.{expansion_byte}
 
 -- devices 2 to 9 have bases 0 to 5, the expansion ROM as base 6, and the VGA window as base 7
 pub record IsBaseNumber (dev base : ℕ) : Type 0 where

@@ -2,5 +2,4 @@ pub mod Cards
 pub mod Bases
 pub mod Claims
 pub mod Contents
-pub mod Common
 pub mod State

@@ -1,6 +1,6 @@
 -- The bytes behind the bases of the cards as bytes: those of each base in turn, as memory.
 use Rattle.std.specs.Prelude.{ℕ, zero, suc, ◌≡◌, ◌+◌, ◌==◌, List, [], ◌∷◌, length, find, flat_map}
-use Rattle.board_prelude.specs.Common.{FittedCard, kept_size}
+use Rattle.board_prelude.specs.{FittedCard, kept_size}
 use Rattle.byte_fields.specs.Fields.{Reading, gives, ◌>>=◌}
 use Rattle.byte_fields.specs.Pages.{memory_bytes, memory_fields}
 use Rattle.pci_bars.specs.Contents.{IsBaseNumber, held, slot_size}

@@ -1,6 +1,6 @@
 //! The cards of a board, in rising order of device.
 ghost use Rattle.std.specs.Prelude.{◌≡◌, ◌==◌, ◌+◌, ◌<◌, ◌++◌, [], ◌∷◌, find, option_map};
-ghost use Rattle.board_prelude.specs.Common.{position, Setup, IsCard, card_at};
+ghost use Rattle.board_prelude.specs.{position, Setup, IsCard, card_at};
 ghost use Rattle.arrayvec.specs.ArrayVec.{array_vec_len};
 ghost use Rattle.pci_bars.specs.Cards.{IsCardAdded, cards_of};
 

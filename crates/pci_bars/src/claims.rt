@@ -1,7 +1,7 @@
 //! Which card answers at an address or a port (PCI Local Bus 2.1, sections 6.2.2 and 6.2.5).
 ghost use Rattle.std.specs.Prelude.{◌≡◌, ◌≤◌, ◌%◌, ◌^◌, ◌==◌, ℕ, All, None, find, length, map, option_map};
-ghost use Rattle.board_prelude.specs.Common.{Setup, IsBase, IsCard, IsExpansionRom, window_bits, Bytes, Window};
-ghost use Rattle.board_prelude.specs.Common.{memory_claim, memory_shut, rom_unselected, io_claim, io_shut};
+ghost use Rattle.board_prelude.specs.{Setup, IsBase, IsCard, IsExpansionRom, window_bits, Bytes, Window, memory_claim};
+ghost use Rattle.board_prelude.specs.{memory_shut, rom_unselected, io_claim, io_shut};
 ghost use Rattle.pci_bars.specs.Bases.{base_of, bits_in};
 ghost use Rattle.pci_bars.specs.Cards.{AreCards, AreDecoded, cards_of};
 ghost use Rattle.pci_bars.specs.Claims.{base_covers, covering, covering_base, first_claim, gate_of, is_enabled};

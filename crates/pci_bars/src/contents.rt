@@ -1,8 +1,8 @@
 //! The bytes behind the bases of the cards.
 ghost use Rattle.std.specs.Prelude.{◌≡◌, ◌≢◌, ◌≤◌, ◌<◌, ◌+◌, ◌-◌, ◌++◌, ◌==◌, ◌&&◌, nat_le, nat_lt, if◌then◌else◌, ℕ};
 ghost use Rattle.std.specs.Prelude.{List, [], ◌∷◌, All, find, length, slice_index, take, drop, IfOk, unwrap_or};
-ghost use Rattle.board_prelude.specs.Common.{Width, Card, bytes_of, largest_of, byte, Entry, Setup, IsCard, rom_base};
-ghost use Rattle.board_prelude.specs.Common.{kept_size, wide, CardCell, byte_put, card_byte, entry_put, expansion_byte};
+ghost use Rattle.board_prelude.specs.{Width, Card, bytes_of, largest_of, byte, Entry, Setup, IsCard, rom_base};
+ghost use Rattle.board_prelude.specs.{kept_size, wide, CardCell, byte_put, card_byte, entry_put, expansion_byte};
 ghost use Rattle.pci_bars.specs.Contents.{IsBaseNumber, slot_number, held, held_byte, kept_at, slot_size, FitsIn};
 ghost use Rattle.pci_bars.specs.Contents.{LiesIn, IsContentsOf};
 

@@ -1,7 +1,7 @@
 //! The configuration registers of a card (PCI Local Bus 2.1, section 6.2).
 ghost use Rattle.std.specs.Prelude.{◌≡◌, ◌≢◌, ◌≤◌, ◌<◌, ◌/◌, ◌%◌, ℕ, true, Some, slice_index};
-ghost use Rattle.board_prelude.specs.Common.{Setup, IsCard, card_at, byte, merged, reset_byte, is_map_byte, Bytes};
-ghost use Rattle.board_prelude.specs.Common.{card_register};
+ghost use Rattle.board_prelude.specs.{Setup, IsCard, card_at, byte, merged, reset_byte, is_map_byte, Bytes};
+ghost use Rattle.board_prelude.specs.{card_register};
 ghost use Rattle.pci_bars.specs.Cards.{DecodesAs, IsCardOf, IsWritten, IsDecodedWritten, header_of};
 
 use crate::spec::{BASE_COUNT, CardSpec};

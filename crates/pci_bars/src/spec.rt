@@ -1,7 +1,7 @@
 //! What a card is: its device number, whether it is a VGA adapter, and its bases.
 ghost use Rattle.std.specs.Prelude.{◌≡◌, ◌^◌, ◌≤◌, ℕ, Some, option_map, slice_get, slice_index};
-ghost use Rattle.board_prelude.specs.Common.{IsBase, IsCard, bits_of_base, base_reset, base_writable, kept_of_base};
-ghost use Rattle.board_prelude.specs.Common.{kept_size, memory_size, rom_writable};
+ghost use Rattle.board_prelude.specs.{IsBase, IsCard, bits_of_base, base_reset, base_writable, kept_of_base, kept_size};
+ghost use Rattle.board_prelude.specs.{memory_size, rom_writable};
 ghost use Rattle.pci_bars.specs.Bases.{base_of, base_size, bits_in, of_base};
 
 use arrayvec::ArrayVec;

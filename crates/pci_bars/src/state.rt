@@ -1,6 +1,6 @@
 //! The bytes behind the bases of the cards as bytes, out and in.
 ghost use Rattle.std.specs.Prelude.{◌≡◌, ◌++◌, List, map, All, OnOk};
-ghost use Rattle.board_prelude.specs.Common.{FittedCard, IsCard, Setup};
+ghost use Rattle.board_prelude.specs.{FittedCard, IsCard, Setup};
 ghost use Rattle.byte_fields.specs.Fields.{Filled};
 ghost use Rattle.byte_fields.specs.Loads.{LoadsWith, OneSpelling};
 ghost use Rattle.byte_fields.specs.Pages.{memory_fields};

@@ -3,12 +3,14 @@ use Rattle.std.proofs.Common.{◌≡◌, ℕ, zero, suc, ◌<◌, List, [], ◌�
 use Rattle.std.proofs.Common.{ap}
 use Rattle.std.proofs.Common.{arith, slice_index_or}
 use Rattle.std.proofs.lemmas.List.Elements.{All-map}
-use Rattle.board_prelude.proofs.Common.{Entry, entries_by, length-map}
-use Rattle.run_order.specs.Common.{Order}
+use Rattle.board_prelude.proofs.{Entry, entries_by, length-map}
+use Rattle.run_order.specs.Room.{Order}
 use Rattle.run_order.proofs.Histories.{all_reverse}
-use Rattle.run_log.specs.Common.{lines_of}
+use Rattle.run_log.specs.Lines.{lines_of}
 use Rattle.phase_threads.specs.declared.worker.Work.{Work}
-use Rattle.phase_threads.specs.Common.{AreTold, IsUpTo, Page, entries_of, page_by}
+use Rattle.phase_threads.specs.Jobs.{AreTold, page_by}
+use Rattle.phase_threads.specs.Placed.{IsUpTo, entries_of}
+use Rattle.phase_threads.specs.Works.{Page}
 use Rattle.phase_threads.specs.Ended.{HasEnded}
 use Rattle.phase_threads.proofs.Told.{entries_reversed}
 

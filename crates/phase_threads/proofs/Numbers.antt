@@ -2,10 +2,10 @@
 use Rattle.std.proofs.Common.{◌≡◌, ℕ, ◌+◌, ◌<◌, ◌≤◌, ◌==◌, List, [], ◌∷◌, ◌++◌, map, length, take, drop, All, refl, sym}
 use Rattle.std.proofs.Common.{◌∙◌, ap, arith, reverse, slice_index_or, filter, Bool, true, false, set, slice_index, suc}
 use Rattle.std.proofs.Common.{inl, inr, subst}
-use Rattle.board_prelude.proofs.Common.{Any, cases_lt, range_with_len, nat_tests, get_or-map, get_or_default}
-use Rattle.board_prelude.proofs.Common.{reverse-append}
-use Rattle.board_prelude.proofs.Common.{append-nil, take_all, drop_all, map-append, length-map, get_or-set_at}
-use Rattle.board_prelude.proofs.Common.{get_or-set_other, length-append, Entry, Statement, events_by}
+use Rattle.board_prelude.proofs.{Any, cases_lt, range_with_len, nat_tests, get_or-map, get_or_default, reverse-append}
+use Rattle.board_prelude.proofs.{append-nil, take_all, drop_all, map-append, length-map, get_or-set_at}
+use Rattle.board_prelude.proofs.{get_or-set_other, length-append, Entry, events_by}
+use Rattle.board_prelude.specs.{Statement}
 use Rattle.std.proofs.lemmas.List.FromFn.{get_or-range_with_len, length-range_with_len, map-range_with_len_more}
 use Rattle.std.proofs.lemmas.List.Elements.{All-map}
 use Rattle.phase_threads.specs.declared.jobs.Job.{Job}

@@ -3,9 +3,10 @@ use Rattle.std.proofs.Common.{set, ◌≡◌, ◌≢◌, ℕ, ◌+◌, ◌<◌, 
 use Rattle.std.proofs.Common.{slice_index_or, refl, sym, ◌∙◌, ap, arith, map, false, ◌++◌, reverse, Bool, filter, true}
 use Rattle.std.proofs.Common.{inl, inr, subst}
 use Rattle.std.proofs.lemmas.Bool.{cases_eq}
-use Rattle.board_prelude.proofs.Common.{nat_tests, length-map, get_or-map, Entry, Statement, Setup, entries_by}
-use Rattle.board_prelude.proofs.Common.{events_by, map_writes_of, ne_eqb, get_or-set_at, get_or-set_other, length-set}
-use Rattle.board_prelude.proofs.Common.{All-permutation, IsPermutation-sym, Event, Reply, next_entry}
+use Rattle.board_prelude.proofs.{nat_tests, length-map, get_or-map, Entry, Setup, entries_by, events_by, map_writes_of}
+use Rattle.board_prelude.proofs.{ne_eqb, get_or-set_at, get_or-set_other, length-set, All-permutation}
+use Rattle.board_prelude.proofs.{IsPermutation-sym, Event, Reply, next_entry}
+use Rattle.board_prelude.specs.{Statement}
 use Rattle.std.proofs.lemmas.List.{map-set}
 use Rattle.std.proofs.lemmas.List.Elements.{All-filter, All-map, All-append, All-set, All-weaker, filter_passes}
 use Rattle.std.proofs.lemmas.List.Sorted.{IsPermutation-filter_both}
@@ -15,7 +16,11 @@ use Rattle.board_live.proofs.Histories.{writes_extend}
 use Rattle.board_live.proofs.Limits.{few_entries}
 use Rattle.run_order.specs.declared.done.Done.{Done}
 use Rattle.run_order.proofs.Counts.{from_first, nobody_looked}
-use Rattle.run_order.specs.Common.{IsWork, Begins, all_looks_in, done_by, written}
+use Rattle.run_order.specs.PhaseRun.{IsWork}
+use Rattle.run_order.specs.Trace.{Begins}
+use Rattle.run_order.specs.Room.{all_looks_in}
+use Rattle.run_order.specs.Placing.{done_by}
+use Rattle.run_order.specs.Written.{written}
 use Rattle.phase_threads.specs.declared.worker.Work.{Work}
 use Rattle.phase_threads.specs.declared.run.Run.{Run}
 use Rattle.phase_threads.specs.Works.{HasDone, Page, page, page_of}

@@ -2,13 +2,15 @@
 use Rattle.std.proofs.Common.{◌≡◌, ℕ, ◌++◌, ◌+◌, length, Bool, true, false, List, [], ◌∷◌, reverse, refl, sym, ◌∙◌, ap}
 use Rattle.std.proofs.Common.{arith}
 use Rattle.std.proofs.Common.{append_assoc}
-use Rattle.board_prelude.proofs.Common.{reverse-append, map-append, Event, Reply, Entry, MapChange, Setup}
-use Rattle.board_prelude.proofs.Common.{entries_by}
+use Rattle.board_prelude.proofs.{reverse-append, map-append, Event, Reply, Entry, MapChange, Setup, entries_by}
 use Rattle.run_order.specs.declared.done.Done.{Done}
 use Rattle.run_order.specs.declared.done.Done.TheVariants.{Went, Looked}
-use Rattle.run_order.specs.Common.{event_of, is_look, looks_in, IsDone, written, next_own}
+use Rattle.run_order.specs.Placing.{event_of, is_look}
+use Rattle.run_order.specs.Room.{looks_in}
+use Rattle.run_order.specs.Trace.{IsDone}
+use Rattle.run_order.specs.Written.{written, next_own}
 use Rattle.run_order.proofs.Counts.{looks_append}
-use Rattle.run_log.specs.Common.{lines_of}
+use Rattle.run_log.specs.Lines.{lines_of}
 use Rattle.phase_threads.specs.declared.worker.Work.{Work}
 use Rattle.phase_threads.specs.Works.{HasDone, IsKept, IsTold, Page, page_of}
 

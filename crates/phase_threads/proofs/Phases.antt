@@ -3,17 +3,24 @@ use Rattle.std.proofs.Common.{◌≡◌, ℕ, ◌+◌, ◌<◌, ◌≤◌, List,
 use Rattle.std.proofs.Common.{Option}
 use Rattle.std.proofs.Common.{Vec, Global, sym, ◌∙◌, ap, arith, reverse, Some, Result, Ok, Err, OnOk, take-append-drop}
 use Rattle.std.proofs.Common.{get_or, subst}
-use Rattle.board_prelude.proofs.Common.{reverse-append, reverse-reverse, length-append, append-nil, flat_map-append}
-use Rattle.board_prelude.proofs.Common.{drop-append_seam, take-append_seam, All-drop, Entry, Statement, Setup}
-use Rattle.board_prelude.proofs.Common.{IsCardList, version_of, IsLegal, drop_more, entries_by}
+use Rattle.board_prelude.proofs.{reverse-append, reverse-reverse, length-append, append-nil, flat_map-append}
+use Rattle.board_prelude.proofs.{drop-append_seam, take-append_seam, All-drop, Entry, Setup, IsCardList, version_of}
+use Rattle.board_prelude.proofs.{IsLegal, drop_more, entries_by}
+use Rattle.board_prelude.specs.{Statement}
 use Rattle.std.proofs.lemmas.List.{take-map, drop-map}
 use Rattle.std.proofs.lemmas.List.Elements.{All-map}
 use Rattle.board_core.specs.Kept.{Standing}
 use Rattle.run_order.specs.declared.done.Done.{Done}
-use Rattle.run_order.specs.Common.{placed, Order, bare, IsPhaseRun, PhaseRuns, AreInPlace, AreAllInPlace, Begins}
-use Rattle.run_order.specs.Common.{IsPlacedBelow, over}
+use Rattle.run_order.specs.Placing.{placed}
+use Rattle.run_order.specs.Room.{Order}
+use Rattle.run_order.specs.PhaseRun.{bare, IsPhaseRun, PhaseRuns}
+use Rattle.run_order.specs.Places.{AreInPlace, AreAllInPlace}
+use Rattle.run_order.specs.Trace.{Begins}
+use Rattle.run_order.specs.Over.{IsPlacedBelow, over}
 use Rattle.phase_threads.specs.declared.worker.Work.{Work}
-use Rattle.phase_threads.specs.Common.{HasRun, IsStatement, TakesIn, entries_of, done_in, page_of}
+use Rattle.phase_threads.specs.Jobs.{HasRun, IsStatement, TakesIn, done_in}
+use Rattle.phase_threads.specs.Placed.{entries_of}
+use Rattle.phase_threads.specs.Works.{page_of}
 use Rattle.run_order.proofs.Histories.{all_reverse, over_front}
 use Rattle.board_spec.proofs.ReplayLaws.{legal_before}
 

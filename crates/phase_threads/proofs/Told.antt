@@ -2,11 +2,12 @@
 use Rattle.std.proofs.Common.{◌≡◌, ℕ, ◌+◌, ◌<◌, ◌≤◌, ◌==◌, List, [], ◌∷◌, ◌++◌, Bool, true, false, length, map, reverse}
 use Rattle.std.proofs.Common.{set, All, refl, sym, ◌∙◌, ap, arith, suc}
 use Rattle.std.proofs.lemmas.List.{append_cancel_right}
-use Rattle.board_prelude.proofs.Common.{nat_tests, append-nil, reverse-append, reverse-reverse, filter-append}
-use Rattle.board_prelude.proofs.Common.{range_with_len}
-use Rattle.board_prelude.proofs.Common.{Entry, Event, MapChange, Setup, entries_by, map_writes_of}
+use Rattle.board_prelude.proofs.{nat_tests, append-nil, reverse-append, reverse-reverse, filter-append, range_with_len}
+use Rattle.board_prelude.proofs.{Entry, Event, MapChange, Setup, entries_by, map_writes_of}
 use Rattle.run_order.specs.declared.done.Done.{Done}
-use Rattle.run_order.specs.Common.{all_looks_in, done_by, looks_in, placed, written}
+use Rattle.run_order.specs.Room.{all_looks_in, looks_in}
+use Rattle.run_order.specs.Placing.{done_by, placed}
+use Rattle.run_order.specs.Written.{written}
 use Rattle.run_order.proofs.Counts.{count_set}
 use Rattle.run_order.proofs.Written.{none_written}
 use Rattle.run_order.proofs.Settled.{placed_alone}

@@ -4,16 +4,18 @@ use Rattle.std.proofs.Common.{◌+◌, ◌≤◌, ◌==◌, Bool, false, Some, r
 use Rattle.std.specs.List.{AllZip}
 use Rattle.std.proofs.lemmas.List.Elements.{AllZip-get_or, length_all_zip, All-map}
 use Rattle.std.proofs.lemmas.Simd.{map-map}
-use Rattle.board_prelude.proofs.Common.{Entry, Event, Statement, entries_by, Any, cases_lt, range_with_len, ne_eqb}
-use Rattle.board_prelude.proofs.Common.{length-map, length-reverse, MapChange, Setup, IsInRange, events_by}
-use Rattle.board_prelude.proofs.Common.{most_statements}
+use Rattle.board_prelude.proofs.{Entry, Event, entries_by, Any, cases_lt, range_with_len, ne_eqb, length-map}
+use Rattle.board_prelude.proofs.{length-reverse, MapChange, Setup, IsInRange, events_by, most_statements}
+use Rattle.board_prelude.specs.{Statement}
 use Rattle.bus_turn.specs.Passes.{part_of}
 use Rattle.board_core.specs.Kept.{Standing}
 use Rattle.board_live.specs.declared.shared.Origin.{Origin}
 use Rattle.board_live.specs.Callers.{IsCallerOf, IsNew, AreAllOf, AreOpened, ClosesBoard, seen_of, known_of}
 use Rattle.run_order.specs.declared.done.Done.{Done}
 use Rattle.run_order.specs.declared.done.Done.TheVariants.{Went, Looked}
-use Rattle.run_order.specs.Common.{IsWork, Begins, IsDone, written}
+use Rattle.run_order.specs.PhaseRun.{IsWork}
+use Rattle.run_order.specs.Trace.{Begins, IsDone}
+use Rattle.run_order.specs.Written.{written}
 use Rattle.run_order.proofs.Histories.{begins_trans, all_reverse, all_turned}
 use Rattle.phase_threads.specs.declared.worker.Work.{Work}
 use Rattle.phase_threads.specs.declared.jobs.Job.{Job}

@@ -1,7 +1,6 @@
 -- A phase in which one processor acts.
 use Rattle.std.specs.Prelude.{ℕ, ◌≡◌, ◌+◌, ◌<◌, ◌≤◌, Bool, false, List, [], length, All, set}
-use Rattle.board_prelude.specs.Common.{Entry, Statement, IsInRange, entries_by, events_by, map_writes_of}
-use Rattle.board_prelude.specs.Common.{most_statements}
+use Rattle.board_prelude.specs.{Entry, Statement, IsInRange, entries_by, events_by, map_writes_of, most_statements}
 use Rattle.board_core.specs.Kept.{Standing}
 use Rattle.phase_threads.specs.declared.worker.Work.{Work}
 use Rattle.phase_threads.specs.Works.{HasDone, page_of}

@@ -1,8 +1,8 @@
 -- A run that has ended.
 use Rattle.std.specs.Prelude.{ℕ, List, reverse, Option}
-use Rattle.board_prelude.specs.Common.{Entry}
-use Rattle.run_order.specs.Common.{Order}
-use Rattle.run_log.specs.Common.{AreLinesOf}
+use Rattle.board_prelude.specs.{Entry}
+use Rattle.run_order.specs.Room.{Order}
+use Rattle.run_log.specs.Lines.{AreLinesOf}
 use Rattle.phase_threads.specs.Placed.{IsUpTo, actors_in, entries_of}
 
 -- the entries of its history, the newest first

@@ -3,13 +3,17 @@ use Rattle.std.specs.Prelude.{ℕ, ◌≡◌, ◌+◌, ◌<◌, ◌≤◌, Bool,
 use Rattle.std.specs.Prelude.{Option}
 use Rattle.std.specs.Prelude.{slice_index_or}
 use Rattle.bus_turn.specs.Passes.{part_of}
-use Rattle.board_prelude.specs.Common.{Entry, Statement, Setup, IsInRange, IsLegal, entries_by, events_by}
-use Rattle.board_prelude.specs.Common.{range_with_len, statements_of, HasPhases, most_statements}
+use Rattle.board_prelude.specs.{Entry, Statement, Setup, IsInRange, IsLegal, entries_by, events_by, range_with_len}
+use Rattle.board_prelude.specs.{statements_of, HasPhases, most_statements}
 use Rattle.board_core.specs.Kept.{Standing}
 use Rattle.board_live.specs.declared.shared.Origin.{Origin}
 use Rattle.board_live.specs.Callers.{IsCallerOf, IsNew, setup_of, seen_of, mine_of, known_of}
 use Rattle.run_order.specs.declared.done.Done.{Done}
-use Rattle.run_order.specs.Common.{done_by, is_look, IsWork, placed, written, bare, AreInPlace, Begins}
+use Rattle.run_order.specs.Placing.{done_by, is_look, placed}
+use Rattle.run_order.specs.PhaseRun.{IsWork, bare}
+use Rattle.run_order.specs.Written.{written}
+use Rattle.run_order.specs.Places.{AreInPlace}
+use Rattle.run_order.specs.Trace.{Begins}
 use Rattle.phase_threads.specs.declared.worker.Work.{Work}
 use Rattle.phase_threads.specs.declared.jobs.Job.{Job}
 use Rattle.phase_threads.specs.declared.run.Run.{Run}

@@ -3,7 +3,6 @@ pub mod Acts
 pub mod Ended
 pub mod Jobs
 pub mod Placed
-pub mod Common
 pub mod Replies
 pub mod Shared
 pub mod Works

@@ -1,7 +1,8 @@
 -- The order of a run beside the history of its board. Histories have the newest entry first.
 use Rattle.std.specs.Prelude.{ℕ, ◌≡◌, List, length, map, reverse, Option, None, Some}
 use Rattle.board_spec.specs.declared.event.Entry.{Entry}
-use Rattle.run_order.specs.Common.{over, Order}
+use Rattle.run_order.specs.Over.{over}
+use Rattle.run_order.specs.Room.{Order}
 
 -- the entries of a run: the board's own, where the run has no order of its own
 abbrev pub entries_of : Option Order → List Entry → List Entry

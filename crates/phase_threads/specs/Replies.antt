@@ -1,7 +1,7 @@
 -- A call of the bus, with the reply that it got.
 use Rattle.std.specs.Prelude.{ℕ, ◌≡◌, List}
-use Rattle.board_prelude.specs.Common.{Event, Reply, Entry, MapChange, Setup}
-use Rattle.run_order.specs.Common.{IsGone}
+use Rattle.board_prelude.specs.{Event, Reply, Entry, MapChange, Setup}
+use Rattle.run_order.specs.Trace.{IsGone}
 
 -- the entry that a call added has this reply
 pub record HasGone (setup : Setup) (actor : ℕ) (seen : List Entry) (older : List MapChange) (event : Event)

@@ -1,10 +1,13 @@
 -- What a processor did in a phase. Histories and lists of map writes have the newest first, and what it did the oldest.
 use Rattle.std.specs.Prelude.{ℕ, ◌≡◌, ◌++◌, Bool, true, false, List, ◌∷◌, length, map, reverse}
-use Rattle.board_prelude.specs.Common.{Event, Reply, Saw, Entry, MapChange, Setup, entries_by}
+use Rattle.board_prelude.specs.{Event, Reply, Saw, Entry, MapChange, Setup, entries_by}
 use Rattle.run_order.specs.declared.done.Done.{Done}
 use Rattle.run_order.specs.declared.done.Done.TheVariants.{Went, Looked}
-use Rattle.run_order.specs.Common.{event_of, looks_in, IsDone, written}
-use Rattle.run_log.specs.Common.{lines_of}
+use Rattle.run_order.specs.Placing.{event_of}
+use Rattle.run_order.specs.Room.{looks_in}
+use Rattle.run_order.specs.Trace.{IsDone}
+use Rattle.run_order.specs.Written.{written}
+use Rattle.run_log.specs.Lines.{lines_of}
 use Rattle.phase_threads.specs.declared.worker.Work.{Work}
 
 -- the lines that a worker has written, the first line first, and how many

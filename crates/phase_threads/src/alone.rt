@@ -2,7 +2,7 @@
 //! no map to publish.
 
 ghost use Rattle.std.specs.Prelude.{◌≡◌, ◌<◌, ℕ, List, All, Bool, false, length, IfOk, IfSome, OnOk};
-ghost use Rattle.board_prelude.specs.Common.{Entry as AnEntry};
+ghost use Rattle.board_prelude.specs.{Entry as AnEntry};
 ghost use Rattle.phase_threads.specs.Acts.{CanAct, HasActed};
 ghost use Rattle.phase_threads.specs.Jobs.{AreTold, CanDoPhase, GrowsBy, HasNoLook, HasRun};
 
@@ -31,7 +31,7 @@ impl Caller for Alone {
     type Fixed = LinkedList<Entry>;
 
     ghost use Rattle.std.specs.Prelude.{◌≤◌, length};
-    ghost use Rattle.board_prelude.specs.Common.{map_writes_of};
+    ghost use Rattle.board_prelude.specs.{map_writes_of};
     ghost use Rattle.phase_threads.specs.Others.{others};
 
     ghost number = { λ alone. alone.number };

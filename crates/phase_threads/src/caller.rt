@@ -1,8 +1,9 @@
 //! What a worker uses of a caller of the shared board.
 
 ghost use Rattle.std.specs.Prelude.{◌≡◌, ◌<◌, ℕ, List, false, length, IfOk};
-ghost use Rattle.board_prelude.specs.Common.{Entry, MapChange, Setup, IsInRange, entries_by, most_statements};
-ghost use Rattle.run_order.specs.Common.{is_look, IsLooked};
+ghost use Rattle.board_prelude.specs.{Entry, MapChange, Setup, IsInRange, entries_by, most_statements};
+ghost use Rattle.run_order.specs.Placing.{is_look};
+ghost use Rattle.run_order.specs.Trace.{IsLooked};
 ghost use Rattle.phase_threads.specs.Replies.{HasGone};
 
 use board_base::{Kind, NoMemory};

@@ -1,7 +1,7 @@
 //! A run that has ended.
 
 ghost use Rattle.std.specs.Prelude.{◌≡◌, IfOk};
-ghost use Rattle.board_prelude.specs.Common.{log_text};
+ghost use Rattle.board_prelude.specs.{log_text};
 ghost use Rattle.phase_threads.specs.Ended.{HasEnded};
 ghost use Rattle.phase_threads.specs.Placed.{entries_of};
 

@@ -4,7 +4,7 @@ ghost use Rattle.std.specs.Prelude.{◌≡◌, ◌<◌, ◌≤◌, ℕ, [], All,
 ghost use Rattle.std.specs.Prelude.{IfOk, IsTrue, IsFalse};
 ghost use Rattle.std.specs.List.{AllZip};
 ghost use Rattle.std.specs.Thread.{IsSync};
-ghost use Rattle.board_prelude.specs.Common.{events_by};
+ghost use Rattle.board_prelude.specs.{events_by};
 ghost use Rattle.run_order.specs.Placing.{is_look};
 ghost use Rattle.phase_threads.specs.Works.{page};
 ghost use Rattle.phase_threads.specs.Jobs.{CanRun, Runs, AreDue, HasNoLook, done_in, pages_in};

@@ -1,8 +1,9 @@
 //! The order of a run beside the history of its board.
 
 ghost use Rattle.std.specs.Prelude.{◌≡◌, ◌<◌, ◌≤◌, List, All, length, map, take, drop, reverse, OnOk};
-ghost use Rattle.board_prelude.specs.Common.{Entry as AnEntry, Setup, IsLegal};
-ghost use Rattle.run_order.specs.Common.{AreActorsOf, placed};
+ghost use Rattle.board_prelude.specs.{Entry as AnEntry, Setup, IsLegal};
+ghost use Rattle.run_order.specs.Over.{AreActorsOf};
+ghost use Rattle.run_order.specs.Placing.{placed};
 ghost use Rattle.phase_threads.specs.Placed.{entries_of, IsUpToCount};
 
 use board_base::NoMemory;

@@ -1,9 +1,10 @@
 //! A script's phases, one after another.
 
 ghost use Rattle.std.specs.Prelude.{◌≡◌, ◌<◌, ◌≤◌, ℕ, List, [], All, false, length, map, reverse, flat_map, IfOk};
-ghost use Rattle.board_prelude.specs.Common.{Entry as AnEntry, IsCardList, IsLegal, IsCompleteFor, entries_by};
-ghost use Rattle.board_prelude.specs.Common.{most_statements};
-ghost use Rattle.run_order.specs.Common.{bare, AreAllInPlace};
+ghost use Rattle.board_prelude.specs.{Entry as AnEntry, IsCardList, IsLegal, IsCompleteFor, entries_by};
+ghost use Rattle.board_prelude.specs.{most_statements};
+ghost use Rattle.run_order.specs.PhaseRun.{bare};
+ghost use Rattle.run_order.specs.Places.{AreAllInPlace};
 ghost use Rattle.phase_threads.specs.Placed.{entries_of, IsUpTo};
 ghost use Rattle.phase_threads.specs.Jobs.{IsStatement, AreTold, CanDoPhase, GrowsBy, HasNoLook, HasRun, TakesIn};
 

@@ -1,10 +1,11 @@
 //! A worker of a phase: it does the statements of one processor.
 
 ghost use Rattle.std.specs.Prelude.{◌≡◌, ◌+◌, ◌++◌, ◌<◌, ◌≤◌, List, [], ◌∷◌, All, false, length, OnOk, IfOk};
-ghost use Rattle.board_prelude.specs.Common.{Entry as AnEntry, Event as AnEvent, IsInRange, entries_by, events_by};
-ghost use Rattle.board_prelude.specs.Common.{map_writes_of, most_statements};
+ghost use Rattle.board_prelude.specs.{Entry as AnEntry, Event as AnEvent, IsInRange, entries_by, events_by};
+ghost use Rattle.board_prelude.specs.{map_writes_of, most_statements};
 ghost use Rattle.run_order.specs.declared.done.Done.{Done};
-ghost use Rattle.run_order.specs.Common.{event_of, is_look, IsDone};
+ghost use Rattle.run_order.specs.Placing.{event_of, is_look};
+ghost use Rattle.run_order.specs.Trace.{IsDone};
 ghost use Rattle.phase_threads.specs.Works.{HasDone, IsTold, page, page_of};
 
 use crate::caller::Caller;

@@ -1,12 +1,15 @@
 -- One chip: its inputs, and that it has no request where no level is requested.
 use Rattle.std.proofs.Common.{◌≡◌, ℕ, suc, ◌+◌, ◌≤◌, ◌<◌, Bool, false, not, cond, ◌||◌, ◌&&◌, List, [], ◌∷◌, ◌++◌}
 use Rattle.std.proofs.Common.{add-one, drop-cons, length, get_or, drop, Some, None, refl, arith, ap, ◌∙◌}
-use Rattle.device_spec.proofs.Common.{cases_lt, levels_where-same, has-levels_where, priority_order-small, nat_tests}
+use Rattle.std.proofs.lemmas.Bool.{cases_lt}
+use Rattle.device_spec.proofs.Levels.{levels_where-same, has-levels_where}
+use Rattle.device_spec.proofs.Priorities.{priority_order-small, scan, scan-end, request-is}
+use Rattle.std.proofs.lemmas.Bool.Decides.{nat_tests}
 use Rattle.std.proofs.lemmas.List.{get_or_past}
-use Rattle.device_spec.specs.Common.{find, Levels, has, levels_where, no_levels, Chip, pending, latches_after}
-use Rattle.device_spec.specs.Common.{is_requested, first_selectable, first_blocking, blocks_itself, is_blocking}
-use Rattle.device_spec.specs.Common.{request, priority_order}
-use Rattle.device_spec.proofs.Priorities.{scan, scan-end, request-is}
+use Rattle.std.specs.List.{find}
+use Rattle.device_spec.specs.Levels.{Levels, has, levels_where, no_levels}
+use Rattle.device_spec.specs.Pic.{Chip, pending, latches_after, is_requested, first_selectable, first_blocking}
+use Rattle.device_spec.specs.Pic.{blocks_itself, is_blocking, request, priority_order}
 use Rattle.pic_pair.proofs.Orders.{order-length}
 
 -- ---- the pending levels

@@ -3,9 +3,12 @@ use Rattle.std.proofs.Common.{rules, ◌≡◌, ℕ, ◌-◌, ◌*◌, ◌%◌, 
 use Rattle.std.proofs.Common.{ap, ◌∙◌, ◌↔◌, arith, bit_or, bit_and, w8}
 use Rattle.std.specs.Int.{Width, bit_at, bit_not}
 use mir.Val.{bits}
-use Rattle.device_spec.proofs.Common.{cases_eq, eq-eqb, ne_eqb, agree_below_at, eqb-true, is_bit, levels_where-same}
-use Rattle.device_spec.proofs.Common.{has-levels_where, has, levels_where, no_levels, with_level, without_level}
-use Rattle.device_spec.proofs.Common.{levels_of_byte, byte_of_levels, nat_tests}
+use Rattle.std.proofs.lemmas.Bool.{cases_eq, eq-eqb, ne_eqb, agree_below_at, eqb-true}
+use Rattle.board_base.specs.Bits.{is_bit}
+use Rattle.device_spec.proofs.Levels.{levels_where-same, has-levels_where}
+use Rattle.device_spec.specs.Levels.{has, levels_where, no_levels, with_level, without_level, levels_of_byte}
+use Rattle.device_spec.specs.Levels.{byte_of_levels}
+use Rattle.std.proofs.lemmas.Bool.Decides.{nat_tests}
 use Rattle.std.proofs.lemmas.Nat.Bits.{bit_at-lt, bit_at_or, bit_at_and, bit_at_not, bit_at_set_same, bit_at_set_other}
 use Rattle.std.proofs.lemmas.Nat.Bits.{bit_at_clear_same, bit_at_clear_other}
 

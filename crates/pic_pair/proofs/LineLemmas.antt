@@ -2,8 +2,12 @@
 use Rattle.std.proofs.Common.{◌≡◌, ℕ, ◌+◌, ◌-◌, ◌*◌, ◌/◌, ◌%◌, ◌^◌, ◌<◌, Bool, true, false, cond, eqb, ◌||◌, List, ◌++◌}
 use Rattle.std.proofs.Common.{length, take, drop, replicate, get_or, set, refl, sym, ap, subst, ◌∙◌, arith, length-set}
 use Rattle.std.proofs.Common.{get_or-set_same, get_or-set_other, bit_or, bit_and, w16}
-use Rattle.device_spec.proofs.Common.{take-append-drop, cases_eq, get_or-map, ext_get_or, is_bit, levels_where}
-use Rattle.device_spec.proofs.Common.{levels_where-same, levels_of_byte, nat_tests}
+use Rattle.std.proofs.lemmas.List.{take-append-drop, get_or-map, ext_get_or}
+use Rattle.std.proofs.lemmas.Bool.{cases_eq}
+use Rattle.board_base.specs.Bits.{is_bit}
+use Rattle.device_spec.specs.Levels.{levels_where, levels_of_byte}
+use Rattle.device_spec.proofs.Levels.{levels_where-same}
+use Rattle.std.proofs.lemmas.Bool.Decides.{nat_tests}
 use Rattle.std.proofs.lemmas.Nat.Bits.{bit_at_cat_low, bit_at_cat_high}
 use Rattle.pic_pair.specs.Lines.{sixteen, lines_where, lines_of}
 use Rattle.pic_pair.proofs.LevelLemmas.{is_bit-or, is_bit-set, is_bit-clear}

@@ -2,9 +2,12 @@
 use Rattle.std.proofs.Common.{◌≡◌, ℕ, zero, suc, ◌+◌, ◌*◌, ◌^◌, ◌<◌, ◌≤◌, Bool, true, false, eqb, List, [], ◌∷◌, length}
 use Rattle.std.proofs.Common.{take, drop, refl, sym, ap, ◌∙◌, arith, if◌then◌else◌}
 use Rattle.std.proofs.Math.Nat.{pow-succ'}
-use Rattle.device_spec.proofs.Common.{take_at, drop_at, take-append-drop, length-take, length-drop, length-append}
-use Rattle.device_spec.proofs.Common.{get_or_past, is_bit, has, levels_where, levels_where-same, levels_where-has}
-use Rattle.device_spec.proofs.Common.{levels_of_byte, byte_of_levels, Levels, nat_tests}
+use Rattle.std.proofs.lemmas.List.{take_at, drop_at, take-append-drop, length-take, length-drop, length-append}
+use Rattle.std.proofs.lemmas.List.{get_or_past}
+use Rattle.board_base.specs.Bits.{is_bit}
+use Rattle.device_spec.specs.Levels.{has, levels_where, levels_of_byte, byte_of_levels, Levels}
+use Rattle.device_spec.proofs.Levels.{levels_where-same, levels_where-has}
+use Rattle.std.proofs.lemmas.Bool.Decides.{nat_tests}
 use Rattle.device_spec.specs.Pic.{Word}
 use Rattle.byte_fields.proofs.Formats.{IsFormat, fields_format, ◌then◌, ◌&◌, last_field}
 use Rattle.byte_fields.proofs.Numbers.{Any, byte_to, flag_format}

@@ -1,7 +1,8 @@
 -- The state of the pair as bytes: the master's, and then the slave's. And that of the sixteen lines.
 use Rattle.std.specs.Prelude.{ℕ, ◌≡◌, ◌<◌, ◌≤◌, ◌+◌, ◌++◌, Bool, true, false, if◌then◌else◌, List, [], ◌∷◌, length}
 use Rattle.std.specs.Prelude.{take, drop}
-use Rattle.board_base.specs.Common.{w8, is_bit}
+use Rattle.std.specs.Int.{w8}
+use Rattle.board_base.specs.Bits.{is_bit}
 use Rattle.byte_fields.specs.Fields.{Reading, gives, ◌>>=◌, within, flag_byte, flag_field}
 use Rattle.device_spec.specs.Levels.{levels_of_byte, byte_of_levels}
 use Rattle.device_spec.specs.Pic.{Chip, Word, Icw2, Icw3, Icw4}

@@ -1,6 +1,7 @@
 -- What the values of this crate stand for.
 use Rattle.std.specs.Prelude.{Bool, List, [], ◌∷◌, ◌++◌, if◌then◌else◌}
-use Rattle.device_spec.specs.Common.{Word, Icw2, Icw3, Icw4, Answer}
+use Rattle.device_spec.specs.Pic.{Word, Icw2, Icw3, Icw4}
+use Rattle.device_spec.specs.Pair.{Answer}
 use Rattle.pic_pair.specs.declared.chip.Awaited.{Awaited}
 use Rattle.pic_pair.specs.declared.chip.Awaited.TheVariants.{Nothing, Vector, Cascade, Mode}
 use Rattle.pic_pair.specs.declared.pair.Ack.{Ack}

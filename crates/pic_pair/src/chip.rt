@@ -6,14 +6,13 @@
 //! |      | or those in service; a poll           | 0 and 1, else OCW2: ends of interrupt, priorities   |
 //! | odd  | the mask; a poll                      | ICW2 to ICW4 while they are awaited, else OCW1      |
 ghost use Rattle.std.specs.Prelude.{◌≡◌, ◌+◌, ◌++◌, ◌<◌, ◌&&◌, ◌||◌, not, IfSome, slice_index, false};
-ghost use Rattle.device_spec.specs.Common.{with_level, acknowledged_if, byte_polled, is_complete, chip_at_reset};
-ghost use Rattle.device_spec.specs.Common.{chip_after_inputs, pending, priority_order, is_blocking, blocks_itself};
-ghost use Rattle.device_spec.specs.Common.{is_requested, request, interrupt, acknowledged, chip_after_icw1};
-ghost use Rattle.device_spec.specs.Common.{first_blocking, chip_after_ocw2, chip_after_ocw3, chip_after_odd_write};
-ghost use Rattle.device_spec.specs.Common.{chip_after_write, byte_read, chip_after_read};
-ghost use Rattle.device_spec.specs.Levels.{levels_where};
+ghost use Rattle.device_spec.specs.Levels.{with_level, levels_where};
+ghost use Rattle.device_spec.specs.Pic.{acknowledged_if, byte_polled, is_complete, chip_at_reset, chip_after_inputs};
+ghost use Rattle.device_spec.specs.Pic.{pending, priority_order, is_blocking, blocks_itself, is_requested, request};
+ghost use Rattle.device_spec.specs.Pic.{interrupt, acknowledged, chip_after_icw1, first_blocking, chip_after_ocw2};
+ghost use Rattle.device_spec.specs.Pic.{chip_after_ocw3, chip_after_odd_write, chip_after_write, byte_read};
+ghost use Rattle.device_spec.specs.Pic.{chip_after_read, ended};
 ghost use Rattle.pic_pair.specs.View.{awaited_words, cascade_words, mode_words};
-ghost use Rattle.device_spec.specs.Pic.{ended};
 
 use crate::level_set::LevelSet;
 use crate::priority::{LEVEL_COUNT, first_of, level_at};

@@ -1,9 +1,10 @@
 //! The master and the slave.
 ghost use Rattle.std.specs.Prelude.{◌≡◌, ◌<◌, is_some, Some, None};
-ghost use Rattle.device_spec.specs.Common.{interrupt, acknowledged_if, chip_answer, master_inputs, pair_at_reset};
-ghost use Rattle.device_spec.specs.Common.{levels_at_power_on, settled, pair_after_lines, is_slave_port, is_odd_port};
-ghost use Rattle.device_spec.specs.Common.{pair_written, pair_after_write, port_byte, pair_read, pair_after_read};
-ghost use Rattle.device_spec.specs.Common.{answer_at, answer_of, pair_acknowledged, pair_after_acknowledge};
+ghost use Rattle.device_spec.specs.Pic.{interrupt, acknowledged_if};
+ghost use Rattle.device_spec.specs.Pair.{chip_answer, master_inputs, pair_at_reset, levels_at_power_on, settled};
+ghost use Rattle.device_spec.specs.Pair.{pair_after_lines, is_slave_port, is_odd_port, pair_written, pair_after_write};
+ghost use Rattle.device_spec.specs.Pair.{port_byte, pair_read, pair_after_read, answer_at, answer_of};
+ghost use Rattle.device_spec.specs.Pair.{pair_acknowledged, pair_after_acknowledge};
 ghost use Rattle.pic_pair.specs.View.{answer_shown};
 
 use crate::chip::{CASCADE, Pic};

@@ -1,7 +1,9 @@
 //! The order of priority of the eight levels, which begins behind the lowest and goes round to it (8259A, Automatic
 //! Rotation and Specific Rotation).
 ghost use Rattle.std.specs.Prelude.{◌≡◌, ◌<◌, IfSome, slice_index};
-ghost use Rattle.device_spec.specs.Common.{find, has, priority_order};
+ghost use Rattle.std.specs.List.{find};
+ghost use Rattle.device_spec.specs.Levels.{has};
+ghost use Rattle.device_spec.specs.Pic.{priority_order};
 
 use crate::level_set::LevelSet;
 

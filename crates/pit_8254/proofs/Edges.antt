@@ -1,10 +1,12 @@
 -- The pulse after those that are quiet, and what it leads to.
 use Rattle.std.proofs.Common.{◌≡◌, ℕ, ◌+◌, ◌≤◌, ◌⊎◌, Bool, true, false, arith}
-use Rattle.device_spec.proofs.Common.{nat_tests, Mode, TerminalCount, OneShot, RateGenerator, SquareWave}
-use Rattle.device_spec.proofs.Common.{SoftwareStrobe, HardwareStrobe, CounterState, is_periodic, load, count_down}
-use Rattle.device_spec.proofs.Common.{count_to_end, count_to_reload, count_half, count_to_strobe, pulse_by_mode, pulse}
-use Rattle.device_spec.proofs.Common.{pulses_of}
-use Rattle.pit_8254.specs.Common.{every_pulse, quiet_pulses, after_quiet, rise, rises_of, IsSettled, IsAtPeriod}
+use Rattle.std.proofs.lemmas.Bool.Decides.{nat_tests}
+use Rattle.device_spec.specs.Pit.{Mode, TerminalCount, OneShot, RateGenerator, SquareWave, SoftwareStrobe}
+use Rattle.device_spec.specs.Pit.{HardwareStrobe, CounterState, is_periodic, load, count_down, count_to_end}
+use Rattle.device_spec.specs.Pit.{count_to_reload, count_half, count_to_strobe, pulse_by_mode, pulse}
+use Rattle.device_spec.specs.PitLaws.{pulses_of}
+use Rattle.pit_8254.specs.Quiet.{every_pulse, quiet_pulses, after_quiet, rise, rises_of}
+use Rattle.pit_8254.specs.Runs.{IsSettled, IsAtPeriod}
 use Rattle.pit_8254.proofs.Quiet.{quietly, out_stays}
 
 -- the counter after the quiet pulses and one more

@@ -1,9 +1,13 @@
 -- Whole periods.
 use Rattle.std.proofs.Common.{◌≡◌, ℕ, zero, suc, ◌+◌, ◌-◌, ◌*◌, ◌/◌, ◌%◌, ◌<◌, ◌≤◌, ◌==◌, Bool, true, false, cond, Some}
 use Rattle.std.proofs.Common.{arith}
-use Rattle.device_spec.proofs.Common.{nat_tests, RateGenerator, SquareWave, CounterState, pulses_of, rate_repeats}
-use Rattle.device_spec.proofs.Common.{square_repeats}
-use Rattle.pit_8254.specs.Common.{rises_of, IsPart, IsAtPeriod, IsFirstRise}
+use Rattle.std.proofs.lemmas.Bool.Decides.{nat_tests}
+use Rattle.device_spec.specs.Pit.{RateGenerator, SquareWave, CounterState}
+use Rattle.device_spec.specs.PitLaws.{pulses_of}
+use Rattle.device_spec.proofs.PitPeriods.{rate_repeats, square_repeats}
+use Rattle.pit_8254.specs.Quiet.{rises_of}
+use Rattle.pit_8254.specs.Runs.{IsPart, IsAtPeriod}
+use Rattle.pit_8254.specs.NextRise.{IsFirstRise}
 use Rattle.pit_8254.specs.declared.counting.running.Run.{Run}
 use Rattle.pit_8254.proofs.Runs.{add_up}
 

@@ -1,8 +1,10 @@
 -- Quiet pulses change nothing but CE, and come as often as they are told.
 use Rattle.std.proofs.Common.{◌≡◌, ℕ, zero, suc, ◌<◌, ◌≤◌, ◌⊎◌, inl, inr, Bool, refl, ◌∙◌, arith}
-use Rattle.device_spec.proofs.Common.{nat_tests, Mode, TerminalCount, OneShot, RateGenerator, SquareWave}
-use Rattle.device_spec.proofs.Common.{SoftwareStrobe, HardwareStrobe, CounterState, load, count_down, count_to_end}
-use Rattle.device_spec.proofs.Common.{count_to_reload, count_half, count_to_strobe, pulse_by_mode, pulse, pulses_of}
+use Rattle.std.proofs.lemmas.Bool.Decides.{nat_tests}
+use Rattle.device_spec.specs.Pit.{Mode, TerminalCount, OneShot, RateGenerator, SquareWave, SoftwareStrobe}
+use Rattle.device_spec.specs.Pit.{HardwareStrobe, CounterState, load, count_down, count_to_end, count_to_reload}
+use Rattle.device_spec.specs.Pit.{count_half, count_to_strobe, pulse_by_mode, pulse}
+use Rattle.device_spec.specs.PitLaws.{pulses_of}
 use Rattle.pit_8254.specs.Quiet.{IsQuiet, most_count, rises_of, every_pulse, quiet_pulses, after_quiet}
 
 -- n quiet pulses come: so many are told, or all that come are quiet

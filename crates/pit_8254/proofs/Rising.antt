@@ -1,9 +1,13 @@
 -- When OUT next rises.
 use Rattle.std.proofs.Common.{◌≡◌, ◌≢◌, ℕ, ◌+◌, ◌-◌, ◌<◌, ◌≤◌, inr, Bool, true, false, Option, Some, None, arith}
-use Rattle.device_spec.proofs.Common.{nat_tests, cases_lt, CounterState, PitState, is_periodic, out_of, pulses}
-use Rattle.device_spec.proofs.Common.{pulses_of, counters_apart}
-use Rattle.pit_8254.specs.Common.{rises_of, most_count, every_pulse, quiet_pulses, IsSettled, IsAtPeriod, RisesAt}
-use Rattle.pit_8254.specs.Common.{IsNextRise, IsFirstRise, IsPulseEdge, IsPart}
+use Rattle.std.proofs.lemmas.Bool.Decides.{nat_tests}
+use Rattle.std.proofs.lemmas.Bool.{cases_lt}
+use Rattle.device_spec.specs.Pit.{CounterState, PitState, is_periodic, out_of, pulses}
+use Rattle.device_spec.specs.PitLaws.{pulses_of}
+use Rattle.device_spec.proofs.PitPulses.{counters_apart}
+use Rattle.pit_8254.specs.Quiet.{rises_of, most_count, every_pulse, quiet_pulses}
+use Rattle.pit_8254.specs.Runs.{IsSettled, IsAtPeriod, IsPart}
+use Rattle.pit_8254.specs.NextRise.{RisesAt, IsNextRise, IsFirstRise, IsPulseEdge}
 use Rattle.pit_8254.specs.declared.counting.running.Run.{Run}
 use Rattle.pit_8254.specs.declared.counting.rising.Edge.{Edge}
 use Rattle.pit_8254.proofs.Quiet.{quietly}

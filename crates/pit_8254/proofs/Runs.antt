@@ -1,8 +1,11 @@
 -- Parts of a run of pulses, one after another.
 use Rattle.std.proofs.Common.{◌<◌, ◌≡◌, ℕ, zero, suc, ◌+◌, ◌-◌, ◌≤◌, Bool, true, refl, sym, arith, add-zero, add-suc}
-use Rattle.device_spec.proofs.Common.{CounterState, PitState, pulse, pulse_all, pulses, rises, pulses_of}
-use Rattle.device_spec.proofs.Common.{counters_apart, nat_tests}
-use Rattle.pit_8254.specs.Common.{rise, rises_of, quiet_pulses, after_quiet, IsPart}
+use Rattle.device_spec.specs.Pit.{CounterState, PitState, pulse, pulse_all, pulses, rises}
+use Rattle.device_spec.specs.PitLaws.{pulses_of}
+use Rattle.device_spec.proofs.PitPulses.{counters_apart}
+use Rattle.std.proofs.lemmas.Bool.Decides.{nat_tests}
+use Rattle.pit_8254.specs.Quiet.{rise, rises_of, quiet_pulses, after_quiet}
+use Rattle.pit_8254.specs.Runs.{IsPart}
 use Rattle.pit_8254.specs.declared.counting.running.Run.{Run}
 use Rattle.pit_8254.proofs.Quiet.{quietly}
 

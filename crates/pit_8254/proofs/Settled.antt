@@ -1,9 +1,11 @@
 -- A pulse settles a counter.
 use Rattle.std.proofs.Common.{◌≡◌, Bool, refl, arith}
-use Rattle.device_spec.proofs.Common.{nat_tests, Mode, TerminalCount, OneShot, RateGenerator, SquareWave}
-use Rattle.device_spec.proofs.Common.{SoftwareStrobe, HardwareStrobe, CounterState, load, count_down, count_to_end}
-use Rattle.device_spec.proofs.Common.{count_to_reload, count_half, count_to_strobe, pulse_by_mode, pulse}
-use Rattle.pit_8254.specs.Common.{HasCount, IsSettled}
+use Rattle.std.proofs.lemmas.Bool.Decides.{nat_tests}
+use Rattle.device_spec.specs.Pit.{Mode, TerminalCount, OneShot, RateGenerator, SquareWave, SoftwareStrobe}
+use Rattle.device_spec.specs.Pit.{HardwareStrobe, CounterState, load, count_down, count_to_end, count_to_reload}
+use Rattle.device_spec.specs.Pit.{count_half, count_to_strobe, pulse_by_mode, pulse}
+use Rattle.pit_8254.specs.Quiet.{HasCount}
+use Rattle.pit_8254.specs.Runs.{IsSettled}
 
 settle : (mode : Mode) (gate : Bool) (c : CounterState) → c.mode ≡ mode →
     HasCount c.mode c.count c.load_asked c.started → IsSettled mode gate (pulse gate c)

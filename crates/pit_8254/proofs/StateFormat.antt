@@ -1,5 +1,5 @@
 -- The state of the timer is spelled and read back.
-use Rattle.board_base.proofs.Common.{nat_tests}
+use Rattle.std.proofs.lemmas.Bool.Decides.{nat_tests}
 use Rattle.std.proofs.Common.{◌≡◌, ℕ, ◌≤◌, Bool, List, [], ◌∷◌, length, take, get_or, is_some, refl, arith, nat_lt}
 use Rattle.device_spec.specs.Pit.{Mode, mode_number, mode_numbered, access_number, notation_number}
 use Rattle.byte_fields.specs.Fields.{bound_where}

@@ -2,5 +2,4 @@ pub mod View
 pub mod Quiet
 pub mod Runs
 pub mod NextRise
-pub mod Common
 pub mod State

@@ -1,6 +1,7 @@
 -- How many pulses come until OUT next rises.
 use Rattle.std.specs.Prelude.{ℕ, ◌≡◌, ◌≢◌, ◌+◌, ◌-◌, ◌≤◌, Bool, true, false, not, ◌&&◌, Option, Some, None}
-use Rattle.device_spec.specs.Common.{CounterState, PitState, out_of, pulses, pulses_of}
+use Rattle.device_spec.specs.Pit.{CounterState, PitState, out_of, pulses}
+use Rattle.device_spec.specs.PitLaws.{pulses_of}
 use Rattle.pit_8254.specs.Quiet.{every_pulse, quiet_pulses, rises_of}
 use Rattle.pit_8254.specs.declared.counting.rising.Edge.{Edge}
 

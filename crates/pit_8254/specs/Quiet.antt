@@ -1,9 +1,10 @@
 -- Pulses of one counter: those that change nothing but CE, how many of them come next, and how often OUT rises.
 use Rattle.std.specs.Prelude.{ℕ, zero, suc, ◌≡◌, ◌+◌, ◌-◌, ◌*◌, ◌/◌, ◌%◌, ◌≤◌, ◌==◌, nat_lt, Bool, false, not, ◌&&◌}
 use Rattle.std.specs.Prelude.{◌||◌, if◌then◌else◌, Option, Some, None}
-use Rattle.device_spec.specs.Common.{Mode, TerminalCount, OneShot, RateGenerator, SquareWave, SoftwareStrobe}
-use Rattle.device_spec.specs.Common.{HardwareStrobe, Notation, CounterState, modulus, is_periodic, is_counting}
-use Rattle.device_spec.specs.Common.{half_end, pulse, pulses_of}
+use Rattle.device_spec.specs.Pit.{Mode, TerminalCount, OneShot, RateGenerator, SquareWave, SoftwareStrobe}
+use Rattle.device_spec.specs.Pit.{HardwareStrobe, Notation, CounterState, modulus, is_periodic, is_counting, half_end}
+use Rattle.device_spec.specs.Pit.{pulse}
+use Rattle.device_spec.specs.PitLaws.{pulses_of}
 
 -- ---- what holds of every counter
 

@@ -1,7 +1,9 @@
 -- A run of pulses of one counter, part by part.
 use Rattle.std.specs.Prelude.{◌≡◌, ◌+◌, ◌-◌, ◌<◌, ◌≤◌, Bool, true, false}
-use Rattle.device_spec.specs.Common.{Mode, TerminalCount, OneShot, RateGenerator, SquareWave, SoftwareStrobe}
-use Rattle.device_spec.specs.Common.{HardwareStrobe, CounterState, is_periodic, pulses_of, IsAtLoad}
+use Rattle.device_spec.specs.Pit.{Mode, TerminalCount, OneShot, RateGenerator, SquareWave, SoftwareStrobe}
+use Rattle.device_spec.specs.Pit.{HardwareStrobe, CounterState, is_periodic}
+use Rattle.device_spec.specs.PitLaws.{pulses_of}
+use Rattle.device_spec.specs.PitPeriods.{IsAtLoad}
 use Rattle.pit_8254.specs.Quiet.{HasCount, rises_of, is_due, counts}
 use Rattle.pit_8254.specs.declared.counting.running.Run.{Run}
 

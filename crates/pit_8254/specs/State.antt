@@ -1,7 +1,7 @@
 -- The state of the timer as bytes: counters 0 to 2, 31 bytes each, and the gate of counter 2.
 use Rattle.std.specs.Prelude.{ℕ, ◌<◌, ◌≤◌, ◌==◌, ◌++◌, Bool, if◌then◌else◌, nat_lt, List, [], ◌∷◌, length, take, get_or}
 use Rattle.std.specs.Prelude.{Option, is_some, unwrap_or}
-use Rattle.board_base.specs.Common.{w8, w32, to_le_bytes}
+use Rattle.std.specs.Int.{w8, w32, to_le_bytes}
 use Rattle.byte_fields.specs.Fields.{Reading, gives, ◌>>=◌, within, flag_byte, flag_field, flag_where, optional}
 use Rattle.byte_fields.specs.Fields.{bound_where, IsWithin}
 use Rattle.device_spec.specs.Pit.{Mode, Access, LowByte, HighByte, LowThenHigh, Notation, CounterState, PitState}

@@ -3,7 +3,7 @@ use Rattle.std.proofs.Common.{◌≡◌, ◌==◌, ◌++◌, [], ℕ, Bool, List
 use Rattle.std.proofs.Common.{subst}
 use Rattle.std.proofs.lemmas.List.{append_cancel_right}
 use Rattle.std.proofs.lemmas.List.Elements.{filter-append}
-use Rattle.board_prelude.specs.Common.{Entry, Event, Look, Kind, entries_by}
+use Rattle.board_prelude.specs.{Entry, Event, Look, Kind, entries_by}
 use Rattle.map_publish.specs.Laws.{IsLookAfter}
 use Rattle.board_core.specs.declared.steps.Steps.{Ghosts}
 use Rattle.board_live.specs.declared.shared.Answered.{Answered}

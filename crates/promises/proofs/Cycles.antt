@@ -1,17 +1,20 @@
 -- A wide access is its cycles.
 use Rattle.std.proofs.Common.{◌≡◌, ◌∷◌, [], ℕ, false, List, Option, Some, None, ap, sym, ◌∙◌, map}
 use Rattle.std.proofs.Common.{All, refl, unwrap_or}
-use Rattle.board_prelude.proofs.Common.{All-head, All-tail}
-use Rattle.device_spec.specs.Common.{option_or, WideAccess}
+use Rattle.board_prelude.proofs.{All-head, All-tail}
+use Rattle.std.specs.Option.{option_or}
+use Rattle.board_base.specs.declared.access.WideAccess.{WideAccess}
 use Rattle.board_base.specs.declared.access.Access.{Access}
 use Rattle.board_spec.specs.declared.event.Entry.{Entry}
 use Rattle.board_spec.specs.declared.event.Event.TheVariants.{Memory, Wide}
 use Rattle.board_spec.specs.declared.event.Parts.{Parts}
 use Rattle.board_spec.specs.declared.event.Reply.TheVariants.{Parts as InParts}
-use Rattle.board_spec.specs.Common.{Setup, IsWideAccess, IsWideAnswer, CutIntoParts, Cell, is_write, joined}
-use Rattle.board_spec.specs.Common.{memory_answer}
-use Rattle.board_spec.specs.Common.{IsPart, memory_put, memory_target, value_at}
-use Rattle.board_spec.specs.Common.{part_answer, wide_value, parts_list, parts_of, stored_of, parts_put}
+use Rattle.board_spec.specs.Setup.{Setup}
+use Rattle.board_spec.specs.InRange.{IsWideAccess}
+use Rattle.board_spec.specs.Answer.{IsWideAnswer, memory_answer, memory_target, value_at, part_answer, wide_value}
+use Rattle.board_spec.specs.PartLaws.{CutIntoParts, IsPart}
+use Rattle.board_spec.specs.Stored.{Cell, is_write, memory_put, stored_of, parts_put}
+use Rattle.board_spec.specs.WideParts.{joined, parts_list, parts_of}
 use Rattle.promises.specs.Definitions.{answered_by, value_in, cycles_after, IsItsCycles, WideIsItsCycles}
 
 module _ (setup : Setup) (before : List Entry) where

@@ -1,10 +1,11 @@
 -- The flat map answers at each address as the decode of the registers does.
 use Rattle.std.proofs.Common.{◌≡◌, ◌≤◌, ◌<◌, ◌+◌, ◌∷◌, [], ℕ, zero, suc, Bool, List, Some, slice_get, ap, sym, ◌∙◌}
 use Rattle.std.proofs.Common.{arith, All, inl, inr, refl}
-use Rattle.board_prelude.proofs.Common.{cases_lt, nat_tests}
-use Rattle.device_spec.specs.Common.{Kind}
-use Rattle.board_spec.specs.Common.{Setup, Bytes, MapRange, IsFlatMapOf, address_count, area_of, six_areas}
-use Rattle.board_spec.specs.FlatMap.{IsRight, Tiles}
+use Rattle.board_prelude.proofs.{cases_lt, nat_tests}
+use Rattle.board_base.specs.declared.access.Kind.{Kind}
+use Rattle.board_spec.specs.Setup.{Setup}
+use Rattle.board_spec.specs.Decode.{Bytes, area_of}
+use Rattle.board_spec.specs.FlatMap.{MapRange, IsFlatMapOf, address_count, six_areas, IsRight, Tiles}
 use Rattle.board_spec.proofs.FlatMapLaws.{one_flat_map}
 use Rattle.promises.specs.Definitions.{column, IsAnsweredBy, AnswersAsDecode}
 

@@ -1,10 +1,14 @@
 -- The headline can be met, leaves `replay` one text, and is what `check` accepts.
 use Rattle.std.proofs.Common.{◌≡◌, ℕ, List, arith, sym, refl}
-use Rattle.board_prelude.proofs.Common.{nat_tests}
+use Rattle.board_prelude.proofs.{nat_tests}
 use Rattle.board_spec.specs.declared.event.Entry.{Entry}
 use Rattle.board_spec.specs.declared.event.Event.{Event}
-use Rattle.board_spec.specs.Common.{Setup, IsReplayOf, OneReplay, SomeReplay, LegalKeepsLock, IsAddressed, IsInRange}
-use Rattle.board_spec.specs.Common.{in_file_order, log_text}
+use Rattle.board_spec.specs.Setup.{Setup}
+use Rattle.board_spec.specs.Orders.{IsReplayOf}
+use Rattle.board_spec.specs.Laws.{OneReplay, SomeReplay, LegalKeepsLock, IsAddressed}
+use Rattle.board_spec.specs.InRange.{IsInRange}
+use Rattle.board_spec.specs.OrderLaws.{in_file_order}
+use Rattle.board_spec.specs.LogText.{log_text}
 use Rattle.board_spec.proofs.OrderLawProofs.{replay_is_complete}
 use Rattle.script_spec.specs.ScriptText.{Script}
 use Rattle.script_spec.specs.Laws.{OneScript, ScriptsAreInRange}

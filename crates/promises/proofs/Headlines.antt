@@ -1,10 +1,12 @@
 -- The headline follows from the cause of the status `done`.
 use Rattle.std.proofs.Common.{◌≡◌, ℕ, List, [], ◌∷◌, ◌++◌, Option, Some, arith, option_map}
-use Rattle.board_prelude.proofs.Common.{nat_tests}
+use Rattle.board_prelude.proofs.{nat_tests}
 use Rattle.board_spec.specs.declared.event.Entry.{Entry}
 use Rattle.board_spec.specs.declared.event.Event.{Event}
 use Rattle.board_spec.specs.declared.event.Reply.{Reply}
-use Rattle.board_spec.specs.Common.{Setup, IsLegal, IsAnswer}
+use Rattle.board_spec.specs.Setup.{Setup}
+use Rattle.board_spec.specs.Legal.{IsLegal}
+use Rattle.board_spec.specs.Answer.{IsAnswer}
 use Rattle.script_spec.specs.ScriptText.{Script, IsScriptText}
 use Rattle.command_words.specs.Words.{Command, Run, Replay, Check, Resume, IsCommand, AreWordsOf, command_of}
 use Rattle.command_words.proofs.WordLaws.{words_decide}
@@ -12,11 +14,11 @@ use Rattle.command_files.specs.declared.status.Which.TheVariants.{Script as Scri
 use Rattle.command_files.specs.declared.status.Which.TheVariants.{Log as LogFile, Image as ImageFile}
 use Rattle.command_files.specs.declared.status.Status.{Status}
 use Rattle.command_files.specs.declared.status.Status.TheVariants.{Done}
-use Rattle.command_files.specs.Common.{Known, nothing_known, Passes, rom_name, disk_name, board_of, ShelfCall}
+use Rattle.command_files.specs.Known.{Known, nothing_known, Passes, rom_name, disk_name, board_of, Learns, OfScript}
+use Rattle.command_files.specs.Known.{OfImage}
+use Rattle.command_files.specs.Outcomes.{ShelfCall}
 use Rattle.command_files.specs.Asked.{BoardsAgree}
-use Rattle.command_files.specs.Known.{Learns, OfScript, OfImage}
-use Rattle.board_commands.specs.Common.{IsCaused, SinkCall}
-use Rattle.board_commands.specs.Outcomes.{PutsText as PutsOf}
+use Rattle.board_commands.specs.Outcomes.{IsCaused, SinkCall, PutsText as PutsOf}
 use Rattle.board_commands.specs.Texts.{IsCommandText, IsRunText}
 use Rattle.command_texts.specs.Replays.{IsReplayText, IsLegalText}
 use Rattle.command_texts.specs.Images.{IsResumeText}

@@ -1,5 +1,5 @@
 -- The pieces of a transfer lie beside SMRAM.
-use Rattle.device_spec.specs.Common.{Area}
+use Rattle.board_base.specs.declared.target.Area.{Area}
 use Rattle.board_base.specs.declared.target.Area.TheVariants.{Dram as DramArea, Shadow as ShadowArea}
 use Rattle.bus_master.specs.declared.piece.Piece.{Piece}
 use Rattle.bus_master.specs.Pieces.{IfMove, IsMemory, IsOutsideSmramRange}

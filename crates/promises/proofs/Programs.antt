@@ -3,13 +3,14 @@ use Rattle.std.proofs.Common.{◌≡◌, ◌≢◌, ◌⊎◌, inl, inr, ◌∷�
 use Rattle.std.proofs.Common.{refl}
 use Rattle.std.proofs.Common.{All, IsUtf8, arith, sym, ap, ◌∙◌}
 use Rattle.std.proofs.lemmas.List.{append-nil}
-use Rattle.board_prelude.proofs.Common.{nat_tests}
+use Rattle.board_prelude.proofs.{nat_tests}
 use Rattle.std.specs.Io.KnownBytes.{Keeps}
 use Rattle.board_spec.specs.Text.{line_feed}
 use Rattle.command_words.specs.Words.{Command, IsCommand, AreWordsOf, command_of}
 use Rattle.command_files.specs.declared.status.Status.{Status}
 use Rattle.command_files.specs.declared.status.Status.TheVariants.{Done, Usage, NoMemory}
-use Rattle.command_files.specs.Common.{code_of, ShelfCall}
+use Rattle.command_files.specs.Status.{code_of}
+use Rattle.command_files.specs.Outcomes.{ShelfCall}
 use Rattle.command_files.specs.FaultText.{text_of}
 use Rattle.board_commands.specs.Outcomes.{SinkCall, IsCaused}
 use Rattle.board_main.specs.declared.line.WordFault.{WordFault}

@@ -2,7 +2,7 @@
 use Rattle.std.proofs.Common.{◌≡◌, ◌++◌, List, Result, Ok, Err, IfOk, refl, ap, sym, ◌∙◌, subst}
 use Rattle.std.proofs.lemmas.List.{append_cancel_right}
 use Rattle.board_core.specs.Kept.{Standing}
-use Rattle.board_prelude.specs.Common.{Entry, Setup, Statement, IsLegal, statements_of}
+use Rattle.board_prelude.specs.{Entry, Setup, Statement, IsLegal, statements_of}
 use Rattle.board_spec.proofs.OrderLawProofs.{statements-append}
 use Rattle.board_spec.proofs.ReplayLaws.{one_replay}
 use Rattle.promises.specs.Images.{GoOnAlike, IsAsSaved}

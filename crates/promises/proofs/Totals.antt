@@ -8,9 +8,9 @@ use Rattle.command_files.specs.declared.status.Status.TheVariants.{Done, Usage, 
 use Rattle.command_files.specs.declared.status.Status.TheVariants.{TooLong, BadScript, BadImage, Differs, OtherBoard}
 use Rattle.command_files.specs.declared.status.Which.{Which}
 use Rattle.command_files.specs.Asked.{AsksFor, ReadsFile}
-use Rattle.command_files.specs.Calls.{Since}
-use Rattle.command_files.specs.Outcomes.{CompareBoards, IsImageKind}
-use Rattle.command_files.specs.Common.{Files, CanEnd, ShelfCall, OfCalls}
+use Rattle.command_files.specs.Calls.{Since, OfCalls}
+use Rattle.command_files.specs.Outcomes.{CompareBoards, IsImageKind, CanEnd, ShelfCall}
+use Rattle.command_files.specs.Known.{Files}
 use Rattle.command_files.specs.declared.status.Which.TheVariants.{Script, Rom, Disk, Image}
 use Rattle.command_files.proofs.Refusals.{at_files}
 use Rattle.board_commands.specs.Outcomes.{SinkCall, IsCaused, IsExact, HasCause, Stopped, OfCommand, PutsTextFront}

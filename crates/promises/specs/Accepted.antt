@@ -2,7 +2,12 @@
 use Rattle.std.specs.Prelude.{ℕ, ◌≡◌, List, [], ◌∷◌, ◌++◌, codes, decimal, is_some, length}
 use Rattle.board_spec.specs.declared.event.Entry.{Entry}
 use Rattle.board_spec.specs.declared.event.Statement.{Statement}
-use Rattle.board_spec.specs.Common.{Setup, IsLegal, IsCompleteFor, log_text, statements_of, in_file_order, line_feed}
+use Rattle.board_spec.specs.Setup.{Setup}
+use Rattle.board_spec.specs.Legal.{IsLegal}
+use Rattle.board_spec.specs.Orders.{IsCompleteFor, statements_of}
+use Rattle.board_spec.specs.LogText.{log_text}
+use Rattle.board_spec.specs.OrderLaws.{in_file_order}
+use Rattle.board_spec.specs.Text.{line_feed}
 use Rattle.script_spec.specs.ScriptText.{Script, IsScriptText}
 use Rattle.board_image.specs.ImageBytes.{image_bytes}
 use Rattle.command_words.specs.Words.{Command, Replay, Run, Check, Resume}

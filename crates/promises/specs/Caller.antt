@@ -6,8 +6,12 @@ use Rattle.board_spec.specs.declared.event.Event.{Event}
 use Rattle.board_spec.specs.declared.event.Reply.{Reply}
 use Rattle.board_spec.specs.declared.event.Look.{Look}
 use Rattle.board_spec.specs.declared.map_change.MapChange.{MapChange}
-use Rattle.board_spec.specs.Common.{Setup, IsAnswer, IsSpan, entries_by, next_entry, map_writes_of, registers_after}
-use Rattle.device_spec.specs.Common.{Kind}
+use Rattle.board_spec.specs.Setup.{Setup}
+use Rattle.board_spec.specs.Answer.{IsAnswer}
+use Rattle.board_spec.specs.FlatMap.{IsSpan}
+use Rattle.board_spec.specs.Legal.{entries_by, next_entry}
+use Rattle.board_spec.specs.MapWrites.{map_writes_of, registers_after}
+use Rattle.board_base.specs.declared.access.Kind.{Kind}
 
 -- one list begins with another: it goes on with what is newer
 abbrev pub GoesOn : {E : Type 0} → (shorter longer : List E) → Type 0

@@ -2,7 +2,9 @@
 -- changed in place, and a wide access is its cycles. Histories have the newest entry first.
 use Rattle.std.specs.Prelude.{ℕ, ◌≡◌, ◌≤◌, ◌<◌, ◌∷◌, ◌++◌, Bool, true, false, List, Option, Some, None, map}
 use Rattle.std.specs.Prelude.{slice_get, unwrap_or}
-use Rattle.device_spec.specs.Common.{Kind, Fetch, Read, Write, WideAccess}
+use Rattle.board_base.specs.declared.access.Kind.{Kind}
+use Rattle.board_base.specs.declared.access.Kind.TheVariants.{Fetch, Read, Write}
+use Rattle.board_base.specs.declared.access.WideAccess.{WideAccess}
 use Rattle.board_base.specs.declared.access.Access.{Access}
 use Rattle.board_spec.specs.declared.event.Entry.{Entry}
 use Rattle.board_spec.specs.declared.event.Event.TheVariants.{Memory, Wide}
@@ -10,9 +12,14 @@ use Rattle.board_spec.specs.declared.event.Part.{Part}
 use Rattle.board_spec.specs.declared.event.Parts.{Parts}
 use Rattle.board_spec.specs.declared.event.Reply.{Reply}
 use Rattle.board_spec.specs.declared.event.Reply.TheVariants.{Bus, Parts as InParts}
-use Rattle.board_spec.specs.Common.{Setup, Bytes, MapRange, IsAnswer, IsFlatMapOf, IsWideAccess, AreParts, Cell}
-use Rattle.board_spec.specs.Common.{address_count, area_of, is_write, joined, memory_answer, parts_list, parts_of}
-use Rattle.board_spec.specs.Common.{stored_of}
+use Rattle.board_spec.specs.Setup.{Setup}
+use Rattle.board_spec.specs.Decode.{Bytes, area_of}
+use Rattle.board_spec.specs.FlatMap.{MapRange, IsFlatMapOf, address_count}
+use Rattle.board_spec.specs.Answer.{IsAnswer, memory_answer}
+use Rattle.board_spec.specs.InRange.{IsWideAccess}
+use Rattle.board_spec.specs.PartLaws.{AreParts}
+use Rattle.board_spec.specs.Stored.{Cell, is_write, stored_of}
+use Rattle.board_spec.specs.WideParts.{joined, parts_list, parts_of}
 
 -- ---- the flat map
 

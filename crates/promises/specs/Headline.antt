@@ -6,8 +6,15 @@ use Rattle.board_spec.specs.declared.event.Event.TheVariants.{Look as LookAt}
 use Rattle.board_spec.specs.declared.event.Reply.{Reply}
 use Rattle.board_spec.specs.declared.event.Reply.TheVariants.{Saw}
 use Rattle.board_spec.specs.declared.event.Statement.{Statement}
-use Rattle.board_spec.specs.Common.{Setup, IsLegal, IsCompleteFor, LockLaw, IsSpan, byte_of, version_of, log_text}
-use Rattle.board_spec.specs.Common.{statements_of, in_file_order}
+use Rattle.board_spec.specs.Setup.{Setup}
+use Rattle.board_spec.specs.Legal.{IsLegal}
+use Rattle.board_spec.specs.Orders.{IsCompleteFor, statements_of}
+use Rattle.board_spec.specs.LockLaw.{LockLaw}
+use Rattle.board_spec.specs.FlatMap.{IsSpan}
+use Rattle.board_spec.specs.Registers.{byte_of}
+use Rattle.board_spec.specs.MapWrites.{version_of}
+use Rattle.board_spec.specs.LogText.{log_text}
+use Rattle.board_spec.specs.OrderLaws.{in_file_order}
 use Rattle.script_spec.specs.ScriptText.{Script, IsScriptText}
 
 -- the board that a script asks for: the memory and the cards that it says, and the files that it names

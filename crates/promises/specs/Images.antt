@@ -3,8 +3,14 @@
 use Rattle.std.specs.Prelude.{ℕ, ◌≡◌, ◌≢◌, ◌+◌, ◌*◌, ◌%◌, ◌<◌, ◌⊎◌, ◌++◌, List, Some, false}
 use Rattle.std.specs.Prelude.{Result, Ok, Err}
 use Rattle.board_spec.specs.declared.event.Entry.{Entry}
-use Rattle.board_spec.specs.Common.{Setup, IsLegal, statements_of, first_cell, DramCell, is_smram_range}
-use Rattle.device_spec.specs.Common.{Target, Smram, Area}
+use Rattle.board_spec.specs.Setup.{Setup}
+use Rattle.board_spec.specs.Legal.{IsLegal}
+use Rattle.board_spec.specs.Orders.{statements_of}
+use Rattle.board_spec.specs.Stored.{first_cell, DramCell}
+use Rattle.board_spec.specs.Decode.{is_smram_range}
+use Rattle.board_base.specs.declared.target.Target.{Target}
+use Rattle.board_base.specs.declared.target.Target.TheVariants.{Smram}
+use Rattle.board_base.specs.declared.target.Area.{Area}
 use Rattle.board_base.specs.declared.target.Area.TheVariants.{Dram as DramArea, Shadow as ShadowArea}
 use Rattle.board_core.specs.Kept.{Standing}
 use Rattle.bus_master.specs.declared.piece.Piece.{Piece}

@@ -2,7 +2,9 @@
 use Rattle.std.specs.Prelude.{ℕ, ◌≡◌, ◌<◌, List, All}
 use Rattle.board_spec.specs.declared.event.Event.{Event}
 use Rattle.board_spec.specs.declared.event.Event.TheVariants.{Look as LookAt}
-use Rattle.board_spec.specs.Common.{IsCompleteFor, address_count, in_file_order}
+use Rattle.board_spec.specs.Orders.{IsCompleteFor}
+use Rattle.board_spec.specs.FlatMap.{address_count}
+use Rattle.board_spec.specs.OrderLaws.{in_file_order}
 use Rattle.script_spec.specs.ScriptText.{Script, IsScriptText}
 use Rattle.promises.specs.Headline.{IsHeadline, InFileOrder, InRunOrder}
 use Rattle.promises.specs.Accepted.{IsAccepted}

@@ -1,8 +1,8 @@
 //! The definitions, of the calls that build the map and change it, and of a law.
 
 ghost use Rattle.std.specs.Prelude.{◌≡◌};
-ghost use Rattle.board_prelude.specs.Common.{Setup, Bytes, changed_byte, area_of, IsSpan};
-ghost use Rattle.addr_decode.specs.Common.{StandsFor, map_bytes};
+ghost use Rattle.board_prelude.specs.{Setup, Bytes, changed_byte, area_of, IsSpan};
+ghost use Rattle.addr_decode.specs.MapRegs.{StandsFor, map_bytes};
 ghost use Rattle.pci_bars.specs.Cards.{AreFitted};
 ghost use Rattle.promises.specs.Definitions.{AnswersAsDecode, WideIsItsCycles};
 

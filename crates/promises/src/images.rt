@@ -2,7 +2,9 @@
 
 ghost use Rattle.std.specs.Prelude.{◌≡◌, List, IfOk};
 ghost use Rattle.board_spec.specs.declared.event.Entry.{Entry};
-ghost use Rattle.board_spec.specs.Common.{Setup as Fitting, IsLegal, statements_of};
+ghost use Rattle.board_spec.specs.Setup.{Setup as Fitting};
+ghost use Rattle.board_spec.specs.Legal.{IsLegal};
+ghost use Rattle.board_spec.specs.Orders.{statements_of};
 ghost use Rattle.board_image.specs.ImageBytes.{IsImage, image_bytes};
 ghost use Rattle.board_image.specs.declared.fault.ImageFault.{ImageFault as Refused};
 ghost use Rattle.board_chipset.specs.Chipset.{Running};

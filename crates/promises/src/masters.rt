@@ -1,8 +1,8 @@
 //! Bus masters, of the calls that say and do their accesses.
 
 ghost use Rattle.std.specs.Prelude.{ℕ, ◌≡◌, ◌<◌, ◌≤◌, ◌^◌, true};
-ghost use Rattle.board_prelude.specs.Common.{Setup, Bytes, is_smram_range};
-ghost use Rattle.addr_decode.specs.Common.{StandsFor, map_bytes};
+ghost use Rattle.board_prelude.specs.{Setup, Bytes, is_smram_range};
+ghost use Rattle.addr_decode.specs.MapRegs.{StandsFor, map_bytes};
 ghost use Rattle.pci_bars.specs.Cards.{AreFitted};
 ghost use Rattle.dram_store.specs.Dram.{dram_at};
 ghost use Rattle.board_chipset.specs.Stores.{IsOfBoard, IsStoreOf};

@@ -1,8 +1,7 @@
 -- A text that is cut at the ends of its lines.
 use Rattle.std.proofs.Common.{◌≡◌, ℕ, zero, suc, ◌+◌, ◌-◌, ◌<◌, ◌≤◌, ◌++◌, List, [], ◌∷◌, length, take, drop, get_or}
 use Rattle.std.proofs.Common.{refl, ap, arith}
-use Rattle.board_prelude.proofs.Common.{drop-append-le, drop-append_seam, length-append, length-drop, take_all}
-use Rattle.board_prelude.proofs.Common.{take-append-le}
+use Rattle.board_prelude.proofs.{drop-append-le, drop-append_seam, length-append, length-drop, take_all, take-append-le}
 use Rattle.run_log.specs.Cuts.{AreEnds, IsPart, cut_at}
 
 pub ends_within : (start : ℕ) (ends : List ℕ) (size : ℕ) → AreEnds start ends size → start ≤ size

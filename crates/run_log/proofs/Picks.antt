@@ -2,9 +2,9 @@
 use Rattle.std.proofs.Common.{◌≡◌, ℕ, ◌+◌, ◌<◌, ◌≤◌, ◌==◌, ◌++◌, List, [], ◌∷◌, length, take, drop, get_or, map, filter, set}
 use Rattle.std.proofs.Common.{Bool, refl, sym, ap, ◌∙◌, arith, append_assoc, decimal}
 use Rattle.std.specs.List.{take-map}
-use Rattle.board_prelude.proofs.Common.{nat_tests, filter-append, take-append-drop, drop_more, get_or-append_seam}
-use Rattle.board_prelude.proofs.Common.{get_or-map, length-map, length-append, take_more, get_or-set_at}
-use Rattle.board_prelude.proofs.Common.{length-set, length-take-le, get_or-set_other, Entry, entries_by, line_feed, line_text, space}
+use Rattle.board_prelude.proofs.{nat_tests, filter-append, take-append-drop, drop_more, get_or-append_seam, get_or-map}
+use Rattle.board_prelude.proofs.{length-map, length-append, take_more, get_or-set_at, length-set, length-take-le}
+use Rattle.board_prelude.proofs.{get_or-set_other, Entry, entries_by, line_feed, line_text, space}
 use Rattle.logs.specs.Numbered.{tail_line, tail_text}
 use Rattle.logs.proofs.Joined.{lines_are_numbered}
 use Rattle.run_log.specs.Counts.{AreCountsOf, times}

@@ -2,7 +2,7 @@
 use Rattle.std.proofs.Common.{ap, ◌≡◌, ℕ, ◌+◌, ◌*◌, ◌++◌, List, [], ◌∷◌, length, take, drop}
 use Rattle.std.proofs.Common.{refl, ◌∙◌, append_assoc, append-nil, arith, Ok, Vec}
 use Rattle.std.proofs.Common.{Global, take_all, length-take-le, length-append}
-use Rattle.board_prelude.proofs.Common.{nat_tests, common_steps, drop_all, get_or-append_seam, Entry}
+use Rattle.board_prelude.proofs.{nat_tests, common_steps, drop_all, get_or-append_seam, Entry}
 use Rattle.std.proofs.Math.Seq.{take-add}
 use Rattle.logs.specs.LinesFrom.{lines_from}
 use Rattle.logs.proofs.Parts.{lines_of_parts}

@@ -2,4 +2,3 @@ pub mod Cuts
 pub mod Counts
 pub mod Lines
 pub mod Pieces
-pub mod Common

@@ -1,6 +1,6 @@
 -- The lines that the processors of a run wrote. Here the oldest entry stands first.
 use Rattle.std.specs.Prelude.{ℕ, ◌≡◌, ◌<◌, List, [], All, length, map, slice_index_or}
-use Rattle.board_prelude.specs.Common.{Entry, entries_by}
+use Rattle.board_prelude.specs.{Entry, entries_by}
 use Rattle.logs.specs.Numbered.{tail_line}
 use Rattle.run_order.specs.Over.{AreActorsOf}
 

@@ -1,6 +1,6 @@
 -- The lines of a history in pieces. Here the oldest entry stands first.
 use Rattle.std.specs.Prelude.{ℕ, ◌≡◌, ◌+◌, ◌*◌, ◌<◌, List, length, take, drop, slice_index_or, Result, IfOk, Vec}
-use Rattle.board_prelude.specs.Common.{Global, NoMemory, Entry}
+use Rattle.board_prelude.specs.{Global, NoMemory, Entry}
 use Rattle.logs.specs.LinesFrom.{lines_from}
 
 abbrev pub Piece : Type 0

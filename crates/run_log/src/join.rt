@@ -2,7 +2,7 @@
 
 ghost use Rattle.std.specs.Prelude.{◌≡◌, ◌+◌, ◌-◌, ◌<◌, ◌≤◌, ◌++◌, List, ℕ, [], ◌∷◌, All, decimal, drop, length, take};
 ghost use Rattle.std.specs.Prelude.{OnOk};
-ghost use Rattle.board_prelude.specs.Common.{Entry, space};
+ghost use Rattle.board_prelude.specs.{Entry, space};
 ghost use Rattle.logs.specs.LinesFrom.{lines_from};
 ghost use Rattle.run_log.specs.Counts.{AreCountsOf};
 ghost use Rattle.run_log.specs.Lines.{AreLinesOf};

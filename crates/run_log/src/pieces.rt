@@ -1,7 +1,7 @@
 //! A log is cut into pieces of the same number of lines, and their texts stand one after another.
 
 ghost use Rattle.std.specs.Prelude.{◌≡◌, ◌++◌, ℕ, List, [], ◌+◌, ◌-◌, ◌*◌, ◌<◌, ◌≤◌, drop, length, take, reverse, OnOk, IfOk};
-ghost use Rattle.board_prelude.specs.Common.{Entry, log_text};
+ghost use Rattle.board_prelude.specs.{Entry, log_text};
 ghost use Rattle.logs.specs.LinesFrom.{lines_from};
 ghost use Rattle.run_log.specs.Lines.{AreLinesOf};
 ghost use Rattle.run_log.specs.Pieces.{ArePieces, IsPiece};

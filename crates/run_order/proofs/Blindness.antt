@@ -1,20 +1,33 @@
 -- No answer depends on the looks and the numbers before it: each definition over histories gives the same without them.
 use Rattle.std.proofs.Common.{◌≡◌, ℕ, zero, suc, ◌==◌, nat_lt, Bool, false, List, [], ◌∷◌, refl, sym, ◌∙◌, ap, arith}
 use Rattle.std.proofs.Common.{Some, None, if◌then◌else◌}
-use Rattle.board_prelude.proofs.Common.{Event, Memory, Wide, Port, Ack, Reply, Bus, Saw, nat_tests, Entry, map-same}
-use Rattle.board_prelude.proofs.Common.{levels-same, disk_of-same, elcr-same}
-use Rattle.board_spec.specs.Common.{Kind, Width, Reg, Target, Rom, Card, Device, Config, Abort, Dev, PitState, out_of}
-use Rattle.board_spec.specs.Common.{pulses, Pair, answer_of, Setup, installed, version_of, wide, pirq, reset_control}
-use Rattle.board_spec.specs.Common.{config_address, register_change, byte_of, map_change_of, map_writes_of, Cell}
-use Rattle.board_spec.specs.Common.{DramCell, CardCell, entry_put, stored_of, dram_byte, expansion_byte, parts_of}
-use Rattle.board_spec.specs.Common.{wire_of, irq_of, triggers_of, plain_of, timer_of, clock_of, disk_with, pirqs}
-use Rattle.board_spec.specs.Common.{levels_with, elcr_of, pair_pulsed, pair_stepped, pair_of, device_value}
-use Rattle.board_spec.specs.Common.{who_answered, SameDevices, MemoryLeavesDevices, IsAnswer, memory_answer}
-use Rattle.board_spec.specs.Common.{part_answer, wide_value, port_answer, port_value, value_at, card_at, card_byte}
-use Rattle.board_spec.specs.Common.{kept_size}
+use Rattle.board_prelude.proofs.{Event, Memory, Wide, Port, Ack, Reply, Bus, Saw, nat_tests, Entry, map-same}
+use Rattle.board_prelude.proofs.{levels-same, disk_of-same, elcr-same}
+use Rattle.board_base.specs.declared.access.Kind.{Kind}
+use Rattle.board_base.specs.declared.access.Width.{Width}
+use Rattle.board_base.specs.declared.target.Reg.{Reg}
+use Rattle.board_base.specs.declared.target.Target.{Target}
+use Rattle.board_base.specs.declared.target.Target.TheVariants.{Rom, Card, Device, Config, Abort}
+use Rattle.board_base.specs.declared.target.Dev.{Dev}
+use Rattle.device_spec.specs.Pit.{PitState, out_of, pulses}
+use Rattle.device_spec.specs.Pair.{Pair, answer_of}
+use Rattle.board_spec.specs.Setup.{Setup, installed, card_at, kept_size}
+use Rattle.board_spec.specs.MapWrites.{version_of, map_change_of, map_writes_of}
+use Rattle.board_spec.specs.Bits.{wide}
+use Rattle.board_spec.specs.RegisterNames.{pirq}
+use Rattle.board_spec.specs.Registers.{reset_control, config_address, register_change, byte_of}
+use Rattle.board_spec.specs.Stored.{Cell, DramCell, CardCell, entry_put, stored_of, dram_byte, expansion_byte}
+use Rattle.board_spec.specs.Stored.{card_byte}
+use Rattle.board_spec.specs.WideParts.{parts_of}
+use Rattle.board_spec.specs.Devices.{wire_of, irq_of, triggers_of, plain_of, timer_of, clock_of, disk_with}
+use Rattle.board_spec.specs.Interrupts.{pirqs, levels_with, elcr_of, pair_pulsed, pair_stepped, pair_of, device_value}
+use Rattle.board_spec.specs.Interrupts.{who_answered}
+use Rattle.board_spec.specs.DeviceLaws.{SameDevices, MemoryLeavesDevices}
+use Rattle.board_spec.specs.Answer.{IsAnswer, memory_answer, part_answer, wide_value, port_answer, port_value, value_at}
 use Rattle.board_spec.specs.declared.event.Event.TheVariants.{Look as LookAt}
 use Rattle.board_spec.specs.declared.event.Reply.TheVariants.{Parts}
-use Rattle.run_order.specs.Common.{is_look, bare}
+use Rattle.run_order.specs.Placing.{is_look}
+use Rattle.run_order.specs.PhaseRun.{bare}
 
 -- ---- an event that is a look
 

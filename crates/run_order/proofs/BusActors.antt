@@ -3,8 +3,8 @@ use Rattle.std.proofs.Common.{◌≡◌, ℕ, ◌+◌, ◌-◌, ◌<◌, List, [
 use Rattle.std.proofs.Common.{arith}
 use Rattle.std.proofs.Common.{map, refl}
 use Rattle.std.proofs.lemmas.List.{drop-map}
-use Rattle.board_prelude.proofs.Common.{Entry, get_or-map, get_or-drop, length-drop, length-map, map-append, take_more}
-use Rattle.board_prelude.proofs.Common.{reverse-append, reverse-reverse, take_all}
+use Rattle.board_prelude.proofs.{Entry, get_or-map, get_or-drop, length-drop, length-map, map-append, take_more}
+use Rattle.board_prelude.proofs.{reverse-append, reverse-reverse, take_all}
 use Rattle.run_order.specs.declared.entry.RunEntry.{RunEntry}
 use Rattle.run_order.specs.Over.{AreActorsOf, entry_of, nowhere, over}
 

@@ -1,11 +1,12 @@
 -- How many looks there are, and how many entries each has.
 use Rattle.std.proofs.Common.{◌≡◌, ℕ, zero, suc, ◌+◌, ◌≤◌, List, [], ◌∷◌, map, get_or, set, refl, ap, arith, ◌-◌, ◌^◌}
 use Rattle.std.proofs.Common.{◌<◌, ◌++◌, length, take, All, ◌≢◌, ◌∙◌, slice_index, reverse}
-use Rattle.board_prelude.proofs.Common.{nat_tests, take_more, map-append, length-map, get_or-set_other, reverse-append}
-use Rattle.board_prelude.proofs.Common.{length-reverse, get_or-set_at, All-cons, Entry, entries_by}
+use Rattle.board_prelude.proofs.{nat_tests, take_more, map-append, length-map, get_or-set_other, reverse-append}
+use Rattle.board_prelude.proofs.{length-reverse, get_or-set_at, All-cons, Entry, entries_by}
 use Rattle.run_order.specs.declared.done.Done.{Done}
-use Rattle.run_order.specs.Common.{done_by, without_first, passed, looks_in, all_looks_in, IsPlacedBelow, entry_of}
-use Rattle.run_order.specs.Common.{over, Order, IsOrder}
+use Rattle.run_order.specs.Placing.{done_by, without_first, passed}
+use Rattle.run_order.specs.Room.{looks_in, all_looks_in, Order, IsOrder}
+use Rattle.run_order.specs.Over.{IsPlacedBelow, entry_of, over}
 use Rattle.std.proofs.lemmas.List.Sums.{length-filter, count_by-le-length}
 use Rattle.run_order.specs.declared.entry.RunEntry.{RunEntry}
 use Rattle.run_order.proofs.Histories.{within_more}

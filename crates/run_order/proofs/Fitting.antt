@@ -1,15 +1,15 @@
 -- A processor's statements in the history of the bus: where its calls stand, and between which versions its looks.
 use Rattle.std.proofs.Common.{ℕ, ◌≡◌, ◌≤◌, false, List, [], ◌∷◌, ◌+◌, Bool, ◌++◌, length, refl, sym, ◌∙◌, ap, arith}
 use Rattle.std.proofs.Common.{append_assoc, length-append, map}
-use Rattle.board_prelude.proofs.Common.{Event, Look, Saw, Entry, Setup, version_of, IsAnswer, entries_by}
-use Rattle.board_prelude.proofs.Common.{drop-append_seam, option_to_list, Kind, Area, MapChange, IsCardList, byte_of}
-use Rattle.board_prelude.proofs.Common.{map_change_of, map_writes_of, registers_after, Bytes, IsSpan, SameMapBytes}
-use Rattle.board_prelude.proofs.Common.{map_writes_decide, map_bytes_decide}
+use Rattle.board_prelude.proofs.{Event, Look, Saw, Entry, Setup, version_of, IsAnswer, entries_by, drop-append_seam}
+use Rattle.board_prelude.proofs.{option_to_list, Kind, Area, MapChange, IsCardList, byte_of, map_change_of}
+use Rattle.board_prelude.proofs.{map_writes_of, registers_after, Bytes, IsSpan, SameMapBytes, map_writes_decide}
+use Rattle.board_prelude.proofs.{map_bytes_decide}
 use Rattle.board_spec.specs.declared.event.Event.TheVariants.{Look as LookAt}
 use Rattle.run_order.specs.declared.done.Done.{Done}
 use Rattle.run_order.specs.declared.done.Done.TheVariants.{Went, Looked}
-use Rattle.run_order.specs.Common.{is_look, Begins, event_of, without_first, noted}
-use Rattle.run_order.specs.Trace.{HasMoreWrites, IsLookOf, IsDone}
+use Rattle.run_order.specs.Placing.{is_look, event_of, without_first, noted}
+use Rattle.run_order.specs.Trace.{Begins, HasMoreWrites, IsLookOf, IsDone}
 use Rattle.run_order.proofs.Histories.{onto, begins_before, begins_trans, own_later, same_place}
 
 -- ---- a processor's statements in the bus's whole history: where its calls stand, and between which versions its looks

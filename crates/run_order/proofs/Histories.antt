@@ -1,8 +1,8 @@
 -- Beginnings of a history, and a processor's entries in it.
 use Rattle.std.proofs.Common.{◌≡◌, ℕ, ◌+◌, ◌<◌, ◌≤◌, List, [], ◌∷◌, ◌++◌, length, refl, sym, ◌∙◌, ap, arith}
 use Rattle.std.proofs.Common.{append_assoc, reverse, take, All, subst, get_or-take, suc}
-use Rattle.board_prelude.proofs.Common.{reverse-append, nat_tests, Entry, Setup, version_of, IsLegal, map_writes_of}
-use Rattle.board_prelude.proofs.Common.{entries_by, reverse-reverse, All-permutation}
+use Rattle.board_prelude.proofs.{reverse-append, nat_tests, Entry, Setup, version_of, IsLegal, map_writes_of}
+use Rattle.board_prelude.proofs.{entries_by, reverse-reverse, All-permutation}
 use Rattle.std.proofs.lemmas.List.Sorted.{IsPermutation-reverse}
 use Rattle.run_order.specs.Trace.{Begins}
 use Rattle.run_order.specs.declared.entry.RunEntry.{RunEntry}

@@ -3,13 +3,14 @@ use Rattle.std.proofs.Common.{◌≡◌, ℕ, ◌+◌, ◌<◌, ◌≤◌, ◌==
 use Rattle.std.proofs.Common.{◌∙◌, ap, arith, inl, inr, reverse, if◌then◌else◌, get_or, suc}
 use Rattle.std.proofs.lemmas.List.{append_cancel_right}
 use Rattle.board_spec.proofs.OrderLawProofs.{events-append, statements-append, statements-newest}
-use Rattle.board_prelude.proofs.Common.{cases_lt, nat_tests, append-nil, reverse-append, reverse-reverse, get_or_past}
-use Rattle.board_prelude.proofs.Common.{filter-append, map-append, length-map, length-reverse, length-take, take_all}
-use Rattle.board_prelude.proofs.Common.{drop_all, take-append-le, drop-append-le, Event, Entry, Statement, version_of}
-use Rattle.board_prelude.proofs.Common.{statement_of, statements_of, events_by, IsWholePhase, HasPhases, All-cons}
-use Rattle.board_prelude.proofs.Common.{get_or-map}
+use Rattle.board_prelude.proofs.{cases_lt, nat_tests, append-nil, reverse-append, reverse-reverse, get_or_past}
+use Rattle.board_prelude.proofs.{filter-append, map-append, length-map, length-reverse, length-take, take_all, drop_all}
+use Rattle.board_prelude.proofs.{take-append-le, drop-append-le, Event, Entry, version_of, statement_of, statements_of}
+use Rattle.board_prelude.proofs.{events_by, IsWholePhase, HasPhases, All-cons, get_or-map}
+use Rattle.board_prelude.specs.{Statement}
 use Rattle.run_order.specs.declared.done.Done.{Done}
-use Rattle.run_order.specs.Common.{event_of, placed, done_by, bare, AnswersAreBlind, PhaseRuns}
+use Rattle.run_order.specs.Placing.{event_of, placed, done_by}
+use Rattle.run_order.specs.PhaseRun.{bare, AnswersAreBlind, PhaseRuns}
 use Rattle.run_order.proofs.Histories.{onto, onto_is, all_turned}
 use Rattle.run_order.proofs.Fitting.{late_by, Waits, first_all, follows_on}
 use Rattle.run_order.proofs.Placement.{Each, own, Stands, placed_holds}

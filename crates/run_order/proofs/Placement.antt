@@ -2,14 +2,15 @@
 use Rattle.std.proofs.Common.{◌≡◌, ◌≢◌, ℕ, ◌+◌, ◌<◌, ◌==◌, false, List, [], ◌∷◌, map, length, get_or, set, refl, arith}
 use Rattle.std.proofs.Common.{get_or-set_other, zero, suc, true, inl, inr, ◌≤◌, nat_le, ◌++◌, sym, All, ◌∙◌, ap}
 use Rattle.std.proofs.Common.{if◌then◌else◌}
-use Rattle.board_prelude.proofs.Common.{nat_tests, get_or-set_at, Event, Saw, Entry, entries_by, next_entry, length-map}
-use Rattle.board_prelude.proofs.Common.{Setup, version_of, length-set, get_or_past, cases_Bool, Reply, IsNext, IsLegal}
+use Rattle.board_prelude.proofs.{nat_tests, get_or-set_at, Event, Saw, Entry, entries_by, next_entry, length-map, Setup}
+use Rattle.board_prelude.proofs.{version_of, length-set, get_or_past, cases_Bool, Reply, IsNext, IsLegal}
 use Rattle.board_spec.specs.declared.event.Event.TheVariants.{Look as LookAt}
 use Rattle.run_order.specs.declared.done.Done.{Done}
 use Rattle.run_order.specs.declared.done.Done.TheVariants.{Looked, Went}
-use Rattle.run_order.specs.Common.{event_of, with_looks, left_after, with_all_looks, all_left, without_first, passed}
-use Rattle.run_order.specs.Common.{done_by, is_look, without_lower, IsPlaceOf, IsInPlace, placed, AreInPlace, bare}
-use Rattle.run_order.specs.Common.{AnswersAreBlind}
+use Rattle.run_order.specs.Placing.{event_of, with_looks, left_after, with_all_looks, all_left, without_first, passed}
+use Rattle.run_order.specs.Placing.{done_by, is_look, placed}
+use Rattle.run_order.specs.Places.{without_lower, IsPlaceOf, IsInPlace, AreInPlace}
+use Rattle.run_order.specs.PhaseRun.{bare, AnswersAreBlind}
 use Rattle.run_order.proofs.Histories.{onto, version_step, legal_front, begins_before, onto_begins}
 use Rattle.run_order.proofs.Counts.{from_first}
 use Rattle.run_order.proofs.Fitting.{FirstLook, first_goes, first_all, Waits, Late, late_by, IsNextCall, next_call}

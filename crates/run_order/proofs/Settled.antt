@@ -1,13 +1,15 @@
 -- Lists in which no look is due.
 use Rattle.std.proofs.Common.{◌≡◌, ℕ, zero, suc, ◌+◌, ◌<◌, ◌≤◌, List, [], ◌∷◌, length, All, drop, get_or, map, set}
 use Rattle.std.proofs.Common.{refl, sym, ap, arith, take, ◌++◌, reverse, ◌≢◌}
-use Rattle.board_prelude.proofs.Common.{nat_tests, length-map, get_or-map, map-set, get_or-set_other, drop_more}
-use Rattle.board_prelude.proofs.Common.{drop_all, Entry, next_entry, take_more, reverse-append, take-append-drop, Setup}
-use Rattle.board_prelude.proofs.Common.{IsLegal, get_or-set_at}
+use Rattle.board_prelude.proofs.{nat_tests, length-map, get_or-map, map-set, get_or-set_other, drop_more, drop_all}
+use Rattle.board_prelude.proofs.{Entry, next_entry, take_more, reverse-append, take-append-drop, Setup, IsLegal}
+use Rattle.board_prelude.proofs.{get_or-set_at}
 use Rattle.run_order.specs.declared.done.Done.{Done}
 use Rattle.run_order.specs.declared.done.Done.TheVariants.{Looked}
-use Rattle.run_order.specs.Common.{with_looks, left_after, with_all_looks, all_left, without_first, noted, placed}
-use Rattle.run_order.specs.Common.{done_by, passed, looks_in, all_looks_in, IsNotDue, IsSettled, IsSettledBut}
+use Rattle.run_order.specs.Placing.{with_looks, left_after, with_all_looks, all_left, without_first, noted, placed}
+use Rattle.run_order.specs.Placing.{done_by, passed}
+use Rattle.run_order.specs.Room.{looks_in, all_looks_in}
+use Rattle.run_order.specs.Settled.{IsNotDue, IsSettled, IsSettledBut}
 use Rattle.run_order.proofs.Counts.{count_set, from_first, first_is_one}
 use Rattle.run_order.proofs.Histories.{onto, onto_is, legal_front}
 

@@ -1,11 +1,11 @@
 -- Each processor's entries in the placed history are what it did.
 use Rattle.std.proofs.Common.{◌≡◌, ℕ, ◌+◌, ◌<◌, ◌==◌, List, [], ◌∷◌, length, refl, arith, if◌then◌else◌, set, get_or}
 use Rattle.std.proofs.Common.{get_or-set_other}
-use Rattle.board_prelude.proofs.Common.{nat_tests, get_or-set_at, Saw, Entry, entries_by, next_entry}
+use Rattle.board_prelude.proofs.{nat_tests, get_or-set_at, Saw, Entry, entries_by, next_entry}
 use Rattle.board_spec.specs.declared.event.Event.TheVariants.{Look as LookAt}
 use Rattle.run_order.specs.declared.done.Done.{Done}
 use Rattle.run_order.specs.declared.done.Done.TheVariants.{Looked, Went}
-use Rattle.run_order.specs.Common.{with_looks, left_after, with_all_looks, all_left, without_first, passed, done_by}
+use Rattle.run_order.specs.Placing.{with_looks, left_after, with_all_looks, all_left, without_first, passed, done_by}
 use Rattle.run_order.specs.Written.{written}
 use Rattle.run_order.proofs.Counts.{from_first}
 use Rattle.run_order.proofs.Fitting.{GoesFirst}

@@ -6,4 +6,3 @@ pub mod Room
 pub mod Settled
 pub mod Trace
 pub mod Written
-pub mod Common

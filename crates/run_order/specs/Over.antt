@@ -1,6 +1,6 @@
 -- The history of a run in few bytes, over the bus's history, which has the oldest entry first here.
 use Rattle.std.specs.Prelude.{ℕ, ◌≡◌, ◌<◌, List, map, None, slice_index_or}
-use Rattle.board_prelude.specs.Common.{Abort, Ack, Bus as AnsweredBy, Saw, Entry}
+use Rattle.board_prelude.specs.{Abort, Ack, Bus as AnsweredBy, Saw, Entry}
 use Rattle.board_spec.specs.declared.event.Event.TheVariants.{Look as LookAt}
 use Rattle.run_order.specs.declared.entry.RunEntry.{RunEntry}
 use Rattle.run_order.specs.declared.entry.RunEntry.TheVariants.{Bus, Look}

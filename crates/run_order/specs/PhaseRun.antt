@@ -1,7 +1,7 @@
 -- A phase that was run, and the history of the run with that phase.
 use Rattle.std.specs.Prelude.{ℕ, ◌≡◌, ◌<◌, if◌then◌else◌, List, [], ◌∷◌, ◌++◌, length, map, reverse, All}
-use Rattle.board_prelude.specs.Common.{Event, Reply, Entry, Statement, MapChange, Setup, IsCardList, version_of}
-use Rattle.board_prelude.specs.Common.{IsAnswer, IsLegal, entries_by, statements_of, events_by, HasPhases}
+use Rattle.board_prelude.specs.{Event, Reply, Entry, Statement, MapChange, Setup, IsCardList, version_of, IsAnswer}
+use Rattle.board_prelude.specs.{IsLegal, entries_by, statements_of, events_by, HasPhases}
 use Rattle.run_order.specs.declared.done.Done.{Done}
 use Rattle.run_order.specs.Placing.{is_look, event_of, done_by, placed}
 use Rattle.run_order.specs.Places.{AreInPlace}

@@ -1,7 +1,7 @@
 -- The place of a look: directly after the later of its processor's previous statement and the map write whose count is
 -- its version. Looks in the same place stand in order of processor. Histories have the newest entry first.
 use Rattle.std.specs.Prelude.{ℕ, ◌≡◌, ◌<◌, ◌⊎◌, ◌&&◌, nat_lt, if◌then◌else◌, List, [], ◌∷◌, ◌++◌, length, take, drop}
-use Rattle.board_prelude.specs.Common.{Event, Reply, Saw, Entry, Statement, Setup, version_of}
+use Rattle.board_prelude.specs.{Event, Reply, Saw, Entry, Statement, Setup, version_of}
 use Rattle.board_spec.specs.declared.event.Event.TheVariants.{Look as LookAt}
 use Rattle.run_order.specs.Placing.{is_look}
 

@@ -1,7 +1,7 @@
 -- Where the looks of a phase stand in the history of a run. Histories have the newest entry first; what the processors
 -- did, and what the bus's history gained in the phase, has the oldest first.
 use Rattle.std.specs.Prelude.{ℕ, ◌+◌, ◌==◌, nat_le, Bool, true, false, if◌then◌else◌, List, [], ◌∷◌, map}
-use Rattle.board_prelude.specs.Common.{Event, Saw, Entry, next_entry}
+use Rattle.board_prelude.specs.{Event, Saw, Entry, next_entry}
 use Rattle.board_spec.specs.declared.event.Event.TheVariants.{Look as LookAt}
 use Rattle.run_order.specs.declared.done.Done.{Done}
 use Rattle.run_order.specs.declared.done.Done.TheVariants.{Went, Looked}

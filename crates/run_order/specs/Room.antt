@@ -1,6 +1,6 @@
 -- What the order of a run is seen as, and what it keeps.
 use Rattle.std.specs.Prelude.{ℕ, ◌≡◌, ◌+◌, ◌^◌, ◌<◌, ◌≤◌, List, [], ◌∷◌, length, slice_index, All}
-use Rattle.board_prelude.specs.Common.{Entry, entries_by}
+use Rattle.board_prelude.specs.{Entry, entries_by}
 use Rattle.run_order.specs.declared.done.Done.{Done}
 use Rattle.run_order.specs.declared.done.Done.TheVariants.{Went, Looked}
 use Rattle.run_order.specs.declared.entry.RunEntry.{RunEntry}

@@ -1,8 +1,8 @@
 -- What a processor did in a phase, by the clauses of its calls. Histories and lists of map writes have the newest
 -- first.
 use Rattle.std.specs.Prelude.{ℕ, ◌≡◌, Bool, false, List, [], ◌∷◌, ◌++◌, length}
-use Rattle.board_prelude.specs.Common.{Kind, Look, Event, Entry, MapChange, Setup, map_writes_of, registers_after}
-use Rattle.board_prelude.specs.Common.{IsSpan, entries_by}
+use Rattle.board_prelude.specs.{Kind, Look, Event, Entry, MapChange, Setup, map_writes_of, registers_after, IsSpan}
+use Rattle.board_prelude.specs.{entries_by}
 use Rattle.run_order.specs.declared.done.Done.{Done}
 use Rattle.run_order.specs.declared.done.Done.TheVariants.{Went, Looked}
 use Rattle.run_order.specs.Placing.{is_look}

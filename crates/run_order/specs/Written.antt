@@ -1,7 +1,7 @@
 -- A processor's own entries in the history of a run, the newest first. What it did has the oldest first, and so have
 -- its calls of the bus: its own entries of the bus's history.
 use Rattle.std.specs.Prelude.{ℕ, ◌+◌, List, [], ◌∷◌, length}
-use Rattle.board_prelude.specs.Common.{Event, Reply, Saw, Entry}
+use Rattle.board_prelude.specs.{Event, Reply, Saw, Entry}
 use Rattle.board_spec.specs.declared.event.Event.TheVariants.{Look as LookAt}
 use Rattle.run_order.specs.declared.done.Done.{Done}
 use Rattle.run_order.specs.declared.done.Done.TheVariants.{Went, Looked}

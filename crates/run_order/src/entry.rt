@@ -1,7 +1,7 @@
 //! An entry of the history of a run, in few bytes.
 
 ghost use Rattle.std.specs.Prelude.{◌≡◌, List, length};
-ghost use Rattle.board_prelude.specs.Common.{Entry as AnEntry};
+ghost use Rattle.board_prelude.specs.{Entry as AnEntry};
 ghost use Rattle.run_order.specs.Over.{IsPlacedBelow, entry_of};
 
 use access_history::Entries;

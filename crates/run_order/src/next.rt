@@ -1,7 +1,7 @@
 //! What comes next in what a processor did.
 
 ghost use Rattle.std.specs.Prelude.{◌≡◌, [], ◌∷◌, ◌+◌, ◌<◌, ◌≤◌, ℕ, List, length, IsFalse, IfSome, MatchOption};
-ghost use Rattle.board_prelude.specs.Common.{Entry, Saw, next_entry};
+ghost use Rattle.board_prelude.specs.{Entry, Saw, next_entry};
 ghost use Rattle.board_spec.specs.declared.event.Event.TheVariants.{Look as LookAt};
 ghost use Rattle.run_order.specs.Placing.{with_looks, left_after, without_first, noted};
 ghost use Rattle.run_order.specs.Room.{looks_in};

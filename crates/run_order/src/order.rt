@@ -2,7 +2,7 @@
 
 ghost use Rattle.std.specs.Prelude.{◌≡◌, ◌-◌, ◌+◌, ◌<◌, ◌≤◌, List, [], ◌∷◌, length, map, drop, reverse, slice_index_or};
 ghost use Rattle.std.specs.Prelude.{All, max, IsFalse, IsOk, IfOk, OnOk, OnErr};
-ghost use Rattle.board_prelude.specs.Common.{Entry, Saw, Setup, IsLegal, entries_by, next_entry};
+ghost use Rattle.board_prelude.specs.{Entry, Saw, Setup, IsLegal, entries_by, next_entry};
 ghost use Rattle.board_spec.specs.declared.event.Event.TheVariants.{Look as LookAt};
 ghost use Rattle.run_order.specs.Over.{AreActorsOf, IsPlacedBelow, entry_of, nowhere, over};
 ghost use Rattle.run_order.specs.Placing.{with_looks, left_after, with_all_looks, all_left, placed};

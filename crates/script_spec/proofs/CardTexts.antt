@@ -2,9 +2,10 @@
 use Rattle.std.proofs.Common.{◌≡◌, ℕ, ◌<◌, ◌≤◌, ◌⊎◌, inl, inr, Bool, true, false, Some, None, List, [], ◌∷◌, ◌++◌}
 use Rattle.std.proofs.Common.{length, map, All, refl, append_assoc, arith, codes, decimal, ◌+◌, Option, IfSome}
 use Rattle.std.proofs.Common.{append-nil, length-append, eq-eqb, lt-ltb}
-use Rattle.board_prelude.proofs.Common.{nat_tests, All-nil, All-push, map-append, Base, All-head, All-tail}
-use Rattle.script_spec.specs.Common.{IsBaseForm, IsRomForm, IsCardForm, parse_base, Tail, parse_rom_bits, with_base}
-use Rattle.script_spec.specs.Common.{with_rom, with_field, with_fields, no_tail, parse_vga, parse_card}
+use Rattle.board_prelude.proofs.{nat_tests, All-nil, All-push, map-append, Base, All-head, All-tail}
+use Rattle.script_spec.specs.Grammar.{IsBaseForm, IsRomForm, IsCardForm}
+use Rattle.script_spec.specs.Cards.{parse_base, Tail, parse_rom_bits, with_base, with_rom, with_field, with_fields}
+use Rattle.script_spec.specs.Cards.{no_tail, parse_vga, parse_card}
 use Rattle.script_spec.proofs.Chains.{some_is, then_said, if_some, word_is}
 use Rattle.script_spec.proofs.NumberTexts.{decimal_if, decimal_back}
 use Rattle.script_spec.proofs.ItemWords.{kind_word, base_word, tail_words, rom_words}

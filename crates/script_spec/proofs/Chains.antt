@@ -1,8 +1,8 @@
 -- Parts of a chain that said something, and fields that spell words.
-use Rattle.board_prelude.proofs.Common.{nat_tests, option_and_then, AllZip, join_with_byte, bytes_eq-Decides, space}
+use Rattle.board_prelude.proofs.{nat_tests, option_and_then, AllZip, join_with_byte, bytes_eq-Decides, space}
 use Rattle.std.proofs.Common.{arith, ◌≡◌, Bool, true, cond, Option, Some, None, List, [], ◌∷◌, get_or, ap, ℕ, IfSome}
 use Rattle.std.proofs.Common.{◌++◌, inl, refl, subst, bytes_eq}
-use Rattle.script_spec.specs.Common.{StandsFor}
+use Rattle.script_spec.specs.Grammar.{StandsFor}
 
 pub some_is : {A : Type 0} (x y : A) → ◌≡◌ {A = Option A} (Some x) (Some y) → x ≡ y
 some_is x y e = cc

@@ -1,10 +1,12 @@
 -- A text leaves a kind of texts at one line.
-use Rattle.board_prelude.proofs.Common.{nat_tests, common_steps, ne_eqb, eqb-false, flat_map-append, All-nil, All-cons}
-use Rattle.board_prelude.proofs.Common.{All-head, All-tail, line_feed}
+use Rattle.board_prelude.proofs.{nat_tests, common_steps, ne_eqb, eqb-false, flat_map-append, All-nil, All-cons}
+use Rattle.board_prelude.proofs.{All-head, All-tail, line_feed}
 use Rattle.std.proofs.Common.{arith, ℕ, ◌≡◌, ◌≢◌, ◌⊎◌, true, List, [], ◌∷◌, ◌++◌, All, refl, sym, ap, ◌∙◌, inl, inr}
 use Rattle.std.proofs.Common.{append_assoc}
-use Rattle.script_spec.specs.Common.{text_of_lines, IsOneLine, AreBegun, LeavesAt, IsSomeLog, IsLogOf, OneBadLog}
-use Rattle.script_spec.specs.Common.{OneDifference, cut}
+use Rattle.script_spec.specs.Lines.{text_of_lines, IsOneLine}
+use Rattle.script_spec.specs.Checks.{AreBegun, LeavesAt, IsSomeLog, IsLogOf}
+use Rattle.script_spec.specs.Laws.{OneBadLog, OneDifference}
+use Rattle.script_spec.specs.Cuts.{cut}
 use Rattle.std.proofs.lemmas.Option.{some_pair_parts}
 use Rattle.script_spec.proofs.Digits.{lacks, lacks-first, lacks-later, cut_field}
 

@@ -1,10 +1,13 @@
 -- What a text says is found line by line: the items of a script, or the first bad line and the least reason.
-use Rattle.board_prelude.proofs.Common.{nat_tests, digits, lt-ltb, le-ltb, bytes_eq-Decides}
+use Rattle.board_prelude.proofs.{nat_tests, digits, lt-ltb, le-ltb, bytes_eq-Decides}
 use Rattle.std.proofs.Common.{sym, ℕ, ◌≡◌, ◌⊎◌, ◌+◌, false, Option, Some, None, Result, Ok, Err, List, [], ◌∷◌, ◌++◌}
 use Rattle.std.proofs.Common.{length, refl, ap, ◌∙◌, inl, inr, append-nil, arith, nat_lt, if◌then◌else◌, bytes_eq}
-use Rattle.script_spec.specs.Common.{lines_of, Item, HasForm, parse_line, lacks_setup, least_reason, most_bytes}
-use Rattle.script_spec.specs.Common.{is_skipped, IsBadLine, AreRead, EndsBadly, IsVersion, first_line, BeginsBadly}
-use Rattle.script_spec.specs.Common.{IsBadLater, Script, IsScriptText}
+use Rattle.script_spec.specs.Lines.{lines_of}
+use Rattle.script_spec.specs.Grammar.{Item, HasForm}
+use Rattle.script_spec.specs.Items.{parse_line}
+use Rattle.script_spec.specs.Reasons.{lacks_setup, least_reason}
+use Rattle.script_spec.specs.ScriptText.{most_bytes, is_skipped, IsBadLine, AreRead, EndsBadly, IsVersion, first_line}
+use Rattle.script_spec.specs.ScriptText.{BeginsBadly, IsBadLater, Script, IsScriptText}
 use Rattle.script_spec.proofs.LineReading.{read_says, nothing_said}
 use Rattle.script_spec.proofs.Chains.{same_head}
 use Rattle.script_spec.proofs.ItemBack.{line_back}

@@ -1,5 +1,5 @@
 -- Numbers are read back from their digits, and texts are cut at a byte.
-use Rattle.board_prelude.proofs.Common.{nat_tests, list_all, AllDigits, digits_value, common_steps, and_parts, not-true}
+use Rattle.board_prelude.proofs.{nat_tests, list_all, AllDigits, digits_value, common_steps, and_parts, not-true}
 use Rattle.std.proofs.Common.{ℕ, ◌≡◌, ◌<◌, ◌⊎◌, Bool, true, not, eqb, List, [], ◌∷◌, refl, arith, decimal, false, cond}
 use Rattle.std.proofs.Common.{◌++◌, Some, eq-eqb}
 use Rattle.std.proofs.lemmas.Str.Parse.{IsNumeralModel}

@@ -1,18 +1,20 @@
 -- Fields are read as an event exactly where they spell it.
 use Rattle.std.proofs.Common.{◌≡◌, ℕ, ◌*◌, ◌^◌, ◌<◌, Bool, true, false, Some, List, [], ◌∷◌, refl, ap, arith, codes}
 use Rattle.std.proofs.Common.{IfSome, decimal, if◌then◌else◌}
-use Rattle.board_prelude.proofs.Common.{nat_tests, option_map, Kind, Write, Width, Moment, bytes_of, Event, Memory}
-use Rattle.board_prelude.proofs.Common.{Wide, Port, Ack, Time, Pulses, Wire, Line, BadSector, Stimulus, stimulus_form}
-use Rattle.board_prelude.proofs.Common.{applied, event_applied, is_write, FitsBytes, hex_number, size_text, width_text}
-use Rattle.board_prelude.proofs.Common.{kind_text, moment_text}
+use Rattle.board_prelude.proofs.{nat_tests, option_map, Kind, Write, Width, Moment, bytes_of, Event, Memory, Wide, Port}
+use Rattle.board_prelude.proofs.{Ack, Time, Pulses, Wire, Line, BadSector, Stimulus, stimulus_form, applied}
+use Rattle.board_prelude.proofs.{event_applied, is_write, FitsBytes, hex_number, size_text, width_text, kind_text}
+use Rattle.board_prelude.proofs.{moment_text}
 use Rattle.board_spec.specs.declared.event.Event.TheVariants.{Look as LookAt}
 use Rattle.board_spec.specs.declared.stimulus.Stimulus.TheVariants as stimuli
-use Rattle.script_spec.specs.Common.{Item, IsDecimal, IsMomentForm, IsEventForm, IsSize, parse_hex, parse_size}
-use Rattle.script_spec.specs.Common.{parse_width, parse_kind, parse_smm, memory_event, parse_read, parse_write}
-use Rattle.script_spec.specs.Common.{parse_in, parse_out, parse_look, parse_ack, parse_number, parse_two_numbers}
-use Rattle.script_spec.specs.Common.{parse_given, parse_stimulus_item, ask, parse_only_moment, parse_time_item}
-use Rattle.script_spec.specs.Common.{parse_by_verb, parse_statement_words}
-use Rattle.script_spec.specs.Events.{read_event, write_event, in_event, out_event, look_event}
+use Rattle.script_spec.specs.Grammar.{Item, IsDecimal, IsMomentForm, IsEventForm}
+use Rattle.script_spec.specs.Events.{IsSize, parse_size, parse_width, parse_kind, parse_smm, memory_event, parse_read}
+use Rattle.script_spec.specs.Events.{parse_write, parse_in, parse_out, parse_look, parse_ack, parse_number}
+use Rattle.script_spec.specs.Events.{parse_two_numbers, parse_given, read_event, write_event, in_event, out_event}
+use Rattle.script_spec.specs.Events.{look_event}
+use Rattle.script_spec.specs.Numbers.{parse_hex}
+use Rattle.script_spec.specs.Items.{parse_stimulus_item, ask, parse_only_moment, parse_time_item, parse_by_verb}
+use Rattle.script_spec.specs.Items.{parse_statement_words}
 use Rattle.script_spec.proofs.Chains.{some_is, then_read, Spells, Reads, same, same_as, word_is}
 use Rattle.script_spec.proofs.Digits.{digits_of_decimal}
 use Rattle.script_spec.proofs.NumberTexts.{hex_read, decimal_if, hex_if, is_plain, plain_is, plain-digits, decimal_back}

@@ -1,21 +1,25 @@
 -- The worked texts of scripts, decided by computation.
-use Rattle.board_prelude.proofs.Common.{nat_tests, digits, false≢true, All-nil, All-cons, weekday_of, days_since_1980}
-use Rattle.board_prelude.proofs.Common.{days_of_years, days_of_months, option_map, Rises, find}
+use Rattle.board_prelude.proofs.{nat_tests, digits, false≢true, All-nil, All-cons, weekday_of, days_since_1980}
+use Rattle.board_prelude.proofs.{days_of_years, days_of_months, option_map, Rises, find}
 use Rattle.std.proofs.Common.{ℕ, ◌≡◌, ◌<◌, Bool, true, false, List, [], ◌∷◌, map, All, Result, Ok, Err, refl, arith}
 use Rattle.std.proofs.Common.{subst, Some, ap, drop}
-use Rattle.script_spec.specs.Common.{is_cpus, is_memory, is_rom, is_disk, SetCpus, SetMemory, SetRom, SetDisk, cards_of}
-use Rattle.script_spec.specs.Common.{phase_items, lines_of, text_of_lines, Item, number_after, parse_two_digits}
-use Rattle.script_spec.specs.Common.{after_mark, parse_moment_part, parse_year, parse_date, parse_time, whole_moment}
-use Rattle.script_spec.specs.Common.{parse_moment, parse_base, parse_rom_bits, with_base, with_rom, with_field}
-use Rattle.script_spec.specs.Common.{with_fields, parse_card, parse_smm, memory_event, parse_read, parse_write}
-use Rattle.script_spec.specs.Common.{parse_in, parse_out, parse_look, parse_ack, parse_number, parse_two_numbers}
-use Rattle.script_spec.specs.Common.{parse_only_moment, parse_time_item, parse_stimulus_item, parse_given}
-use Rattle.script_spec.specs.Common.{parse_by_verb, parse_statement_words, is_name, parse_name, parse_phase}
-use Rattle.script_spec.specs.Common.{parse_statement, parse_by_key, parse_item, least_reason, Script, IsScriptText}
-use Rattle.script_spec.specs.Common.{IsScriptBad, IsBadText, bad_texts, AreBad, Bound, with_line, IsBound, bounds}
-use Rattle.script_spec.specs.Common.{AreBounds, TwoProcessors, TwoOrders, WideScript}
+use Rattle.script_spec.specs.Reasons.{is_cpus, is_memory, is_rom, is_disk, cards_of, least_reason}
+use Rattle.script_spec.specs.Grammar.{SetCpus, SetMemory, SetRom, SetDisk, Item}
+use Rattle.script_spec.specs.ScriptText.{phase_items, Script, IsScriptText, IsScriptBad}
+use Rattle.script_spec.specs.Lines.{lines_of, text_of_lines}
+use Rattle.script_spec.specs.Numbers.{number_after, parse_two_digits, after_mark}
+use Rattle.script_spec.specs.Moments.{parse_moment_part, parse_year, parse_date, parse_time, whole_moment, parse_moment}
+use Rattle.script_spec.specs.Cards.{parse_base, parse_rom_bits, with_base, with_rom, with_field, with_fields}
+use Rattle.script_spec.specs.Cards.{parse_card}
+use Rattle.script_spec.specs.Events.{parse_smm, memory_event, parse_read, parse_write, parse_in, parse_out, parse_look}
+use Rattle.script_spec.specs.Events.{parse_ack, parse_number, parse_two_numbers, parse_given, read_event, write_event}
+use Rattle.script_spec.specs.Events.{in_event, out_event, look_event}
+use Rattle.script_spec.specs.Items.{parse_only_moment, parse_time_item, parse_stimulus_item, parse_by_verb}
+use Rattle.script_spec.specs.Items.{parse_statement_words, is_name, parse_name, parse_phase, parse_statement}
+use Rattle.script_spec.specs.Items.{parse_by_key, parse_item}
+use Rattle.script_spec.specs.ExampleScripts.{IsBadText, bad_texts, AreBad, Bound, with_line, IsBound, bounds, AreBounds}
+use Rattle.script_spec.specs.ExampleScripts.{TwoProcessors, TwoOrders, WideScript}
 use Rattle.script_spec.proofs.ReadingExists.{run_of, text_said}
-use Rattle.script_spec.specs.Events.{read_event, write_event, in_event, out_event, look_event}
 use Rattle.script_spec.proofs.Chains.{same_head}
 use Rattle.script_spec.proofs.Decision.{judged, judged_line, judged_lines, AreJudged, judged_is}
 use Rattle.script_spec.specs.ExampleEntries.{NameBorders, EntryBorders}

@@ -1,11 +1,13 @@
 -- What holds of items that were read.
-use Rattle.board_prelude.proofs.Common.{nat_tests, option_map, find, not-false, none-some, most_statements, most_phases}
-use Rattle.board_prelude.proofs.Common.{most_pulses, most_card_memory, memory_of_cards}
+use Rattle.board_prelude.proofs.{nat_tests, option_map, find, not-false, none-some, most_statements, most_phases}
+use Rattle.board_prelude.proofs.{most_pulses, most_card_memory, memory_of_cards}
 use Rattle.std.proofs.Common.{arith, ℕ, ◌≡◌, ◌≤◌, Bool, true, false, ◌&&◌, Some, None, List, [], ◌∷◌, length, filter}
 use Rattle.std.proofs.Common.{sum_by}
-use Rattle.script_spec.specs.Common.{Item, IsForm, Reason, reasons, is_phase, is_misplaced, is_repeated, lacks_setup}
-use Rattle.script_spec.specs.Common.{is_in_range, is_placed, is_there, passes_limits, least_reason, AreRead}
-use Rattle.script_spec.specs.Common.{is_statement, pulses_of, cards_of}
+use Rattle.script_spec.specs.Grammar.{Item, IsForm}
+use Rattle.script_spec.specs.Reasons.{Reason, reasons, is_phase, is_misplaced, is_repeated, lacks_setup, is_in_range}
+use Rattle.script_spec.specs.Reasons.{is_placed, is_there, passes_limits, least_reason, is_statement, pulses_of}
+use Rattle.script_spec.specs.Reasons.{cards_of}
+use Rattle.script_spec.specs.ScriptText.{AreRead}
 
 -- there is no reason to refuse an item after these
 pub record NoReason (before : List Item) (item : Item) : Type 0 where

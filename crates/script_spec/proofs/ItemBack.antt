@@ -1,10 +1,11 @@
 -- Each line of a form is read as what it says.
 use Rattle.std.proofs.Common.{◌≡◌, ℕ, false, Some, List, ◌∷◌, inl, inr, arith, decimal, bytes_eq}
-use Rattle.board_prelude.proofs.Common.{nat_tests, AllDigits, cases_Bool, Stimulus}
-use Rattle.script_spec.specs.Common.{Item, Ask, AskLevel, IsDecimal, IsForm, IsLevelForm, HasForm, fields_of}
-use Rattle.script_spec.specs.Common.{parse_given, parse_statement_words, parse_statement, parse_by_key, parse_item}
-use Rattle.script_spec.specs.Common.{parse_number, parse_two_numbers, is_name, parse_name, parse_phase, parse_by_verb}
-use Rattle.script_spec.specs.Common.{parse_stimulus_item}
+use Rattle.board_prelude.proofs.{nat_tests, AllDigits, cases_Bool, Stimulus}
+use Rattle.script_spec.specs.Grammar.{Item, Ask, AskLevel, IsDecimal, IsForm, IsLevelForm, HasForm}
+use Rattle.script_spec.specs.Fields.{fields_of}
+use Rattle.script_spec.specs.Events.{parse_given, parse_number, parse_two_numbers}
+use Rattle.script_spec.specs.Items.{parse_statement_words, parse_statement, parse_by_key, parse_item, is_name}
+use Rattle.script_spec.specs.Items.{parse_name, parse_phase, parse_by_verb, parse_stimulus_item}
 use Rattle.script_spec.proofs.Digits.{digits_of_decimal}
 use Rattle.script_spec.proofs.Chains.{word_is}
 use Rattle.script_spec.proofs.NumberTexts.{decimal_back}

@@ -1,10 +1,11 @@
 -- The fields of each item, which its line joins.
 use Rattle.std.proofs.Common.{◌≡◌, ℕ, Bool, true, false, Option, Some, None, List, [], ◌∷◌, ◌++◌, flat_map, map, refl}
 use Rattle.std.proofs.Common.{sym, ap, ◌∙◌, append_assoc, append-nil, arith, codes, decimal}
-use Rattle.board_prelude.proofs.Common.{join_with_byte, nat_tests, Base, MemoryBase, IoBase, OutsideBase, Event, Ack}
-use Rattle.board_prelude.proofs.Common.{stimulus_form, space}
-use Rattle.script_spec.specs.Common.{Item, SetCpus, SetMemory, SetRom, SetDisk, FitCard, BeginPhase, Ask, AskLevel}
-use Rattle.script_spec.specs.Common.{IsForm, Says, base_text, rom_text, card_text, item_text, fields_of}
+use Rattle.board_prelude.proofs.{join_with_byte, nat_tests, Base, MemoryBase, IoBase, OutsideBase, Event, Ack}
+use Rattle.board_prelude.proofs.{stimulus_form, space}
+use Rattle.script_spec.specs.Grammar.{Item, SetCpus, SetMemory, SetRom, SetDisk, FitCard, BeginPhase, Ask, AskLevel}
+use Rattle.script_spec.specs.Grammar.{IsForm, Says, base_text, rom_text, card_text, item_text}
+use Rattle.script_spec.specs.Fields.{fields_of}
 use Rattle.script_spec.proofs.Chains.{Reads, joined}
 use Rattle.script_spec.proofs.PlainText.{split, split_exact, are_words, decimal_word, name_word}
 use Rattle.script_spec.proofs.Words.{spaced, line_spaced, event_words, event_joined, event_are}

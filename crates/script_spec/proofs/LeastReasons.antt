@@ -1,8 +1,9 @@
 -- The least reason for an item, where each test of the seven is known.
 use Rattle.std.proofs.Common.{◌≡◌, ℕ, Bool, not, ◌&&◌, Option, List, [], ◌∷◌, find}
-use Rattle.board_prelude.proofs.Common.{option_map}
-use Rattle.script_spec.specs.Common.{Item, reason, is_phase, lacks_setup, is_misplaced, is_repeated, is_in_range}
-use Rattle.script_spec.specs.Common.{is_placed, is_there, passes_limits, least_reason}
+use Rattle.board_prelude.proofs.{option_map}
+use Rattle.script_spec.specs.Grammar.{Item}
+use Rattle.script_spec.specs.Reasons.{reason, is_phase, lacks_setup, is_misplaced, is_repeated, is_in_range, is_placed}
+use Rattle.script_spec.specs.Reasons.{is_there, passes_limits, least_reason}
 
 abbrev pub first_of : (a b c d e f g : Bool) → Option ℕ
 first_of a b c d e f g =

@@ -20,4 +20,3 @@ pub mod ReadingExists
 pub mod ReplyBack
 pub mod LogLaws
 mod ExampleRuns
-pub mod Common

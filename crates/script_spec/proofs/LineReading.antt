@@ -1,14 +1,17 @@
 -- What a line says is what is read from its fields, so it says at most one thing.
 use Rattle.std.proofs.Common.{ℕ, ◌≡◌, Option, Some, None, List, sym, ◌∙◌, Bool, true, [], ◌∷◌, arith, IfSome, codes}
 use Rattle.std.proofs.Common.{decimal, refl}
-use Rattle.script_spec.specs.Common.{Item, HasForm, parse_line, OneItem, IsDecimal, IsName, IsForm, fields_of, ask}
-use Rattle.script_spec.specs.Common.{stimulus_item, parse_given, parse_stimulus_item, parse_time_item, parse_ack}
-use Rattle.script_spec.specs.Common.{parse_by_verb, parse_statement_words, is_name, parse_name, parse_phase}
-use Rattle.script_spec.specs.Common.{parse_statement, parse_by_key, parse_item}
+use Rattle.script_spec.specs.Grammar.{Item, HasForm, IsDecimal, IsName, IsForm}
+use Rattle.script_spec.specs.Items.{parse_line, ask, stimulus_item, parse_stimulus_item, parse_time_item, parse_by_verb}
+use Rattle.script_spec.specs.Items.{parse_statement_words, is_name, parse_name, parse_phase, parse_statement}
+use Rattle.script_spec.specs.Items.{parse_by_key, parse_item}
+use Rattle.script_spec.specs.Laws.{OneItem}
+use Rattle.script_spec.specs.Fields.{fields_of}
+use Rattle.script_spec.specs.Events.{parse_given, parse_ack}
 use Rattle.script_spec.proofs.Chains.{some_is, then_said, same, if_some, by_word_if, word_is}
 use Rattle.script_spec.proofs.ItemBack.{line_back}
-use Rattle.board_prelude.proofs.Common.{nat_tests, option_map, Fetch, Read, Event, Time, Stimulus, stimulus_form}
-use Rattle.board_prelude.proofs.Common.{stimulus_of_word, event_applied, word_found, space, level_text}
+use Rattle.board_prelude.proofs.{nat_tests, option_map, Fetch, Read, Event, Time, Stimulus, stimulus_form}
+use Rattle.board_prelude.proofs.{stimulus_of_word, event_applied, word_found, space, level_text}
 use Rattle.std.proofs.lemmas.List.Splits.{join_with_byte-slice_split}
 use Rattle.script_spec.proofs.NumberTexts.{decimal_if}
 use Rattle.script_spec.proofs.Words.{given_words, applied_words, applied_is, zero_text, one_text}

@@ -1,14 +1,21 @@
 -- A line of the log is taken apart and says its entry, and a log says its version and its history.
-use Rattle.board_prelude.proofs.Common.{nat_tests, common_steps, digits, flat_map-append, reverse-append}
-use Rattle.board_prelude.proofs.Common.{reverse-reverse, All-nil, All-head, All-tail, All-push, Entry, space, line_feed}
-use Rattle.board_prelude.proofs.Common.{line_text, lines_text, log_text, lt-ltb, Event, Statement, event_text}
-use Rattle.board_prelude.proofs.Common.{value_bytes, reply_text}
+use Rattle.board_prelude.proofs.{nat_tests, common_steps, digits, flat_map-append, reverse-append, reverse-reverse}
+use Rattle.board_prelude.proofs.{All-nil, All-head, All-tail, All-push, Entry, space, line_feed, line_text, lines_text}
+use Rattle.board_prelude.proofs.{log_text, lt-ltb, Event, event_text, value_bytes, reply_text}
+use Rattle.board_prelude.specs.{Statement}
 use Rattle.std.proofs.Common.{ℕ, ◌≡◌, ◌+◌, Option, Some, None, List, [], ◌∷◌, ◌++◌, length, reverse, All, refl}
 use Rattle.std.proofs.Common.{flat_map, sym, ap, ◌∙◌, inl, inr, append_assoc, append-nil, arith, decimal, ◌<◌, codes}
 use Rattle.std.proofs.lemmas.Fmt.{decimal_injective}
-use Rattle.script_spec.specs.Common.{text_of_lines, IsOneLine, IsVersion, IsWellFormed, LineSaysEntry, LogSaysAll}
-use Rattle.script_spec.specs.Common.{but_last, Item, Ask, HasForm, item_text, fields_of, ◌>>=◌, ask, parse_line}
-use Rattle.script_spec.specs.Common.{parse_spaced_reply, Pieces, parse_pieces, parse_actor}
+use Rattle.script_spec.specs.Lines.{text_of_lines, IsOneLine}
+use Rattle.script_spec.specs.ScriptText.{IsVersion}
+use Rattle.script_spec.specs.WellFormed.{IsWellFormed}
+use Rattle.script_spec.specs.Laws.{LineSaysEntry, LogSaysAll}
+use Rattle.script_spec.specs.Entries.{but_last, Pieces, parse_pieces, parse_actor}
+use Rattle.script_spec.specs.Grammar.{Item, Ask, HasForm, item_text}
+use Rattle.script_spec.specs.Fields.{fields_of}
+use Rattle.script_spec.specs.Numbers.{◌>>=◌}
+use Rattle.script_spec.specs.Items.{ask, parse_line}
+use Rattle.script_spec.specs.Replies.{parse_spaced_reply}
 use Rattle.script_spec.proofs.Digits.{front, front-field, lacks-append, lacks-decimal, cut_field}
 use Rattle.script_spec.proofs.Chains.{some_is, same}
 use Rattle.script_spec.proofs.CheckLaws.{one_line, compared}

@@ -1,8 +1,9 @@
 -- A field is read as a moment exactly where it spells one.
-use Rattle.board_prelude.proofs.Common.{nat_tests, Moment, two_digits, moment_text}
+use Rattle.board_prelude.proofs.{nat_tests, Moment, two_digits, moment_text}
 use Rattle.std.proofs.Common.{◌≡◌, ℕ, ◌<◌, true, Some, List, ◌++◌, arith, IfSome, Option}
-use Rattle.script_spec.specs.Common.{IsMomentForm, parse_two_digits, after_mark, parse_moment_part, parse_year}
-use Rattle.script_spec.specs.Common.{parse_date, parse_time, whole_moment, parse_moment}
+use Rattle.script_spec.specs.Grammar.{IsMomentForm}
+use Rattle.script_spec.specs.Numbers.{parse_two_digits, after_mark}
+use Rattle.script_spec.specs.Moments.{parse_moment_part, parse_year, parse_date, parse_time, whole_moment, parse_moment}
 use Rattle.script_spec.proofs.NumberTexts.{is_plain}
 
 -- ---- what is spelled is read

@@ -3,8 +3,8 @@ use Rattle.script_spec.proofs.Chains.{then_read, some_is, guarded, if_some, Spel
 use Rattle.std.proofs.Common.{Bool, true, ◌≡◌, ℕ, zero, suc, ◌+◌, ◌*◌, ◌/◌, ◌%◌, ◌^◌, ◌<◌, ◌≤◌, false, not, eqb, ◌&&◌}
 use Rattle.std.proofs.Common.{Some, List, [], ◌∷◌, length, refl, sym, ap, ◌∙◌, arith, pow-suc, lit<, decimal, ◌-◌}
 use Rattle.std.proofs.Common.{IfSome, leb-true, eqb-true, lt-ltb, le-leb, eq-eqb}
-use Rattle.board_prelude.proofs.Common.{nat_tests, AllZip, AllDigits, digits_value, pow-le-pow_right, byte, hex_digit}
-use Rattle.board_prelude.proofs.Common.{hex_number, list_all, and_parts, is_within}
+use Rattle.board_prelude.proofs.{nat_tests, AllZip, AllDigits, digits_value, pow-le-pow_right, byte, hex_digit}
+use Rattle.board_prelude.proofs.{hex_number, list_all, and_parts, is_within}
 use Rattle.std.specs.Char.{digit_value as value_of_digit}
 use Rattle.std.specs.Str.Parse.{digits_value_after}
 use native.Mathlib.Nat.{div-div-eq-div-mul}
@@ -12,8 +12,8 @@ use Rattle.std.proofs.lemmas.Fmt.{decimal-digits_value, digits_value-decimal, le
 use Rattle.std.proofs.lemmas.Fmt.{decimal_nonempty, decimal_digit}
 use Rattle.std.proofs.lemmas.Int.Digits.{digits_value-lt}
 use Rattle.board_spec.proofs.PartLawProofs.{some_power}
-use Rattle.script_spec.specs.Common.{IsDecimal, StandsFor, parse_digit, number_after, parse_digits, parse_hex}
-use Rattle.script_spec.specs.Common.{parse_decimal}
+use Rattle.script_spec.specs.Grammar.{IsDecimal, StandsFor}
+use Rattle.script_spec.specs.Numbers.{parse_digit, number_after, parse_digits, parse_hex, parse_decimal}
 use Rattle.script_spec.proofs.Digits.{own, digits_of_decimal}
 use Rattle.std.proofs.lemmas.List.Elements.{length_all_zip}
 use Rattle.std.proofs.Math.Nat.{div-eq_of_lt}

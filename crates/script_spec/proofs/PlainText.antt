@@ -1,17 +1,17 @@
 -- The bytes of the log's words: spaces, letters, digits and a few marks, but no line feed and no `=`.
 use Rattle.std.proofs.Common.{ℕ, zero, suc, ◌≡◌, ◌/◌, ◌%◌, Bool, true, false, ◌||◌, eqb, Option, List, [], ◌∷◌, ◌++◌}
 use Rattle.std.proofs.Common.{refl, ◌∙◌, arith, decimal, All}
-use Rattle.board_prelude.proofs.Common.{nat_tests, digits, list_all, and_from, and_parts, Reg, Area, Target, Denial}
-use Rattle.board_prelude.proofs.Common.{byte, is_within, space, hex_number, hex_offset, register_text, base_text}
-use Rattle.board_prelude.proofs.Common.{area_text, target_text, denial_text, Moment, moment_text, value_text}
-use Rattle.board_prelude.proofs.Common.{common_steps, join_with_byte, All-nil, All-cons}
+use Rattle.board_prelude.proofs.{nat_tests, digits, list_all, and_from, and_parts, Reg, Area, Target, Denial, byte}
+use Rattle.board_prelude.proofs.{is_within, space, hex_number, hex_offset, register_text, base_text, area_text}
+use Rattle.board_prelude.proofs.{target_text, denial_text, Moment, moment_text, value_text, common_steps}
+use Rattle.board_prelude.proofs.{join_with_byte, All-nil, All-cons}
 use Rattle.script_spec.specs.Grammar.{is_name_byte}
 use Rattle.std.specs.Fmt.{digits_onto, digit_glyph}
 use Rattle.std.proofs.lemmas.List.Folds.{list_all-append}
 use Rattle.board_base.specs.declared.target.Target.TheVariants as targets
 use Rattle.script_spec.proofs.Digits.{lacks, lacks-first, lacks-later}
 use Rattle.std.proofs.lemmas.List.Splits.{slice_split_none, slice_split_at}
-use Rattle.script_spec.specs.Common.{fields_of}
+use Rattle.script_spec.specs.Fields.{fields_of}
 use Rattle.script_spec.proofs.Chains.{Spells, Reads}
 
 abbrev pub is_word_byte : ℕ → Bool

@@ -1,8 +1,9 @@
 -- What a text says is in range.
-use Rattle.board_prelude.proofs.Common.{nat_tests, common_steps, option_map, find, list_any, IsPermutation, false≢true}
-use Rattle.board_prelude.proofs.Common.{or_parts, or_right, and_parts, All-nil, All-cons, All-head, All-tail}
-use Rattle.board_prelude.proofs.Common.{All-append, sum_by-cons, sum_by-append, All-permutation, Statement, Setup}
-use Rattle.board_prelude.proofs.Common.{FittedCard, IsCard, Rises, memory_size, memory_of_cards, IsScripted, card_at}
+use Rattle.board_prelude.proofs.{nat_tests, common_steps, option_map, find, list_any, IsPermutation, false≢true}
+use Rattle.board_prelude.proofs.{or_parts, or_right, and_parts, All-nil, All-cons, All-head, All-tail, All-append}
+use Rattle.board_prelude.proofs.{sum_by-cons, sum_by-append, All-permutation, Setup, FittedCard, IsCard, Rises}
+use Rattle.board_prelude.proofs.{memory_size, memory_of_cards, IsScripted, card_at}
+use Rattle.board_prelude.specs.{Statement}
 use Rattle.std.proofs.Common.{ℕ, ◌≡◌, ◌+◌, ◌*◌, ◌<◌, ◌≤◌, Bool, true, false, not, cond, Option, Some, None, List, []}
 use Rattle.std.proofs.Common.{◌∷◌, ◌++◌, length, map, reverse, All, filter, flat_map, refl, sym, ◌∙◌, arith, is_some}
 use Rattle.std.proofs.Common.{◌==◌, sum_by}
@@ -10,11 +11,12 @@ use Rattle.std.proofs.lemmas.List.Elements.{All-filter}
 use Rattle.std.proofs.lemmas.List.Sums.{length-filter}
 use Rattle.std.proofs.lemmas.List.Sorted.{IsPermutation-reverse, sum_by-IsPermutation, list_any-IsPermutation}
 use Rattle.board_base.proofs.CalendarLemmas.{is_within_parts}
-use Rattle.script_spec.specs.Common.{Item, SetCpus, SetMemory, SetRom, SetDisk, FitCard, BeginPhase, Ask, IsForm}
-use Rattle.script_spec.specs.Common.{is_phase, is_statement, is_setup, is_cpus, is_memory, is_rom, is_disk}
-use Rattle.script_spec.specs.Common.{is_cpus_above, has_card, cards_of, pulses_of, is_card_there, Script, IsVersion}
-use Rattle.script_spec.specs.Common.{phase_items, IsSaidBy, IsDiskName, statements_in, IsInRangeScript}
-use Rattle.script_spec.specs.Common.{ScriptsAreInRange}
+use Rattle.script_spec.specs.Grammar.{Item, SetCpus, SetMemory, SetRom, SetDisk, FitCard, BeginPhase, Ask, IsForm}
+use Rattle.script_spec.specs.Reasons.{is_phase, is_statement, is_setup, is_cpus, is_memory, is_rom, is_disk}
+use Rattle.script_spec.specs.Reasons.{is_cpus_above, has_card, cards_of, pulses_of, is_card_there}
+use Rattle.script_spec.specs.ScriptText.{Script, IsVersion, phase_items, IsSaidBy}
+use Rattle.script_spec.specs.ScriptRange.{IsDiskName, statements_in, IsInRangeScript}
+use Rattle.script_spec.specs.Laws.{ScriptsAreInRange}
 use Rattle.script_spec.proofs.GoodItems.{NoReason, AreGood, read_good, found_good, IsWithinLimits, within_limits}
 
 -- the cards of the items before are those of the setup

@@ -1,16 +1,20 @@
 -- Each text is a script's, or bad.
-use Rattle.board_prelude.proofs.Common.{nat_tests, option_map, find, list_any, IsPermutation, true≢false, false≢true}
-use Rattle.board_prelude.proofs.Common.{cases_Bool, ltb-true, ltb-false, eqb-false, flat_map-append, map-append}
-use Rattle.board_prelude.proofs.Common.{reverse-append, All-nil, All-cons, All-head, All-tail, All-permutation}
-use Rattle.board_prelude.proofs.Common.{Statement, FittedCard, Rises, position_or_len}
+use Rattle.board_prelude.proofs.{nat_tests, option_map, find, list_any, IsPermutation, true≢false, false≢true}
+use Rattle.board_prelude.proofs.{cases_Bool, ltb-true, ltb-false, eqb-false, flat_map-append, map-append}
+use Rattle.board_prelude.proofs.{reverse-append, All-nil, All-cons, All-head, All-tail, All-permutation, FittedCard}
+use Rattle.board_prelude.proofs.{Rises, position_or_len}
+use Rattle.board_prelude.specs.{Statement}
 use Rattle.std.proofs.Common.{ℕ, ◌≡◌, ◌≢◌, ◌<◌, ◌≤◌, ◌⊎◌, Bool, true, false, not, Option, Some, None, List, [], ◌∷◌}
 use Rattle.std.proofs.Common.{◌++◌, map, reverse, get_or, All, filter, refl, sym, ◌∙◌, inl, inr, append_assoc}
 use Rattle.std.proofs.Common.{append-nil, arith, ◌==◌, insert, nat_lt, one-add, if◌then◌else◌}
 use Rattle.std.proofs.lemmas.List.Sorted.{IsPermutation-refl, IsPermutation-trans, IsPermutation-cons}
 use Rattle.std.proofs.lemmas.List.Sorted.{IsPermutation-insert}
-use Rattle.script_spec.specs.Common.{lines_of, Item, SetCpus, SetMemory, SetRom, SetDisk, FitCard, BeginPhase, Ask}
-use Rattle.script_spec.specs.Common.{AskLevel, is_phase, is_setup, is_cpus, is_memory, is_rom, is_disk, cards_of}
-use Rattle.script_spec.specs.Common.{has_card, lacks_setup, Script, phase_items, IsSaidBy, IsScriptText, SomeReading}
+use Rattle.script_spec.specs.Lines.{lines_of}
+use Rattle.script_spec.specs.Grammar.{Item, SetCpus, SetMemory, SetRom, SetDisk, FitCard, BeginPhase, Ask, AskLevel}
+use Rattle.script_spec.specs.Reasons.{is_phase, is_setup, is_cpus, is_memory, is_rom, is_disk, cards_of, has_card}
+use Rattle.script_spec.specs.Reasons.{lacks_setup}
+use Rattle.script_spec.specs.ScriptText.{Script, phase_items, IsSaidBy, IsScriptText}
+use Rattle.script_spec.specs.Laws.{SomeReading}
 use Rattle.script_spec.proofs.GoodItems.{NoReason, AreGood, read_good}
 use Rattle.script_spec.proofs.RangeLaws.{none_any}
 use Rattle.script_spec.proofs.ScriptLaws.{count_of, name_of}

@@ -1,7 +1,10 @@
 -- A text says at most one script, and is bad at one line for one reason, but not both: it is decided.
-use Rattle.board_prelude.proofs.Common.{nat_tests}
+use Rattle.board_prelude.proofs.{nat_tests}
 use Rattle.std.proofs.Common.{arith, ℕ, List, [], ◌∷◌, ◌++◌, inl, sym, ◌∙◌, Err}
-use Rattle.script_spec.specs.Common.{lines_of, Item, IsSkipped, IsGoodLine, AreRead, NotBoth, OneRefusal}
+use Rattle.script_spec.specs.Lines.{lines_of}
+use Rattle.script_spec.specs.Grammar.{Item}
+use Rattle.script_spec.specs.ScriptText.{IsSkipped, IsGoodLine, AreRead}
+use Rattle.script_spec.specs.Laws.{NotBoth, OneRefusal}
 use Rattle.script_spec.proofs.Decision.{judged_so, text_so}
 
 -- one line more is read

@@ -1,30 +1,32 @@
 -- A reply is read back from its words, and what is read has the shape of its event.
-use Rattle.board_prelude.proofs.Common.{eq-eqb, nat_tests, pow-le-pow_right, eqb-true, Kind, Write, WideAccess, Event}
-use Rattle.board_prelude.proofs.Common.{Wide, Part, Parts, Two, Three, Four, Reply, is_write, parts_from, parts_of}
-use Rattle.board_prelude.proofs.Common.{parts_list, space, hex_long, area_text, target_text, denial_text, value_bytes}
-use Rattle.board_prelude.proofs.Common.{value_text, reply_text, digits, option_map, Reg, Dev, Area, Target, Denial}
-use Rattle.board_prelude.proofs.Common.{byte, hex_digit, hex_byte, hex_number, hex_offset, register_text, device_text}
+use Rattle.board_prelude.proofs.{eq-eqb, nat_tests, pow-le-pow_right, eqb-true, Kind, Write, WideAccess, Event, Wide}
+use Rattle.board_prelude.proofs.{Part, Parts, Two, Three, Four, Reply, is_write, parts_from, parts_of, parts_list}
+use Rattle.board_prelude.proofs.{space, hex_long, area_text, target_text, denial_text, value_bytes, value_text}
+use Rattle.board_prelude.proofs.{reply_text, digits, option_map, Reg, Dev, Area, Target, Denial, byte, hex_digit}
+use Rattle.board_prelude.proofs.{hex_byte, hex_number, hex_offset, register_text, device_text}
 use Rattle.std.proofs.Common.{◌≡◌, ℕ, zero, suc, ◌^◌, ◌<◌, ◌≤◌, ◌↔◌, Bool, false, Option, Some, List, [], ◌∷◌, length}
 use Rattle.std.proofs.Common.{All, refl, sym, ap, ◌∙◌, append_assoc, arith, decimal, IfSome, IsTrue, ◌*◌, ◌%◌, eqb}
 use Rattle.std.proofs.Common.{◌++◌, codes}
 use Rattle.board_spec.specs.declared.event.Event.TheVariants.{Look as LookAt}
-use Rattle.script_spec.specs.Common.{IsDecimal, FitsPart, IsReplyValue, IsBusReply, IsWideReply, HasShape, fields_of}
-use Rattle.script_spec.specs.Common.{parse_decimal, parse_value, parse_bus_reply, parse_last_parts, parse_more_parts}
-use Rattle.script_spec.specs.Common.{parse_parts, part_count, parts_with, parse_wide_reply, parse_reply}
-use Rattle.script_spec.specs.Common.{parse_spaced_reply, FitsReg, FitsArea, FitsDevice, FitsTarget, FitsDenial}
-use Rattle.script_spec.specs.Common.{parse_digit, number_after, parse_hex, cut, parse_one_digit, parse_register}
-use Rattle.script_spec.specs.Common.{parse_denial, parse_placed_area, parse_area, parse_placed_target, parse_device}
-use Rattle.script_spec.specs.Common.{parse_target}
+use Rattle.script_spec.specs.Grammar.{IsDecimal}
+use Rattle.script_spec.specs.WellFormed.{FitsPart, IsReplyValue, IsBusReply, IsWideReply, HasShape, FitsReg, FitsArea}
+use Rattle.script_spec.specs.WellFormed.{FitsDevice, FitsTarget, FitsDenial}
+use Rattle.script_spec.specs.Fields.{fields_of}
+use Rattle.script_spec.specs.Numbers.{parse_decimal, parse_digit, number_after, parse_hex}
+use Rattle.script_spec.specs.Replies.{parse_value, parse_bus_reply, parse_last_parts, parse_more_parts, parse_parts}
+use Rattle.script_spec.specs.Replies.{part_count, parts_with, parse_wide_reply, parse_reply, parse_spaced_reply}
+use Rattle.script_spec.specs.Replies.{bus_reply, look_reply, parse_part, parse_look_reply}
+use Rattle.script_spec.specs.Cuts.{cut, parse_one_digit}
+use Rattle.script_spec.specs.Targets.{parse_register, parse_denial, parse_placed_area, parse_area, parse_placed_target}
+use Rattle.script_spec.specs.Targets.{parse_device, parse_target, parse_card_base, parse_card_target}
 use Rattle.script_spec.proofs.Words.{line_spaced, words_of, words_in, reply_spaced, reply_are}
 use Rattle.script_spec.proofs.PlainText.{split_exact}
 use Rattle.script_spec.proofs.NumberTexts.{decimal_read, decimal_back, digit_so, hex_after, hex_back}
-use Rattle.script_spec.specs.Replies.{bus_reply, look_reply, parse_part, parse_look_reply}
 use Rattle.std.proofs.lemmas.Fmt.{decimal_digit}
 use Rattle.board_base.specs.declared.target.Dev.TheVariants as devices
 use Rattle.board_base.specs.declared.target.Target.TheVariants as targets
 use Rattle.script_spec.proofs.Digits.{lacks-append, lacks-decimal, cut_field}
 use Rattle.script_spec.proofs.Chains.{same, if_some}
-use Rattle.script_spec.specs.Targets.{parse_card_base, parse_card_target}
 
 -- ---- numbers
 

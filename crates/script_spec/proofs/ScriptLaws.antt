@@ -1,10 +1,13 @@
 -- A text says at most one script.
-use Rattle.board_prelude.proofs.Common.{nat_tests, IsPermutation, All-head, All-tail, All-nil, All-cons}
-use Rattle.board_prelude.proofs.Common.{All-permutation, IsPermutation-sym, Statement, FittedCard, Rises}
+use Rattle.board_prelude.proofs.{nat_tests, IsPermutation, All-head, All-tail, All-nil, All-cons, All-permutation}
+use Rattle.board_prelude.proofs.{IsPermutation-sym, FittedCard, Rises}
+use Rattle.board_prelude.specs.{Statement}
 use Rattle.std.proofs.Common.{ℕ, ◌≡◌, ◌<◌, ◌⊎◌, Option, Some, List, [], ◌∷◌, ◌++◌, map, All, refl, sym, ap, ◌∙◌, inl}
 use Rattle.std.proofs.Common.{inr, arith, drop}
-use Rattle.script_spec.specs.Common.{Item, SetCpus, SetMemory, SetRom, Ask, cards_of, Script, phase_items, IsSaidBy}
-use Rattle.script_spec.specs.Common.{OneScript}
+use Rattle.script_spec.specs.Grammar.{Item, SetCpus, SetMemory, SetRom, Ask}
+use Rattle.script_spec.specs.Reasons.{cards_of}
+use Rattle.script_spec.specs.ScriptText.{Script, phase_items, IsSaidBy}
+use Rattle.script_spec.specs.Laws.{OneScript}
 use Rattle.script_spec.proofs.Decision.{text_so}
 
 -- ---- cards in rising order

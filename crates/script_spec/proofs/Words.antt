@@ -1,11 +1,11 @@
 -- The fields of each event and of each reply, which its text joins: they are words.
 use Rattle.std.proofs.Common.{◌≡◌, ℕ, Bool, true, false, List, [], ◌∷◌, ◌++◌, refl, ap, append_assoc, append-nil, arith}
 use Rattle.std.proofs.Common.{lit<, sym, ◌∙◌, ◌&&◌, flat_map, codes, decimal, if◌then◌else◌}
-use Rattle.board_prelude.proofs.Common.{join_with_byte, nat_tests, Kind, bytes_of, Event, Memory, Wide, Port, Ack, Time}
-use Rattle.board_prelude.proofs.Common.{Stimulus, Applied, stimulus_form, applied, event_applied, applied_by}
-use Rattle.board_prelude.proofs.Common.{option_map_or, is_write, space, hex_number, size_text, width_text, kind_text}
-use Rattle.board_prelude.proofs.Common.{level_text, moment_text, event_text, Part, Reply, Bus, Saw, parts_list}
-use Rattle.board_prelude.proofs.Common.{hex_long, area_text, target_text, denial_text, value_text, reply_text}
+use Rattle.board_prelude.proofs.{join_with_byte, nat_tests, Kind, bytes_of, Event, Memory, Wide, Port, Ack, Time}
+use Rattle.board_prelude.proofs.{Stimulus, Applied, stimulus_form, applied, event_applied, applied_by, option_map_or}
+use Rattle.board_prelude.proofs.{is_write, space, hex_number, size_text, width_text, kind_text, level_text, moment_text}
+use Rattle.board_prelude.proofs.{event_text, Part, Reply, Bus, Saw, parts_list, hex_long, area_text, target_text}
+use Rattle.board_prelude.proofs.{denial_text, value_text, reply_text}
 use Rattle.script_spec.proofs.Digits.{own}
 use Rattle.std.proofs.lemmas.Fmt.{decimal-digits_value}
 use Rattle.board_spec.specs.declared.event.Event.TheVariants.{Look as LookAt}

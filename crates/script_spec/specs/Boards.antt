@@ -1,6 +1,6 @@
 -- The board that a script asks for, with its images, and boards that a script is for.
 use Rattle.std.specs.Prelude.{ℕ, ◌≡◌, List, Option, is_some}
-use Rattle.board_prelude.specs.Common.{Setup}
+use Rattle.board_prelude.specs.{Setup}
 use Rattle.script_spec.specs.ScriptText.{Script as Said}
 
 -- the memory and the cards that a script says, with these images

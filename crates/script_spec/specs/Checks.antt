@@ -1,6 +1,6 @@
 -- The first line by which a text is no log: of any history, or of a script.
 use Rattle.std.specs.Prelude.{ℕ, ◌≡◌, ◌+◌, List, [], ◌∷◌, ◌++◌, length, All}
-use Rattle.board_prelude.specs.Common.{Entry, Statement, Setup, IsLegal, IsCompleteFor, line_feed, log_text}
+use Rattle.board_prelude.specs.{Entry, Statement, Setup, IsLegal, IsCompleteFor, line_feed, log_text}
 use Rattle.script_spec.specs.Lines.{text_of_lines, IsOneLine}
 use Rattle.script_spec.specs.ScriptText.{IsVersion}
 use Rattle.script_spec.specs.WellFormed.{IsWellFormed}

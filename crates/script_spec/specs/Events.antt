@@ -1,8 +1,8 @@
 -- What a statement asks, by the fields of its line after the processor's number: the reader's way through the forms.
 use Rattle.std.specs.Prelude.{ℕ, ◌*◌, ◌%◌, ◌≡◌, ◌⊎◌, ◌==◌, Bool, true, false, not, ◌&&◌, ◌||◌, List, [], ◌∷◌}
 use Rattle.std.specs.Prelude.{if◌then◌else◌, Option, Some, None, option_map, codes, bytes_eq}
-use Rattle.board_prelude.specs.Common.{Width, One, bytes_of, Kind, Fetch, Write, Event, Memory, Wide, Port, Ack}
-use Rattle.board_prelude.specs.Common.{Read, Stimulus, stimulus_form}
+use Rattle.board_prelude.specs.{Width, One, bytes_of, Kind, Fetch, Write, Event, Memory, Wide, Port, Ack, Read}
+use Rattle.board_prelude.specs.{Stimulus, stimulus_form}
 use Rattle.board_base.specs.declared.access.Width.TheVariants.{Two, Four}
 use Rattle.board_spec.specs.declared.event.Event.TheVariants.{Look as LookAt}
 use Rattle.script_spec.specs.Numbers.{parse_hex, parse_decimal, ◌>>=◌}

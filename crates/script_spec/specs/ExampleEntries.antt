@@ -1,7 +1,7 @@
 -- Entries at the borders of what a log can say: the last that is good, and the first that is not.
 use Rattle.std.specs.Prelude.{ℕ, true, false, Some, None}
-use Rattle.board_prelude.specs.Common.{Reg, Dram, Shadow, Rom, Card, Device, Config, Register, Ack, Wire, Line, Reply}
-use Rattle.board_prelude.specs.Common.{Bus, Saw, Entry}
+use Rattle.board_prelude.specs.{Reg, Dram, Shadow, Rom, Card, Device, Config, Register, Ack, Wire, Line, Reply, Bus}
+use Rattle.board_prelude.specs.{Saw, Entry}
 use Rattle.board_base.specs.declared.target.Dev.TheVariants.{Vector, Spurious}
 use Rattle.board_base.specs.declared.target.Area.TheVariants as areas
 use Rattle.board_base.specs.declared.access.Kind.TheVariants.{Read}

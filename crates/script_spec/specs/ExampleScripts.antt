@@ -1,8 +1,8 @@
 -- Texts of scripts, and what they say; texts that are bad, each with its line and the least reason; and of each number
 -- of a script the first that is good and the first that is bad.
 use Rattle.std.specs.Prelude.{ℕ, ◌-◌, false, true, List, [], ◌∷◌, ◌++◌, take, drop, All, Some, None, replicate, codes}
-use Rattle.board_prelude.specs.Common.{Kind, Fetch, Read, Write, Width, One, Memory, Wide, Port, Wire, Line, Event}
-use Rattle.board_prelude.specs.Common.{Statement, MemoryBase, IoBase}
+use Rattle.board_prelude.specs.{Kind, Fetch, Read, Write, Width, One, Memory, Wide, Port, Wire, Line, Event, Statement}
+use Rattle.board_prelude.specs.{MemoryBase, IoBase}
 use Rattle.board_base.specs.declared.access.Width.TheVariants.{Four}
 use Rattle.board_spec.specs.declared.event.Event.TheVariants.{Look as LookAt}
 use Rattle.script_spec.specs.Lines.{text_of_lines}

@@ -2,11 +2,9 @@
 -- digits in either case, and everything else as it stands. The forms are those of a version of scripts, 1 or 2.
 use Rattle.std.specs.Prelude.{ℕ, ◌≡◌, ◌≢◌, ◌+◌, ◌%◌, ◌^◌, ◌≤◌, ◌<◌, ◌⊎◌, ◌==◌, Bool, true, ◌||◌, if◌then◌else◌, List}
 use Rattle.std.specs.Prelude.{[], ◌∷◌, ◌++◌, length, flat_map, take, All, Option, Some, None, IfSome, codes, decimal}
-use Rattle.board_prelude.specs.Common.{AllZip, list_all, PortAccess, WideAccess, Moment, bytes_of, weekday_of, Event}
-use Rattle.board_prelude.specs.Common.{Memory, Wide, Port, Ack, Time, Stimulus, stimulus_form, applied_by}
-use Rattle.board_prelude.specs.Common.{Statement, Base, MemoryBase, IoBase, OutsideBase, FittedCard, is_within}
-use Rattle.board_prelude.specs.Common.{is_write}
-use Rattle.board_prelude.specs.Common.{FitsBytes, space, event_text}
+use Rattle.board_prelude.specs.{AllZip, list_all, PortAccess, WideAccess, Moment, bytes_of, weekday_of, Event, Memory}
+use Rattle.board_prelude.specs.{Wide, Port, Ack, Time, Stimulus, stimulus_form, applied_by, Statement, Base, MemoryBase}
+use Rattle.board_prelude.specs.{IoBase, OutsideBase, FittedCard, is_within, is_write, FitsBytes, space, event_text}
 use Rattle.board_base.specs.declared.access.Access.{Access}
 use Rattle.board_spec.specs.declared.event.Event.TheVariants.{Look as LookAt}
 

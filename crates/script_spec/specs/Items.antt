@@ -1,8 +1,7 @@
 -- What a line says, by its fields: the reader's way through the forms.
 use Rattle.std.specs.Prelude.{ℕ, ◌==◌, Bool, true, false, ◌&&◌, nat_le, List, [], ◌∷◌, length, if◌then◌else◌, Option}
 use Rattle.std.specs.Prelude.{Some, None, option_map, codes, bytes_eq}
-use Rattle.board_prelude.specs.Common.{list_all, Fetch, Read, Moment, Event, Time, Stimulus, event_applied}
-use Rattle.board_prelude.specs.Common.{stimulus_of_word}
+use Rattle.board_prelude.specs.{list_all, Fetch, Read, Moment, Event, Time, Stimulus, event_applied, stimulus_of_word}
 use Rattle.script_spec.specs.Grammar.{Item, SetCpus, SetMemory, SetRom, SetDisk, FitCard, BeginPhase, Ask, AskLevel}
 use Rattle.script_spec.specs.Grammar.{is_name_start, is_name_byte}
 use Rattle.script_spec.specs.Fields.{fields_of}

@@ -1,6 +1,6 @@
 -- What the laws say: each is proved on a function of `laws`.
 use Rattle.std.specs.Prelude.{ℕ, ◌≡◌, ◌<◌, ◌^◌, ◌⊎◌, List}
-use Rattle.board_prelude.specs.Common.{Entry, Statement, Setup, line_text}
+use Rattle.board_prelude.specs.{Entry, Statement, Setup, line_text}
 use Rattle.script_spec.specs.Grammar.{Item, HasForm}
 use Rattle.script_spec.specs.ScriptText.{Script, IsScriptText, IsScriptBad}
 use Rattle.script_spec.specs.ScriptRange.{IsInRangeScript}

@@ -19,5 +19,4 @@ pub mod Laws
 pub mod ExampleScripts
 pub mod ExampleEntries
 pub mod Phases
-pub mod Common
 pub mod Boards

@@ -1,6 +1,6 @@
 -- A text is cut into lines at its line feeds.
 use Rattle.std.specs.Prelude.{ℕ, ◌≢◌, ◌==◌, ◌++◌, List, [], ◌∷◌, All, flat_map, if◌then◌else◌}
-use Rattle.board_prelude.specs.Common.{onto_first, line_feed}
+use Rattle.board_prelude.specs.{onto_first, line_feed}
 
 -- the lines of a text. A last piece that is empty is no line
 unfoldable pub lines_of : List ℕ → List (List ℕ)

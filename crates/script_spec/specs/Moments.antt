@@ -1,6 +1,6 @@
 -- What the field of a moment says: the reader's way through the form.
 use Rattle.std.specs.Prelude.{ℕ, ◌+◌, ◌*◌, List, [], ◌∷◌, Option, Some, None}
-use Rattle.board_prelude.specs.Common.{Moment, moment_of}
+use Rattle.board_prelude.specs.{Moment, moment_of}
 use Rattle.script_spec.specs.Numbers.{parse_two_digits, after_mark, ◌>>=◌}
 
 -- two digits after a mark, and what follows

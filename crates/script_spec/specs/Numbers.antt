@@ -1,7 +1,7 @@
 -- Numbers as a script writes them.
 use Rattle.std.specs.Prelude.{ℕ, ◌+◌, ◌-◌, ◌*◌, ◌==◌, Bool, ◌&&◌, not, nat_lt, nat_le, List, [], ◌∷◌, length}
 use Rattle.std.specs.Prelude.{slice_index, if◌then◌else◌, Option, Some, None}
-use Rattle.board_prelude.specs.Common.{option_and_then, is_within}
+use Rattle.board_prelude.specs.{option_and_then, is_within}
 
 -- what a field says, and what follows where it says it
 infixl 10 ◌>>=◌

@@ -1,6 +1,6 @@
 -- The phases of a script as the program keeps them.
 use Rattle.std.specs.Prelude.{List, map}
-use Rattle.board_prelude.specs.Common.{Vec, Statement}
+use Rattle.board_prelude.specs.{Vec, Statement}
 
 -- the statements of each phase
 abbrev pub lists_of : {Z : Type 0} → List (Vec Statement Z) → List (List Statement)

@@ -1,10 +1,10 @@
 -- Why a line that has a form is refused, by the items of the lines before it, the newest first.
 use Rattle.std.specs.Prelude.{ℕ, ◌+◌, ◌%◌, ◌==◌, nat_le, nat_lt, Bool, true, false, not, ◌&&◌, ◌||◌, List, [], ◌∷◌}
 use Rattle.std.specs.Prelude.{length, filter, sum_by, Option, option_map, if◌then◌else◌}
-use Rattle.board_prelude.specs.Common.{list_all, list_any, find, bytes_of, is_moment, Event, Memory, Wide, Port, Pulses}
-use Rattle.board_prelude.specs.Common.{Time, Wire, stimulus_form, applied_by, option_map_or, most_statements}
-use Rattle.board_prelude.specs.Common.{most_phases, most_pulses, most_card_memory, FittedCard, is_base_in_range}
-use Rattle.board_prelude.specs.Common.{is_rom_in_range, memory_of_cards, is_within}
+use Rattle.board_prelude.specs.{list_all, list_any, find, bytes_of, is_moment, Event, Memory, Wide, Port, Pulses, Time}
+use Rattle.board_prelude.specs.{Wire, stimulus_form, applied_by, option_map_or, most_statements, most_phases}
+use Rattle.board_prelude.specs.{most_pulses, most_card_memory, FittedCard, is_base_in_range, is_rom_in_range}
+use Rattle.board_prelude.specs.{memory_of_cards, is_within}
 use Rattle.script_spec.specs.Grammar.{Item, SetCpus, SetMemory, SetRom, SetDisk, FitCard, BeginPhase, Ask, AskLevel}
 
 -- ---- kinds of items

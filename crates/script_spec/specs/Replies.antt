@@ -1,9 +1,8 @@
 -- What the words of a reply say, by its event: the reader's way through its shapes.
 use Rattle.std.specs.Prelude.{ℕ, zero, suc, ◌+◌, ◌-◌, ◌*◌, ◌==◌, ◌≤◌, Bool, false, List, [], ◌∷◌, length, if◌then◌else◌}
 use Rattle.std.specs.Prelude.{Option, Some, None, option_map, codes, bytes_eq}
-use Rattle.board_prelude.specs.Common.{WideAccess, bytes_of, Event, Memory, Wide, Port, Ack, Part, Parts, Two, Three}
-use Rattle.board_prelude.specs.Common.{Four, Reply, Bus, Saw, is_write, longest_at, parts_list, answers_outside}
-use Rattle.board_prelude.specs.Common.{outside_answer}
+use Rattle.board_prelude.specs.{WideAccess, bytes_of, Event, Memory, Wide, Port, Ack, Part, Parts, Two, Three, Four}
+use Rattle.board_prelude.specs.{Reply, Bus, Saw, is_write, longest_at, parts_list, answers_outside, outside_answer}
 use Rattle.board_spec.specs.declared.event.Event.TheVariants.{Look as LookAt}
 use Rattle.board_spec.specs.declared.event.Reply.TheVariants.{Parts as InParts}
 use Rattle.script_spec.specs.Numbers.{parse_hex, parse_decimal, ◌>>=◌}

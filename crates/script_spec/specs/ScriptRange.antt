@@ -1,7 +1,7 @@
 -- What can be relied on in a script that a text says.
 use Rattle.std.specs.Prelude.{ℕ, ◌≡◌, ◌≤◌, List, length, All, flat_map, sum_by, Option, Some, None}
-use Rattle.board_prelude.specs.Common.{Statement, most_statements, most_phases, most_pulses, most_card_memory, Setup}
-use Rattle.board_prelude.specs.Common.{IsCardList, memory_of_cards, IsScripted}
+use Rattle.board_prelude.specs.{Statement, most_statements, most_phases, most_pulses, most_card_memory, Setup}
+use Rattle.board_prelude.specs.{IsCardList, memory_of_cards, IsScripted}
 use Rattle.script_spec.specs.Grammar.{IsName}
 use Rattle.script_spec.specs.Reasons.{largest_cpus, largest_mib, pulses_of_event}
 use Rattle.script_spec.specs.ScriptText.{Script, IsVersion}

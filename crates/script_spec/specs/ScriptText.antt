@@ -1,7 +1,7 @@
 -- The text of a script, and where a text is none.
 use Rattle.std.specs.Prelude.{ℕ, ◌≡◌, ◌≢◌, ◌+◌, ◌<◌, ◌≤◌, ◌⊎◌, ◌==◌, Bool, true, false, not, List, [], ◌∷◌, ◌++◌}
 use Rattle.std.specs.Prelude.{length, map, filter, flat_map, reverse, Option, Some, None, option_map, codes, decimal}
-use Rattle.board_prelude.specs.Common.{find, IsPermutation, Statement, FittedCard, Rises}
+use Rattle.board_prelude.specs.{find, IsPermutation, Statement, FittedCard, Rises}
 use Rattle.script_spec.specs.Lines.{lines_of}
 use Rattle.script_spec.specs.Grammar.{Item, SetCpus, SetMemory, SetRom, SetDisk, BeginPhase, Ask, HasForm}
 use Rattle.script_spec.specs.Reasons.{is_setup, is_cpus, is_memory, is_rom, is_disk, cards_of, lacks_setup}

@@ -1,7 +1,6 @@
 -- What the words of a reply name: the reader's way through them.
 use Rattle.std.specs.Prelude.{ℕ, List, if◌then◌else◌, Option, Some, None, option_map, codes, bytes_eq}
-use Rattle.board_prelude.specs.Common.{Reg, Dev, Area, Target, Denial, Register, Confadd, NoRegister, option_or}
-use Rattle.board_prelude.specs.Common.{device_worded}
+use Rattle.board_prelude.specs.{Reg, Dev, Area, Target, Denial, Register, Confadd, NoRegister, option_or, device_worded}
 use Rattle.board_base.specs.declared.target.Dev.TheVariants as devices
 use Rattle.board_base.specs.declared.target.Area.TheVariants as areas
 use Rattle.board_base.specs.declared.target.Target.TheVariants as targets

@@ -1,10 +1,9 @@
 -- Entries whose line in the log of a version says all that they are.
 use Rattle.std.specs.Prelude.{ℕ, ◌≡◌, ◌<◌, ◌^◌, Bool, true, false, length, All, Option, Some, None, IfSome}
-use Rattle.board_prelude.specs.Common.{Reg, Dev, Area, Target, Dram, Shadow, Rom, Card, Device, Config, Denial}
-use Rattle.board_prelude.specs.Common.{Register, IsMoment, bytes_of, Event, Memory, Wide, Port, Ack, Time}
-use Rattle.board_prelude.specs.Common.{stimulus_form, applied_by, Look, Part, Reply, Bus, Saw, Entry, is_write}
-use Rattle.board_prelude.specs.Common.{parts_of, parts_list}
-use Rattle.board_prelude.specs.Common.{answers_outside, outside_answer}
+use Rattle.board_prelude.specs.{Reg, Dev, Area, Target, Dram, Shadow, Rom, Card, Device, Config, Denial, Register}
+use Rattle.board_prelude.specs.{IsMoment, bytes_of, Event, Memory, Wide, Port, Ack, Time, stimulus_form, applied_by}
+use Rattle.board_prelude.specs.{Look, Part, Reply, Bus, Saw, Entry, is_write, parts_of, parts_list, answers_outside}
+use Rattle.board_prelude.specs.{outside_answer}
 use Rattle.board_base.specs.declared.target.Dev.TheVariants as devices
 use Rattle.board_base.specs.declared.target.Area.TheVariants as areas
 use Rattle.board_spec.specs.declared.event.Event.TheVariants.{Look as LookAt}

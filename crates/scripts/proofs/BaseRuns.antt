@@ -1,11 +1,11 @@
 -- The bases of a card one after the other, as a loop reads them.
 use Rattle.std.proofs.Common.{◌≡◌, ℕ, ◌+◌, ◌<◌, true, List, [], ◌∷◌, ◌++◌, length, map, take, get_or, Some, None, refl}
 use Rattle.std.proofs.Common.{ap, ◌∙◌, arith}
-use Rattle.board_prelude.proofs.Common.{list_all, and_from, get_or-map, length-map, take_more, map-append}
+use Rattle.board_prelude.proofs.{list_all, and_from, get_or-map, length-map, take_more, map-append}
 use Rattle.std.proofs.lemmas.List.Folds.{list_all_at, list_all_more}
 use Rattle.pci_bars.specs.declared.spec.BaseSpec.{BaseSpec}
 use Rattle.pci_bars.specs.Bases.{base_of}
-use Rattle.board_prelude.specs.Common.{is_base_in_range}
+use Rattle.board_prelude.specs.{is_base_in_range}
 use Rattle.scripts.specs.declared.card.BaseField.{BaseField}
 use Rattle.scripts.specs.Items.{base_said}
 use Rattle.scripts.specs.Valid.{in_case}

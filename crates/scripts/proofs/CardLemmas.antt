@@ -1,7 +1,7 @@
 -- Cards: how much memory their bases decode.
 use Rattle.std.proofs.Common.{sym, ◌≡◌, ℕ, ◌+◌, ◌<◌, ◌≤◌, List, length, map, take, get_or, sum_by, All, subst, arith}
-use Rattle.board_prelude.proofs.Common.{nat_tests, All-get_or, get_or-map, length-map, pow-le-pow_right, Base}
-use Rattle.board_prelude.proofs.Common.{FittedCard, IsBase, IsCard, memory_size}
+use Rattle.board_prelude.proofs.{nat_tests, All-get_or, get_or-map, length-map, pow-le-pow_right, Base, FittedCard}
+use Rattle.board_prelude.proofs.{IsBase, IsCard, memory_size}
 use Rattle.std.proofs.lemmas.List.Sums.{sum_by-le, sum_by-take-le, sum_by_more}
 use Rattle.pci_bars.specs.declared.spec.BaseSpec.{BaseSpec}
 use Rattle.pci_bars.specs.Bases.{base_of}

@@ -1,5 +1,5 @@
 -- The table of digits holds what each byte stands for.
-use Rattle.board_prelude.proofs.Common.{nat_tests, range_with_len, lt-ltb, le-ltb, get_or-map-range_with_len}
+use Rattle.board_prelude.proofs.{nat_tests, range_with_len, lt-ltb, le-ltb, get_or-map-range_with_len}
 use Rattle.std.proofs.Common.{◌≡◌, ℕ, ◌<◌, ◌≤◌, cond, ltb, Option, Some, None, List, get_or, map, refl, sym, ap, ◌∙◌}
 use Rattle.std.proofs.Common.{arith}
 use Rattle.script_spec.specs.Numbers.{digit_value}

@@ -1,5 +1,5 @@
 -- A line up to its first space, and after it.
-use Rattle.board_prelude.proofs.Common.{nat_tests, position_or_len, ltb-false, take_rest}
+use Rattle.board_prelude.proofs.{nat_tests, position_or_len, ltb-false, take_rest}
 use Rattle.std.proofs.Common.{◌≡◌, ℕ, ◌+◌, ◌-◌, Bool, false, cond, eqb, ltb, Option, Some, None, List, [], ◌∷◌, length}
 use Rattle.std.proofs.Common.{take, drop, arith}
 use Rattle.std.proofs.lemmas.Option.{cond_some}

@@ -1,8 +1,9 @@
 -- What the reader returns for a line.
-use Rattle.board_prelude.proofs.Common.{nat_tests}
+use Rattle.board_prelude.proofs.{nat_tests}
 use Rattle.std.proofs.Common.{arith, ◌≡◌, ℕ, Option, List, IfSome}
 use Rattle.std.specs.Option.{option_map, IfNone}
-use Rattle.script_spec.specs.Common.{HasForm, parse_line}
+use Rattle.script_spec.specs.Grammar.{HasForm}
+use Rattle.script_spec.specs.Items.{parse_line}
 use Rattle.script_spec.proofs.LineReading.{read_says, nothing_said}
 use Rattle.scripts.specs.declared.item.Item.{Item as Read}
 use Rattle.scripts.specs.Items.{line_said, HasNoForm}

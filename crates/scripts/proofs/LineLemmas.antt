@@ -1,5 +1,5 @@
 -- A text up to its first line feed, and after it.
-use Rattle.board_prelude.proofs.Common.{eqb-true, nat_tests, take_rest, common_steps, All-head, All-tail}
+use Rattle.board_prelude.proofs.{eqb-true, nat_tests, take_rest, common_steps, All-head, All-tail}
 use Rattle.std.proofs.Common.{sym, ◌≡◌, ℕ, ◌+◌, ◌<◌, ◌-◌, ◌≢◌, zero, suc, Bool, true, false, eqb, Some, None, List, []}
 use Rattle.std.proofs.Common.{◌∷◌, ◌++◌, length, get_or, take, drop, refl, All, arith}
 use Rattle.memchr.specs.Find.{IsFirstByte}

@@ -1,6 +1,6 @@
 -- A name is text.
 use Rattle.std.proofs.Common.{◌≡◌, ℕ, zero, suc, ◌<◌, true, List, [], ◌∷◌, get_or, arith, IsUtf8}
-use Rattle.board_prelude.proofs.Common.{list_all, and_parts, nat_tests, IsUtf8-from_ascii}
+use Rattle.board_prelude.proofs.{list_all, and_parts, nat_tests, IsUtf8-from_ascii}
 use Rattle.script_spec.specs.Grammar.{is_name_byte, IsName}
 
 each_below : (bytes : List ℕ) → list_all is_name_byte bytes ≡ true → (i : ℕ) → get_or bytes i 0 < 128

@@ -1,5 +1,5 @@
 -- Digits, one after the other.
-use Rattle.board_prelude.proofs.Common.{nat_tests, drop_more, drop_all, pow-le-pow_right, option_and_then}
+use Rattle.board_prelude.proofs.{nat_tests, drop_more, drop_all, pow-le-pow_right, option_and_then}
 use Rattle.std.proofs.Common.{◌≡◌, ℕ, ◌+◌, ◌*◌, ◌^◌, ◌<◌, ◌≤◌, Option, Some, None, List, length, get_or, drop, refl}
 use Rattle.std.proofs.Common.{arith}
 use Rattle.std.proofs.lemmas.Nat.{mul-add-lt}

@@ -1,22 +1,25 @@
 -- The least reason for an item, by what is kept of the lines before it.
-use Rattle.board_prelude.proofs.Common.{common_steps, nat_tests, option_map, find, list_any, sum_by-append, sum_by-cons}
-use Rattle.board_prelude.proofs.Common.{Event, FittedCard, memory_size, memory_of_cards}
+use Rattle.board_prelude.proofs.{common_steps, nat_tests, option_map, find, list_any, sum_by-append, sum_by-cons, Event}
+use Rattle.board_prelude.proofs.{FittedCard, memory_size, memory_of_cards}
 use Rattle.std.proofs.Common.{ℕ, ◌≡◌, ◌+◌, ◌<◌, ◌≤◌, Bool, true, false, not, ◌&&◌, ◌||◌, Option, Some, None, Result}
 use Rattle.std.proofs.Common.{List, [], ◌∷◌, length, filter, flat_map, sum_by, refl, sym, ap, ◌∙◌, arith, ◌==◌, nat_lt}
 use Rattle.std.proofs.Common.{is_some, if◌then◌else◌, IsErr, IsErrAnd}
 use Rattle.std.proofs.lemmas.List.Sorted.{list_any-IsPermutation}
-use Rattle.script_spec.specs.Common.{Item, SetCpus, SetMemory, SetRom, SetDisk, FitCard, BeginPhase, is_phase}
-use Rattle.script_spec.specs.Common.{is_statement, is_setup, is_cpus, is_memory, is_rom, is_disk, cards_of, has_card}
-use Rattle.script_spec.specs.Common.{has_setup, lacks_setup, is_misplaced, is_repeated, is_in_range, is_placed}
-use Rattle.script_spec.specs.Common.{is_there, pulses_of_event, pulses_of, passes_limits, least_reason, ask}
-use Rattle.script_spec.specs.Common.{is_event_placed, is_card_there}
+use Rattle.script_spec.specs.Grammar.{Item, SetCpus, SetMemory, SetRom, SetDisk, FitCard, BeginPhase}
+use Rattle.script_spec.specs.Reasons.{is_phase, is_statement, is_setup, is_cpus, is_memory, is_rom, is_disk, cards_of}
+use Rattle.script_spec.specs.Reasons.{has_card, has_setup, lacks_setup, is_misplaced, is_repeated, is_in_range}
+use Rattle.script_spec.specs.Reasons.{is_placed, is_there, pulses_of_event, pulses_of, passes_limits, least_reason}
+use Rattle.script_spec.specs.Reasons.{is_event_placed, is_card_there}
+use Rattle.script_spec.specs.Items.{ask}
 use Rattle.script_spec.proofs.RangeLaws.{any_found}
 use Rattle.script_spec.proofs.LeastReasons.{first_is, first_of}
 use Rattle.scripts.specs.declared.item.Asked.{Asked}
 use Rattle.scripts.specs.Items.{asked_said}
 use Rattle.scripts.specs.declared.fault.Reason.{Reason}
 use Rattle.scripts.specs.declared.reading.Reading.{Reading}
-use Rattle.scripts.specs.Common.{in_case, number_of, IsReadingOf, Judges, Stands, is_below}
+use Rattle.scripts.specs.Valid.{in_case}
+use Rattle.scripts.specs.Faults.{number_of}
+use Rattle.scripts.specs.Reading.{IsReadingOf, Judges, Stands, is_below}
 
 -- ---- of several reasons the least
 

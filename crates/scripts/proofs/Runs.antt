@@ -1,13 +1,19 @@
 -- The run over the lines.
-use Rattle.board_prelude.proofs.Common.{nat_tests, digits, bytes_eq-Decides}
+use Rattle.board_prelude.proofs.{nat_tests, digits, bytes_eq-Decides}
 use Rattle.std.proofs.Common.{◌≡◌, ℕ, ◌+◌, true, false, Result, List, [], ◌∷◌, ◌++◌, length, refl, append_assoc}
 use Rattle.std.proofs.Common.{length-append, arith, IfOk, codes, bytes_eq}
-use Rattle.script_spec.specs.Common.{lines_of, Item, AreRead, first_line, IsScriptText, BeginsBadly, IsInRangeScript}
-use Rattle.script_spec.proofs.Common.{same_head, read_more, skip_more, scripts_are_in_range, word_is}
+use Rattle.script_spec.specs.Lines.{lines_of}
+use Rattle.script_spec.specs.Grammar.{Item}
+use Rattle.script_spec.specs.ScriptText.{AreRead, first_line, IsScriptText, BeginsBadly}
+use Rattle.script_spec.specs.ScriptRange.{IsInRangeScript}
+use Rattle.script_spec.proofs.Chains.{same_head, word_is}
+use Rattle.script_spec.proofs.ReadingLaws.{read_more, skip_more}
+use Rattle.script_spec.proofs.RangeLaws.{scripts_are_in_range}
 use Rattle.scripts.specs.declared.fault.ScriptFault.{ScriptFault}
 use Rattle.scripts.specs.declared.reading.Reading.{Reading}
 use Rattle.scripts.specs.declared.script.Script.{Script}
-use Rattle.scripts.specs.Common.{IsReadingOf, said_of}
+use Rattle.scripts.specs.Reading.{IsReadingOf}
+use Rattle.scripts.specs.Script.{said_of}
 
 -- ---- the first line
 

@@ -1,11 +1,14 @@
 -- A statement that is read straight from the bytes of its line is the one that its fields say.
-use Rattle.board_prelude.proofs.Common.{nat_tests, All-nil, All-cons, Event, Width, Kind}
+use Rattle.board_prelude.proofs.{nat_tests, All-nil, All-cons, Event, Width, Kind}
 use Rattle.std.proofs.Common.{arith, ◌≡◌, ℕ, ◌+◌, ◌*◌, false, Option, Some, None, List, [], ◌∷◌, ◌++◌, All, sym, ap}
 use Rattle.std.proofs.Common.{◌∙◌, IfSome, MatchOption}
 use Rattle.std.proofs.lemmas.List.Splits.{slice_split_none, slice_split_at}
-use Rattle.script_spec.specs.Common.{HasForm, fields_of, parse_size, parse_width, parse_kind, parse_hex, parse_decimal}
-use Rattle.script_spec.specs.Common.{parse_digit, number_after, ask, is_skipped, parse_smm, parse_read}
-use Rattle.script_spec.specs.Events.{read_event}
+use Rattle.script_spec.specs.Grammar.{HasForm}
+use Rattle.script_spec.specs.Fields.{fields_of}
+use Rattle.script_spec.specs.Events.{parse_size, parse_width, parse_kind, parse_smm, parse_read, read_event}
+use Rattle.script_spec.specs.Numbers.{parse_hex, parse_decimal, parse_digit, number_after}
+use Rattle.script_spec.specs.Items.{ask}
+use Rattle.script_spec.specs.ScriptText.{is_skipped}
 use Rattle.script_spec.proofs.Chains.{guarded, then_said}
 use Rattle.script_spec.proofs.NumberTexts.{decimal_read}
 use Rattle.script_spec.proofs.LineReading.{read_says}

@@ -1,11 +1,15 @@
 -- A line that is read straight.
-use Rattle.board_prelude.proofs.Common.{nat_tests, AllZip, All-nil, All-cons, Event}
+use Rattle.board_prelude.proofs.{nat_tests, AllZip, All-nil, All-cons, Event}
 use Rattle.std.proofs.Common.{◌≡◌, ℕ, true, false, None, List, [], ◌∷◌, Result, Ok, Err, OnOk, All, arith}
-use Rattle.script_spec.specs.Common.{Item, StandsFor, HasForm, item_text, ask, AreRead, least_reason}
-use Rattle.script_spec.proofs.Common.{lacks, lacks-first, lacks-later, lacks-append, lacks-word, lacks-plain}
-use Rattle.script_spec.proofs.Common.{decimal_word, event_plain}
+use Rattle.script_spec.specs.Grammar.{Item, StandsFor, HasForm, item_text}
+use Rattle.script_spec.specs.Items.{ask}
+use Rattle.script_spec.specs.ScriptText.{AreRead}
+use Rattle.script_spec.specs.Reasons.{least_reason}
+use Rattle.script_spec.proofs.Digits.{lacks, lacks-first, lacks-later, lacks-append}
+use Rattle.script_spec.proofs.PlainText.{lacks-word, lacks-plain, decimal_word}
+use Rattle.script_spec.proofs.Words.{event_plain}
 use Rattle.scripts.specs.declared.reading.Reading.{Reading}
-use Rattle.scripts.specs.Common.{IsReadingOf}
+use Rattle.scripts.specs.Reading.{IsReadingOf}
 use Rattle.scripts.specs.StraightLine.{IsStraight}
 use Rattle.scripts.proofs.LineLemmas.{is_feed}
 

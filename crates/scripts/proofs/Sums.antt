@@ -1,5 +1,5 @@
 -- What digits add up to is the number that they make.
-use Rattle.board_prelude.proofs.Common.{nat_tests, option_and_then, range_with_len, get_or-map-range_with_len}
+use Rattle.board_prelude.proofs.{nat_tests, option_and_then, range_with_len, get_or-map-range_with_len}
 use Rattle.std.proofs.Common.{◌≡◌, ℕ, ◌+◌, ◌*◌, ◌^◌, ◌<◌, ◌≤◌, Option, Some, None, List, [], ◌∷◌, get_or, map, refl}
 use Rattle.std.proofs.Common.{sym, ap, subst, ◌∙◌, arith}
 use Rattle.script_spec.specs.Numbers.{parse_digit, parse_digits, number_after}

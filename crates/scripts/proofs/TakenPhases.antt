@@ -1,13 +1,16 @@
 -- What `phase` and statements add to what is kept.
-use Rattle.board_prelude.proofs.Common.{nat_tests, list_any, false≢true, map-append, map-set, get_or-map, length-map}
-use Rattle.board_prelude.proofs.Common.{sum_by-cons, get_or-append_seam, Statement}
+use Rattle.board_prelude.proofs.{nat_tests, list_any, false≢true, map-append, map-set, get_or-map, length-map}
+use Rattle.board_prelude.proofs.{sum_by-cons, get_or-append_seam}
+use Rattle.board_prelude.specs.{Statement}
 use Rattle.std.proofs.Common.{◌≡◌, ℕ, ◌+◌, ◌-◌, ◌<◌, true, not, List, [], ◌∷◌, ◌++◌, Vec, Global, vec_len, length}
 use Rattle.std.proofs.Common.{get_or, filter, set, refl, sym, ap, ◌∙◌, arith, length-append, reverse, append_assoc}
 use Rattle.std.proofs.Math.Seq.{set-append_seam}
-use Rattle.script_spec.specs.Common.{Item, BeginPhase, Ask, is_phase, is_setup, pulses_of, pulses_of_event, phase_items}
-use Rattle.script_spec.specs.Common.{lists_of}
-use Rattle.script_spec.proofs.Common.{NoReason, no_reason, reverse_more, phases_more}
-use Rattle.script_spec.proofs.GoodItems.{within_limits}
+use Rattle.script_spec.specs.Grammar.{Item, BeginPhase, Ask}
+use Rattle.script_spec.specs.Reasons.{is_phase, is_setup, pulses_of, pulses_of_event}
+use Rattle.script_spec.specs.ScriptText.{phase_items}
+use Rattle.script_spec.specs.Phases.{lists_of}
+use Rattle.script_spec.proofs.GoodItems.{NoReason, no_reason, within_limits}
+use Rattle.script_spec.proofs.ReadingExists.{reverse_more, phases_more}
 use Rattle.scripts.specs.declared.reading.Reading.{Reading}
 use Rattle.scripts.specs.Reading.{Takes}
 

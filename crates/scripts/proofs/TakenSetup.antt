@@ -1,9 +1,9 @@
 -- What the lines of the setup add to what is kept.
-use Rattle.board_prelude.proofs.Common.{nat_tests, list_any, true≢false, sum_by-cons, or-false, FittedCard, memory_size}
+use Rattle.board_prelude.proofs.{nat_tests, list_any, true≢false, sum_by-cons, or-false, FittedCard, memory_size}
 use Rattle.std.proofs.Common.{◌≡◌, ℕ, ◌+◌, false, Some, List, [], ◌∷◌, Vec, Global, sum_by, refl, arith, nat_lt}
-use Rattle.script_spec.specs.Common.{Item, SetCpus, FitCard, is_cpus, is_cpus_above, cards_of}
-use Rattle.script_spec.proofs.Common.{no_reason}
-use Rattle.script_spec.proofs.GoodItems.{within_limits}
+use Rattle.script_spec.specs.Grammar.{Item, SetCpus, FitCard}
+use Rattle.script_spec.specs.Reasons.{is_cpus, is_cpus_above, cards_of}
+use Rattle.script_spec.proofs.GoodItems.{no_reason, within_limits}
 use Rattle.script_spec.proofs.ReadingExists.{put, card_put, cards_rise}
 use Rattle.scripts.specs.declared.reading.Reading.{Reading}
 use Rattle.scripts.proofs.Reasons.{memory_cons}

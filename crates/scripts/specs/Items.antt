@@ -1,8 +1,9 @@
 -- What the reader's values say.
 use Rattle.std.specs.Prelude.{ℕ, List, map}
-use Rattle.board_prelude.specs.Common.{Moment, moment_of, Time, Base, MemoryBase, IoBase, FittedCard}
-use Rattle.script_spec.specs.Common.{Item, SetCpus, SetMemory, SetRom, SetDisk, FitCard, BeginPhase, HasForm, Tail, ask}
-use Rattle.script_spec.specs.Common.{stimulus_item}
+use Rattle.board_prelude.specs.{Moment, moment_of, Time, Base, MemoryBase, IoBase, FittedCard}
+use Rattle.script_spec.specs.Grammar.{Item, SetCpus, SetMemory, SetRom, SetDisk, FitCard, BeginPhase, HasForm}
+use Rattle.script_spec.specs.Cards.{Tail}
+use Rattle.script_spec.specs.Items.{ask, stimulus_item}
 use Rattle.scripts.specs.declared.item.Item.{Item as Line}
 use Rattle.scripts.specs.declared.item.Item.TheVariants.{Cpus, Memory, Rom, Disk, Card, Phase, Statement as Asks}
 use Rattle.scripts.specs.declared.item.Asked.{Asked}

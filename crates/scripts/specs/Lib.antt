@@ -6,4 +6,3 @@ pub mod Valid
 pub mod Reading
 pub mod Script
 pub mod StraightLine
-pub mod Common

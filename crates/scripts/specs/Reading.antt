@@ -1,11 +1,14 @@
 -- What is kept of the lines so far, held against the items that they say.
 use Rattle.std.specs.Prelude.{ℕ, ◌≡◌, ◌≤◌, Bool, true, false, not, nat_lt, List, ◌∷◌, length, filter, reverse, sum_by}
 use Rattle.std.specs.Prelude.{Option, Some, None, Result, Ok, Err}
-use Rattle.board_prelude.specs.Common.{option_map, list_any, find, IsPermutation, most_statements, most_phases}
-use Rattle.board_prelude.specs.Common.{most_pulses, most_card_memory, Rises, memory_of_cards}
-use Rattle.script_spec.specs.Common.{Item, SetCpus, SetMemory, SetRom, SetDisk, is_phase, is_statement, is_setup}
-use Rattle.script_spec.specs.Common.{is_cpus, is_memory, is_rom, is_disk, is_cpus_above, cards_of, has_setup, pulses_of}
-use Rattle.script_spec.specs.Common.{is_misplaced, is_repeated, least_reason, phase_items, lists_of}
+use Rattle.board_prelude.specs.{option_map, list_any, find, IsPermutation, most_statements, most_phases, most_pulses}
+use Rattle.board_prelude.specs.{most_card_memory, Rises, memory_of_cards}
+use Rattle.script_spec.specs.Grammar.{Item, SetCpus, SetMemory, SetRom, SetDisk}
+use Rattle.script_spec.specs.Reasons.{is_phase, is_statement, is_setup, is_cpus, is_memory, is_rom, is_disk}
+use Rattle.script_spec.specs.Reasons.{is_cpus_above, cards_of, has_setup, pulses_of, is_misplaced, is_repeated}
+use Rattle.script_spec.specs.Reasons.{least_reason}
+use Rattle.script_spec.specs.ScriptText.{phase_items}
+use Rattle.script_spec.specs.Phases.{lists_of}
 use Rattle.scripts.specs.declared.fault.Reason.{Reason}
 use Rattle.scripts.specs.declared.reading.Reading.{Reading}
 use Rattle.scripts.specs.Faults.{number_of}

@@ -1,7 +1,8 @@
 -- A statement that is read straight from the bytes of its line.
 use Rattle.std.specs.Prelude.{ℕ, ◌≡◌, List, Some}
-use Rattle.board_prelude.specs.Common.{Event}
-use Rattle.script_spec.specs.Common.{fields_of, ask, parse_statement_words}
+use Rattle.board_prelude.specs.{Event}
+use Rattle.script_spec.specs.Fields.{fields_of}
+use Rattle.script_spec.specs.Items.{ask, parse_statement_words}
 
 -- between two fields one space stands
 abbrev pub space : ℕ

@@ -1,8 +1,8 @@
 -- What is taken of a line: an item with its numbers in range.
 use Rattle.std.specs.Prelude.{◌≤◌, Bool, if◌then◌else◌, Option, Some, None}
 use Rattle.board_spec.specs.Setup.{IsCard}
-use Rattle.script_spec.specs.Common.{Item, SetCpus, SetMemory, SetRom, SetDisk, FitCard, BeginPhase, Ask, IsName}
-use Rattle.script_spec.specs.Common.{pulses_of_event}
+use Rattle.script_spec.specs.Grammar.{Item, SetCpus, SetMemory, SetRom, SetDisk, FitCard, BeginPhase, Ask, IsName}
+use Rattle.script_spec.specs.Reasons.{pulses_of_event}
 use Rattle.scripts.specs.declared.valid.ValidItem.{ValidItem}
 use Rattle.scripts.specs.declared.valid.ValidItem.TheVariants.{Cpus, Memory, Rom, Disk, Card, Phase, Asked}
 

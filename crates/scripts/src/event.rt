@@ -2,11 +2,11 @@
 
 ghost use Rattle.std.specs.Prelude.{◌≡◌, ◌*◌, ◌<◌, ◌^◌, option_map, IfSome};
 ghost use Rattle.board_base.specs.Access.{bytes_of};
-ghost use Rattle.script_spec.specs.Common.{parse_hex, IsSize, parse_width, quad_size, parse_size, width_with, is_wide};
-ghost use Rattle.script_spec.specs.Common.{memory_event, parse_kind, parse_smm, parse_read, parse_write, parse_in};
-ghost use Rattle.script_spec.specs.Common.{parse_out, parse_look, parse_ack, parse_number, parse_two_numbers};
-ghost use Rattle.script_spec.specs.Common.{parse_given};
-ghost use Rattle.script_spec.specs.Events.{read_event, write_event, in_event, out_event, look_event};
+ghost use Rattle.script_spec.specs.Numbers.{parse_hex};
+ghost use Rattle.script_spec.specs.Events.{IsSize, parse_width, quad_size, parse_size, width_with, is_wide};
+ghost use Rattle.script_spec.specs.Events.{memory_event, parse_kind, parse_smm, parse_read, parse_write, parse_in};
+ghost use Rattle.script_spec.specs.Events.{parse_out, parse_look, parse_ack, parse_number, parse_two_numbers};
+ghost use Rattle.script_spec.specs.Events.{parse_given, read_event, write_event, in_event, out_event, look_event};
 
 use crate::fields::Fields;
 use crate::item::is_word;

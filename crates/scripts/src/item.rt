@@ -3,11 +3,13 @@
 ghost use Rattle.std.specs.Prelude.{◌≡◌, ℕ, option_map, bytes_eq, IfSome};
 ghost use Rattle.std.specs.Option.{IfNone};
 ghost use Rattle.std.specs.List.{list_all};
-ghost use Rattle.script_spec.specs.Common.{SetCpus, SetMemory, SetRom, SetDisk, FitCard, HasForm, is_name_start};
-ghost use Rattle.script_spec.specs.Common.{is_name_byte, parse_number, parse_card, ask, parse_stimulus_item};
-ghost use Rattle.script_spec.specs.Common.{parse_only_moment, parse_time_item};
-ghost use Rattle.script_spec.specs.Common.{parse_by_verb, parse_statement_words, is_name, parse_name};
-ghost use Rattle.script_spec.specs.Common.{parse_phase, parse_statement, parse_by_key, parse_item};
+ghost use Rattle.script_spec.specs.Grammar.{SetCpus, SetMemory, SetRom, SetDisk, FitCard, HasForm, is_name_start};
+ghost use Rattle.script_spec.specs.Grammar.{is_name_byte};
+ghost use Rattle.script_spec.specs.Events.{parse_number};
+ghost use Rattle.script_spec.specs.Cards.{parse_card};
+ghost use Rattle.script_spec.specs.Items.{ask, parse_stimulus_item, parse_only_moment, parse_time_item, parse_by_verb};
+ghost use Rattle.script_spec.specs.Items.{parse_statement_words, is_name, parse_name, parse_phase, parse_statement};
+ghost use Rattle.script_spec.specs.Items.{parse_by_key, parse_item};
 ghost use Rattle.scripts.specs.Items.{moment_said, asked_said, line_said, HasNoForm};
 
 use crate::card::{CardFields, parse_card};

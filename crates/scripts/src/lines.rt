@@ -1,7 +1,8 @@
 //! The lines of a text.
 
 ghost use Rattle.std.specs.Prelude.{◌≡◌, ◌<◌, ◌≤◌, [], ◌∷◌, ◌++◌, length, IfSome, MatchOption};
-ghost use Rattle.script_spec.specs.Common.{lines_of, IsVersion, first_line, BeginsBadly, is_skipped};
+ghost use Rattle.script_spec.specs.Lines.{lines_of};
+ghost use Rattle.script_spec.specs.ScriptText.{IsVersion, first_line, BeginsBadly, is_skipped};
 ghost use Rattle.scripts.specs.StraightLine.{IsStraight};
 
 use crate::item::is_word;

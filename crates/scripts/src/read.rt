@@ -2,8 +2,13 @@
 
 ghost use Rattle.std.specs.Prelude.{◌≡◌, ◌<◌, ◌+◌, ◌^◌, ◌-◌, [], ◌∷◌, ℕ, List, length, IfOk, IfErr, IfSome, OnOk, Some};
 ghost use Rattle.std.specs.Prelude.{None};
-ghost use Rattle.script_spec.specs.Common.{Item as Said, lines_of, IsVersion, first_line, AreRead, IsBadLine};
-ghost use Rattle.script_spec.specs.Common.{IsBadLater, IsScriptText, IsScriptBad, IsInRangeScript, ask, least_reason};
+ghost use Rattle.script_spec.specs.Grammar.{Item as Said};
+ghost use Rattle.script_spec.specs.Lines.{lines_of};
+ghost use Rattle.script_spec.specs.ScriptText.{IsVersion, first_line, AreRead, IsBadLine, IsBadLater, IsScriptText};
+ghost use Rattle.script_spec.specs.ScriptText.{IsScriptBad};
+ghost use Rattle.script_spec.specs.ScriptRange.{IsInRangeScript};
+ghost use Rattle.script_spec.specs.Items.{ask};
+ghost use Rattle.script_spec.specs.Reasons.{least_reason};
 ghost use Rattle.scripts.specs.Faults.{OnBad};
 ghost use Rattle.scripts.specs.Reading.{IsReadingOf};
 ghost use Rattle.scripts.specs.Script.{said_of};

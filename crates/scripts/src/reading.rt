@@ -1,7 +1,9 @@
 //! What is kept of the lines of a script so far.
 
 ghost use Rattle.std.specs.Prelude.{◌≡◌, [], List, true, false, IfOk, IfErr};
-ghost use Rattle.script_spec.specs.Common.{Item, lacks_setup, IsSaidBy};
+ghost use Rattle.script_spec.specs.Grammar.{Item};
+ghost use Rattle.script_spec.specs.Reasons.{lacks_setup};
+ghost use Rattle.script_spec.specs.ScriptText.{IsSaidBy};
 ghost use Rattle.scripts.specs.Reading.{IsReadingOf};
 ghost use Rattle.scripts.specs.Script.{said_of};
 ghost use Rattle.scripts.specs.declared.fault.Reason.{Reason};

@@ -2,10 +2,10 @@
 
 ghost use Rattle.std.specs.Prelude.{◌≡◌, ◌≤◌, ◌<◌, ◌+◌, ◌&&◌, ◌||◌, nat_lt, true, is_some, ℕ, List, length, sum_by};
 ghost use Rattle.std.specs.Prelude.{IfOk, IsTrue};
-ghost use Rattle.board_prelude.specs.Common.{list_any, most_statements, most_pulses, IsCard, memory_size};
-ghost use Rattle.script_spec.specs.Common.{Item as Said, SetCpus, SetMemory, SetRom, SetDisk, FitCard, BeginPhase, Ask};
-ghost use Rattle.script_spec.specs.Common.{IsForm, is_phase, is_setup, is_repeated, has_card, is_card_there};
-ghost use Rattle.script_spec.specs.Common.{pulses_of_event};
+ghost use Rattle.board_prelude.specs.{list_any, most_statements, most_pulses, IsCard, memory_size};
+ghost use Rattle.script_spec.specs.Grammar.{Item as Said, SetCpus, SetMemory, SetRom, SetDisk, FitCard, BeginPhase};
+ghost use Rattle.script_spec.specs.Grammar.{Ask, IsForm};
+ghost use Rattle.script_spec.specs.Reasons.{is_phase, is_setup, is_repeated, has_card, is_card_there, pulses_of_event};
 ghost use Rattle.scripts.specs.Items.{card_said, asked_said, line_said};
 ghost use Rattle.scripts.specs.Valid.{item_said, IsValid};
 ghost use Rattle.scripts.specs.Reading.{is_below, IsReadingOf, IsWithinLimits, Judges, Stands};

@@ -2,7 +2,10 @@
 //! processor with one digit, outside SMM. Any other line is cut into its fields.
 
 ghost use Rattle.std.specs.Prelude.{◌≡◌, ◌≤◌, ◌∷◌, ◌++◌, false, Some, IfSome};
-ghost use Rattle.script_spec.specs.Common.{fields_of, HasForm, is_skipped, parse_read};
+ghost use Rattle.script_spec.specs.Fields.{fields_of};
+ghost use Rattle.script_spec.specs.Grammar.{HasForm};
+ghost use Rattle.script_spec.specs.ScriptText.{is_skipped};
+ghost use Rattle.script_spec.specs.Events.{parse_read};
 ghost use Rattle.scripts.specs.Items.{asked_said};
 ghost use Rattle.scripts.specs.Straight.{space, Asks};
 ghost use Rattle.scripts.specs.declared.item.Asked.{Asked};

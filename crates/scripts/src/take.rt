@@ -1,9 +1,10 @@
 //! What an item adds to what is kept of the lines before it.
 
 ghost use Rattle.std.specs.Prelude.{◌≡◌, ◌≤◌, ◌++◌, [], ◌∷◌, List, length, nat_lt, OnOk};
-ghost use Rattle.board_prelude.specs.Common.{position_or_len, Statement, IsCard};
-ghost use Rattle.script_spec.specs.Common.{SetCpus, SetMemory, SetRom, SetDisk, FitCard, BeginPhase, Ask, IsName};
-ghost use Rattle.script_spec.specs.Common.{pulses_of_event, lists_of};
+ghost use Rattle.board_prelude.specs.{position_or_len, Statement, IsCard};
+ghost use Rattle.script_spec.specs.Grammar.{SetCpus, SetMemory, SetRom, SetDisk, FitCard, BeginPhase, Ask, IsName};
+ghost use Rattle.script_spec.specs.Reasons.{pulses_of_event};
+ghost use Rattle.script_spec.specs.Phases.{lists_of};
 ghost use Rattle.scripts.specs.Valid.{item_said, IsValid};
 ghost use Rattle.scripts.specs.Reading.{IsWithinLimits, Takes};
 

@@ -1,11 +1,12 @@
 //! Items with their numbers in range.
 
 ghost use Rattle.std.specs.Prelude.{◌≡◌, ◌≤◌, ℕ, true, length, map, option_map, IfSome};
-ghost use Rattle.board_prelude.specs.Common.{list_all, option_map_or, IsCard, is_within, is_base_in_range};
-ghost use Rattle.board_prelude.specs.Common.{is_rom_in_range, is_moment, stimulus_form};
+ghost use Rattle.board_prelude.specs.{list_all, option_map_or, IsCard, is_within, is_base_in_range, is_rom_in_range};
+ghost use Rattle.board_prelude.specs.{is_moment, stimulus_form};
 ghost use Rattle.pci_bars.specs.Bases.{base_of};
-ghost use Rattle.script_spec.specs.Common.{is_card_in_range, is_event_in_range, is_event_placed, is_in_range};
-ghost use Rattle.script_spec.specs.Common.{pulses_of_event, ask};
+ghost use Rattle.script_spec.specs.Reasons.{is_card_in_range, is_event_in_range, is_event_placed, is_in_range};
+ghost use Rattle.script_spec.specs.Reasons.{pulses_of_event};
+ghost use Rattle.script_spec.specs.Items.{ask};
 ghost use Rattle.scripts.specs.Items.{base_said, card_said, asked_said};
 ghost use Rattle.scripts.specs.Valid.{in_case};
 

@@ -1,10 +1,13 @@
 -- The registers of the 82371SB that cannot be written, in the table of registers.
 use Rattle.std.proofs.Common.{◌≡◌, ◌≢◌, ℕ, ◌<◌, List, [], ◌∷◌, false, None, refl, arith, inl, inr, slice_index, ◌==◌}
 use Rattle.std.proofs.Common.{◌∙◌, if◌then◌else◌, rules}
-use Rattle.board_base.proofs.Common.{cases_lt, cases_eq, cases_Bool, nat_tests, get_or_past, merged-none, common_steps}
-use Rattle.board_prelude.proofs.Common.{Width, One, Reg, Store, Setup, is_within, merged, isa_bridge}
-use Rattle.board_prelude.proofs.Common.{ide_function, reset_byte, writable_bits, isa, ide, smram, is_same, changed_byte}
-use Rattle.board_prelude.proofs.Common.{each_below, ne_eqb}
+use Rattle.std.proofs.lemmas.Bool.{cases_lt, cases_eq, cases_Bool}
+use Rattle.std.proofs.lemmas.Bool.Decides.{nat_tests}
+use Rattle.std.proofs.lemmas.List.{get_or_past}
+use Rattle.board_base.proofs.MergedLemmas.{merged-none}
+use Rattle.std.proofs.lemmas.Grind.{common_steps}
+use Rattle.board_prelude.proofs.{Width, One, Reg, Store, Setup, is_within, merged, isa_bridge, ide_function, reset_byte}
+use Rattle.board_prelude.proofs.{writable_bits, isa, ide, smram, is_same, changed_byte, each_below, ne_eqb}
 use Rattle.south_bridge.specs.Piix.{piix_register}
 
 -- a register has this byte at all times

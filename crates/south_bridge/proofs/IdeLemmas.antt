@@ -1,8 +1,7 @@
 -- The registers of the IDE function in the table of registers: after a reset, and after a store of one byte.
 use Rattle.std.proofs.Common.{◌≡◌, ◌≢◌, ℕ, ◌<◌, ◌∙◌, refl, sym, ap, arith, slice_index, ◌==◌, if◌then◌else◌}
-use Rattle.board_prelude.proofs.Common.{nat_tests, One, Reg, Store, Setup, merged, ide_function, reset_byte}
-use Rattle.board_prelude.proofs.Common.{writable_bits, changed_byte, Bytes, ide, ide_command, idetim, idetim_high}
-use Rattle.board_prelude.proofs.Common.{merged-all}
+use Rattle.board_prelude.proofs.{nat_tests, One, Reg, Store, Setup, merged, ide_function, reset_byte, writable_bits}
+use Rattle.board_prelude.proofs.{changed_byte, Bytes, ide, ide_command, idetim, idetim_high, merged-all}
 use Rattle.south_bridge.specs.Ide.{IdeBytes, IsIdeFixed, IsIdeOf}
 use Rattle.south_bridge.proofs.FixedLemmas.{IsFixedAt, ide_header, ide_fixed, kept_byte, stored_byte, bare}
 

@@ -1,7 +1,7 @@
 -- The registers of the ISA bridge in the table of registers: after a reset, and after a store of one byte.
 use Rattle.std.proofs.Common.{◌≡◌, ◌≢◌, ℕ, ◌<◌, inl, inr, ◌∙◌, refl, sym, arith, slice_index, ◌==◌, if◌then◌else◌}
-use Rattle.board_prelude.proofs.Common.{nat_tests, One, Reg, Store, Setup, merged, reset_byte, writable_bits}
-use Rattle.board_prelude.proofs.Common.{changed_byte, Bytes, isa, ide, xbcs as select_register}
+use Rattle.board_prelude.proofs.{nat_tests, One, Reg, Store, Setup, merged, reset_byte, writable_bits, changed_byte}
+use Rattle.board_prelude.proofs.{Bytes, isa, ide, xbcs as select_register}
 use Rattle.south_bridge.specs.SelectNames.{IdeBytes, IsIdeOf, PiixBytes, IsPiixRegister, IsIsaFixed, IsPiixOf}
 use Rattle.south_bridge.proofs.FixedLemmas.{IsFixedAt, isa_header, isa_fixed, kept_byte, stored_byte, bare}
 use Rattle.south_bridge.proofs.IdeLemmas.{ide_stored_at}

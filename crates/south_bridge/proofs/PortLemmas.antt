@@ -1,11 +1,11 @@
 -- At the ports of the keyboard controller, the clock and the primary IDE channel, the device answers
 -- exactly where the chip selects it.
 use Rattle.std.proofs.Common.{◌≡◌, ◌≢◌, ℕ, ◌↔◌, Bool, true, false, Some, arith, ◌&&◌, not, if◌then◌else◌}
-use Rattle.board_prelude.proofs.Common.{nat_tests, Width, One, Dev, Keyboard, Ata, Device, Denial, Register, bytes_of}
-use Rattle.board_prelude.proofs.Common.{is_port_of, Setup, is_bit, Bytes, xbcs as select_register, ide_command, idetim}
-use Rattle.board_prelude.proofs.Common.{idetim_high, device, unselected, device_port, port_target_of, common_steps}
+use Rattle.board_prelude.proofs.{nat_tests, Width, One, Dev, Keyboard, Ata, Device, Denial, Register, bytes_of}
+use Rattle.board_prelude.proofs.{is_port_of, Setup, is_bit, Bytes, xbcs as select_register, ide_command, idetim}
+use Rattle.board_prelude.proofs.{idetim_high, device, unselected, device_port, port_target_of, common_steps}
 use Rattle.board_base.specs.declared.target.Dev.TheVariants.{Clock}
-use Rattle.device_spec.specs.Common.{PortsApart, ConfigApart}
+use Rattle.device_spec.specs.PortLaws.{PortsApart, ConfigApart}
 use Rattle.south_bridge.specs.Piix.{is_keyboard_port, is_clock_port, is_disk_port}
 use Rattle.south_bridge.specs.PortSelects.{KeyboardAnswers, ClockAnswers, DiskAnswers}
 

@@ -1,7 +1,7 @@
 -- The route control registers in the table of registers: after a reset, and after a store of one byte.
 use Rattle.std.proofs.Common.{ℕ, ◌<◌, refl, arith, replicate}
-use Rattle.board_prelude.proofs.Common.{nat_tests, Routes, routes_after_write, route_reset, One, Store, Setup, isa}
-use Rattle.board_prelude.proofs.Common.{isa_bridge, reset_byte, writable_bits, changed_byte, Bytes}
+use Rattle.board_prelude.proofs.{nat_tests, Routes, routes_after_write, route_reset, One, Store, Setup, isa, isa_bridge}
+use Rattle.board_prelude.proofs.{reset_byte, writable_bits, changed_byte, Bytes}
 use Rattle.south_bridge.specs.Routes.{AreRoutesIn}
 
 pub routes_at_reset : (setup : Setup) → AreRoutesIn (reset_byte setup) (replicate 4 route_reset)

@@ -1,5 +1,5 @@
 -- One pin more, and one line set.
-use Rattle.board_prelude.proofs.Common.{nat_tests, Routes, drives, line_of_route, is_line_driven}
+use Rattle.board_prelude.proofs.{nat_tests, Routes, drives, line_of_route, is_line_driven}
 use Rattle.std.proofs.Common.{arith, zero, suc, ◌≡◌, ℕ, Bool, false, ◌||◌, List, get_or}
 
 -- whether one of the first pins holds the line at 1

@@ -1,5 +1,5 @@
 -- The states of the registers are spelled and read back.
-use Rattle.board_base.proofs.Common.{nat_tests}
+use Rattle.std.proofs.lemmas.Bool.Decides.{nat_tests}
 use Rattle.std.proofs.Common.{arith}
 use Rattle.byte_fields.proofs.Formats.{IsFormat, plain_format}
 use Rattle.south_bridge.specs.RoutingState.{IsRoutes, routes_bytes, routes_fields, AreTriggers, triggers_bytes, triggers_fields}

@@ -1,7 +1,6 @@
 -- The registers of the IDE function 01.1 of the 82371SB.
 use Rattle.std.specs.Prelude.{◌≡◌, ◌≢◌, ℕ, Bool, ◌&&◌}
-use Rattle.board_prelude.specs.Common.{Setup, is_bit, reset_byte, Bytes, ide as ide_register, ide_command, idetim}
-use Rattle.board_prelude.specs.Common.{idetim_high}
+use Rattle.board_prelude.specs.{Setup, is_bit, reset_byte, Bytes, ide as ide_register, ide_command, idetim, idetim_high}
 
 -- the bytes that can be written: the low byte of the command, and both of IDETIM
 pub record IdeBytes : Type 0 where

@@ -1,6 +1,6 @@
 -- The state of the IDE function as bytes: the low byte of the command, and both of IDETIM.
 use Rattle.std.specs.Prelude.{ℕ, ◌<◌, List, [], ◌∷◌}
-use Rattle.board_base.specs.Common.{w8}
+use Rattle.std.specs.Int.{w8}
 use Rattle.byte_fields.specs.Fields.{Reading, gives, ◌>>=◌, within}
 use Rattle.south_bridge.specs.Ide.{IdeBytes}
 

@@ -1,8 +1,8 @@
 -- The registers of the 82371SB in 01.0 and 01.1, but those that route interrupts.
 use Rattle.std.specs.Prelude.{◌≡◌, ◌≢◌, ℕ, ◌==◌, ◌<◌, ◌⊎◌, Bool, ◌&&◌, ◌||◌, if◌then◌else◌}
-use Rattle.board_prelude.specs.Common.{Reg, Setup, is_bit, reset_byte, Bytes, isa, xbcs as select_register, pirq}
-use Rattle.board_prelude.specs.Common.{lies_in, keyboard_data_port, keyboard_command_port, clock_ports, disk_data_port}
-use Rattle.board_prelude.specs.Common.{disk_ports, disk_control_port}
+use Rattle.board_prelude.specs.{Reg, Setup, is_bit, reset_byte, Bytes, isa, xbcs as select_register, pirq, lies_in}
+use Rattle.board_prelude.specs.{keyboard_data_port, keyboard_command_port, clock_ports, disk_data_port, disk_ports}
+use Rattle.board_prelude.specs.{disk_control_port}
 use Rattle.south_bridge.specs.Ide.{IdeBytes, IsIdeOf, is_ide_decoded}
 
 -- the bytes that can be written: XBCS, and those of the IDE function

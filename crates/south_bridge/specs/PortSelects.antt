@@ -1,7 +1,7 @@
 -- A device answers at its ports exactly where the chip selects it: each is proved on a function of `laws`.
 use Rattle.std.specs.Prelude.{◌≡◌, ◌↔◌, ℕ, Bool, true}
-use Rattle.board_prelude.specs.Common.{Width, One, Dev, Keyboard, Ata, Device, bytes_of, is_port_of, Setup, Bytes}
-use Rattle.board_prelude.specs.Common.{port_target_of}
+use Rattle.board_prelude.specs.{Width, One, Dev, Keyboard, Ata, Device, bytes_of, is_port_of, Setup, Bytes}
+use Rattle.board_prelude.specs.{port_target_of}
 use Rattle.board_base.specs.declared.target.Dev.TheVariants.{Clock}
 use Rattle.south_bridge.specs.Piix.{is_keyboard_port, is_clock_port, is_selected}
 

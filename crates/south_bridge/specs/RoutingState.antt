@@ -1,6 +1,6 @@
 -- The state of the route control registers, and of the edge/level control registers, as bytes.
 use Rattle.std.specs.Prelude.{ℕ, ◌≡◌, ◌<◌, List, [], ◌∷◌, length}
-use Rattle.board_base.specs.Common.{w8}
+use Rattle.std.specs.Int.{w8}
 use Rattle.byte_fields.specs.Fields.{Reading, gives, ◌>>=◌, within, plain}
 use Rattle.device_spec.specs.Routing.{Routes}
 use Rattle.device_spec.specs.Elcr.{Triggers}

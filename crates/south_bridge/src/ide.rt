@@ -1,7 +1,6 @@
 //! Function 01.1 of the 82371SB, the IDE controller.
 ghost use Rattle.std.specs.Prelude.{◌≡◌, ◌+◌, ◌*◌, ◌/◌};
-ghost use Rattle.board_prelude.specs.Common.{One, Store, Setup, is_bit, reset_byte, changed_byte, Bytes};
-ghost use Rattle.board_prelude.specs.Common.{ide as ide_register};
+ghost use Rattle.board_prelude.specs.{One, Store, Setup, is_bit, reset_byte, changed_byte, Bytes, ide as ide_register};
 ghost use Rattle.south_bridge.specs.Ide.{IsIdeOf, is_ide_decoded};
 
 use crate::header::header_byte;

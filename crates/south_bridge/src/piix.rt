@@ -1,6 +1,6 @@
 //! The functions 01.0 and 01.1 of the 82371SB, and the ports whose devices they select.
 ghost use Rattle.std.specs.Prelude.{◌≡◌, ◌+◌, ◌*◌};
-ghost use Rattle.board_prelude.specs.Common.{One, Store, Setup, reset_byte, changed_byte, Bytes, isa};
+ghost use Rattle.board_prelude.specs.{One, Store, Setup, reset_byte, changed_byte, Bytes, isa};
 ghost use Rattle.south_bridge.specs.Piix.{IsPiixRegister, IsOffRouting, IsIsaFixed, piix_register, IsPiixOf};
 ghost use Rattle.south_bridge.specs.Piix.{is_selected};
 

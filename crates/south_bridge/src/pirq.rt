@@ -5,9 +5,9 @@
 //! | 60-63  | PIRQRCA to PIRQRCD | 80h each | 8F each  | bit 7 at 1: not routed; bits 3 to 0: to which line |
 ghost use Rattle.std.specs.Prelude.{◌≡◌, ℕ, ◌<◌, ◌-◌, if◌then◌else◌, replicate, IfSome, slice_index_or, ◌||◌, true};
 ghost use Rattle.std.specs.Prelude.{false};
-ghost use Rattle.board_prelude.specs.Common.{One, Store, Setup, reset_byte, changed_byte, Bytes, isa, pirq, route_byte};
-ghost use Rattle.board_prelude.specs.Common.{routes_after_write, route_reset, drives, is_line_driven, is_route_offset};
-ghost use Rattle.board_prelude.specs.Common.{line_of_route};
+ghost use Rattle.board_prelude.specs.{One, Store, Setup, reset_byte, changed_byte, Bytes, isa, pirq, route_byte};
+ghost use Rattle.board_prelude.specs.{routes_after_write, route_reset, drives, is_line_driven, is_route_offset};
+ghost use Rattle.board_prelude.specs.{line_of_route};
 ghost use Rattle.south_bridge.specs.Routes.{AreRoutesIn};
 
 use board_base::bits::{is_set, merged};
@@ -101,7 +101,7 @@ impl Pirq {
 }
 
 /// The lines, joined by that which a pin of this level drives, where a register's byte routes the pin.
-#[tactic(auto, using(board_prelude::proofs::Common::line_of_route))]
+#[tactic(auto, using(board_prelude::proofs::line_of_route))]
 fn joined(lines: Lines, byte: u8, level: bool) -> Lines
     ensures lines { (line : ℕ) → line < 16 → slice_index_or result line false
         ≡ (slice_index_or lines line false || drives (line_of_route byte) level line) }

@@ -1,7 +1,7 @@
 //! The X-Bus chip select register, XBCS of the 82371SB, and the BIOS ranges that it selects.
 ghost use Rattle.std.specs.Prelude.{◌≡◌, ◌<◌, ◌%◌, ◌↔◌, false, IsNone, IfSome};
-ghost use Rattle.board_prelude.specs.Common.{Setup, is_bit, merged, xbcs as select_register, writable_bits};
-ghost use Rattle.board_prelude.specs.Common.{is_rom_selected, system_bios};
+ghost use Rattle.board_prelude.specs.{Setup, is_bit, merged, xbcs as select_register, writable_bits, is_rom_selected};
+ghost use Rattle.board_prelude.specs.{system_bios};
 
 use board_spec::bits::{is_set, merged};
 use board_spec::range::{EXTENDED_BIOS, HIGH_BIOS, LOWER_BIOS, LOWER_HIGH_BIOS, SYSTEM_BIOS};

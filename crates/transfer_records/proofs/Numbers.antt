@@ -1,5 +1,5 @@
 -- What the numbers of a transfer say, and what a piece changes of it.
-use Rattle.board_prelude.proofs.Common.{nat_tests, Medium, Setup, Bytes}
+use Rattle.board_prelude.proofs.{nat_tests, Medium, Setup, Bytes}
 use Rattle.std.proofs.Common.{◌≡◌, ℕ, zero, suc, ◌+◌, ◌-◌, ◌*◌, nat_lt, arith}
 use Rattle.ata_pio.specs.Words.{is_readable}
 use Rattle.bus_master.specs.declared.direction.Direction.{Direction}

@@ -1,7 +1,8 @@
 -- A transfer that is driven through the calls comes to that of the definition.
-use Rattle.board_prelude.proofs.Common.{common_steps, nat_tests, Medium, Setup, Bytes}
+use Rattle.board_prelude.proofs.{common_steps, nat_tests, Medium, Setup, Bytes}
 use Rattle.std.proofs.Common.{◌≡◌, ℕ, ◌+◌, ◌-◌, ◌*◌, ◌≤◌, ◌/◌, List, [], ◌∷◌, refl, sym, ap, ◌∙◌, arith}
-use Rattle.board_chipset.specs.Common.{Running, master_part}
+use Rattle.board_chipset.specs.Chipset.{Running}
+use Rattle.board_chipset.specs.Masters.{master_part}
 use Rattle.board_chipset.specs.Held.{HoldsBytes}
 use Rattle.bus_master.specs.declared.done.End.{End}
 use Rattle.bus_master.specs.declared.piece.Piece.{Piece}

@@ -1,8 +1,8 @@
 -- No part of a piece is SMRAM, nor memory at A0000h to BFFFFh.
-use Rattle.board_prelude.proofs.Common.{common_steps, nat_tests, Kind, Read, Setup, Bytes}
+use Rattle.board_prelude.proofs.{common_steps, nat_tests, Kind, Read, Setup, Bytes}
 use Rattle.std.proofs.Common.{◌≡◌, ℕ, ◌*◌, ◌%◌, ◌<◌, ◌^◌, ap, ◌∙◌, arith}
-use Rattle.addr_decode.specs.Common.{master_area}
-use Rattle.board_chipset.specs.Common.{master_part}
+use Rattle.addr_decode.specs.Master.{master_area}
+use Rattle.board_chipset.specs.Masters.{master_part}
 use Rattle.machine_records.specs.Replies.{of_part}
 use Rattle.machine_records.proofs.Masters.{no_memory, no_smram_said, outside_said, said_target}
 use Rattle.board_chipset.proofs.MasterSteps.{no_smram, outside_smram}

@@ -1,8 +1,8 @@
 -- A transfer that is driven through the calls, and that it comes to the transfer of the definition.
 use Rattle.std.specs.Prelude.{ℕ, ◌≡◌, ◌/◌, ◌==◌, if◌then◌else◌, List, [], ◌∷◌}
-use Rattle.board_prelude.specs.Common.{Medium, Setup, Bytes}
+use Rattle.board_prelude.specs.{Medium, Setup, Bytes}
 use Rattle.board_base.specs.declared.access.Width.TheVariants.{Four}
-use Rattle.board_chipset.specs.Common.{Running}
+use Rattle.board_chipset.specs.Chipset.{Running}
 use Rattle.board_chipset.specs.Held.{HoldsBytes}
 use Rattle.bus_master.specs.Cells.{Cells}
 use Rattle.bus_master.specs.Pieces.{copied, standing}

@@ -1,4 +1,3 @@
 pub mod Transfers
 pub mod Pieces
 pub mod Driven
-pub mod Common

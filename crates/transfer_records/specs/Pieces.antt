@@ -1,8 +1,9 @@
 -- A piece of a transfer in numbers, and what a call tells.
 use Rattle.std.specs.Prelude.{ℕ, ◌≡◌, ◌≢◌, ◌⊎◌, ◌+◌, ◌*◌, ◌<◌, false, Some}
-use Rattle.board_prelude.specs.Common.{Bytes, Kind, Read, Denial, Part, Medium, is_smram_range}
+use Rattle.board_prelude.specs.{Bytes, Kind, Read, Denial, Part, Medium, is_smram_range}
 use Rattle.board_base.specs.declared.target.Target.TheVariants.{Abort as Nobody}
-use Rattle.board_chipset.specs.Common.{Running, master_part}
+use Rattle.board_chipset.specs.Chipset.{Running}
+use Rattle.board_chipset.specs.Masters.{master_part}
 use Rattle.board_chipset.specs.Held.{HoldsBytes}
 use Rattle.machine_records.specs.declared.reply.PartRecord.{PartRecord}
 use Rattle.machine_records.specs.Numbers.{dram_target, shadow_target, smram_target}

@@ -1,7 +1,7 @@
 //! The calls of a transfer in pieces.
 
 ghost use Rattle.std.specs.Prelude.{◌≡◌, ◌≢◌};
-ghost use Rattle.machine_records.specs.Common.{IsOutcome, no_transfer, ok};
+ghost use Rattle.machine_records.specs.Statuses.{IsOutcome, no_transfer, ok};
 ghost use Rattle.transfer_records.specs.Driven.{CallsComeToTheTransfer};
 ghost use Rattle.bus_master.specs.Pieces.{IfMove, IsStretch};
 ghost use Rattle.transfer_records.specs.Pieces.{IsNextPiece, going_past};

@@ -1,8 +1,8 @@
 //! Pieces of a transfer in numbers.
 
 ghost use Rattle.std.specs.Prelude.{◌≡◌, ◌+◌, ◌*◌, ◌<◌, ◌≤◌, ◌^◌};
-ghost use Rattle.board_prelude.specs.Common.{Bytes};
-ghost use Rattle.board_chipset.specs.Common.{master_part};
+ghost use Rattle.board_prelude.specs.{Bytes};
+ghost use Rattle.board_chipset.specs.Masters.{master_part};
 ghost use Rattle.board_chipset.specs.Held.{HoldsBytes};
 ghost use Rattle.bus_master.specs.Pieces.{IfMove};
 ghost use Rattle.transfer_records.specs.Pieces.{descriptor_said, end_said, ended_said, nobody, piece_said, words_said};

@@ -1,15 +1,18 @@
 -- No byte that was received is lost, and all are read in their order.
 use Rattle.std.proofs.Common.{◌≡◌, ℕ, Bool, true, List, [], ◌∷◌, ◌++◌, refl, sym, ap, ◌∙◌, append_assoc, arith}
 use Rattle.std.proofs.Common.{append-nil}
-use Rattle.board_prelude.proofs.Common.{nat_tests, Event, control_written, resets_hard}
+use Rattle.board_prelude.proofs.{nat_tests, Event, control_written, resets_hard}
 use Rattle.uart_16550.specs.declared.register.ReadRegister.{ReadRegister}
 use Rattle.uart_16550.specs.declared.register.WriteRegister.{WriteRegister}
 use Rattle.uart_16550.specs.declared.com1.Happening.{Happening}
 use Rattle.uart_16550.specs.declared.com1.Happening.TheVariants.{Comes, Happens}
-use Rattle.uart_16550.specs.Common.{Uart, value_of, after_value, with_value, Call, after_call, brought, front_taken}
-use Rattle.uart_16550.specs.Common.{taken, is_kept, is_keeping, after_calls, all_brought, all_taken, ReadInOrder}
-use Rattle.uart_16550.specs.Common.{calls_of, Sending, sending_after, calls_for, all_calls, after_all, bytes_come}
-use Rattle.uart_16550.specs.Common.{SerialReadsInOrder}
+use Rattle.uart_16550.specs.Uart.{Uart}
+use Rattle.uart_16550.specs.Reads.{value_of, after_value}
+use Rattle.uart_16550.specs.Writes.{with_value}
+use Rattle.uart_16550.specs.Calls.{Call, after_call, brought, front_taken, taken, is_kept, is_keeping, after_calls}
+use Rattle.uart_16550.specs.Calls.{all_brought, all_taken, ReadInOrder, calls_of}
+use Rattle.uart_16550.specs.Sent.{Sending, sending_after}
+use Rattle.uart_16550.specs.SerialOrder.{calls_for, all_calls, after_all, bytes_come, SerialReadsInOrder}
 use Rattle.uart_16550.specs.declared.register.ReadRegister.TheVariants as read
 use Rattle.uart_16550.specs.declared.register.WriteRegister.TheVariants as write
 

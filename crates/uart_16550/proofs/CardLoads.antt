@@ -1,10 +1,9 @@
 -- Bytes that are written to a card from outside the bus leave line 4 as it is.
 use Rattle.std.proofs.Common.{◌≡◌, ℕ, List, [], ◌∷◌, ◌++◌, map, None, refl, ◌∙◌}
-use Rattle.board_prelude.proofs.Common.{length-map, Event, Memory, Port, Entry, line_set, irq_of}
-use Rattle.board_chipset.specs.Common.{WriteCardInTurn, WriteCard}
-use Rattle.board_chipset.specs.CardLoads.{WritesByte}
+use Rattle.board_prelude.proofs.{length-map, Event, Memory, Port, Entry, line_set, irq_of}
+use Rattle.board_chipset.specs.CardLoads.{WriteCardInTurn, WriteCard, WritesByte}
 use Rattle.board_chipset.proofs.CardLoadSteps.{some_card_entries}
-use Rattle.uart_16550.specs.Common.{com1_irq}
+use Rattle.uart_16550.specs.Com1.{com1_irq}
 use Rattle.uart_16550.proofs.Loads.{IsWriting, by_processor, writes_in_turn}
 
 no_line : (byte line : ℕ) (event : Event) → WritesByte byte event → line_set line event ≡ None

@@ -1,10 +1,12 @@
 -- The reset control register of a board with a serial port.
 use Rattle.std.proofs.Common.{◌≡◌, ℕ, Bool, List, [], ◌∷◌, ◌++◌, refl, sym, arith}
-use Rattle.board_prelude.proofs.Common.{nat_tests, Event, Port, Entry, Statement, control_written, control_after}
-use Rattle.board_prelude.proofs.Common.{reset_control, is_hard_reset, statement_of, statements_of}
+use Rattle.board_prelude.proofs.{nat_tests, Event, Port, Entry, control_written, control_after, reset_control}
+use Rattle.board_prelude.proofs.{is_hard_reset, statement_of, statements_of}
+use Rattle.board_prelude.specs.{Statement}
 use Rattle.board_spec.proofs.OrderLawProofs.{statements-append}
 use Rattle.uart_16550.specs.declared.com1.Com1.{Com1}
-use Rattle.uart_16550.specs.Common.{line_steps, board_steps, ControlFollows}
+use Rattle.uart_16550.specs.Com1.{line_steps, board_steps}
+use Rattle.uart_16550.specs.Sent.{ControlFollows}
 
 -- the register after statements, the oldest first
 control_over : ℕ → List Statement → ℕ

@@ -7,4 +7,3 @@ pub mod CardLoads
 pub mod StateFormat
 pub mod SerialStates
 mod SerialAlone
-pub mod Common

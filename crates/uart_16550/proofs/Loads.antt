@@ -1,10 +1,12 @@
 -- Bytes that are written from outside the bus leave line 4 as it is.
 use Rattle.std.proofs.Common.{◌≡◌, ℕ, List, [], ◌∷◌, ◌++◌, map, refl, ◌∙◌, Result, Ok, Err, OnOk, OnErr, arith}
 use Rattle.std.proofs.lemmas.Result.{on_ok_weaker}
-use Rattle.board_prelude.proofs.Common.{length-map, Entry, irq_of}
-use Rattle.board_chipset.specs.Common.{Running, IsLeftBy, WriteInTurn, WriteAll, WriteClockByte}
+use Rattle.board_prelude.proofs.{length-map, Entry, irq_of}
+use Rattle.board_chipset.specs.Chipset.{Running, IsLeftBy}
+use Rattle.board_chipset.specs.Loads.{WriteInTurn, WriteAll, WriteClockByte}
 use Rattle.board_chipset.proofs.LoadSteps.{some_entries, some_clock_entries}
-use Rattle.uart_16550.specs.Common.{com1_irq, Serial, AreOwn, IsLeftBy as IsPortLeftBy}
+use Rattle.uart_16550.specs.Com1.{com1_irq}
+use Rattle.uart_16550.specs.Serial.{Serial, AreOwn, IsLeftBy as IsPortLeftBy}
 use Rattle.std.proofs.lemmas.Bool.Decides.{nat_tests}
 
 -- ---- entries that are not the port's own

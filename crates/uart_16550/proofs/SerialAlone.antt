@@ -1,6 +1,6 @@
 -- Bytes that are the state of a chipset with a serial port, with nothing behind it.
 use Rattle.std.proofs.Common.{◌≡◌, ℕ, ◌+◌, ◌≤◌, inl, inr, false, List, [], length, Ok, Err, refl, sym, ap, ◌∙◌}
-use Rattle.board_prelude.proofs.Common.{append-nil, Setup, IsSetup}
+use Rattle.board_prelude.proofs.{append-nil, Setup, IsSetup}
 use Rattle.byte_fields.specs.Fields.{AreBytes}
 use Rattle.byte_fields.proofs.Formats.{IsFormat, fields_format, ◌then◌, ◌&◌, last_field}
 use Rattle.board_chipset.specs.Alone.{alone}

@@ -1,10 +1,10 @@
 -- The state of a chipset with a serial port is spelled and read back.
 use Rattle.std.proofs.Common.{◌≡◌, ℕ, inr, List, ◌++◌, Ok, Err, refl, sym, ap, ◌∙◌, append_assoc, arith}
-use Rattle.board_prelude.specs.Common.{Setup}
+use Rattle.board_prelude.specs.{Setup}
 use Rattle.byte_fields.specs.declared.fault.Bad.{Bad}
 use Rattle.byte_fields.specs.declared.fault.Fault.TheVariants as faults
 use Rattle.byte_fields.specs.Loads.{Loads}
-use Rattle.board_chipset.specs.Common.{Running}
+use Rattle.board_chipset.specs.Chipset.{Running}
 use Rattle.board_chipset.specs.ChipsetState.{LoadsChipset, chipset_bytes}
 use Rattle.uart_16550.specs.declared.com1.Com1.{Com1}
 use Rattle.uart_16550.specs.Serial.{Serial}

@@ -1,13 +1,13 @@
 -- How the histories go on that leave a board with a serial port.
 use Rattle.std.proofs.Common.{◌≡◌, ℕ, ◌<◌, Bool, true, false, List, [], ◌∷◌, ◌++◌, refl, sym, ap, subst, ◌∙◌}
 use Rattle.std.proofs.Common.{append_assoc, lt_irrefl, None, unwrap_or, arith}
-use Rattle.board_prelude.proofs.Common.{PortAccess, Event, Port, Line, Reply, Entry, Statement, Setup, line_set, irq_of}
-use Rattle.board_prelude.proofs.Common.{next_entry}
+use Rattle.board_prelude.proofs.{PortAccess, Event, Port, Line, Reply, Entry, Setup, line_set, irq_of, next_entry}
+use Rattle.board_prelude.specs.{Statement}
 use Rattle.board_spec.proofs.OrderLawProofs.{statements-append}
 use Rattle.uart_16550.specs.declared.com1.Com1.{Com1}
-use Rattle.uart_16550.specs.Common.{com1_irq, com1_actor, level_of, board_event, line_steps, change_steps, com1_after}
-use Rattle.uart_16550.specs.Common.{board_steps, uart_access, SetsLine, GoesOnBy, AreAnswered, AnsweredIsLegal}
-use Rattle.uart_16550.specs.Common.{IsLeftAt, IsLeftAfter}
+use Rattle.uart_16550.specs.Com1.{com1_irq, com1_actor, level_of, board_event, line_steps, change_steps, com1_after}
+use Rattle.uart_16550.specs.Com1.{board_steps, uart_access}
+use Rattle.uart_16550.specs.Serial.{SetsLine, GoesOnBy, AreAnswered, AnsweredIsLegal, IsLeftAt, IsLeftAfter}
 use Rattle.std.proofs.lemmas.Bool.Decides.{nat_tests}
 
 -- a processor is not the port

@@ -1,6 +1,6 @@
 -- What is done to a UART, call by call: no byte that it received is lost, and all are read in their order.
 use Rattle.std.specs.Prelude.{ℕ, ◌≡◌, ◌==◌, Bool, true, false, not, if◌then◌else◌, List, [], ◌∷◌, ◌++◌, length}
-use Rattle.board_prelude.specs.Common.{Event, Port}
+use Rattle.board_prelude.specs.{Event, Port}
 use Rattle.uart_16550.specs.declared.register.ReadRegister.{ReadRegister}
 use Rattle.uart_16550.specs.declared.register.ReadRegister.TheVariants.{Rbr}
 use Rattle.uart_16550.specs.declared.register.WriteRegister.{WriteRegister}

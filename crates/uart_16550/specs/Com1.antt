@@ -1,6 +1,6 @@
 -- The serial port COM1 of a board: which accesses are for it, what an event makes of it, and what the board does.
 use Rattle.std.specs.Prelude.{ℕ, ◌-◌, ◌==◌, Bool, false, ◌&&◌, ◌||◌, if◌then◌else◌, List, [], ◌∷◌, Option, Some, None}
-use Rattle.board_prelude.specs.Common.{PortAccess, bytes_of, Event, Port, Line, Statement, is_within}
+use Rattle.board_prelude.specs.{PortAccess, bytes_of, Event, Port, Line, Statement, is_within}
 use Rattle.uart_16550.specs.declared.com1.Com1.{Com1}
 use Rattle.uart_16550.specs.declared.com1.SerialReply.{SerialReply}
 use Rattle.uart_16550.specs.declared.com1.UartReply.{UartReply}

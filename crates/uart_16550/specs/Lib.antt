@@ -10,5 +10,4 @@ pub mod SerialState
 pub mod Calls
 pub mod Sent
 pub mod SerialOrder
-pub mod Common
 pub mod Queue

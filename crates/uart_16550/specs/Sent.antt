@@ -1,7 +1,7 @@
 -- The bytes that a board with a serial port sends.
 use Rattle.std.specs.Prelude.{ℕ, ◌≡◌, if◌then◌else◌, List, [], ◌∷◌, ◌++◌, Option, Some, None}
-use Rattle.board_prelude.specs.Common.{option_to_list, PortAccess, Event, Entry, Statement, control_written}
-use Rattle.board_prelude.specs.Common.{control_after, resets_hard, reset_control, is_hard_reset}
+use Rattle.board_prelude.specs.{option_to_list, PortAccess, Event, Entry, Statement, control_written, control_after}
+use Rattle.board_prelude.specs.{resets_hard, reset_control, is_hard_reset}
 use Rattle.uart_16550.specs.declared.com1.Com1.{Com1}
 use Rattle.uart_16550.specs.declared.com1.Happening.{Happening}
 use Rattle.uart_16550.specs.declared.com1.Happening.TheVariants.{Comes, Happens}

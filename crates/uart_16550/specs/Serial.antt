@@ -1,7 +1,7 @@
 -- A board with a serial port, and how it stands to the histories of its board.
 use Rattle.std.specs.Prelude.{◌≡◌, ◌+◌, Bool, List, [], ◌∷◌, ◌++◌, length}
-use Rattle.board_prelude.specs.Common.{Event, Line, Reply, Entry, Statement, Setup, irq_of, IsAnswer, entries_by}
-use Rattle.board_prelude.specs.Common.{IsLegal, statements_of}
+use Rattle.board_prelude.specs.{Event, Line, Reply, Entry, Statement, Setup, irq_of, IsAnswer, entries_by, IsLegal}
+use Rattle.board_prelude.specs.{statements_of}
 use Rattle.uart_16550.specs.declared.com1.Com1.{Com1}
 use Rattle.uart_16550.specs.Com1.{com1_irq, com1_actor, level_of}
 

@@ -1,12 +1,12 @@
 -- The state of a chipset with a serial port as bytes, over the setup of the chipset: the chipset's, and then the
 -- port's.
 use Rattle.std.specs.Prelude.{ℕ, ◌≡◌, ◌+◌, ◌⊎◌, ◌++◌, List, length, Result, Ok, Err, IfOk}
-use Rattle.board_prelude.specs.Common.{Setup}
+use Rattle.board_prelude.specs.{Setup}
 use Rattle.byte_fields.specs.declared.fault.Fault.{Fault}
 use Rattle.byte_fields.specs.declared.fault.Fault.TheVariants.{NoMemory}
 use Rattle.byte_fields.specs.Fields.{Reading, gives, ◌>>=◌, Filled}
 use Rattle.board_chipset.specs.Alone.{alone}
-use Rattle.board_chipset.specs.Common.{Running}
+use Rattle.board_chipset.specs.Chipset.{Running}
 use Rattle.board_chipset.specs.ChipsetState.{IsChipset, bare_chipset, chipset_bytes, chipset_fields}
 use Rattle.uart_16550.specs.Serial.{Serial}
 use Rattle.uart_16550.specs.State.{IsCom1, com1_bytes, com1_fields}

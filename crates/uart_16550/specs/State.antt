@@ -1,7 +1,7 @@
 -- The state of a UART as bytes: the registers that keep what is written, what it interrupts for beside the queue, and
 -- the receiver; and that of the serial port, which has the level that events gave its line before it.
 use Rattle.std.specs.Prelude.{ℕ, ◌<◌, ◌≤◌, ◌++◌, List, [], ◌∷◌, length}
-use Rattle.board_base.specs.Common.{w8}
+use Rattle.std.specs.Int.{w8}
 use Rattle.byte_fields.specs.Fields.{Reading, gives, ◌>>=◌, within, flag_byte, flag_field, plain}
 use Rattle.uart_16550.specs.declared.com1.Com1.{Com1}
 use Rattle.uart_16550.specs.declared.state.Registers.{Registers}

@@ -1,7 +1,7 @@
 //! A chipset with a serial port: bytes that a caller keeps itself.
 
 ghost use Rattle.std.specs.Prelude.{◌≡◌, ◌≢◌, ◌↔◌, length, IsErr, OnOk, OnErr};
-ghost use Rattle.board_prelude.specs.Common.{installed};
+ghost use Rattle.board_prelude.specs.{installed};
 ghost use Rattle.board_chipset.specs.ChipsetState.{disk_size};
 ghost use Rattle.board_chipset.specs.Given.{with_dram, with_fitted, with_sectors};
 

@@ -1,8 +1,9 @@
 //! A chipset with a serial port: bytes that are written to its cards from outside the bus.
 
 ghost use Rattle.std.specs.Prelude.{◌≡◌, ◌<◌, ◌+◌, ◌↔◌, ◌++◌, List, length, IsErr, OnOk, OnErr};
-ghost use Rattle.board_prelude.specs.Common.{Entry};
-ghost use Rattle.board_chipset.specs.Common.{IsLeftBy as IsChipsetLeftBy, WriteCard, card_size};
+ghost use Rattle.board_prelude.specs.{Entry};
+ghost use Rattle.board_chipset.specs.Chipset.{IsLeftBy as IsChipsetLeftBy};
+ghost use Rattle.board_chipset.specs.CardLoads.{WriteCard, card_size};
 ghost use Rattle.uart_16550.specs.Serial.{AreOwn, IsLeftBy};
 
 use crate::serial::SerialBoard;

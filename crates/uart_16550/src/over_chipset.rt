@@ -2,10 +2,14 @@
 
 ghost use Rattle.std.specs.Prelude.{◌≡◌, ◌≤◌, ◌<◌, ◌+◌, ◌↔◌, ◌++◌, ℕ, Bool, false, None, List, [], ◌∷◌, length, IsErr};
 ghost use Rattle.std.specs.Prelude.{IfOk, IfErr, OnOk, OnErr};
-ghost use Rattle.board_prelude.specs.Common.{Bytes, Entry, Line, Memory, Port, Wide, installed, IsAnswer, IsBusAccess};
-ghost use Rattle.board_prelude.specs.Common.{IsInRange, IsWideAccess, is_hard_reset, is_write};
-ghost use Rattle.board_chipset.specs.Common.{IsLeftBy as IsChipsetLeftBy, WriteAll, WriteClockByte, IsAnswerModulo};
-ghost use Rattle.board_chipset.specs.Common.{IsFault, IsForDevices, reply_of, wide_reply_of};
+ghost use Rattle.board_prelude.specs.{Bytes, Entry, Line, Memory, Port, Wide, installed, IsAnswer, IsBusAccess};
+ghost use Rattle.board_prelude.specs.{IsInRange, IsWideAccess, is_hard_reset, is_write};
+ghost use Rattle.board_chipset.specs.Chipset.{IsLeftBy as IsChipsetLeftBy};
+ghost use Rattle.board_chipset.specs.Loads.{WriteAll, WriteClockByte};
+ghost use Rattle.board_chipset.specs.Versions.{IsAnswerModulo};
+ghost use Rattle.board_chipset.specs.OutOfRange.{IsFault};
+ghost use Rattle.board_chipset.specs.Steps.{IsForDevices};
+ghost use Rattle.board_chipset.specs.BusReplies.{reply_of, wide_reply_of};
 ghost use Rattle.board_chipset.specs.Held.{HoldsRegisters, IsByDevice, IsHeldReply};
 ghost use Rattle.board_spec.specs.declared.event.Event.TheVariants.{Look as LookAt};
 ghost use Rattle.board_spec.specs.declared.event.Reply.TheVariants.{Saw};

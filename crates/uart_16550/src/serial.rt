@@ -2,8 +2,8 @@
 
 ghost use Rattle.std.specs.Prelude.{◌≡◌, ◌+◌, ◌<◌, ◌∷◌, [], ℕ, List, true, false, Some, None, if◌then◌else◌, ◌==◌};
 ghost use Rattle.std.specs.Prelude.{◌||◌};
-ghost use Rattle.board_prelude.specs.Common.{PortAccess, Entry, Port, Line, Reply, IsInRange, IsBusAccess};
-ghost use Rattle.board_prelude.specs.Common.{is_free_line, is_hard_reset};
+ghost use Rattle.board_prelude.specs.{PortAccess, Entry, Port, Line, Reply, IsInRange, IsBusAccess, is_free_line};
+ghost use Rattle.board_prelude.specs.{is_hard_reset};
 ghost use Rattle.uart_16550.specs.declared.com1.SerialReply.TheVariants.{Board};
 ghost use Rattle.uart_16550.specs.Uart.{has_room, received, is_interrupting, uart_at_reset};
 ghost use Rattle.uart_16550.specs.Com1.{com1_at_reset, com1_after, com1_irq, com1_actor, from_uart, is_for_uart};

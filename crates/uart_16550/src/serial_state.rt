@@ -1,7 +1,7 @@
 //! The state of a chipset with a serial port as bytes, out and in.
 
 ghost use Rattle.std.specs.Prelude.{◌≡◌, ◌++◌, ◌⊎◌, ◌↔◌, ℕ, true, false, Ok, Err, OnOk, IfOk, IfErr};
-ghost use Rattle.board_prelude.specs.Common.{IsSetup};
+ghost use Rattle.board_prelude.specs.{IsSetup};
 ghost use Rattle.byte_fields.specs.declared.fault.Fault.TheVariants as faults;
 ghost use Rattle.byte_fields.specs.Fields.{Filled};
 ghost use Rattle.board_chipset.specs.declared.check.SetupFault.{SetupFault};

@@ -1,7 +1,7 @@
 //! What a serial port needs of the board that it stands on.
 
 ghost use Rattle.std.specs.Prelude.{◌≡◌, ◌+◌, ◌-◌, ◌≤◌, ◌∷◌, ℕ, List};
-ghost use Rattle.board_prelude.specs.Common.{Entry, Port, Setup, IsInRange, Event, Reply, next_entry, is_hard_reset};
+ghost use Rattle.board_prelude.specs.{Entry, Port, Setup, IsInRange, Event, Reply, next_entry, is_hard_reset};
 
 use board_base::PortAccess;
 use board_chipset::Chipset;

@@ -1,13 +1,17 @@
 -- What holds of the disk beyond its rules, said of whole transfers and of any run of accesses.
 use Rattle.std.specs.Prelude.{◌≡◌, ◌⊎◌, ℕ, zero, suc, ◌+◌, ◌*◌, ◌/◌, ◌%◌, ◌<◌, ◌≤◌, ◌==◌, Bool, true, false, ◌&&◌, ◌||◌}
 use Rattle.std.specs.Prelude.{List, [], ◌∷◌, ◌++◌, length, Some, Ok, Err}
-use Rattle.device_spec.specs.Common.{Width, One, Two, Four, power_on, is_disk_length, Medium, Registers, Activity}
-use Rattle.device_spec.specs.Common.{Ready, Failed, Reading, Writing, Identifying, Drive, Disk, sectors_of, word_at}
-use Rattle.device_spec.specs.Common.{sector_bytes, stored, is_drive_one, is_drq, named, naming, left_of, readable}
-use Rattle.device_spec.specs.Common.{counted_down, moved_to, ended, failed, finished, begin_read, begin_write, verified}
-use Rattle.device_spec.specs.Common.{sector_read, sector_written, word_of, word_read, word_written, with_drive}
-use Rattle.device_spec.specs.Common.{after_bad, disk_control_port}
-use Rattle.device_spec.specs.Ata.Steps.{after_read, after_write, after_reset}
+use Rattle.board_base.specs.declared.access.Width.{Width}
+use Rattle.board_base.specs.declared.access.Width.TheVariants.{One, Two, Four}
+use Rattle.device_spec.specs.Ata.State.{power_on, is_disk_length, Medium, Registers, Activity, Ready, Failed, Reading}
+use Rattle.device_spec.specs.Ata.State.{Writing, Identifying, Drive, Disk, sectors_of, word_at, sector_bytes, stored}
+use Rattle.device_spec.specs.Ata.State.{is_drive_one, is_drq}
+use Rattle.device_spec.specs.Ata.Address.{named, naming, left_of}
+use Rattle.device_spec.specs.Ata.Commands.{readable, counted_down, moved_to, ended, failed, finished, begin_read}
+use Rattle.device_spec.specs.Ata.Commands.{begin_write, verified, sector_read, sector_written}
+use Rattle.device_spec.specs.Ata.Steps.{word_of, word_read, word_written, with_drive, after_bad, after_read}
+use Rattle.device_spec.specs.Ata.Steps.{after_write, after_reset}
+use Rattle.device_spec.specs.PortNames.{disk_control_port}
 
 -- A read of the alternate status changes nothing.
 abbrev pub AlternateStatusReads : Type 0

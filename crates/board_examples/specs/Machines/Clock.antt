@@ -1,7 +1,7 @@
 -- Worked examples of the clock.
 use Rattle.std.specs.Prelude.{◌≡◌, ℕ, Bool, true, false, List, [], ◌∷◌, map}
-use Rattle.board_prelude.specs.Common.{Moment, Clock, hour_byte, after_write, after_read, read_value, after_moment}
-use Rattle.board_prelude.specs.Common.{after_reset, civil_time}
+use Rattle.board_prelude.specs.{Moment, Clock, hour_byte, after_write, after_read, read_value, after_moment}
+use Rattle.board_prelude.specs.{after_reset, civil_time}
 use Rattle.board_examples.specs.Machines.Words.{digit, given, told}
 use Rattle.device_spec.specs.Clock.{power_on, interrupt_line}
 

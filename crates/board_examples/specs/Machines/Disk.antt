@@ -1,8 +1,8 @@
 -- Worked examples of the ATA disk.
 use Rattle.std.specs.Prelude.{◌≡◌, ℕ, zero, suc, Bool, true, false, List, [], ◌∷◌, ◌++◌, map, replicate, Option, Some}
 use Rattle.std.specs.Prelude.{None}
-use Rattle.board_prelude.specs.Common.{One, Disk, power_on_drive, power_on_registers, is_interrupt, is_disk_length}
-use Rattle.board_prelude.specs.Common.{power_on, named, naming, identify_word, is_ata_port, read_of, after_bad}
+use Rattle.board_prelude.specs.{One, Disk, power_on_drive, power_on_registers, is_interrupt, is_disk_length, power_on}
+use Rattle.board_prelude.specs.{named, naming, identify_word, is_ata_port, read_of, after_bad}
 use Rattle.board_base.specs.declared.access.Width.TheVariants.{Two, Four}
 use Rattle.board_examples.specs.Machines.Words.{digit, given, told}
 use Rattle.device_spec.specs.Ata.Steps.{after_read, after_write, after_reset}

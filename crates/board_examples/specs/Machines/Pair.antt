@@ -1,7 +1,7 @@
 -- Worked examples of the 8259A pair.
 use Rattle.std.specs.Prelude.{◌≡◌, ℕ, ◌==◌, Bool, true, false, List, [], ◌∷◌, map}
-use Rattle.board_prelude.specs.Common.{list_any, Pair, pair_at_reset, levels_at_power_on, pair_after_lines, port_byte}
-use Rattle.board_prelude.specs.Common.{pair_after_read, pair_after_write, answer_of, pair_after_acknowledge}
+use Rattle.board_prelude.specs.{list_any, Pair, pair_at_reset, levels_at_power_on, pair_after_lines, port_byte}
+use Rattle.board_prelude.specs.{pair_after_read, pair_after_write, answer_of, pair_after_acknowledge}
 use Rattle.board_examples.specs.Machines.Words.{digit, given, told, after_lines}
 
 -- a write of a byte, a read and the byte that it gives, the lines that are 1 with the bits of ELCR, and an

@@ -1,7 +1,7 @@
 -- Worked examples of the PCI interrupt routing and of the edge/level control registers.
 use Rattle.std.specs.Prelude.{◌≡◌, ℕ, Bool, true, false, List, [], ◌∷◌, map, replicate}
-use Rattle.board_prelude.specs.Common.{Routes, route_reset, route_byte, routes_after_write, is_line_driven}
-use Rattle.board_prelude.specs.Common.{triggers_at_reset, triggers_after_write, trigger_byte}
+use Rattle.board_prelude.specs.{Routes, route_reset, route_byte, routes_after_write, is_line_driven, triggers_at_reset}
+use Rattle.board_prelude.specs.{triggers_after_write, trigger_byte}
 
 -- ---- the route control registers
 

@@ -3,7 +3,8 @@ use Rattle.std.specs.Prelude.{ℕ, ◌+◌, ◌*◌, ◌/◌, ◌%◌, ◌==◌,
 use Rattle.std.specs.Prelude.{length}
 use Rattle.board_base.specs.declared.access.Width.{Width}
 use Rattle.board_base.specs.declared.access.Width.TheVariants.{One, Two, Four}
-use Rattle.board_base.specs.Common.{is_bit, bytes_of}
+use Rattle.board_base.specs.Bits.{is_bit}
+use Rattle.board_base.specs.Access.{bytes_of}
 use Rattle.device_spec.specs.Ata.State.{Medium, Registers, Activity, Ready, Failed, Reading, Writing, Identifying}
 use Rattle.device_spec.specs.Ata.State.{Drive, Disk, sectors_of, word_at, stored, marked, device_byte, reset_drive}
 use Rattle.device_spec.specs.Ata.State.{power_on_drive, status_of, is_drq}

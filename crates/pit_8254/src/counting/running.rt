@@ -1,7 +1,8 @@
 //! Many pulses of a counter at once: those that change nothing but CE, and whole periods, are counted and not made.
 ghost use Rattle.std.specs.Prelude.{ℕ, ◌≡◌, ◌+◌, ◌-◌, ◌<◌, ◌≤◌, ◌⊎◌, true, false};
-ghost use Rattle.device_spec.specs.Common.{TerminalCount, OneShot, SoftwareStrobe, HardwareStrobe, is_periodic};
-ghost use Rattle.device_spec.specs.Common.{half_end, pulse, pulses_of};
+ghost use Rattle.device_spec.specs.Pit.{TerminalCount, OneShot, SoftwareStrobe, HardwareStrobe, is_periodic, half_end};
+ghost use Rattle.device_spec.specs.Pit.{pulse};
+ghost use Rattle.device_spec.specs.PitLaws.{pulses_of};
 ghost use Rattle.pit_8254.specs.Quiet.{is_due, counts, pulses_in_half, counted_quietly, quiet_pulses, lowered};
 ghost use Rattle.pit_8254.specs.Quiet.{element_after, after_quiet, rise, rises_of, IsQuiet};
 ghost use Rattle.pit_8254.specs.Runs.{IsPart, HasRoom, IsSettled, IsAtPeriod};

@@ -1,6 +1,6 @@
 use Rattle.std.proofs.Common.{arith, refl}
-use Rattle.board_prelude.proofs.Common.{lt-ltb, top_of}
-use Rattle.board_base.proofs.Common.{le-ltb}
+use Rattle.board_prelude.proofs.{lt-ltb, top_of}
+use Rattle.std.proofs.lemmas.Bool.{le-ltb}
 use Rattle.addr_decode.proofs.MemoryLemmas.{areas_in_smram}
 use Rattle.addr_decode.proofs.areas.areas_in_smram.Goals as goal
 

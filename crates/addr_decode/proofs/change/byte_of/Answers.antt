@@ -1,5 +1,5 @@
 use Rattle.std.proofs.Common.{sym}
-use Rattle.board_prelude.proofs.Common.{IsCard}
+use Rattle.board_prelude.proofs.{IsCard}
 use Rattle.pci_bars.specs.Cards.{DecodesAs}
 use Rattle.pci_bars.proofs.CardListLemmas.{found}
 use Rattle.addr_decode.proofs.change.byte_of.Goals as goal

@@ -1,6 +1,8 @@
 use Rattle.std.proofs.Common.{rules, ◌≡◌, ◌++◌, ◌*◌, None, length, ◌∙◌, refl, map, flat_map, arith}
 use Rattle.board_spec.specs.Ranges.{boundary_unit}
-use Rattle.addr_decode.specs.Common.{edges_of, ends_of_card, fixed_edges, nearest, StandsFor, map_bytes}
+use Rattle.addr_decode.specs.Edges.{edges_of, fixed_edges}
+use Rattle.addr_decode.specs.EdgeSearch.{ends_of_card, nearest}
+use Rattle.addr_decode.specs.MapRegs.{StandsFor, map_bytes}
 use Rattle.addr_decode.proofs.EdgeSearchLemmas.{IsLeast, edges_seen, in_two, least_above, is_next, is_last}
 use Rattle.addr_decode.proofs.FixedEdgeLemmas.{first_is_nearest}
 use Rattle.addr_decode.proofs.EdgeLaws.{same_to_next}

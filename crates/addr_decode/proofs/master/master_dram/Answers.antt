@@ -1,5 +1,5 @@
 use Rattle.std.proofs.Common.{false, refl, sym}
-use Rattle.board_prelude.specs.Common.{is_in_hole, is_shadowed}
+use Rattle.board_prelude.specs.{is_in_hole, is_shadowed}
 use Rattle.addr_decode.proofs.MemoryLemmas.{none_elsewhere, plain_dram}
 use Rattle.addr_decode.proofs.master.master_dram.Goals as goal
 

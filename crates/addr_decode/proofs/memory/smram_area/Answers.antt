@@ -1,6 +1,6 @@
 use Rattle.std.proofs.Common.{arith}
-use Rattle.board_prelude.proofs.Common.{nat_tests}
-use Rattle.board_prelude.specs.Common.{is_smram_open}
+use Rattle.board_prelude.proofs.{nat_tests}
+use Rattle.board_prelude.specs.{is_smram_open}
 use Rattle.addr_decode.proofs.MemoryLemmas.{smram_dram}
 use Rattle.addr_decode.proofs.memory.smram_area.Goals as goal
 

@@ -1,5 +1,5 @@
 use Rattle.std.proofs.Common.{true}
-use Rattle.board_prelude.specs.Common.{is_shadowed, is_smram_open}
+use Rattle.board_prelude.specs.{is_shadowed, is_smram_open}
 use Rattle.addr_decode.proofs.memory.upper_area.Goals as goal
 
 pub returns-then-contains : goal.returns-then-contains

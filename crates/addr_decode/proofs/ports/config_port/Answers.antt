@@ -1,5 +1,5 @@
 use Rattle.std.proofs.Common.{◌≡◌, ◌∙◌, ℕ, Some, subst, ap, sym}
-use Rattle.board_prelude.proofs.Common.{false≢true, kept_address, config_register, is_enabled}
+use Rattle.board_prelude.proofs.{false≢true, kept_address, config_register, is_enabled}
 use Rattle.addr_decode.specs.Selection.{existing}
 use Rattle.addr_decode.specs.Found.{decoded_as}
 use Rattle.addr_decode.proofs.PortLemmas.{selected_target}

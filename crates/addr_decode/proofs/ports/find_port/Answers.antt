@@ -1,5 +1,5 @@
 use Rattle.std.proofs.Common.{◌∙◌, refl}
-use Rattle.board_prelude.proofs.Common.{port_target_of}
+use Rattle.board_prelude.proofs.{port_target_of}
 use Rattle.addr_decode.proofs.PortLemmas.{onboard_target}
 use Rattle.addr_decode.proofs.ports.find_port.Goals as goal
 

@@ -1,5 +1,5 @@
 use Rattle.std.proofs.Common.{◌+◌, ℕ, ap, ◌∙◌}
-use Rattle.board_prelude.proofs.Common.{err_from_is_err_and}
+use Rattle.board_prelude.proofs.{err_from_is_err_and}
 use Rattle.addr_decode.proofs.StateFormat.{one_more_read, one_bad, all_read}
 use Rattle.addr_decode.proofs.state.read_cards.Goals as goal
 

@@ -1,5 +1,5 @@
 use Rattle.std.proofs.Common.{sym, subst, arith}
-use Rattle.board_prelude.proofs.Common.{All-nil, IsCard, IsCardList}
+use Rattle.board_prelude.proofs.{All-nil, IsCard, IsCardList}
 use Rattle.app_commands.proofs.two_callers.open_board.Goals as goal
 
 pub open-requires-clause-cards : goal.open-requires-clause-cards

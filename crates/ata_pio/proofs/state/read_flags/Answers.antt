@@ -1,5 +1,6 @@
 use Rattle.std.proofs.Common.{◌+◌, ap, ◌∙◌}
-use Rattle.board_base.proofs.Common.{err_from_is_err_and, length_push}
+use Rattle.std.proofs.lemmas.Result.{err_from_is_err_and}
+use Rattle.std.proofs.lemmas.List.{length_push}
 use Rattle.byte_fields.proofs.Loops.{goes_on, stops, is_done}
 use Rattle.ata_pio.proofs.StateFormats.{flags_loop}
 use Rattle.ata_pio.proofs.state.read_flags.Goals as goal

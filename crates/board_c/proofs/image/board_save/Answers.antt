@@ -1,6 +1,8 @@
 use Rattle.std.proofs.Common.{◌≡◌, length, subst, sym, ◌∙◌, true, false, true≢false, arith}
-use Rattle.board_prelude.proofs.Common.{nat_tests}
-use Rattle.machine.specs.Common.{IsSavedState, Saved, image_bytes, without}
+use Rattle.board_prelude.proofs.{nat_tests}
+use Rattle.machine.specs.Images.{IsSavedState, image_bytes}
+use Rattle.machine.specs.Machines.{Saved}
+use Rattle.machine.specs.Given.{without}
 use Rattle.board_c.specs.Images.{IsSaveRefusal, IsSaved}
 use Rattle.board_c.proofs.Full.{is_full}
 use Rattle.board_c.proofs.image.board_save.Goals as goal

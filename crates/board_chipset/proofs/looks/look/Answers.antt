@@ -1,5 +1,5 @@
 use Rattle.std.proofs.Common.{arith, ◌∙◌}
-use Rattle.board_prelude.proofs.Common.{nat_tests, byte_of}
+use Rattle.board_prelude.proofs.{nat_tests, byte_of}
 use Rattle.board_chipset.proofs.StateSteps.{writes_none, state_stays}
 use Rattle.board_chipset.proofs.looks.look.Goals as goal
 

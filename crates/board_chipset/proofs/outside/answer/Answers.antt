@@ -1,5 +1,5 @@
 use Rattle.std.proofs.Common.{sym, subst, ◌∙◌}
-use Rattle.board_prelude.proofs.Common.{IsInRange}
+use Rattle.board_prelude.proofs.{IsInRange}
 use Rattle.board_chipset.proofs.OutsideSteps.{outside_done, applied_is, applied_answer, level_number}
 use Rattle.board_chipset.proofs.outside.answer.Goals as goal
 

@@ -1,9 +1,9 @@
 use Rattle.std.proofs.Common.{◌≡◌, ap, List}
-use Rattle.board_prelude.proofs.Common.{Entry, Setup, Decoded}
+use Rattle.board_prelude.proofs.{Entry, Setup, Decoded}
 use Rattle.addr_decode.specs.declared.found.Found.{Found}
 use Rattle.addr_decode.specs.Found.{decoded_as}
-use Rattle.board_chipset.specs.Common.{IsStateOf, reached}
-use Rattle.board_chipset.specs.Ports.{Reaching}
+use Rattle.board_chipset.specs.Kept.{IsStateOf}
+use Rattle.board_chipset.specs.Ports.{reached, Reaching}
 use Rattle.board_chipset.proofs.ports.access.Goals.{After-find_port}
 use Rattle.board_chipset.proofs.ports.access.Goals as goal
 

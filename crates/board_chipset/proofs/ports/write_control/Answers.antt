@@ -1,4 +1,4 @@
-use Rattle.board_prelude.proofs.Common.{nat_tests}
+use Rattle.board_prelude.proofs.{nat_tests}
 use Rattle.std.proofs.Common.{◌≡◌, ◌∙◌, true, refl, sym, arith}
 use Rattle.board_spec.specs.Registers.{is_hard_reset}
 use Rattle.board_chipset.proofs.PortSteps.{reached_in, entry_writes, puts_none, registers_move}

@@ -1,5 +1,5 @@
 use Rattle.std.proofs.Common.{refl, ap}
-use Rattle.board_prelude.proofs.Common.{Dev, Device}
+use Rattle.board_prelude.proofs.{Dev, Device}
 use Rattle.board_chipset.proofs.PortSteps.{entry_writes, chip_reached, registers_move, chip_changed}
 use Rattle.board_chipset.proofs.StateSteps.{soft}
 use Rattle.board_chipset.proofs.ports.write_device.Goals as goal

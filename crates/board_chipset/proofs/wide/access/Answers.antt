@@ -1,6 +1,6 @@
 use Rattle.std.proofs.Common.{◌∙◌, refl}
-use Rattle.board_prelude.proofs.Common.{parts_list, byte_of, wide_value}
-use Rattle.board_stores.specs.Common.{AreReady}
+use Rattle.board_prelude.proofs.{parts_list, byte_of, wide_value}
+use Rattle.board_stores.specs.Cycles.{AreReady}
 use Rattle.board_stores.proofs.MemoryLemmas.{parts_answered}
 use Rattle.board_chipset.proofs.StateSteps.{writes_none, state_put, state_stays}
 use Rattle.board_chipset.proofs.HeldTargets.{stands}

@@ -1,6 +1,7 @@
 use Rattle.std.proofs.Common.{◌≡◌, drop}
 use Rattle.logs.specs.Text.{joined}
-use Rattle.board_commands.specs.Common.{Sent, AllTook}
+use Rattle.board_commands.specs.Output.{Sent}
+use Rattle.board_commands.specs.Puts.{AllTook}
 use Rattle.command_files.specs.Calls.{OfCalls}
 use Rattle.board_commands.proofs.output.put_all.Given as goal
 

@@ -1,5 +1,6 @@
 use Rattle.std.proofs.Common.{◌≡◌, length}
-use Rattle.board_commands.specs.Common.{Sent, AllTook}
+use Rattle.board_commands.specs.Output.{Sent}
+use Rattle.board_commands.specs.Puts.{AllTook}
 use Rattle.command_files.specs.Calls.{OfCalls}
 use Rattle.board_commands.proofs.output.put_piece.Given as goal
 

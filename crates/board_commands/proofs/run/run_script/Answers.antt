@@ -1,5 +1,6 @@
 use Rattle.std.proofs.Common.{◌≡◌, ℕ, List, [], ◌∷◌, get_or, refl, All, slice_index_or, flat_map, sym}
-use Rattle.board_prelude.proofs.Common.{Vec, Global, get_or_default, Statement, IsScripted, in_file_order, Setup}
+use Rattle.board_prelude.proofs.{Vec, Global, get_or_default, IsScripted, in_file_order, Setup}
+use Rattle.board_prelude.specs.{Statement}
 use Rattle.phase_threads.specs.Jobs.{IsStatement}
 use Rattle.script_spec.specs.Phases.{lists_of}
 use Rattle.log_check.proofs.PhaseLists.{all_in_phase}

@@ -1,6 +1,6 @@
 -- The only caller is the same after its event.
 use Rattle.std.proofs.Common.{◌≡◌, ◌<◌, List, length, get_or, set, map, sym, ◌∙◌, ap, arith}
-use Rattle.board_prelude.proofs.Common.{range_with_len, length-map, length-set, get_or_default, get_or-set_same}
+use Rattle.board_prelude.proofs.{range_with_len, length-map, length-set, get_or_default, get_or-set_same}
 use Rattle.board_core.specs.declared.steps.Steps.{Ghosts}
 use Rattle.board_live.specs.declared.cpu.Cpu.{Cpu}
 use Rattle.board_live.specs.declared.live.Live.{Live}

@@ -1,5 +1,5 @@
 use Rattle.std.proofs.Common.{[], ◌∷◌, refl}
-use Rattle.board_prelude.proofs.Common.{Entry, Ack}
+use Rattle.board_prelude.proofs.{Entry, Ack}
 use Rattle.board_example.proofs.monitor.acknowledged.Goals as goal
 
 pub returns-clause-left : goal.returns-clause-left

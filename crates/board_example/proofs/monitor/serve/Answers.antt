@@ -1,5 +1,5 @@
 use Rattle.std.proofs.Common.{◌≡◌, List, [], ◌∷◌, ◌++◌, refl, sym, subst, append_assoc, Result, Ok, Err, IfOk, OnErr}
-use Rattle.board_prelude.proofs.Common.{Event, Reply, Entry}
+use Rattle.board_prelude.proofs.{Event, Reply, Entry}
 use Rattle.board_chipset.specs.declared.in_range.OutOfRange.{OutOfRange}
 use Rattle.board_chipset.specs.Chipset.{Running, IsLeftBy}
 use Rattle.board_example.proofs.monitor.serve.Goals as goal

@@ -1,5 +1,5 @@
 use Rattle.std.proofs.Common.{◌≡◌, ◌+◌, ◌++◌, [], ◌∷◌, ap, ◌∙◌, arith, map}
-use Rattle.board_prelude.proofs.Common.{err_from_is_err_and, length_push, memory_size}
+use Rattle.board_prelude.proofs.{err_from_is_err_and, length_push, memory_size}
 use Rattle.std.proofs.lemmas.List.{map_push}
 use Rattle.std.proofs.lemmas.List.Sums.{sum_by_push}
 use Rattle.pci_bars.specs.Bases.{base_of}

@@ -1,5 +1,5 @@
 use Rattle.std.proofs.Common.{◌≡◌, ap, sym, rules}
-use Rattle.board_prelude.proofs.Common.{err_from_is_err_and, FittedCard}
+use Rattle.board_prelude.proofs.{err_from_is_err_and, FittedCard}
 use Rattle.byte_fields.proofs.Loops.{goes_on, stops, is_done}
 use Rattle.board_image.proofs.ImageLoops.{cards_loop}
 use Rattle.board_image.proofs.card_reader.cards.Goals as goal

@@ -1,5 +1,5 @@
 use Rattle.std.proofs.Common.{◌≡◌, Bool, List, [], ◌∷◌, inl, inr, refl, ◌∙◌, sym, rules, tests, ◌==◌, is_some, find}
-use Rattle.board_prelude.proofs.Common.{list_any, cases_Bool, YieldsList-from_slice, FittedCard}
+use Rattle.board_prelude.proofs.{list_any, cases_Bool, YieldsList-from_slice, FittedCard}
 use Rattle.std.proofs.lemmas.Iterator.Search.{any_from_yields_List}
 use Rattle.board_image.proofs.event_reader.has_card.Goals as goal
 

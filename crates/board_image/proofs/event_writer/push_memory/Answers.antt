@@ -1,6 +1,6 @@
 use Rattle.std.proofs.Common.{arith, ◌≡◌, ℕ, List, ◌∷◌, ◌++◌, Result, OnOk, append_assoc}
 use Rattle.std.proofs.lemmas.Bool.Decides.{nat_tests}
-use Rattle.board_prelude.specs.Common.{w32, to_le_bytes, bytes_of}
+use Rattle.board_prelude.specs.{w32, to_le_bytes, bytes_of}
 use Rattle.board_base.specs.declared.access.Access.{Access}
 use Rattle.board_image.specs.ImageBytes.{flag_byte, kind_byte, memory_bytes}
 use Rattle.board_image.proofs.event_writer.push_memory.Goals as goal

@@ -1,5 +1,5 @@
 use Rattle.std.proofs.Common.{ℕ, List, ◌∷◌, ◌++◌, ap, ◌∙◌, append_assoc}
-use Rattle.board_prelude.specs.Common.{w32, to_le_bytes, WideAccess}
+use Rattle.board_prelude.specs.{w32, to_le_bytes, WideAccess}
 use Rattle.board_image.specs.ImageBytes.{flag_byte, kind_byte, wide_bytes}
 use Rattle.board_image.proofs.event_writer.push_wide.Goals as goal
 

@@ -1,5 +1,5 @@
 use Rattle.std.proofs.Common.{◌≡◌, ◌<◌, ◌+◌, List, [], ◌∷◌, ◌++◌, length, map, take, flat_map, sym, ap, ◌∙◌, arith}
-use Rattle.board_prelude.proofs.Common.{append-nil, map-append, take_more, flat_map-append, Entry, statement_of}
+use Rattle.board_prelude.proofs.{append-nil, map-append, take_more, flat_map-append, Entry, statement_of}
 use Rattle.board_image.specs.ImageBytes.{step_bytes}
 use Rattle.board_image.proofs.event_writer.steps_piece.Goals as goal
 

@@ -1,6 +1,6 @@
 use Rattle.std.proofs.Common.{◌++◌, refl, ap, ◌∙◌}
 use Rattle.board_spec.proofs.OrderLawProofs.{statements-append}
-use Rattle.board_prelude.proofs.Common.{statements_of}
+use Rattle.board_prelude.proofs.{statements_of}
 use Rattle.board_image.proofs.laws.law_goes_on.Goals as goal
 
 pub returns : goal.returns

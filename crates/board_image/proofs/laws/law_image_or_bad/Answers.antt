@@ -1,5 +1,8 @@
 use Rattle.std.proofs.Common.{◌≡◌, ℕ, ◌-◌, ◌⊎◌, inl, inr, List, length, Result, Ok, Err, refl, sym, ◌∙◌, arith}
-use Rattle.board_image.specs.Common.{Saved, image_fields, IsBadAt, AreBytes, IsImageOf}
+use Rattle.board_image.specs.ImageBytes.{Saved}
+use Rattle.board_image.specs.ImageFields.{image_fields, IsBadAt}
+use Rattle.byte_fields.specs.Fields.{AreBytes}
+use Rattle.board_image.specs.Laws.{IsImageOf}
 use Rattle.byte_fields.proofs.Formats.{err_is}
 use Rattle.board_image.proofs.ImageFormats.{image_never, image_taken, image_bad}
 use Rattle.board_image.proofs.laws.law_image_or_bad.Goals as goal

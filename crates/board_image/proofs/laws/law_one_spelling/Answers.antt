@@ -1,5 +1,5 @@
 use Rattle.std.proofs.Common.{[], ap}
-use Rattle.board_image.specs.Common.{Saved}
+use Rattle.board_image.specs.ImageBytes.{Saved}
 use Rattle.board_image.proofs.ImageFormats.{image_back, image_same}
 use Rattle.board_image.proofs.laws.law_one_spelling.Goals as goal
 

@@ -1,5 +1,6 @@
 use Rattle.std.proofs.Common.{◌≡◌, List, rules}
-use Rattle.board_prelude.proofs.Common.{Statement, Setup}
+use Rattle.board_prelude.specs.{Statement}
+use Rattle.board_prelude.proofs.{Setup}
 use Rattle.board_core.specs.Steps.{AreInRange}
 use Rattle.board_image.specs.ImageBytes.{IsImage}
 use Rattle.board_image.proofs.loader.load.Goals as goal

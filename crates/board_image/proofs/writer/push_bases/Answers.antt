@@ -1,6 +1,6 @@
 use Rattle.std.proofs.Common.{arith, ℕ, ◌<◌, List, length, map, All, slice_index_or}
 use Rattle.std.proofs.lemmas.Bool.Decides.{nat_tests}
-use Rattle.board_prelude.proofs.Common.{length-map, get_or-map, IsBase}
+use Rattle.board_prelude.proofs.{length-map, get_or-map, IsBase}
 use Rattle.pci_bars.specs.declared.spec.BaseSpec.{BaseSpec}
 use Rattle.pci_bars.specs.Bases.{base_of}
 use Rattle.board_image.proofs.writer.push_bases.Goals as goal

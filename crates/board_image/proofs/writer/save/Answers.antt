@@ -1,6 +1,6 @@
 use Rattle.std.proofs.Common.{arith, ◌≡◌, ℕ, List, ◌++◌, length, append_assoc, map, flat_map, reverse}
 use Rattle.std.proofs.lemmas.Bool.Decides.{nat_tests}
-use Rattle.board_prelude.proofs.Common.{length-map, length-reverse, Entry, Setup, statement_of, statements_of}
+use Rattle.board_prelude.proofs.{length-map, length-reverse, Entry, Setup, statement_of, statements_of}
 use Rattle.board_image.specs.ImageBytes.{head_bytes, card_bytes, disk_bytes, step_bytes, image_bytes}
 use Rattle.board_image.proofs.writer.save.Goals as goal
 

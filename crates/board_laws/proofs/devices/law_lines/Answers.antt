@@ -1,7 +1,7 @@
 use Rattle.board_laws.proofs.DeviceProofs.{lines_stay}
 use Rattle.board_spec.proofs.LineProofs.{first_levels}
 use Rattle.std.proofs.Common.{arith}
-use Rattle.board_prelude.proofs.Common.{nat_tests, levels_with}
+use Rattle.board_prelude.proofs.{nat_tests, levels_with}
 use Rattle.board_laws.proofs.devices.law_lines.Goals as goal
 
 pub returns : goal.returns

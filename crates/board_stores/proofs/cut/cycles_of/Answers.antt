@@ -1,5 +1,5 @@
 use Rattle.std.proofs.Common.{◌+◌, ◌-◌, [], ◌∷◌, arith}
-use Rattle.board_prelude.proofs.Common.{map-append, length-append}
+use Rattle.board_prelude.proofs.{map-append, length-append}
 use Rattle.board_stores.specs.declared.cut.Cycle.{Cycle}
 use Rattle.board_stores.proofs.CutLemmas.{part_within, next_part, no_part, all_decoded}
 use Rattle.board_stores.proofs.cut.cycles_of.Goals.{then-done-access, else-done-access}

@@ -1,7 +1,8 @@
 use Rattle.std.proofs.Common.{◌≡◌, ◌≤◌, length, map}
-use Rattle.board_prelude.proofs.Common.{Setup, Bytes}
+use Rattle.board_prelude.proofs.{Setup, Bytes}
 use Rattle.addr_decode.specs.MapRegs.{StandsFor, map_bytes}
-use Rattle.board_stores.specs.Common.{part_in, accesses, answers}
+use Rattle.board_stores.specs.Targets.{part_in}
+use Rattle.board_stores.specs.Cycles.{accesses, answers}
 use Rattle.board_stores.proofs.CutLemmas.{GoesOn}
 use Rattle.board_stores.proofs.cut.cycles_of.Given as goal
 

@@ -1,6 +1,6 @@
 use Rattle.std.proofs.Common.{◌∙◌, arith}
 use Rattle.std.proofs.lemmas.List.{drop_all}
-use Rattle.board_prelude.proofs.Common.{nat_tests}
+use Rattle.board_prelude.proofs.{nat_tests}
 use Rattle.board_stores.proofs.ValueLemmas.{value_below}
 use Rattle.board_stores.proofs.JoinLemmas.{next_left, shift_below, value_of, joined_parts, next_value, whole_value}
 use Rattle.board_stores.proofs.join.read_cycles.Goals as goal

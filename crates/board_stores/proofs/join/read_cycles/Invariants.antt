@@ -1,5 +1,5 @@
 use Rattle.std.proofs.Common.{◌≡◌, List, drop}
-use Rattle.board_prelude.proofs.Common.{Entry, Setup}
+use Rattle.board_prelude.proofs.{Entry, Setup}
 use Rattle.board_stores.specs.Puts.{HasStores}
 use Rattle.board_stores.proofs.JoinLemmas.{IsLeft, value_of, IsSoFar}
 use Rattle.board_stores.proofs.join.read_cycles.Given as goal

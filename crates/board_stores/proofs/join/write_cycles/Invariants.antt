@@ -1,6 +1,7 @@
 use Rattle.std.proofs.Common.{ℕ, List, drop}
 use Rattle.board_stores.specs.declared.stores.Stores.{Stores}
-use Rattle.board_stores.specs.Common.{ArePut, AreReady}
+use Rattle.board_stores.specs.Puts.{ArePut}
+use Rattle.board_stores.specs.Cycles.{AreReady}
 use Rattle.board_stores.proofs.PutLemmas.{cycles_put}
 use Rattle.board_stores.proofs.join.write_cycles.Given as goal
 

@@ -1,5 +1,5 @@
 use Rattle.std.proofs.Common.{◌<◌, ◌≤◌, ℕ, List, All, get_or, length, take, subst, sym, arith}
-use Rattle.board_prelude.proofs.Common.{All-push, take_all, take_more}
+use Rattle.board_prelude.proofs.{All-push, take_all, take_more}
 use Rattle.board_tests.proofs.look_places.have_callers.Goals as goal
 
 pub loop-i-preserved : goal.loop-i-preserved

@@ -1,5 +1,6 @@
 use Rattle.std.proofs.Common.{ℕ, ◌+◌, List, take, drop, sym, subst, ◌∙◌, ap}
-use Rattle.board_prelude.proofs.Common.{Statement, Setup, IsInRange, in_file_order}
+use Rattle.board_prelude.specs.{Statement}
+use Rattle.board_prelude.proofs.{Setup, IsInRange, in_file_order}
 use Rattle.board_core.specs.Steps.{AreInRange}
 use Rattle.scripts.specs.Script.{said_of}
 use Rattle.script_spec.specs.Phases.{lists_of}

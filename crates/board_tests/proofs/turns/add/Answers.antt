@@ -1,5 +1,5 @@
 use Rattle.std.proofs.Common.{rules, ◌≡◌, List, [], ◌∷◌, ◌++◌, reverse, ap, ◌∙◌}
-use Rattle.board_prelude.proofs.Common.{reverse-append, Entry}
+use Rattle.board_prelude.proofs.{reverse-append, Entry}
 use Rattle.bus_turn.specs.Passes.{seen_of}
 use Rattle.board_tests.proofs.turns.add.Goals as goal
 

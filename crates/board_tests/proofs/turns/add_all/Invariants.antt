@@ -1,4 +1,5 @@
-use Rattle.bus_turn.specs.Common.{IsIdle, IsSameCaller, HasSameJoined, IsOf}
+use Rattle.bus_turn.specs.Passes.{IsIdle, IsSameCaller, HasSameJoined}
+use Rattle.bus_turn.specs.Turns.{IsOf}
 use Rattle.board_tests.proofs.turns.add_all.Given as goal
 
 abbrev pub invariant-loop-seq : goal.invariant-loop-seq

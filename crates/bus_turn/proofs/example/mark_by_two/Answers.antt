@@ -1,5 +1,5 @@
 use Rattle.std.proofs.Common.{rules, ◌≡◌, ℕ, List, [], ◌∷◌, length, ap, ◌∙◌, arith}
-use Rattle.bus_turn.specs.Common.{mine_of, opened_of, joined_of}
+use Rattle.bus_turn.specs.Passes.{mine_of, opened_of, joined_of}
 use Rattle.bus_turn.proofs.example.mark_by_two.Goals as goal
 
 pub returns-clause-second : goal.returns-clause-second

@@ -1,5 +1,6 @@
 use Rattle.std.proofs.Common.{◌≡◌, ◌+◌, ◌≤◌, length}
-use Rattle.bus_turn.specs.Common.{IsIdle, IsSameCaller, HasSameJoined, mine_of, IsOf}
+use Rattle.bus_turn.specs.Passes.{IsIdle, IsSameCaller, HasSameJoined, mine_of}
+use Rattle.bus_turn.specs.Turns.{IsOf}
 use Rattle.bus_turn.proofs.example.mark_often.Given as goal
 
 abbrev pub invariant-loop : goal.invariant-loop

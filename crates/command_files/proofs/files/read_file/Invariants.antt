@@ -1,6 +1,7 @@
 use Rattle.std.proofs.Common.{◌≡◌, ◌+◌, ◌-◌, ◌<◌, vec_len}
 use Rattle.board_outside.specs.Outside.{OfFile}
-use Rattle.command_files.specs.Common.{IsFront, OfCalls}
+use Rattle.command_files.specs.Files.{IsFront}
+use Rattle.command_files.specs.Calls.{OfCalls}
 use Rattle.command_files.proofs.CallLemmas.{ReadTo}
 use Rattle.command_files.proofs.files.read_file.Given as goal
 

@@ -6,7 +6,7 @@ use Rattle.command_texts.proofs.MapWrites.{version_is}
 use Rattle.command_texts.proofs.BlameLemmas.{all_since, all_kept, blame_text}
 use Rattle.command_texts.proofs.blame.blame_on.Goals as goal
 use Rattle.board_chipset.proofs.MapVersions.{few_writes}
-use Rattle.board_prelude.proofs.Common.{Setup}
+use Rattle.board_prelude.proofs.{Setup}
 
 pub blame-requires-clause-cards : goal.blame-requires-clause-cards
 blame-requires-clause-cards c = rw c.deref.ensures.value c.requires.fresh.in_range.cards

@@ -1,5 +1,5 @@
 use Rattle.std.proofs.Common.{rules, arith, string_bytes, string_len}
-use Rattle.board_prelude.proofs.Common.{range_text, line_feed}
+use Rattle.board_prelude.proofs.{range_text, line_feed}
 use Rattle.map_builder.specs.Map.{range_of}
 use Rattle.command_texts.proofs.TextLines.{last_gone}
 use Rattle.command_texts.proofs.blame.push_range_words.Goals as goal

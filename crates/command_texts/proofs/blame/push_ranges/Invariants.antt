@@ -1,7 +1,8 @@
 -- The lines of the ranges so far.
 use Rattle.std.proofs.Common.{◌≡◌, ◌++◌, take, List, string_bytes, flat_map}
-use Rattle.board_prelude.proofs.Common.{Entry, Setup}
-use Rattle.command_texts.specs.Common.{blamed_text, AreWritesOf}
+use Rattle.board_prelude.proofs.{Entry, Setup}
+use Rattle.command_texts.specs.Blame.{blamed_text}
+use Rattle.command_texts.specs.Writes.{AreWritesOf}
 use Rattle.command_texts.proofs.blame.push_ranges.Given as goal
 
 abbrev pub invariant-loop-blamed : goal.invariant-loop-blamed

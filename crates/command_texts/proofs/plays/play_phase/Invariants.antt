@@ -1,6 +1,6 @@
 -- The statements so far are done.
 use Rattle.std.proofs.Common.{ℕ, ◌≡◌, ◌+◌, ◌++◌, List, take}
-use Rattle.board_prelude.proofs.Common.{Statement}
+use Rattle.board_prelude.specs.{Statement}
 use Rattle.command_texts.specs.Plays.{HasDone}
 use Rattle.command_texts.proofs.plays.play_phase.Given as goal
 

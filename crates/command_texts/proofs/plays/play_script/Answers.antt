@@ -1,6 +1,6 @@
 use Rattle.std.proofs.lemmas.Bool.Decides.{nat_tests}
 use Rattle.std.proofs.Common.{length, ap, ◌∙◌, arith}
-use Rattle.board_prelude.proofs.Common.{take_all, IsInRange, in_file_order}
+use Rattle.board_prelude.proofs.{take_all, IsInRange, in_file_order}
 use Rattle.script_spec.specs.Phases.{lists_of}
 use Rattle.command_texts.proofs.Statements.{in_range}
 use Rattle.command_texts.proofs.Done.{phase_adds, of_phase, said_before}

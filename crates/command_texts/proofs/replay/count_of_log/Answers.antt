@@ -1,7 +1,8 @@
 use Rattle.std.proofs.Common.{ℕ, List, ◌≡◌, length, ap, ◌∙◌, Result, Ok, Err, IfOk}
-use Rattle.board_prelude.proofs.Common.{Entry, Statement, Setup}
+use Rattle.board_prelude.proofs.{Entry, Setup}
+use Rattle.board_prelude.specs.{Statement}
 use Rattle.board_core.specs.Kept.{Standing}
-use Rattle.script_spec.specs.Common.{IsLogOf}
+use Rattle.script_spec.specs.Checks.{IsLogOf}
 use Rattle.log_check.specs.Checked.{IsCheckedLog}
 use Rattle.command_texts.proofs.replay.count_of_log.Goals as goal
 

@@ -1,6 +1,6 @@
 use Rattle.std.proofs.lemmas.Bool.Decides.{nat_tests}
 use Rattle.std.proofs.Common.{arith}
-use Rattle.board_prelude.proofs.Common.{take_all, IsInRange}
+use Rattle.board_prelude.proofs.{take_all, IsInRange}
 use Rattle.command_texts.proofs.Statements.{in_range}
 use Rattle.command_texts.proofs.Done.{done_more, phase_adds, of_phase, none_said}
 use Rattle.command_texts.proofs.replay.do_statements.Goals as goal

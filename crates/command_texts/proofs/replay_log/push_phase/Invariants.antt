@@ -1,6 +1,6 @@
 -- The statements so far are done, and have their lines.
 use Rattle.std.proofs.Common.{ℕ, ◌≡◌, ◌+◌, ◌++◌, List, take, string_bytes}
-use Rattle.board_prelude.proofs.Common.{Statement}
+use Rattle.board_prelude.specs.{Statement}
 use Rattle.command_texts.specs.ReplayLog.{HasLog}
 use Rattle.command_texts.proofs.replay_log.push_phase.Given as goal
 

@@ -1,5 +1,5 @@
 use Rattle.std.proofs.Common.{refl, ◌∙◌}
-use Rattle.bus_master.specs.Common.{register_of}
+use Rattle.bus_master.specs.Registers.{register_of}
 use Rattle.command_texts.proofs.TransferTexts.{cells_left, transfer_told, ok_then}
 use Rattle.command_texts.proofs.transfers.transfer_on.Goals as goal
 

@@ -1,6 +1,6 @@
 use Rattle.std.proofs.lemmas.Bool.Decides.{nat_tests}
 use Rattle.std.proofs.Common.{ap, ◌∙◌, arith}
-use Rattle.board_prelude.proofs.Common.{take_all, IsInRange}
+use Rattle.board_prelude.proofs.{take_all, IsInRange}
 use Rattle.board_core.specs.Kept.{Standing}
 use Rattle.command_texts.proofs.Statements.{in_range}
 use Rattle.command_texts.proofs.Done.{done_more, done_is_replay, phase_adds, of_phase, none_said}

@@ -2,7 +2,8 @@
 use Rattle.std.proofs.Common.{◌+◌, ◌≤◌, length}
 use Rattle.board_spec.specs.OrderLaws.{in_file_order}
 use Rattle.script_spec.specs.Phases.{lists_of}
-use Rattle.command_texts.specs.Common.{DidStatements, AreWritesOf}
+use Rattle.command_texts.specs.Done.{DidStatements}
+use Rattle.command_texts.specs.Writes.{AreWritesOf}
 use Rattle.command_texts.proofs.Done.{said_before}
 use Rattle.command_texts.proofs.writes.replay_noting.Given as goal
 

@@ -1,5 +1,5 @@
 use Rattle.std.proofs.Common.{rules, ◌≡◌, ◌+◌, length, arith}
-use Rattle.board_prelude.proofs.Common.{Entry, next_entry}
+use Rattle.board_prelude.proofs.{Entry, next_entry}
 use Rattle.command_texts.proofs.MapWrites.{writes_same, writes_more}
 use Rattle.command_texts.proofs.writes.step_noting.Goals as goal
 

@@ -1,6 +1,7 @@
 -- The statements so far are done, and their map writes noted.
 use Rattle.std.proofs.Common.{◌≡◌, ◌+◌, take}
-use Rattle.command_texts.specs.Common.{DidStatements, AreWritesOf}
+use Rattle.command_texts.specs.Done.{DidStatements}
+use Rattle.command_texts.specs.Writes.{AreWritesOf}
 use Rattle.command_texts.proofs.writes.steps_noting.Given as goal
 
 abbrev pub invariant-loop-statement : goal.invariant-loop-statement

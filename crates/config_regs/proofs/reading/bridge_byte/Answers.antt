@@ -1,5 +1,5 @@
 use Rattle.std.proofs.Common.{sym, refl, arith}
-use Rattle.board_prelude.proofs.Common.{bridge}
+use Rattle.board_prelude.proofs.{bridge}
 use Rattle.addr_decode.proofs.NameLemmas.{is_name, named_byte}
 use Rattle.addr_decode.proofs.StandsLemmas.{nameless_in_bridge}
 use Rattle.config_regs.proofs.FixedBytes.{fixed_beside}

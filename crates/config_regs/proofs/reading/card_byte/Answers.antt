@@ -1,6 +1,6 @@
 use Rattle.std.proofs.Common.{◌≡◌, ℕ, ◌<◌, List, Some, ◌∙◌, ap, ◌==◌, All, length, get_or}
 use Rattle.std.proofs.lemmas.List.Quantifiers.{position-Some}
-use Rattle.board_prelude.proofs.Common.{position, eqb-true, IsCard}
+use Rattle.board_prelude.proofs.{position, eqb-true, IsCard}
 use Rattle.pci_bars.specs.Cards.{CardBytes, IsCardOf}
 use Rattle.config_regs.proofs.reading.card_byte.Goals as goal
 

@@ -1,5 +1,5 @@
 use Rattle.std.proofs.Common.{◌∙◌}
-use Rattle.board_prelude.proofs.Common.{false≢true}
+use Rattle.board_prelude.proofs.{false≢true}
 use Rattle.config_regs.proofs.reading.read.Goals as goal
 
 pub read_from-requires-clause-function : goal.read_from-requires-clause-function

@@ -1,4 +1,4 @@
-use Rattle.board_prelude.proofs.Common.{nat_tests, cases_eq, bytes_few, Width, bytes_of, wide}
+use Rattle.board_prelude.proofs.{nat_tests, cases_eq, bytes_few, Width, bytes_of, wide}
 use Rattle.std.proofs.Common.{◌≡◌, ℕ, ◌+◌, ◌<◌, ◌∙◌, inl, inr, length-set, get_or-set_same, get_or-set_other, arith}
 use Rattle.config_regs.proofs.reading.read_from.Goals as goal
 

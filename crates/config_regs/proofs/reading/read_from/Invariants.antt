@@ -1,6 +1,6 @@
 -- The bytes so far are those of the registers.
 use Rattle.std.proofs.Common.{◌≡◌, ℕ, ◌<◌, length, slice_index}
-use Rattle.board_prelude.proofs.Common.{Setup, Bytes, reg_after}
+use Rattle.board_prelude.proofs.{Setup, Bytes, reg_after}
 use Rattle.addr_decode.specs.MapRegs.{map_bytes}
 use Rattle.config_regs.specs.Config.{AreKeptOf, HasFixed}
 use Rattle.config_regs.proofs.reading.read_from.Given as goal

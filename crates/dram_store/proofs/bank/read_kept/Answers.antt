@@ -1,5 +1,5 @@
 use Rattle.std.proofs.Common.{◌≡◌, length, arith}
-use Rattle.board_prelude.proofs.Common.{err_from_is_err_and}
+use Rattle.board_prelude.proofs.{err_from_is_err_and}
 use Rattle.byte_fields.specs.Pages.{memory_page}
 use Rattle.dram_store.proofs.StateFormats.{page_read, page_kept, page_skipped, pages_done}
 use Rattle.dram_store.proofs.bank.read_kept.Goals as goal

@@ -1,6 +1,6 @@
 use Rattle.std.proofs.Common.{◌≡◌, ◌+◌, ◌*◌, [], sym, ◌∙◌, length, drop, append_assoc}
 use Rattle.std.proofs.lemmas.List.{get_or_read}
-use Rattle.board_prelude.proofs.Common.{concat, drop_all, drop_more, append-nil, All-get_or}
+use Rattle.board_prelude.proofs.{concat, drop_all, drop_more, append-nil, All-get_or}
 use Rattle.byte_fields.specs.Pages.{memory_bytes, memory_page}
 use Rattle.byte_fields.proofs.PageFormats.{memory_append, memory_zeros}
 use Rattle.dram_store.specs.Bank.{IsBank}

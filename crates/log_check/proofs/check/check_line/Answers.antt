@@ -1,6 +1,7 @@
 use Rattle.std.proofs.Common.{◌≡◌, ◌+◌, ◌-◌, [], ◌∷◌, length, refl, ◌∙◌, arith, Some}
-use Rattle.board_prelude.proofs.Common.{All-head, Entry, Statement, IsInRange, next_entry, nat_tests}
-use Rattle.log_check.specs.Common.{left_of}
+use Rattle.board_prelude.proofs.{All-head, Entry, IsInRange, next_entry, nat_tests}
+use Rattle.board_prelude.specs.{Statement}
+use Rattle.log_check.specs.Fronts.{left_of}
 use Rattle.log_check.proofs.Counting.{number_below}
 use Rattle.log_check.proofs.LineSteps.{Walk, Made, stops_here, stops_without_memory, past_line, handed_on}
 use Rattle.log_check.specs.declared.fault.CheckFault.TheVariants.{NoMemory}

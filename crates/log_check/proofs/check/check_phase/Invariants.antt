@@ -1,6 +1,8 @@
 use Rattle.std.proofs.Common.{◌≡◌, ◌+◌, length}
 use Rattle.board_spec.specs.Orders.{IsCompleteFor}
-use Rattle.log_check.specs.Common.{left_of, AreNumbersOf, WalkPlace, IsWithin, IsPast}
+use Rattle.log_check.specs.Fronts.{left_of}
+use Rattle.log_check.specs.Counted.{AreNumbersOf}
+use Rattle.log_check.specs.Walks.{WalkPlace, IsWithin, IsPast}
 use Rattle.log_check.proofs.check.check_phase.Given as goal
 
 abbrev pub invariant-loop : goal.invariant-loop

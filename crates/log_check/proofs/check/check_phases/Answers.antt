@@ -1,8 +1,9 @@
 use Rattle.std.proofs.Common.{ℕ, ◌+◌, [], List, length, take, drop, refl, ap, ◌∙◌, subst, arith}
-use Rattle.board_prelude.proofs.Common.{common_steps, nat_tests, take_all, Statement, IsInRange, log_text}
-use Rattle.board_prelude.proofs.Common.{statements_of, IsCompleteFor}
+use Rattle.board_prelude.proofs.{common_steps, nat_tests, take_all, IsInRange, log_text, statements_of, IsCompleteFor}
+use Rattle.board_prelude.specs.{Statement}
 use Rattle.script_spec.specs.Phases.{lists_of}
-use Rattle.log_check.specs.Common.{IsTyped, WalkPlace}
+use Rattle.log_check.specs.Phases.{IsTyped}
+use Rattle.log_check.specs.Walks.{WalkPlace}
 use Rattle.log_check.proofs.LineSteps.{handed_on}
 use Rattle.log_check.proofs.PhaseLists.{phases_cut, phases_more, length_more, all_in_phase}
 use Rattle.log_check.proofs.check.check_phases.Goals as goal

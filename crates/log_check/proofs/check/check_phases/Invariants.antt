@@ -1,7 +1,7 @@
 use Rattle.std.proofs.Common.{ℕ, ◌≡◌, ◌≤◌, ◌+◌, ◌++◌, List, [], length, take}
-use Rattle.board_prelude.proofs.Common.{IsCompleteFor, in_file_order, log_text}
+use Rattle.board_prelude.proofs.{IsCompleteFor, in_file_order, log_text}
 use Rattle.script_spec.specs.Phases.{lists_of}
-use Rattle.log_check.specs.Common.{AreNumbersOf}
+use Rattle.log_check.specs.Counted.{AreNumbersOf}
 use Rattle.log_check.proofs.check.check_phases.Given as goal
 
 abbrev pub invariant-loop-phase : goal.invariant-loop-phase

@@ -2,7 +2,7 @@ use Rattle.std.proofs.Common.{sym, ◌∙◌, ap, arith, decimal}
 use Rattle.std.specs.Result.{result_ok}
 use Rattle.std.proofs.lemmas.Fmt.{parse-decimal, IsAscii-decimal}
 use Rattle.log_check.proofs.TextCuts.{the_value}
-use Rattle.board_prelude.proofs.Common.{nat_tests, IsUtf8-from_ascii}
+use Rattle.board_prelude.proofs.{nat_tests, IsUtf8-from_ascii}
 use Rattle.log_check.proofs.field.number.Goals as goal
 
 pub returns-in_err-ok : goal.returns-in_err-ok

@@ -1,5 +1,5 @@
 use Rattle.std.proofs.Common.{sym, ◌∙◌, rules, tests}
-use Rattle.board_prelude.proofs.Common.{YieldsList-from_slice, position_from_yields_List}
+use Rattle.board_prelude.proofs.{YieldsList-from_slice, position_from_yields_List}
 use Rattle.logs.proofs.CutPlaces.{is_mark, cut_at, uncut}
 use Rattle.logs.proofs.cuts.cut.Goals as goal
 

@@ -1,7 +1,7 @@
 -- The table of the two digits of each byte, entry by entry.
 use Rattle.std.proofs.Common.{◌≡◌, ℕ, zero, suc, ◌+◌, ◌*◌, ◌/◌, ◌<◌, inl, inr, Bool, true, ◌&&◌, eqb, get_or, refl}
 use Rattle.std.proofs.Common.{arith}
-use Rattle.board_prelude.proofs.Common.{and_parts, eqb-true, cases_lt, hex_digit}
+use Rattle.board_prelude.proofs.{and_parts, eqb-true, cases_lt, hex_digit}
 use Rattle.logs.specs.declared.hex.TheConstants.{PAIRS}
 use Rattle.logs.proofs.hex.digits_of_byte.Goals as goal
 

@@ -1,5 +1,5 @@
 use Rattle.std.proofs.Common.{◌≡◌, ◌++◌}
-use Rattle.board_prelude.proofs.Common.{string_bytes, hex_number}
+use Rattle.board_prelude.proofs.{string_bytes, hex_number}
 use Rattle.logs.specs.Adds.{KeepsFront}
 use Rattle.logs.proofs.hex.push_hex.Given as goal
 

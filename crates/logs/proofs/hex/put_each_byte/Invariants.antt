@@ -1,5 +1,5 @@
 use Rattle.std.proofs.Common.{◌≡◌, ◌++◌, ◌+◌, ◌*◌, ◌≤◌, length}
-use Rattle.board_prelude.proofs.Common.{hex_number}
+use Rattle.board_prelude.proofs.{hex_number}
 use Rattle.logs.proofs.hex.put_each_byte.Given as goal
 
 -- the lowest bytes so far

@@ -1,6 +1,6 @@
 use Rattle.std.proofs.Common.{arith}
 use Rattle.std.proofs.lemmas.Bool.Decides.{nat_tests}
-use Rattle.board_prelude.proofs.Common.{hex_number}
+use Rattle.board_prelude.proofs.{hex_number}
 use Rattle.logs.proofs.Digits.{low_long}
 use Rattle.logs.proofs.hex.put_hex.Goals as goal
 

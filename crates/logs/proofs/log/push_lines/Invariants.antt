@@ -1,5 +1,6 @@
 use Rattle.std.proofs.Common.{take}
-use Rattle.logs.specs.Common.{AddsWords, lines_from}
+use Rattle.logs.specs.Adds.{AddsWords}
+use Rattle.logs.specs.LinesFrom.{lines_from}
 use Rattle.logs.proofs.log.push_lines.Given as goal
 
 -- a line for each entry so far

@@ -1,7 +1,7 @@
 use Rattle.std.proofs.lemmas.Bool.Decides.{nat_tests}
 use Rattle.std.proofs.Common.{[], ◌∷◌, length, subst, arith, MatchOption, length-append, ap, ◌∙◌, reverse}
-use Rattle.board_prelude.proofs.Common.{reverse-append, All-cons, line_feed, line_text, lines_text}
-use Rattle.script_spec.specs.Common.{IsWellFormed}
+use Rattle.board_prelude.proofs.{reverse-append, All-cons, line_feed, line_text, lines_text}
+use Rattle.script_spec.specs.WellFormed.{IsWellFormed}
 use Rattle.logs.specs.Reading.{HasEntry, HasNoEntry}
 use Rattle.logs.proofs.ReadLines.{lines_more}
 use Rattle.logs.proofs.read.read_entries.Goals as goal

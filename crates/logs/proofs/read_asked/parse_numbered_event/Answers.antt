@@ -1,9 +1,9 @@
 use Rattle.std.proofs.Common.{subst, arith}
-use Rattle.board_prelude.proofs.Common.{nat_tests, common_steps}
+use Rattle.board_prelude.proofs.{nat_tests, common_steps}
 use Rattle.script_spec.specs.Grammar.{HasForm}
 use Rattle.scripts.specs.Items.{line_said}
 use Rattle.logs.proofs.AskedReading.{not_asked, asked_exact}
-use Rattle.script_spec.specs.Common.{ask}
+use Rattle.script_spec.specs.Items.{ask}
 use Rattle.logs.proofs.read_asked.parse_numbered_event.Goals as goal
 
 pub returns-in_err-actor : goal.returns-in_err-actor

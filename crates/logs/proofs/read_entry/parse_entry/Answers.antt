@@ -1,5 +1,6 @@
 use Rattle.std.proofs.Common.{◌∙◌, refl}
-use Rattle.script_spec.proofs.Common.{some_is, pieces, line_pieces}
+use Rattle.script_spec.proofs.Chains.{some_is}
+use Rattle.script_spec.proofs.LogLaws.{pieces, line_pieces}
 use Rattle.logs.proofs.LineBack.{line_read, asked_once, reply_found}
 use Rattle.logs.proofs.read_entry.parse_entry.Goals as goal
 use Rattle.scripts.proofs.StraightLemmas.{none_some}

@@ -1,5 +1,6 @@
 use Rattle.std.proofs.Common.{◌∙◌, ap}
-use Rattle.script_spec.specs.Common.{fields_of, parse_spaced_reply}
+use Rattle.script_spec.specs.Fields.{fields_of}
+use Rattle.script_spec.specs.Replies.{parse_spaced_reply}
 use Rattle.script_spec.proofs.ReplyBack.{reply_read}
 use Rattle.logs.proofs.read_reply.parse_reply_text.Goals as goal
 

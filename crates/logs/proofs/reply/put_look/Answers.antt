@@ -1,5 +1,5 @@
 use Rattle.std.proofs.Common.{◌∷◌}
-use Rattle.board_prelude.specs.Common.{space, hex_long, area_text}
+use Rattle.board_prelude.specs.{space, hex_long, area_text}
 use Rattle.logs.proofs.Joined.{number_put}
 use Rattle.logs.proofs.reply.put_look.Goals as goal
 

@@ -1,6 +1,7 @@
 use Rattle.std.proofs.Common.{◌≡◌, ◌+◌, ◌-◌, ℕ, List, take, drop, subst, arith}
-use Rattle.board_prelude.proofs.Common.{take_all, Entry}
-use Rattle.logs.specs.Common.{AddsWords, lines_from}
+use Rattle.board_prelude.proofs.{take_all, Entry}
+use Rattle.logs.specs.Adds.{AddsWords}
+use Rattle.logs.specs.LinesFrom.{lines_from}
 use Rattle.logs.proofs.Join.{no_lines, line_added}
 use Rattle.logs.proofs.whole.push_entries.Goals as goal
 

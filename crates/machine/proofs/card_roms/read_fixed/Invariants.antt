@@ -1,5 +1,5 @@
 use Rattle.std.proofs.Common.{◌≡◌, ◌+◌, ◌<◌, ℕ, length, slice_index}
-use Rattle.board_prelude.specs.Common.{expansion_byte}
+use Rattle.board_prelude.specs.{expansion_byte}
 use Rattle.machine.proofs.card_roms.read_fixed.Given as goal
 
 abbrev pub invariant-loop-k : goal.invariant-loop-k

@@ -1,5 +1,5 @@
 use Rattle.std.proofs.Common.{◌+◌, ap, ◌∙◌, arith}
-use Rattle.board_prelude.proofs.Common.{err_from_is_err_and, length_push}
+use Rattle.board_prelude.proofs.{err_from_is_err_and, length_push}
 use Rattle.byte_fields.proofs.Loops.{goes_on, stops, is_done}
 use Rattle.machine.proofs.FittedFormat.{identities_loop}
 use Rattle.machine.proofs.identities.read_some.Goals as goal

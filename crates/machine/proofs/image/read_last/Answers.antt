@@ -1,7 +1,7 @@
 use Rattle.std.proofs.Common.{[], sym, ◌∙◌, append-nil, arith}
 use Rattle.uart_16550.specs.SerialState.{serial_bytes}
 use Rattle.machine.proofs.Images.{last_loaded}
-use Rattle.board_prelude.proofs.Common.{nat_tests}
+use Rattle.board_prelude.proofs.{nat_tests}
 use Rattle.machine.proofs.image.read_last.Goals as goal
 
 pub returns-in-Ok : goal.returns-in-Ok

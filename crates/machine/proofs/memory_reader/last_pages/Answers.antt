@@ -1,6 +1,6 @@
 -- Nothing is left to read.
 use Rattle.std.proofs.Common.{◌≡◌, [], arith}
-use Rattle.board_prelude.proofs.Common.{nil_from_length}
+use Rattle.board_prelude.proofs.{nil_from_length}
 use Rattle.machine.proofs.FittedFormat.{none_left}
 use Rattle.machine.proofs.memory_reader.last_pages.Goals as goal
 

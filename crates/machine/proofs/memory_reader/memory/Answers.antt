@@ -1,6 +1,6 @@
 -- So many whole pages first, and then what is left.
 use Rattle.std.proofs.Common.{◌*◌, arith, refl}
-use Rattle.board_prelude.proofs.Common.{nat_tests}
+use Rattle.board_prelude.proofs.{nat_tests}
 use Rattle.byte_fields.specs.Pages.{memory_page}
 use Rattle.machine.proofs.FittedFormat.{in_parts}
 use Rattle.machine.proofs.memory_reader.memory.Goals as goal

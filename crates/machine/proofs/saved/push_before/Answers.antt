@@ -1,5 +1,5 @@
 use Rattle.std.proofs.Common.{ap, ◌∙◌}
-use Rattle.board_chipset.specs.Common.{Running}
+use Rattle.board_chipset.specs.Chipset.{Running}
 use Rattle.machine.proofs.SavedParts.{before_added}
 use Rattle.machine.proofs.saved.push_before.Goals as goal
 

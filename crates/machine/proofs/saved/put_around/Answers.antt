@@ -1,4 +1,4 @@
-use Rattle.board_prelude.proofs.Common.{common_steps, nat_tests, length-take, length-drop, take_rest}
+use Rattle.board_prelude.proofs.{common_steps, nat_tests, length-take, length-drop, take_rest}
 use Rattle.std.proofs.Common.{arith}
 use Rattle.machine.proofs.Puts.{put_length}
 use Rattle.machine.proofs.SavedParts.{written_in_three}

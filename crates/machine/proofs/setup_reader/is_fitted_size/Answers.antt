@@ -1,4 +1,4 @@
-use Rattle.board_prelude.proofs.Common.{ne_eqb}
+use Rattle.board_prelude.proofs.{ne_eqb}
 use Rattle.board_image.proofs.ImageFormats.{length_same}
 use Rattle.machine.proofs.setup_reader.is_fitted_size.Goals as goal
 

@@ -1,5 +1,5 @@
 use Rattle.std.proofs.Common.{◌≡◌, ℕ, ◌++◌, List, length, Result, Ok, Err, OnOk, append_assoc}
-use Rattle.board_prelude.specs.Common.{w32, to_le_bytes}
+use Rattle.board_prelude.specs.{w32, to_le_bytes}
 use Rattle.byte_fields.specs.Pages.{memory_page, pages_bytes}
 use Rattle.machine.specs.Setups.{counted_bytes}
 use Rattle.board_chipset.specs.Given.{zeros}

@@ -1,5 +1,5 @@
 use Rattle.std.proofs.Common.{◌∙◌, lit<, refl}
-use Rattle.board_chipset.specs.Common.{reply_of}
+use Rattle.board_chipset.specs.BusReplies.{reply_of}
 use Rattle.uart_16550.specs.declared.com1.SerialReply.{SerialReply}
 use Rattle.uart_16550.specs.declared.com1.SerialReply.TheVariants.{Board as OfBoard}
 use Rattle.machine_records.proofs.EventReplies.{after_as}

@@ -1,5 +1,5 @@
 use Rattle.std.proofs.Common.{None, refl, ◌∙◌}
-use Rattle.board_prelude.proofs.Common.{Line}
+use Rattle.board_prelude.proofs.{Line}
 use Rattle.machine_records.proofs.EventReplies.{held_line, reply_is}
 use Rattle.machine_records.proofs.AskedSteps.{whole}
 use Rattle.machine_records.proofs.asked_step.line.Goals as goal

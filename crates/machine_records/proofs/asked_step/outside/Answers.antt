@@ -1,6 +1,6 @@
 use Rattle.std.proofs.Common.{◌∙◌, lit<}
 use Rattle.board_spec.specs.Registers.{is_hard_reset}
-use Rattle.board_chipset.specs.Common.{reply_of}
+use Rattle.board_chipset.specs.BusReplies.{reply_of}
 use Rattle.uart_16550.specs.declared.com1.SerialReply.{SerialReply}
 use Rattle.uart_16550.specs.declared.com1.SerialReply.TheVariants.{Board as OfBoard}
 use Rattle.machine_records.proofs.AskedSteps.{whole}

@@ -1,5 +1,5 @@
 use Rattle.std.proofs.Common.{◌∙◌, refl}
-use Rattle.uart_16550.specs.Common.{from_uart}
+use Rattle.uart_16550.specs.Com1.{from_uart}
 use Rattle.machine_records.proofs.EventReplies.{after_as}
 use Rattle.machine_records.proofs.AskedSteps.{whole}
 use Rattle.machine_records.proofs.asked_step.uart_access.Goals as goal

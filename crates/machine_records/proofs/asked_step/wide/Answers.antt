@@ -1,5 +1,5 @@
 use Rattle.std.proofs.Common.{◌∙◌, lit<}
-use Rattle.board_chipset.specs.Common.{wide_reply_of}
+use Rattle.board_chipset.specs.BusReplies.{wide_reply_of}
 use Rattle.uart_16550.specs.declared.com1.SerialReply.{SerialReply}
 use Rattle.uart_16550.specs.declared.com1.SerialReply.TheVariants.{Board as OfBoard}
 use Rattle.board_chipset.specs.declared.reset_control.ResetKind.TheVariants.{None as NoReset}

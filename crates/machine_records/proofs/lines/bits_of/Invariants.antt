@@ -1,5 +1,5 @@
 use Rattle.std.proofs.Common.{◌≡◌, ◌+◌, ◌-◌, ◌≤◌, ◌^◌, drop, length}
-use Rattle.board_prelude.proofs.Common.{byte_of_levels}
+use Rattle.board_prelude.proofs.{byte_of_levels}
 use Rattle.machine_records.proofs.lines.bits_of.Given as goal
 
 abbrev pub invariant-loop-line : goal.invariant-loop-line

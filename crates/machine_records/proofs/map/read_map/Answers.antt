@@ -1,5 +1,5 @@
 use Rattle.std.proofs.Common.{ap, arith, ◌∙◌}
-use Rattle.board_prelude.proofs.Common.{common_steps, nat_tests, length-map}
+use Rattle.board_prelude.proofs.{common_steps, nat_tests, length-map}
 use Rattle.std.proofs.lemmas.Simd.{map-map}
 use Rattle.map_builder.specs.Map.{Mapped}
 use Rattle.machine_records.proofs.map.read_map.Goals as goal

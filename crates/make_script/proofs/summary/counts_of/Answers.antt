@@ -1,5 +1,5 @@
 use Rattle.std.proofs.Common.{rules, ◌≡◌, ◌<◌, ◌^◌, List, length, take, reverse, arith}
-use Rattle.board_prelude.proofs.Common.{length-reverse, common_steps, Entry}
+use Rattle.board_prelude.proofs.{length-reverse, common_steps, Entry}
 use Rattle.logs.proofs.Lines.{reverse-take_more}
 use Rattle.make_script.proofs.CountLemmas.{counts-room}
 use Rattle.make_script.proofs.summary.counts_of.Goals as goal

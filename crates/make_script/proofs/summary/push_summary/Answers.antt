@@ -1,5 +1,5 @@
 use Rattle.std.proofs.Common.{ℕ, ◌++◌, reverse, sym, ap, ◌∙◌}
-use Rattle.board_prelude.proofs.Common.{length-reverse, version_of}
+use Rattle.board_prelude.proofs.{length-reverse, version_of}
 use Rattle.logs.proofs.Joined.{appended_twice, front_more}
 use Rattle.script_spec.specs.Lines.{text_of_lines}
 use Rattle.make_script.specs.Summary.{entry_lines, map_lines, summary_of}

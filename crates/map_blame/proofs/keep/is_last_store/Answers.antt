@@ -1,5 +1,5 @@
 use Rattle.std.proofs.Common.{◌≡◌, sym, ◌∙◌, arith}
-use Rattle.board_prelude.proofs.Common.{bytes_of, bytes_few, reg_after}
+use Rattle.board_prelude.proofs.{bytes_of, bytes_few, reg_after}
 use Rattle.map_blame.specs.Covers.{is_last_at}
 use Rattle.map_blame.proofs.CoverLemmas.{any_next, any_at}
 use Rattle.map_blame.proofs.keep.is_last_store.Goals as goal

@@ -1,5 +1,5 @@
 use Rattle.std.proofs.Common.{◌≡◌, false, take}
-use Rattle.board_prelude.proofs.Common.{list_any, reg_after, Setup, IsCardList, Bytes}
+use Rattle.board_prelude.proofs.{list_any, reg_after, Setup, IsCardList, Bytes}
 use Rattle.addr_decode.specs.MapRegs.{StandsFor, map_bytes}
 use Rattle.addr_decode.proofs.NameLemmas.{offsets}
 use Rattle.map_blame.specs.Covers.{is_last_at}

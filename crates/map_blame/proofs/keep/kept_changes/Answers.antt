@@ -1,5 +1,5 @@
 use Rattle.std.proofs.Common.{◌≡◌, ℕ, ◌+◌, reverse, length, get_or, sym, ◌∙◌, arith, refl}
-use Rattle.board_prelude.proofs.Common.{false≢true, length-reverse}
+use Rattle.board_prelude.proofs.{false≢true, length-reverse}
 use Rattle.map_blame.proofs.KeptLemmas.{no_change, none_kept, kept_on, kept_pushed, kept_found, kept_is, change_is}
 use Rattle.map_blame.proofs.KeptLemmas.{all_kept}
 use Rattle.map_blame.proofs.keep.kept_changes.Goals as goal

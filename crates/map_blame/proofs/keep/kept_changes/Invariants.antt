@@ -1,5 +1,5 @@
 use Rattle.std.specs.Prelude.{reverse}
-use Rattle.board_prelude.proofs.Common.{Setup, IsCardList, Bytes}
+use Rattle.board_prelude.proofs.{Setup, IsCardList, Bytes}
 use Rattle.addr_decode.specs.MapRegs.{StandsFor, map_bytes}
 use Rattle.map_blame.proofs.KeptLemmas.{AreKept}
 use Rattle.map_blame.proofs.keep.kept_changes.Given as goal

@@ -1,5 +1,5 @@
 use Rattle.std.proofs.Common.{[], reverse}
-use Rattle.board_prelude.proofs.Common.{IsCardList, reset_byte, registers_after}
+use Rattle.board_prelude.proofs.{IsCardList, reset_byte, registers_after}
 use Rattle.map_blame.specs.Watch.{IsAfter}
 use Rattle.map_blame.proofs.KeepLaws.{kept_suffice}
 use Rattle.map_blame.proofs.report.blame.Goals as goal

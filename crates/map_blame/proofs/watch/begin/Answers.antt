@@ -1,7 +1,7 @@
 use Rattle.std.proofs.Common.{◌∷◌, [], get_or, sym, ◌∙◌, ap, ◌++◌}
-use Rattle.board_prelude.proofs.Common.{map-append, take_more, All-push, registers_after}
+use Rattle.board_prelude.proofs.{map-append, take_more, All-push, registers_after}
 use Rattle.map_builder.specs.declared.range.Range.{Range}
-use Rattle.map_builder.specs.Common.{no_range}
+use Rattle.map_builder.specs.Find.{no_range}
 use Rattle.map_blame.specs.Watch.{IsWatched}
 use Rattle.map_blame.proofs.WatchLemmas.{watched_at_reset, watched_range}
 use Rattle.map_blame.proofs.watch.begin.Goals as goal

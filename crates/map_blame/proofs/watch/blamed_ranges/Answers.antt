@@ -1,7 +1,8 @@
 use Rattle.std.proofs.Common.{◌≡◌, [], map, reverse, ap, ◌∙◌}
-use Rattle.board_prelude.proofs.Common.{take_at, Setup, IsCardList, registers_after}
+use Rattle.board_prelude.proofs.{take_at, Setup, IsCardList, registers_after}
 use Rattle.std.proofs.lemmas.Result.{IfOk-weaker}
-use Rattle.map_blame.specs.Common.{AreBlamed, IsAfter}
+use Rattle.map_blame.specs.Report.{AreBlamed}
+use Rattle.map_blame.specs.Watch.{IsAfter}
 use Rattle.map_blame.proofs.WatchLemmas.{are_intervals, are_watchable, are_blamed, watched_range}
 use Rattle.map_blame.proofs.watch.blamed_ranges.Goals as goal
 

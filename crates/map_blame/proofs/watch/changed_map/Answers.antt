@@ -1,7 +1,7 @@
 use Rattle.std.proofs.Common.{take_all, arith}
 use Rattle.map_blame.proofs.KeptLemmas.{no_change}
 use Rattle.map_blame.proofs.WatchLemmas.{taken_more}
-use Rattle.board_prelude.proofs.Common.{registers_after}
+use Rattle.board_prelude.proofs.{registers_after}
 use Rattle.map_blame.proofs.watch.changed_map.Goals as goal
 
 pub loop-change-preserved : goal.loop-change-preserved

@@ -1,6 +1,6 @@
 use Rattle.std.proofs.Common.{sym, ◌∙◌, leb-false}
-use Rattle.board_prelude.proofs.Common.{false≢true, leb-true}
-use Rattle.map_builder.proofs.Common.{rows_eq}
+use Rattle.board_prelude.proofs.{false≢true, leb-true}
+use Rattle.map_builder.proofs.AreaLemmas.{rows_eq}
 use Rattle.map_blame.proofs.StandsLemmas.{all_right, other_row, ends_below}
 use Rattle.map_blame.proofs.watch.stands.Goals as goal
 

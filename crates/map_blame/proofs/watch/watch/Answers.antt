@@ -1,4 +1,4 @@
-use Rattle.board_prelude.proofs.Common.{take_all, registers_after, length-take-le, length-reverse}
+use Rattle.board_prelude.proofs.{take_all, registers_after, length-take-le, length-reverse}
 use Rattle.std.proofs.Common.{◌<◌, length, get_or, ◌∙◌, arith, take, reverse}
 use Rattle.map_blame.proofs.KeptLemmas.{no_change}
 use Rattle.map_blame.proofs.WatchLemmas.{taken_more, holds_change}

@@ -1,7 +1,8 @@
 use Rattle.std.proofs.Common.{◌≡◌, ◌+◌, ◌++◌, ◌∷◌, [], map, drop, arith, refl}
 use Rattle.std.proofs.lemmas.List.{length-map, length-append}
-use Rattle.map_builder.specs.Common.{range_of, range_at, IsWhole}
-use Rattle.map_builder.specs.Build.{IsBuiltUpTo}
+use Rattle.map_builder.specs.Ranges.{range_of}
+use Rattle.map_builder.specs.Find.{range_at}
+use Rattle.map_builder.specs.Build.{IsWhole, IsBuiltUpTo}
 use Rattle.map_builder.proofs.BuildLemmas.{is_whole}
 use Rattle.map_builder.proofs.RebuildLemmas.{whole_from, rest_of}
 use Rattle.map_builder.proofs.build.finish.Goals.{After-range_at-last}

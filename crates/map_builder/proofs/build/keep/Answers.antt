@@ -1,6 +1,6 @@
 use Rattle.std.proofs.Common.{◌+◌, arith, lit<}
-use Rattle.board_prelude.proofs.Common.{length-map, length-append}
-use Rattle.map_builder.specs.Common.{range_of}
+use Rattle.board_prelude.proofs.{length-map, length-append}
+use Rattle.map_builder.specs.Ranges.{range_of}
 use Rattle.map_builder.proofs.RebuildLemmas.{kept_first, kept_later}
 use Rattle.map_builder.proofs.build.keep.Goals as goal
 

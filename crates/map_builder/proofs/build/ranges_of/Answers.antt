@@ -1,6 +1,6 @@
 use Rattle.std.proofs.Common.{arith}
 use Rattle.std.proofs.lemmas.List.{length-map}
-use Rattle.map_builder.specs.Common.{range_of}
+use Rattle.map_builder.specs.Ranges.{range_of}
 use Rattle.map_builder.proofs.BuildLemmas.{is_whole}
 use Rattle.map_builder.proofs.build.ranges_of.Goals as goal
 

@@ -2,7 +2,7 @@ use Rattle.std.proofs.Common.{arith, map}
 use Rattle.std.proofs.lemmas.Bool.Decides.{nat_tests}
 use Rattle.std.proofs.lemmas.List.{nil_from_length}
 use Rattle.addr_decode.specs.MapRegs.{map_bytes}
-use Rattle.map_builder.specs.Common.{range_of}
+use Rattle.map_builder.specs.Ranges.{range_of}
 use Rattle.map_builder.proofs.RebuildLemmas.{all_right}
 use Rattle.map_builder.proofs.build.rebuild.Goals as goal
 

@@ -1,8 +1,8 @@
 use Rattle.std.proofs.Common.{arith}
 use Rattle.std.proofs.lemmas.List.{length-map}
 use Rattle.map_builder.specs.Map.{range_of}
-use Rattle.addr_decode.specs.Common.{edges_of}
-use Rattle.addr_decode.proofs.Common.{no_more}
+use Rattle.addr_decode.specs.Edges.{edges_of}
+use Rattle.addr_decode.proofs.EdgeCounts.{no_more}
 use Rattle.map_builder.proofs.BuildLemmas.{built_step, built_over}
 use Rattle.map_builder.proofs.build.rows_in.Goals as goal
 

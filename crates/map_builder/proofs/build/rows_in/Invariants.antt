@@ -1,7 +1,9 @@
 use Rattle.std.proofs.Common.{◌+◌, ◌-◌, ◌≤◌, map}
-use Rattle.board_prelude.proofs.Common.{Setup, Bytes}
-use Rattle.addr_decode.specs.Common.{StandsFor, map_bytes, edges_after}
-use Rattle.map_builder.specs.Common.{range_of, IsBuilt}
+use Rattle.board_prelude.proofs.{Setup, Bytes}
+use Rattle.addr_decode.specs.MapRegs.{StandsFor, map_bytes}
+use Rattle.addr_decode.specs.Edges.{edges_after}
+use Rattle.map_builder.specs.Ranges.{range_of}
+use Rattle.map_builder.specs.Build.{IsBuilt}
 use Rattle.map_builder.proofs.build.rows_in.Given as goal
 
 abbrev pub invariant-loop-edge : goal.invariant-loop-edge

@@ -1,5 +1,6 @@
 use Rattle.std.proofs.Common.{arith}
-use Rattle.addr_decode.specs.Common.{map_bytes, edges_after}
+use Rattle.addr_decode.specs.MapRegs.{map_bytes}
+use Rattle.addr_decode.specs.Edges.{edges_after}
 use Rattle.map_builder.proofs.RebuildLemmas.{first_below, order_at, sweep_first, above, sweep_agrees, sweep_next}
 use Rattle.map_builder.proofs.RebuildLemmas.{sweep_end, rows_at}
 use Rattle.map_builder.proofs.build.sweep.Goals as goal

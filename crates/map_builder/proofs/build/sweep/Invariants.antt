@@ -1,7 +1,10 @@
 use Rattle.std.proofs.Common.{◌+◌, ◌≤◌, map, drop}
-use Rattle.board_prelude.proofs.Common.{Setup, Bytes}
-use Rattle.addr_decode.specs.Common.{StandsFor, map_bytes, edges_after}
-use Rattle.map_builder.specs.Common.{range_of, BeginsBelow, rows_in}
+use Rattle.board_prelude.proofs.{Setup, Bytes}
+use Rattle.addr_decode.specs.MapRegs.{StandsFor, map_bytes}
+use Rattle.addr_decode.specs.Edges.{edges_after}
+use Rattle.map_builder.specs.Ranges.{range_of}
+use Rattle.map_builder.specs.Find.{BeginsBelow}
+use Rattle.map_builder.specs.Sorted.{rows_in}
 use Rattle.map_builder.proofs.RebuildLemmas.{Sweep}
 use Rattle.map_builder.proofs.build.sweep.Given as goal
 

@@ -1,6 +1,6 @@
 use Rattle.std.proofs.Common.{None, take_all, arith}
 use Rattle.std.proofs.lemmas.List.Elements.{All-from_recursion}
-use Rattle.addr_decode.specs.Common.{IsNumberedName}
+use Rattle.addr_decode.specs.MapRegister.{IsNumberedName}
 use Rattle.map_builder.proofs.WindowLemmas.{pushed_on}
 use Rattle.map_builder.proofs.changed.push_of_names.Goals as goal
 

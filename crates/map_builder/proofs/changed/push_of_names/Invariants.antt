@@ -1,5 +1,5 @@
 use Rattle.std.proofs.Common.{◌≡◌, ◌≤◌, ◌+◌, ◌*◌, ◌++◌, length, flat_map, take}
-use Rattle.board_prelude.proofs.Common.{Setup, Bytes}
+use Rattle.board_prelude.proofs.{Setup, Bytes}
 use Rattle.addr_decode.specs.MapRegs.{StandsFor, map_bytes}
 use Rattle.map_builder.specs.Changed.{name_windows}
 use Rattle.map_builder.proofs.changed.push_of_names.Given as goal

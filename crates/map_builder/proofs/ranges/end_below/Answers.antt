@@ -1,4 +1,4 @@
-use Rattle.board_prelude.proofs.Common.{map-append}
+use Rattle.board_prelude.proofs.{map-append}
 use Rattle.map_builder.specs.Ranges.{range_of}
 use Rattle.map_builder.proofs.ranges.end_below.Goals as goal
 

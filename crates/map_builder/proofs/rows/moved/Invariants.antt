@@ -1,6 +1,7 @@
 use Rattle.std.proofs.Common.{ℕ, ◌≡◌, ◌*◌, ◌<◌, true, IfSome}
 use Rattle.board_spec.specs.Ranges.{boundary_unit}
-use Rattle.map_builder.specs.Common.{IsOutside, is_below, IsHidden, IsInRows, StaysOrHidden}
+use Rattle.map_builder.specs.Changed.{IsOutside}
+use Rattle.map_builder.specs.Rows.{is_below, IsHidden, IsInRows, StaysOrHidden}
 use Rattle.map_builder.proofs.rows.moved.Given as goal
 
 abbrev pub invariant-loop-row : goal.invariant-loop-row

@@ -1,5 +1,5 @@
 use Rattle.std.proofs.Common.{◌+◌, ap, ◌∙◌}
-use Rattle.board_prelude.proofs.Common.{err_from_is_err_and, length_push}
+use Rattle.board_prelude.proofs.{err_from_is_err_and, length_push}
 use Rattle.byte_fields.proofs.Loops.{goes_on, stops, is_done}
 use Rattle.map_builder.proofs.StateFormat.{windows_loop}
 use Rattle.map_builder.proofs.state.read_so_many.Goals as goal

@@ -1,6 +1,6 @@
 use Rattle.std.proofs.Common.{None, arith}
 use Rattle.std.proofs.lemmas.List.Elements.{All-from_recursion}
-use Rattle.addr_decode.specs.Common.{IsNumberedName}
+use Rattle.addr_decode.specs.MapRegister.{IsNumberedName}
 use Rattle.map_builder.proofs.KeptLemmas.{held_alone}
 use Rattle.map_builder.proofs.unchanged.byte_alone.Goals as goal
 

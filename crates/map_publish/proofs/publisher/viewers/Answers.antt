@@ -1,5 +1,5 @@
 use Rattle.std.proofs.Common.{rules, ◌≡◌, [], ◌∷◌, ◌++◌, ◌∙◌}
-use Rattle.board_prelude.proofs.Common.{All-push}
+use Rattle.board_prelude.proofs.{All-push}
 use Rattle.map_publish.proofs.publisher.viewers.Goals as goal
 
 pub loop-preserved : goal.loop-preserved

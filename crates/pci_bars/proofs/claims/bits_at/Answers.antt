@@ -1,6 +1,7 @@
 use Rattle.std.proofs.Common.{Some, ◌∙◌, sym, ap, refl}
 use Rattle.board_spec.specs.Setup.{IsCard}
-use Rattle.pci_bars.specs.Common.{bits_in, CardBytes}
+use Rattle.pci_bars.specs.Bases.{bits_in}
+use Rattle.pci_bars.specs.Cards.{CardBytes}
 use Rattle.pci_bars.proofs.CardListLemmas.{find-cards, found}
 use Rattle.pci_bars.proofs.claims.bits_at.Goals as goal
 

@@ -1,5 +1,5 @@
 use Rattle.std.proofs.Common.{◌∙◌}
-use Rattle.board_prelude.proofs.Common.{io_claim, io_windows}
+use Rattle.board_prelude.proofs.{io_claim, io_windows}
 use Rattle.pci_bars.proofs.ClaimLemmas.{claim_is, io_windows_are, Open, Ports}
 use Rattle.pci_bars.proofs.claims.claim_io.Goals as goal
 

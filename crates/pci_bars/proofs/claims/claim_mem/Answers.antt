@@ -1,5 +1,5 @@
 use Rattle.std.proofs.Common.{◌∙◌, refl}
-use Rattle.board_prelude.proofs.Common.{memory_claim, memory_windows}
+use Rattle.board_prelude.proofs.{memory_claim, memory_windows}
 use Rattle.pci_bars.proofs.ClaimLemmas.{claim_is, Open, Memory}
 use Rattle.pci_bars.proofs.claims.claim_mem.Goals as goal
 

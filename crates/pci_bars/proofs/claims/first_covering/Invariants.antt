@@ -1,5 +1,6 @@
 use Rattle.std.proofs.Common.{◌≡◌, map, drop}
-use Rattle.pci_bars.specs.Common.{base_of, covering}
+use Rattle.pci_bars.specs.Bases.{base_of}
+use Rattle.pci_bars.specs.Claims.{covering}
 use Rattle.pci_bars.proofs.claims.first_covering.Given as goal
 
 abbrev pub invariant-loop-index : goal.invariant-loop-index

@@ -1,6 +1,6 @@
 use Rattle.std.proofs.Common.{◌≡◌, ◌%◌, ◌^◌}
-use Rattle.board_prelude.proofs.Common.{window_bits, Setup}
-use Rattle.pci_bars.specs.Common.{cards_of}
+use Rattle.board_prelude.proofs.{window_bits, Setup}
+use Rattle.pci_bars.specs.Cards.{cards_of}
 use Rattle.pci_bars.proofs.WindowLemmas.{memory_claim_sized, io_claim_sized}
 use Rattle.pci_bars.proofs.claims.offset_in.Goals as goal
 

@@ -1,5 +1,5 @@
 use Rattle.std.proofs.Common.{◌∙◌}
-use Rattle.board_prelude.proofs.Common.{io_shut, io_windows}
+use Rattle.board_prelude.proofs.{io_shut, io_windows}
 use Rattle.pci_bars.proofs.ClaimLemmas.{device_is, io_windows_are, Shut, Ports}
 use Rattle.pci_bars.proofs.claims.shut_io.Goals as goal
 

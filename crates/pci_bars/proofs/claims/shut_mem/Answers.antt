@@ -1,5 +1,5 @@
 use Rattle.std.proofs.Common.{◌∙◌, refl}
-use Rattle.board_prelude.proofs.Common.{memory_shut, memory_windows}
+use Rattle.board_prelude.proofs.{memory_shut, memory_windows}
 use Rattle.pci_bars.proofs.ClaimLemmas.{device_is, Shut, Memory}
 use Rattle.pci_bars.proofs.claims.shut_mem.Goals as goal
 

@@ -1,5 +1,5 @@
 use Rattle.std.proofs.Common.{◌∙◌}
-use Rattle.board_prelude.proofs.Common.{rom_unselected, unselected_windows}
+use Rattle.board_prelude.proofs.{rom_unselected, unselected_windows}
 use Rattle.pci_bars.proofs.ClaimLemmas.{device_is, rom_windows_are, Open, UnselectedRom}
 use Rattle.pci_bars.proofs.claims.unselected_rom.Goals as goal
 

@@ -1,6 +1,6 @@
 use Rattle.std.proofs.Common.{◌≡◌, ◌++◌, length, map}
 use Rattle.std.specs.Vec.Iter.{into_iter_len}
-use Rattle.board_prelude.proofs.Common.{into_iter_items}
+use Rattle.board_prelude.proofs.{into_iter_items}
 use Rattle.phase_threads.specs.declared.worker.Work.{Work}
 use Rattle.phase_threads.proofs.jobs.lines_of.Given as goal
 

@@ -1,8 +1,9 @@
 use Rattle.std.proofs.Common.{rules, ◌≡◌, ◌<◌, List, [], ◌∷◌, ◌++◌, length, refl, sym, ◌∙◌, ap, arith, append_assoc}
 use Rattle.std.proofs.lemmas.List.Elements.{All-append}
-use Rattle.board_prelude.proofs.Common.{All-cons, events_by, into_iter_items, length-append, map-append}
+use Rattle.board_prelude.proofs.{All-cons, events_by, into_iter_items, length-append, map-append}
 use Rattle.phase_threads.specs.declared.worker.Work.{Work}
-use Rattle.phase_threads.specs.Common.{page, pages_in}
+use Rattle.phase_threads.specs.Works.{page}
+use Rattle.phase_threads.specs.Jobs.{pages_in}
 use Rattle.phase_threads.proofs.Numbers.{due_more, pages_length}
 use Rattle.phase_threads.proofs.jobs.next_works.Goals as goal
 

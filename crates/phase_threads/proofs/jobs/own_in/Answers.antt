@@ -1,5 +1,5 @@
 use Rattle.std.proofs.Common.{rules, take, arith}
-use Rattle.board_prelude.proofs.Common.{get_or-replicate, length-take-le}
+use Rattle.board_prelude.proofs.{get_or-replicate, length-take-le}
 use Rattle.phase_threads.proofs.Numbers.{few_by, counts_more}
 use Rattle.phase_threads.proofs.jobs.own_in.Goals as goal
 

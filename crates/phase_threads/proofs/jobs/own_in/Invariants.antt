@@ -1,5 +1,5 @@
 use Rattle.std.proofs.Common.{◌≡◌, ℕ, ◌<◌, length, take, slice_index}
-use Rattle.board_prelude.proofs.Common.{events_by}
+use Rattle.board_prelude.proofs.{events_by}
 use Rattle.phase_threads.proofs.jobs.own_in.Given as goal
 
 abbrev pub invariant-loop-statement : goal.invariant-loop-statement

@@ -1,8 +1,8 @@
 use Rattle.std.proofs.Common.{◌≡◌, ◌+◌, List, Bor, map, length, reverse, sym, ◌∙◌, ap, arith, refl}
-use Rattle.board_prelude.proofs.Common.{Entry, length-map, length-reverse, reverse-reverse}
+use Rattle.board_prelude.proofs.{Entry, length-map, length-reverse, reverse-reverse}
 use Rattle.run_order.specs.declared.done.Done.{Done}
 use Rattle.phase_threads.specs.declared.worker.Work.{Work}
-use Rattle.phase_threads.specs.Common.{AreAsked, GrowsBy, done_in}
+use Rattle.phase_threads.specs.Jobs.{AreAsked, GrowsBy, done_in}
 use Rattle.phase_threads.proofs.Phases.{Grew, gained_within, takes_in, earlier_actors, later_actors}
 use Rattle.phase_threads.proofs.run.run_phase.Given.{Over}
 use Rattle.phase_threads.proofs.run.run_phase.Goals.{After-works_of}

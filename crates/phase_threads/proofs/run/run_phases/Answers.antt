@@ -1,11 +1,12 @@
 use Rattle.std.proofs.Common.{rules, ◌≡◌, ◌+◌, ◌<◌, ◌≤◌, List, [], ◌∷◌, ◌++◌, length, flat_map, All, arith, map, ap}
 use Rattle.std.proofs.Common.{append_assoc, refl, ◌∙◌}
-use Rattle.board_prelude.proofs.Common.{into_iter_items, length-append, get_or-append_seam, most_statements}
-use Rattle.board_prelude.proofs.Common.{reverse-append, map-append, length-map, Entry, Setup}
+use Rattle.board_prelude.proofs.{into_iter_items, length-append, get_or-append_seam, most_statements, reverse-append}
+use Rattle.board_prelude.proofs.{map-append, length-map, Entry, Setup}
 use Rattle.std.proofs.lemmas.List.Elements.{All-append, All-map}
 use Rattle.board_core.specs.Kept.{Standing}
 use Rattle.phase_threads.specs.declared.worker.Work.{Work}
-use Rattle.phase_threads.specs.Common.{AreTold, IsStatement, Page, page}
+use Rattle.phase_threads.specs.Jobs.{AreTold, IsStatement}
+use Rattle.phase_threads.specs.Works.{Page, page}
 use Rattle.phase_threads.proofs.Phases.{Phase, in_phase, all_in_place, statements_more, statements_within}
 use Rattle.phase_threads.proofs.run.run_phases.Goals as goal
 

@@ -1,8 +1,10 @@
 use Rattle.std.proofs.Common.{◌≡◌, ◌<◌, ◌++◌, length, map, reverse, flat_map, All}
-use Rattle.board_prelude.proofs.Common.{into_iter_items, IsLegal, entries_by, statements_of, HasPhases}
+use Rattle.board_prelude.proofs.{into_iter_items, IsLegal, entries_by, statements_of, HasPhases}
 use Rattle.std.specs.Vec.Iter.{into_iter_len}
-use Rattle.run_order.specs.Common.{bare, AreAllInPlace}
-use Rattle.phase_threads.specs.Common.{AreAsked, AreTold, entries_of, IsUpTo}
+use Rattle.run_order.specs.PhaseRun.{bare}
+use Rattle.run_order.specs.Places.{AreAllInPlace}
+use Rattle.phase_threads.specs.Jobs.{AreAsked, AreTold}
+use Rattle.phase_threads.specs.Placed.{entries_of, IsUpTo}
 use Rattle.phase_threads.proofs.run.run_phases.Given as goal
 
 abbrev pub invariant-loop-phase : goal.invariant-loop-phase

@@ -1,6 +1,6 @@
 use Rattle.std.proofs.Common.{rules, ◌≡◌, ℕ, ◌+◌, ◌<◌, ◌≤◌, ◌++◌, List, All, length, map, take, drop, sym, ◌∙◌, ap}
 use Rattle.std.proofs.Common.{arith, false, Some, reverse, refl, [], slice_index_or}
-use Rattle.board_prelude.proofs.Common.{most_statements, length-map, length-reverse}
+use Rattle.board_prelude.proofs.{most_statements, length-map, length-reverse}
 use Rattle.phase_threads.specs.declared.jobs.Job.{Job}
 use Rattle.phase_threads.specs.Jobs.{IsReadyToWork, AreAsked, page_by}
 use Rattle.phase_threads.specs.Works.{Page, page_of}

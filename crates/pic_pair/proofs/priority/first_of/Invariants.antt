@@ -1,6 +1,8 @@
 -- What the search is for is among the levels that are left.
 use Rattle.std.proofs.Common.{◌≡◌, drop}
-use Rattle.device_spec.proofs.Common.{find, has, priority_order}
+use Rattle.std.specs.List.{find}
+use Rattle.device_spec.specs.Levels.{has}
+use Rattle.device_spec.specs.Pic.{priority_order}
 use Rattle.pic_pair.proofs.priority.first_of.Given as goal
 
 abbrev pub invariant-loop-place : goal.invariant-loop-place

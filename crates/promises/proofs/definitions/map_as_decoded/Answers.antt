@@ -1,5 +1,5 @@
 use Rattle.std.proofs.Common.{sym, subst}
-use Rattle.addr_decode.specs.Common.{StandsFor}
+use Rattle.addr_decode.specs.MapRegs.{StandsFor}
 use Rattle.promises.proofs.DecodedMaps.{answers_as_decode}
 use Rattle.promises.proofs.definitions.map_as_decoded.Goals as goal
 

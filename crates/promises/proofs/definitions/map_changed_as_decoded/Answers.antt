@@ -1,4 +1,4 @@
-use Rattle.board_prelude.specs.Common.{Bytes, changed_byte}
+use Rattle.board_prelude.specs.{Bytes, changed_byte}
 use Rattle.promises.proofs.DecodedMaps.{answers_as_decode}
 use Rattle.promises.proofs.definitions.map_changed_as_decoded.Goals as goal
 

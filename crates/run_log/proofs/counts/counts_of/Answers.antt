@@ -1,5 +1,5 @@
 use Rattle.std.proofs.Common.{arith, length, ◌<◌}
-use Rattle.board_prelude.proofs.Common.{get_or_default}
+use Rattle.board_prelude.proofs.{get_or_default}
 use Rattle.run_log.proofs.Picks.{count_fits}
 use Rattle.run_log.proofs.counts.counts_of.Goals as goal
 

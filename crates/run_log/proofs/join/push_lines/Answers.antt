@@ -1,6 +1,6 @@
 use Rattle.std.proofs.Common.{◌+◌, ◌-◌, ◌<◌, ◌++◌, ◌∷◌, ℕ, List, [], length, get_or, drop, sym, ◌∙◌, ap}
 use Rattle.std.proofs.Common.{arith, decimal, refl}
-use Rattle.board_prelude.proofs.Common.{get_or_default, length-set, space}
+use Rattle.board_prelude.proofs.{get_or_default, length-set, space}
 use Rattle.logs.proofs.Join.{line_added}
 use Rattle.run_order.specs.Over.{nowhere}
 use Rattle.run_log.proofs.PieceLaws.{no_lines}

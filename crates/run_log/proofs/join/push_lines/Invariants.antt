@@ -1,5 +1,5 @@
 use Rattle.std.proofs.Common.{◌≡◌, ◌+◌, ◌-◌, ◌≤◌, ◌++◌, List, drop, length, take}
-use Rattle.board_prelude.specs.Common.{Entry}
+use Rattle.board_prelude.specs.{Entry}
 use Rattle.logs.specs.LinesFrom.{lines_from}
 use Rattle.run_log.specs.Counts.{AreCountsOf}
 use Rattle.run_log.specs.Lines.{AreLinesOf}

@@ -1,5 +1,5 @@
 use Rattle.std.proofs.Common.{◌≡◌, ◌++◌, length, ap, arith, List, ℕ}
-use Rattle.board_prelude.proofs.Common.{length-append}
+use Rattle.board_prelude.proofs.{length-append}
 use Rattle.logs.specs.Numbered.{tail_line}
 use Rattle.run_log.proofs.CutLaws.{cut_pushed, ends_pushed}
 use Rattle.run_log.proofs.lines.push_line.Goals as goal

@@ -1,5 +1,5 @@
 use Rattle.std.proofs.Common.{ℕ, ◌++◌, ◌*◌, ◌≤◌, List, length, ap, sym, ◌∙◌}
-use Rattle.board_prelude.proofs.Common.{take_all, length-map, Entry}
+use Rattle.board_prelude.proofs.{take_all, length-map, Entry}
 use Rattle.logs.specs.LinesFrom.{lines_from}
 use Rattle.logs.proofs.Parts.{log_text-lines}
 use Rattle.run_log.proofs.pieces.log_of_lines.Goals as goal

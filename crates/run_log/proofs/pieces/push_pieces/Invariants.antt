@@ -1,5 +1,5 @@
 use Rattle.std.proofs.Common.{◌≡◌, ℕ, ◌*◌, ◌++◌, List, length, take}
-use Rattle.board_prelude.proofs.Common.{into_iter_items, Entry}
+use Rattle.board_prelude.proofs.{into_iter_items, Entry}
 use Rattle.std.specs.Vec.Iter.{into_iter_len}
 use Rattle.logs.specs.LinesFrom.{lines_from}
 use Rattle.run_log.specs.Pieces.{ArePieces}

@@ -1,5 +1,5 @@
 use Rattle.std.proofs.Common.{arith, subst}
-use Rattle.board_prelude.proofs.Common.{common_steps, nat_tests}
+use Rattle.board_prelude.proofs.{common_steps, nat_tests}
 use Rattle.memchr.specs.Find.{IsFirstByte}
 use Rattle.scripts.proofs.LineLemmas.{is_feed, cut_at, uncut, none_left, begun_empty}
 use Rattle.scripts.proofs.lines.split_line.Goals as goal

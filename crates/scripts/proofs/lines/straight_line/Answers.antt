@@ -1,6 +1,6 @@
 use Rattle.std.proofs.Common.{◌∙◌, ap}
 use Rattle.scripts.proofs.StraightLine.{asked_line}
-use Rattle.script_spec.specs.Common.{lines_of}
+use Rattle.script_spec.specs.Lines.{lines_of}
 use Rattle.scripts.proofs.LineLemmas.{line_ended}
 use Rattle.scripts.proofs.lines.straight_line.Goals as goal
 

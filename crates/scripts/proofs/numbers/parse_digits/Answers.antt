@@ -1,4 +1,4 @@
-use Rattle.board_prelude.proofs.Common.{nat_tests, common_steps}
+use Rattle.board_prelude.proofs.{nat_tests, common_steps}
 use Rattle.std.proofs.Common.{arith}
 use Rattle.scripts.proofs.NumberLemmas.{number_below, number_fits, goes_on, stops, ends}
 use Rattle.scripts.proofs.numbers.parse_digits.Goals as goal

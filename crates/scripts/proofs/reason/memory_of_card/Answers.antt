@@ -1,4 +1,4 @@
-use Rattle.board_prelude.proofs.Common.{common_steps, nat_tests}
+use Rattle.board_prelude.proofs.{common_steps, nat_tests}
 use Rattle.std.proofs.Common.{◌≡◌, ◌∙◌, ap, map, arith}
 use Rattle.pci_bars.specs.Bases.{base_of}
 use Rattle.scripts.proofs.CardLemmas.{base_at, next_base, total_most}

@@ -1,6 +1,6 @@
 use Rattle.std.proofs.Common.{ap, ◌∙◌, length, nat_lt, unwrap_or, rules, tests, arith}
-use Rattle.board_prelude.proofs.Common.{YieldsList-from_slice, position_from_yields_List, nat_tests, ltb-false}
-use Rattle.board_prelude.proofs.Common.{cases_Bool, position_or_len, common_steps}
+use Rattle.board_prelude.proofs.{YieldsList-from_slice, position_from_yields_List, nat_tests, ltb-false, cases_Bool}
+use Rattle.board_prelude.proofs.{position_or_len, common_steps}
 use Rattle.std.proofs.lemmas.List.Sums.{prefix_len-le-length}
 use Rattle.scripts.proofs.take.index_for_card.Goals as goal
 

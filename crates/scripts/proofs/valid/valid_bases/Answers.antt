@@ -1,4 +1,4 @@
-use Rattle.board_prelude.proofs.Common.{common_steps, nat_tests}
+use Rattle.board_prelude.proofs.{common_steps, nat_tests}
 use Rattle.std.proofs.Common.{arith}
 use Rattle.scripts.proofs.BaseRuns.{base_read, base_added, base_refused}
 use Rattle.scripts.proofs.valid.valid_bases.Goals as goal

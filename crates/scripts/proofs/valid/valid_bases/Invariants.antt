@@ -1,5 +1,5 @@
 use Rattle.std.proofs.Common.{◌≡◌, take, length, map, true}
-use Rattle.board_prelude.specs.Common.{list_all, is_base_in_range}
+use Rattle.board_prelude.specs.{list_all, is_base_in_range}
 use Rattle.pci_bars.specs.Bases.{base_of}
 use Rattle.scripts.specs.Items.{base_said}
 use Rattle.scripts.proofs.valid.valid_bases.Given as goal

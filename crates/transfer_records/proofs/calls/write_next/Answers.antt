@@ -1,6 +1,6 @@
 use Rattle.std.proofs.Common.{◌∙◌, refl}
-use Rattle.board_prelude.proofs.Common.{Bytes}
-use Rattle.addr_decode.specs.Common.{StandsFor, map_bytes}
+use Rattle.board_prelude.proofs.{Bytes}
+use Rattle.addr_decode.specs.MapRegs.{StandsFor, map_bytes}
 use Rattle.board_chipset.specs.Held.{HoldsBytes}
 use Rattle.transfer_records.proofs.Numbers.{said_by_count}
 use Rattle.transfer_records.proofs.Safe.{safe_so}

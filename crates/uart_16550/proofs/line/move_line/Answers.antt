@@ -1,6 +1,6 @@
 use Rattle.std.proofs.Common.{◌≡◌, Bool, true, false, refl, not}
 use Rattle.std.proofs.Math.Bool.{beq}
-use Rattle.uart_16550.specs.Common.{differ}
+use Rattle.uart_16550.specs.Writes.{differ}
 use Rattle.uart_16550.proofs.SerialSteps.{no_step, one_step}
 use Rattle.uart_16550.proofs.line.move_line.Goals as goal
 

@@ -1,7 +1,7 @@
 use Rattle.std.proofs.Common.{inl, ap, Ok}
 use Rattle.byte_fields.proofs.Exactly.{not_ended}
-use Rattle.board_chipset.specs.Common.{Running}
-use Rattle.uart_16550.specs.Common.{Serial}
+use Rattle.board_chipset.specs.Chipset.{Running}
+use Rattle.uart_16550.specs.Serial.{Serial}
 use Rattle.uart_16550.proofs.SerialAlone.{alone_is}
 use Rattle.uart_16550.proofs.serial_state.read_alone.Goals as goal
 

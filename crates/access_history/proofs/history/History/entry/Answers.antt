@@ -1,5 +1,5 @@
 use Rattle.std.proofs.Common.{◌<◌, length, arith, refl}
-use Rattle.board_prelude.proofs.Common.{length-map, reverse-reverse, length-reverse}
+use Rattle.board_prelude.proofs.{length-map, reverse-reverse, length-reverse}
 use Rattle.access_history.specs.Packed.{entry_in, entries_in}
 use Rattle.std.proofs.lemmas.Option.{slice_get_read, slice_get-map}
 use Rattle.access_history.proofs.history.History.entry.Goals as goal

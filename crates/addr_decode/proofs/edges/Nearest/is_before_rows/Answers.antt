@@ -1,5 +1,5 @@
 use Rattle.std.proofs.Common.{arith}
-use Rattle.board_prelude.proofs.Common.{nat_tests}
+use Rattle.board_prelude.proofs.{nat_tests}
 use Rattle.addr_decode.proofs.FixedEdgeLemmas.{rows_stay}
 use Rattle.addr_decode.proofs.edges.Nearest.is_before_rows.Goals as goal
 

@@ -1,4 +1,4 @@
-use Rattle.board_prelude.proofs.Common.{nat_tests}
+use Rattle.board_prelude.proofs.{nat_tests}
 use Rattle.std.proofs.Common.{◌+◌, inl, arith, rules}
 use Rattle.addr_decode.specs.MapRegs.{map_bytes}
 use Rattle.addr_decode.specs.Singles.{single}

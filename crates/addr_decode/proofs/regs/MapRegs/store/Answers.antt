@@ -1,5 +1,5 @@
 use Rattle.std.proofs.Common.{◌≡◌, ◌∙◌, refl, arith, slice_index}
-use Rattle.board_prelude.proofs.Common.{Bytes, byte, nat_tests}
+use Rattle.board_prelude.proofs.{Bytes, byte, nat_tests}
 use Rattle.pci_bars.specs.Cards.{AreCardsOf}
 use Rattle.addr_decode.specs.MapRegs.{StandsFor, map_bytes}
 use Rattle.addr_decode.proofs.CardLemmas.{fitted_same}

@@ -1,5 +1,5 @@
 use Rattle.std.proofs.Common.{◌≡◌}
-use Rattle.board_prelude.proofs.Common.{Setup, Bytes}
+use Rattle.board_prelude.proofs.{Setup, Bytes}
 use Rattle.pci_bars.specs.Cards.{AreCardsOf, cards_of}
 use Rattle.addr_decode.specs.MapRegs.{StandsFor, map_bytes}
 use Rattle.addr_decode.proofs.StandsLemmas.{stored_so_far}

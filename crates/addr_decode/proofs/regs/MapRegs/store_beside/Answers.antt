@@ -1,5 +1,5 @@
 use Rattle.std.proofs.Common.{◌≡◌, ℕ, ◌+◌, refl, arith, inr}
-use Rattle.board_prelude.proofs.Common.{Reg, card_register, reg_after}
+use Rattle.board_prelude.proofs.{Reg, card_register, reg_after}
 use Rattle.addr_decode.specs.MapRegs.{map_bytes}
 use Rattle.addr_decode.proofs.CardLemmas.{cards_stay, of_decoded, of_registers}
 use Rattle.addr_decode.proofs.StoreLemmas.{in_function_0}

@@ -1,6 +1,8 @@
 use Rattle.std.proofs.Common.{sym, ap, ◌∙◌, ◌≡◌, ◌≢◌, Err, Ok, ◌+◌}
 use Rattle.ata_pio.proofs.Verifies.{verified-fails, verified-more, verified-end}
-use Rattle.device_spec.proofs.Common.{Registers, left_of, counted, named, naming, readable, finished, verified}
+use Rattle.device_spec.specs.Ata.State.{Registers}
+use Rattle.device_spec.specs.Ata.Address.{left_of, counted, named, naming}
+use Rattle.device_spec.specs.Ata.Commands.{readable, finished, verified}
 use Rattle.ata_pio.specs.View.{medium_of, registers_of, drive_of, error_of}
 use Rattle.ata_pio.proofs.controller.Controller.verify.Goals as goal
 

@@ -1,5 +1,6 @@
 use Rattle.std.proofs.Common.{◌≡◌}
-use Rattle.device_spec.proofs.Common.{verified, left_of}
+use Rattle.device_spec.specs.Ata.Commands.{verified}
+use Rattle.device_spec.specs.Ata.Address.{left_of}
 use Rattle.ata_pio.specs.View.{medium_of, registers_of, drive_of}
 use Rattle.ata_pio.proofs.controller.Controller.verify.Given as goal
 

@@ -1,5 +1,5 @@
 use Rattle.std.proofs.Common.{◌≡◌, ◌∙◌, List, ap, refl}
-use Rattle.board_prelude.proofs.Common.{PortAccess, Config, Setup, Entry, Decoded}
+use Rattle.board_prelude.proofs.{PortAccess, Config, Setup, Entry, Decoded}
 use Rattle.addr_decode.specs.declared.found.Found.{Found}
 use Rattle.addr_decode.specs.Found.{decoded_as}
 use Rattle.board_chipset.specs.Ports.{reached}

@@ -1,4 +1,4 @@
-use Rattle.board_prelude.proofs.Common.{reset_byte, byte_of, config_address, reset_control, map_writes_of}
+use Rattle.board_prelude.proofs.{reset_byte, byte_of, config_address, reset_control, map_writes_of}
 use Rattle.config_regs.specs.Config.{AreKeptOf}
 use Rattle.board_chipset.specs.Versions.{AreLastChanged}
 use Rattle.board_chipset.proofs.registers.Registers.new.Goals as goal

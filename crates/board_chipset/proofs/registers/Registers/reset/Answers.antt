@@ -1,5 +1,5 @@
 use Rattle.std.proofs.Common.{refl}
-use Rattle.board_prelude.proofs.Common.{reset_byte}
+use Rattle.board_prelude.proofs.{reset_byte}
 use Rattle.board_chipset.proofs.registers.Registers.reset.Goals as goal
 
 pub returns-clause-kept : goal.returns-clause-kept

@@ -1,5 +1,5 @@
 use Rattle.std.proofs.Common.{refl}
-use Rattle.board_prelude.proofs.Common.{Store, changed_byte, byte_of}
+use Rattle.board_prelude.proofs.{Store, changed_byte, byte_of}
 use Rattle.board_chipset.proofs.MapVersions.{store_follows}
 use Rattle.board_chipset.proofs.StateSteps.{follows}
 use Rattle.board_chipset.proofs.registers.Registers.store.Goals as goal

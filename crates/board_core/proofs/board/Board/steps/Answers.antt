@@ -1,5 +1,5 @@
 use Rattle.std.proofs.Common.{rules, ◌≡◌, ◌∷◌, ◌++◌, [], List, ◌∙◌, refl, ap, arith}
-use Rattle.board_prelude.proofs.Common.{common_steps, Entry}
+use Rattle.board_prelude.proofs.{common_steps, Entry}
 use Rattle.board_core.specs.Kept.{Standing}
 use Rattle.board_core.proofs.board.Board.steps.Goals as goal
 

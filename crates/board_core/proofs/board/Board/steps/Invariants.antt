@@ -1,6 +1,6 @@
 -- The statements so far are done.
 use Rattle.std.proofs.Common.{◌≡◌, ◌+◌, ◌++◌, List, take}
-use Rattle.board_prelude.proofs.Common.{Entry, statements_of}
+use Rattle.board_prelude.proofs.{Entry, statements_of}
 use Rattle.board_core.proofs.board.Board.steps.Given as goal
 
 abbrev pub invariant-loop-statement : goal.invariant-loop-statement

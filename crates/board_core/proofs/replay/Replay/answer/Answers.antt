@@ -1,5 +1,5 @@
 use Rattle.std.proofs.Common.{Bool, not, ◌==◌, ◌+◌, ◌∷◌, List, refl, arith, get_or-set_same, slice_index, slice_set}
-use Rattle.board_prelude.proofs.Common.{Entry}
+use Rattle.board_prelude.proofs.{Entry}
 use Rattle.std.proofs.lemmas.List.Filters.{length-filter_both}
 use Rattle.board_core.specs.Kept.{HasPlayed}
 use Rattle.board_core.proofs.Boards.{few_versions, stepped}

@@ -1,5 +1,5 @@
 use Rattle.std.proofs.Common.{◌∙◌, ◌∷◌, ap, sym}
-use Rattle.board_prelude.proofs.Common.{out_of}
+use Rattle.board_prelude.proofs.{out_of}
 use Rattle.board_devices.specs.Devices.{DevicesValue}
 use Rattle.board_devices.proofs.PulseLemmas.{routes_pulsed, after_run, gave, rested}
 use Rattle.board_devices.proofs.devices.Devices.pulses.Goals as goal

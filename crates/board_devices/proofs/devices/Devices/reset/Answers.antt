@@ -1,5 +1,5 @@
 use Rattle.std.proofs.Common.{◌≡◌, ◌∷◌}
-use Rattle.board_prelude.proofs.Common.{pair_at_reset, levels_of}
+use Rattle.board_prelude.proofs.{pair_at_reset, levels_of}
 use Rattle.board_devices.specs.Devices.{AreAfter}
 use Rattle.board_devices.proofs.DeviceLemmas.{reset_after, reset_pair, with_pair, settled_as}
 use Rattle.board_devices.proofs.devices.Devices.reset.Goals as goal

@@ -1,6 +1,7 @@
 use Rattle.std.proofs.Common.{rules, ◌≡◌, ◌∙◌, ℕ, refl, ap}
 use Rattle.board_base.specs.declared.target.Dev.TheVariants.{Clock}
-use Rattle.board_devices.specs.Common.{after_write, byte_out}
+use Rattle.board_devices.specs.Steps.{after_write}
+use Rattle.board_devices.specs.Outside.{byte_out}
 use Rattle.board_devices.proofs.DeviceLemmas.{port_asked, write_as, lined_as}
 use Rattle.board_devices.proofs.devices.Devices.write_clock.Goals as goal
 

@@ -1,9 +1,11 @@
 use Rattle.std.proofs.Common.{append_assoc, rules, ◌≡◌, ◌∷◌, [], reverse, sym, ap, ◌∙◌, refl, arith}
-use Rattle.board_prelude.proofs.Common.{reverse-append, reverse-reverse, Entry, next_entry, map_writes_of}
-use Rattle.bus_turn.specs.Common.{opened_of as opened_by, seen_of as seen_in, mine_of as mine_in}
-use Rattle.bus_turn.specs.Common.{IsSameCaller as IsSamePass, own_by}
+use Rattle.board_prelude.proofs.{reverse-append, reverse-reverse, Entry, next_entry, map_writes_of}
+use Rattle.bus_turn.specs.Passes.{opened_of as opened_by, seen_of as seen_in, mine_of as mine_in}
+use Rattle.bus_turn.specs.Passes.{IsSameCaller as IsSamePass}
+use Rattle.bus_turn.specs.Views.{own_by}
 use Rattle.bus_turn.proofs.Rows.{prefix_trans, own_more, drop_front}
-use Rattle.board_live.specs.Common.{IsSameBoard, board_of, setup_in}
+use Rattle.board_live.specs.Steps.{IsSameBoard, board_of}
+use Rattle.board_live.specs.Passes.{setup_in}
 use Rattle.board_live.proofs.CallerTurns.{by_actor, Finds, finds, known_left, own_first, has_learnt}
 use Rattle.board_live.proofs.cpu.Cpu.bus.Given.{Over}
 use Rattle.board_live.proofs.cpu.Cpu.bus.Goals.{After-enter-held}

@@ -1,5 +1,6 @@
 use Rattle.map_publish.specs.Lists.{opened_of}
-use Rattle.board_live.specs.Common.{IsMapOpened, setup_in, opened_in}
+use Rattle.board_live.specs.Known.{IsMapOpened}
+use Rattle.board_live.specs.Passes.{setup_in, opened_in}
 use Rattle.board_live.proofs.Histories.{known_extend}
 use Rattle.board_spec.specs.MapWrites.{map_writes_of}
 use Rattle.map_publish.proofs.Looks.{looks_go_on}

@@ -1,7 +1,8 @@
 use Rattle.std.proofs.Common.{rules, ◌≡◌, ◌+◌, Some, [], ◌∷◌, ◌++◌, length, ap, ◌∙◌, arith, length-append}
-use Rattle.board_prelude.proofs.Common.{All-nil, All-push}
+use Rattle.board_prelude.proofs.{All-nil, All-push}
 use Rattle.std.proofs.lemmas.List.Elements.{All-pop}
-use Rattle.board_live.specs.Common.{IsViewerFor, IsCallerOf, IsNewOf}
+use Rattle.board_live.specs.Passes.{IsViewerFor}
+use Rattle.board_live.specs.Callers.{IsCallerOf, IsNewOf}
 use Rattle.board_live.proofs.Opening.{viewer_for, new_of, numbers_more}
 use Rattle.board_live.proofs.live.Live.callers.Goals as goal
 

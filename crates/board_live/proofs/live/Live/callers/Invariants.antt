@@ -1,7 +1,9 @@
 use Rattle.std.proofs.Common.{◌≡◌, ◌+◌, ◌≤◌, length, map, All, vec_capacity}
 use Rattle.std.specs.List.{range_with_len}
-use Rattle.bus_turn.specs.Common.{IsIdle, IsSameCaller as IsSamePass, splits_of, IsOf}
-use Rattle.board_live.specs.Common.{IsFresh, IsViewerFor, callers_in, IsCallerOf, IsNewOf}
+use Rattle.bus_turn.specs.Passes.{IsIdle, IsSameCaller as IsSamePass, splits_of}
+use Rattle.bus_turn.specs.Turns.{IsOf}
+use Rattle.board_live.specs.Passes.{IsFresh, IsViewerFor, callers_in}
+use Rattle.board_live.specs.Callers.{IsCallerOf, IsNewOf}
 use Rattle.board_live.proofs.live.Live.callers.Given as goal
 
 abbrev pub invariant-loop-viewer : goal.invariant-loop-viewer

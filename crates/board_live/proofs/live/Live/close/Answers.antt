@@ -1,10 +1,12 @@
 use Rattle.std.proofs.Common.{rules, ◌≡◌, ◌<◌, ◌∷◌, length, drop, get_or, remove, reverse, All, Some, sym, ◌∙◌}
-use Rattle.board_prelude.proofs.Common.{Any, All-cons, All-get_or, IsPermutation-sym, All-permutation, Entry}
+use Rattle.board_prelude.proofs.{Any, All-cons, All-get_or, IsPermutation-sym, All-permutation, Entry}
 use Rattle.std.proofs.lemmas.List.Sorted.{IsPermutation-remove}
-use Rattle.bus_turn.specs.Common.{IsSameCaller as IsSamePass, number_of, opened_of as opened_by, part_of}
-use Rattle.bus_turn.specs.Common.{mine_of as mine_in, own_by}
+use Rattle.bus_turn.specs.Passes.{IsSameCaller as IsSamePass, number_of, opened_of as opened_by, part_of}
+use Rattle.bus_turn.specs.Passes.{mine_of as mine_in}
+use Rattle.bus_turn.specs.Views.{own_by}
 use Rattle.board_live.specs.declared.cpu.Cpu.{Cpu}
-use Rattle.board_live.specs.Common.{board_of, opened_with, ClosesBoard}
+use Rattle.board_live.specs.Steps.{board_of, opened_with}
+use Rattle.board_live.specs.Callers.{ClosesBoard}
 use Rattle.board_live.proofs.CallerTurns.{caught_up, closes, closes_joined, opened_same}
 use Rattle.board_live.proofs.live.Live.close.Goals as goal
 

@@ -1,7 +1,8 @@
 use Rattle.std.proofs.Common.{◌≡◌, ◌+◌, length, take, drop, All}
 use mathlib.Core.List.{IsPrefix}
-use Rattle.bus_turn.specs.Common.{IsIdle, IsSameCaller as IsSamePass, splits_of, seen_of as seen_in, mine_of as mine_in}
-use Rattle.bus_turn.specs.Common.{joined_of, IsOf}
+use Rattle.bus_turn.specs.Passes.{IsIdle, IsSameCaller as IsSamePass, splits_of, seen_of as seen_in, mine_of as mine_in}
+use Rattle.bus_turn.specs.Passes.{joined_of}
+use Rattle.bus_turn.specs.Turns.{IsOf}
 use Rattle.board_live.specs.Joins.{IsJoined}
 use Rattle.board_live.proofs.live.Live.join.Given as goal
 

@@ -1,5 +1,5 @@
 use Rattle.std.proofs.Common.{rules, ◌≡◌, ◌+◌, Option, Some, length, map, reverse, sym, ap, ◌∙◌, arith}
-use Rattle.board_prelude.proofs.Common.{range_with_len, reverse-reverse, length-map, map_writes_of}
+use Rattle.board_prelude.proofs.{range_with_len, reverse-reverse, length-map, map_writes_of}
 use Rattle.std.proofs.lemmas.List.FromFn.{length-range_with_len}
 use Rattle.std.proofs.lemmas.List.Elements.{All-weaker}
 use Rattle.bus_turn.specs.Passes.{opened_of as opened_by, part_of}
@@ -7,8 +7,11 @@ use Rattle.map_publish.specs.declared.viewer.Viewer.{Viewer}
 use Rattle.map_publish.specs.Lists.{opened_of}
 use Rattle.board_live.specs.declared.cpu.Cpu.{Cpu}
 use Rattle.board_live.specs.declared.shared.Origin.{Origin}
-use Rattle.board_live.specs.Common.{IsMapOpened, origin_in, board_of, opened_with, callers_in, opened_in, setup_in}
-use Rattle.board_live.specs.Common.{IsNew, IsNewOf, IsViewerFor}
+use Rattle.board_live.specs.Known.{IsMapOpened}
+use Rattle.board_live.specs.Origins.{origin_in}
+use Rattle.board_live.specs.Steps.{board_of, opened_with}
+use Rattle.board_live.specs.Passes.{callers_in, opened_in, setup_in, IsViewerFor}
+use Rattle.board_live.specs.Callers.{IsNew, IsNewOf}
 use Rattle.board_live.proofs.Standing.{stands_after}
 use Rattle.board_live.proofs.Opening.{opened_viewer, any_numbered}
 use Rattle.board_live.proofs.live.Live.open.Goals as goal

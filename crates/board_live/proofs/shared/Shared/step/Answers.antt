@@ -1,5 +1,5 @@
 use Rattle.std.proofs.Common.{ap, rules, arith}
-use Rattle.board_prelude.proofs.Common.{Entry}
+use Rattle.board_prelude.proofs.{Entry}
 use Rattle.map_publish.proofs.Changes.{opened_same}
 use Rattle.board_live.proofs.Histories.{oldest_added, writes_few, published_added, published_version, is_stepped}
 use Rattle.board_live.proofs.Limits.{few_entries, few_added}

@@ -1,7 +1,9 @@
 use Rattle.std.proofs.Common.{◌≡◌, ◌%◌, Option, sym, ap, ◌∙◌, arith}
-use Rattle.board_prelude.proofs.Common.{Disk, Medium, Setup, Bytes, DramCell, nat_tests}
-use Rattle.bus_master.specs.Common.{Master, Moving, TransferPlace, done_of, end_of, first_place, medium_of, with_medium}
-use Rattle.bus_master.specs.Common.{cells_of, transfer_of, EndedSo}
+use Rattle.board_prelude.proofs.{Disk, Medium, Setup, Bytes, DramCell, nat_tests}
+use Rattle.bus_master.specs.Registers.{Master}
+use Rattle.bus_master.specs.Transfer.{Moving, TransferPlace, done_of, end_of, first_place, medium_of, with_medium}
+use Rattle.bus_master.specs.Stores.{cells_of, transfer_of}
+use Rattle.bus_master.specs.UnderWay.{EndedSo}
 use Rattle.board_chipset.specs.Stores.{IsStoreOf}
 use Rattle.bus_master.proofs.TransferLemmas.{all_moved, disk_is, done_is, same_transfer, smram_kept}
 use Rattle.bus_master.proofs.WayLemmas.{memory_kept, sectors_kept}

@@ -1,5 +1,5 @@
 use Rattle.std.proofs.Common.{◌≡◌, Err, sym, ap, ◌∙◌, rules}
-use Rattle.bus_master.specs.Common.{TransferPlace, region_found}
+use Rattle.bus_master.specs.Transfer.{TransferPlace, region_found}
 use Rattle.bus_master.proofs.StepLemmas.{stands_skipped, ready_is, found_in_use, found_used_up}
 use Rattle.bus_master.proofs.under_way.UnderWay.make_ready.Goals as goal
 

@@ -1,10 +1,10 @@
 use Rattle.std.proofs.Common.{◌≡◌, Err, None, sym, ap, ◌∙◌, add-one, arith, rules}
-use Rattle.bus_master.specs.Common.{TransferPlace}
+use Rattle.bus_master.specs.Transfer.{TransferPlace}
 use Rattle.bus_master.specs.Pieces.{copied}
 use Rattle.bus_master.proofs.HeldTargets.{cards_fitted}
 use Rattle.bus_master.proofs.WordLemmas.{all_copied, ends_unanswered, one_word, reached_by, reached_stands, same_shape}
 use Rattle.bus_master.proofs.WordLemmas.{same_store}
-use Rattle.board_prelude.proofs.Common.{nat_tests}
+use Rattle.board_prelude.proofs.{nat_tests}
 use Rattle.bus_master.proofs.under_way.UnderWay.move_some.Goals as goal
 
 pub answering-requires : goal.answering-requires

@@ -1,6 +1,8 @@
 use Rattle.std.proofs.Common.{◌≡◌, ◌+◌, ◌*◌, None}
-use Rattle.board_prelude.proofs.Common.{Setup, Bytes}
-use Rattle.bus_master.specs.Common.{Moving, address_after, HasSameShape, StandsAt}
+use Rattle.board_prelude.proofs.{Setup, Bytes}
+use Rattle.bus_master.specs.Transfer.{Moving, address_after}
+use Rattle.bus_master.specs.Stores.{HasSameShape}
+use Rattle.bus_master.specs.UnderWay.{StandsAt}
 use Rattle.board_chipset.specs.Stores.{IsStoreOf}
 use Rattle.bus_master.specs.Pieces.{copied}
 use Rattle.bus_master.proofs.WordLemmas.{reached_by}

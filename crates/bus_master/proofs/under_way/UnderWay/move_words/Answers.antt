@@ -1,7 +1,7 @@
 use Rattle.std.proofs.Common.{◌≡◌, ◌/◌, Err, ap, arith, rules}
-use Rattle.bus_master.specs.Common.{TransferPlace, words_moved}
+use Rattle.bus_master.specs.Transfer.{TransferPlace, words_moved}
 use Rattle.bus_master.proofs.WordLemmas.{came_further, came_to_end, same_store}
-use Rattle.board_prelude.proofs.Common.{nat_tests}
+use Rattle.board_prelude.proofs.{nat_tests}
 use Rattle.bus_master.proofs.under_way.UnderWay.move_words.Goals as goal
 
 pub loop-self-preserved : goal.loop-self-preserved

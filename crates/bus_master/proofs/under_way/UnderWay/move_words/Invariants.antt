@@ -1,6 +1,8 @@
 use Rattle.std.proofs.Common.{◌≡◌, ◌/◌, ◌%◌, ◌-◌, ◌≤◌, None}
-use Rattle.board_prelude.proofs.Common.{Setup, Bytes}
-use Rattle.bus_master.specs.Common.{Moving, words_moved, HasSameShape, HasSector, StandsAt}
+use Rattle.board_prelude.proofs.{Setup, Bytes}
+use Rattle.bus_master.specs.Transfer.{Moving, words_moved}
+use Rattle.bus_master.specs.Stores.{HasSameShape}
+use Rattle.bus_master.specs.UnderWay.{HasSector, StandsAt}
 use Rattle.board_chipset.specs.Stores.{IsStoreOf}
 use Rattle.bus_master.proofs.under_way.UnderWay.move_words.Given as goal
 

@@ -1,4 +1,4 @@
-use Rattle.board_base.proofs.Common.{nat_tests}
+use Rattle.std.proofs.lemmas.Bool.Decides.{nat_tests}
 use Rattle.std.proofs.Common.{arith}
 use Rattle.bus_master.proofs.PieceLemmas.{ends_at_count}
 use Rattle.bus_master.proofs.under_way.UnderWay.next_count.Goals as goal

@@ -1,5 +1,5 @@
 use Rattle.std.proofs.Common.{ap}
-use Rattle.bus_master.specs.Common.{TransferPlace}
+use Rattle.bus_master.specs.Transfer.{TransferPlace}
 use Rattle.bus_master.proofs.PieceLemmas.{ends_at_base}
 use Rattle.bus_master.proofs.under_way.UnderWay.next_descriptor.Goals as goal
 

@@ -1,5 +1,5 @@
 use Rattle.std.proofs.Common.{ap, arith, sym, ◌∙◌}
-use Rattle.bus_master.specs.Common.{TransferPlace, kind_of, next_sector, next_word}
+use Rattle.bus_master.specs.Transfer.{TransferPlace, kind_of, next_sector, next_word}
 use Rattle.bus_master.specs.Pieces.{going_from}
 use Rattle.bus_master.proofs.PieceLemmas.{ends_at_word, move_is, outside_smram}
 use Rattle.bus_master.proofs.under_way.UnderWay.next_stretch.Goals as goal

@@ -1,7 +1,7 @@
 use Rattle.std.proofs.Common.{◌≡◌, Err, sym, rules, arith}
 use Rattle.bus_master.proofs.StepLemmas.{descriptor_stands}
-use Rattle.board_prelude.proofs.Common.{nat_tests}
-use Rattle.bus_master.specs.Common.{answered}
+use Rattle.board_prelude.proofs.{nat_tests}
+use Rattle.bus_master.specs.Transfer.{answered}
 use Rattle.bus_master.proofs.under_way.UnderWay.read_descriptor.Goals as goal
 
 pub returns-in_err-base-clause-read : goal.returns-in_err-base-clause-read

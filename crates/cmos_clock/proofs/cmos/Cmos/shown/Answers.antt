@@ -1,8 +1,9 @@
 -- No moment is found only where the registers say none: the numbers of one that they say are those that were found.
 use Rattle.std.proofs.Common.{◌≡◌, ℕ, Option, Some, None, SomeIff, ap, arith}
-use Rattle.device_spec.specs.Common.{Moment, Clock, byte_at, control_of, second_at, minute_at, hour_at, day_at}
-use Rattle.device_spec.specs.Common.{month_at, year_at}
-use Rattle.device_spec.proofs.Common.{nat_tests}
+use Rattle.board_base.specs.declared.moment.Moment.{Moment}
+use Rattle.device_spec.specs.Clock.{Clock, byte_at, control_of, second_at, minute_at, hour_at, day_at, month_at}
+use Rattle.device_spec.specs.Clock.{year_at}
+use Rattle.std.proofs.lemmas.Bool.Decides.{nat_tests}
 use Rattle.board_base.proofs.CalendarLemmas.{days_in_month_bound}
 use Rattle.cmos_clock.specs.Seconds.{AreDateBytes, AreTimeBytes, IsShown}
 use Rattle.cmos_clock.proofs.cmos.Cmos.shown.Goals as goal

@@ -1,7 +1,7 @@
 -- The mask 87h keeps bit 7 and the three low bits.
 use Rattle.std.proofs.Common.{◌≡◌, ℕ, ◌+◌, ◌*◌, ◌/◌, ◌%◌, bit_and, arith}
-use Rattle.device_spec.proofs.Common.{nat_tests, and_mask}
-use Rattle.std.proofs.lemmas.Nat.{and_block}
+use Rattle.std.proofs.lemmas.Bool.Decides.{nat_tests}
+use Rattle.std.proofs.lemmas.Nat.{and_mask, and_block}
 use Rattle.cmos_clock.proofs.control.Control.after_reset.Goals as goal
 
 -- bit 7 and what is below it, apart

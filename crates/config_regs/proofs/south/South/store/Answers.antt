@@ -1,4 +1,4 @@
-use Rattle.board_prelude.proofs.Common.{nat_tests}
+use Rattle.board_prelude.proofs.{nat_tests}
 use Rattle.std.proofs.Common.{◌≡◌, arith}
 use Rattle.config_regs.proofs.SouthStores.{south_agrees}
 use Rattle.config_regs.proofs.south.South.store.Goals as goal

@@ -1,5 +1,5 @@
 use Rattle.std.proofs.Common.{arith}
-use Rattle.board_prelude.proofs.Common.{Bytes, bytes_few}
+use Rattle.board_prelude.proofs.{Bytes, bytes_few}
 use Rattle.addr_decode.proofs.StandsLemmas.{none_stored, one_more_stored, whole}
 use Rattle.addr_decode.proofs.StoreLemmas.{byte_in_list}
 use Rattle.south_bridge.specs.Piix.{piix_register}

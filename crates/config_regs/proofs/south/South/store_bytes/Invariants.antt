@@ -1,5 +1,5 @@
 -- The registers so far are those after the first bytes.
-use Rattle.board_prelude.proofs.Common.{Setup, Bytes}
+use Rattle.board_prelude.proofs.{Setup, Bytes}
 use Rattle.south_bridge.specs.Piix.{piix_register}
 use Rattle.config_regs.specs.Config.{IsSouthOf}
 use Rattle.addr_decode.proofs.StandsLemmas.{stored_so_far}

@@ -1,5 +1,5 @@
 use Rattle.std.proofs.Common.{◌∙◌}
-use Rattle.board_prelude.proofs.Common.{with_items_is, bytes_of, byte}
+use Rattle.board_prelude.proofs.{with_items_is, bytes_of, byte}
 use Rattle.dram_store.proofs.BankLemmas.{put_in_kept}
 use Rattle.dram_store.proofs.bank.Bank.write.Goals as goal
 

@@ -1,6 +1,6 @@
 use Rattle.std.proofs.Common.{◌≡◌, ◌≤◌, ◌<◌, ◌-◌, ◌+◌, ◌++◌, ℕ, List, length, take, drop, replicate, ◌∙◌, slice_index}
 use Rattle.std.proofs.Common.{arith}
-use Rattle.board_prelude.proofs.Common.{with_items_is, nat_tests}
+use Rattle.board_prelude.proofs.{with_items_is, nat_tests}
 use Rattle.dram_store.specs.Bank.{page_end}
 use Rattle.dram_store.proofs.BankLemmas.{put_in_kept}
 use Rattle.dram_store.proofs.StretchLemmas.{stretch_put, length_put, length_same}

@@ -1,5 +1,5 @@
 use Rattle.std.proofs.Common.{[], ◌∙◌, arith}
-use Rattle.board_prelude.proofs.Common.{nat_tests}
+use Rattle.board_prelude.proofs.{nat_tests}
 use Rattle.dram_store.proofs.ConcatLemmas.{past_banks, read_here}
 use Rattle.dram_store.proofs.DramLemmas.{read_stored}
 use Rattle.dram_store.proofs.dram.Dram.read.Goals as goal

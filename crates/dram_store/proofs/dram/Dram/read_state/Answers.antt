@@ -1,5 +1,5 @@
 use Rattle.std.proofs.Common.{arith}
-use Rattle.board_prelude.proofs.Common.{err_from_is_err_and, All-push, length_push}
+use Rattle.board_prelude.proofs.{err_from_is_err_and, All-push, length_push}
 use Rattle.dram_store.specs.Bank.{IsBank}
 use Rattle.dram_store.proofs.StateFormats.{bank_failed, bank_read}
 use Rattle.dram_store.proofs.dram.Dram.read_state.Goals as goal

@@ -1,5 +1,5 @@
 use Rattle.std.proofs.Common.{arith, refl}
-use Rattle.board_prelude.proofs.Common.{concat, bytes_of, byte}
+use Rattle.board_prelude.proofs.{concat, bytes_of, byte}
 use Rattle.dram_store.proofs.ConcatLemmas.{AreWritten, bank_written, lost, aligned_fits}
 use Rattle.dram_store.proofs.DramLemmas.{stored}
 use Rattle.dram_store.proofs.dram.Dram.write.Goals as goal

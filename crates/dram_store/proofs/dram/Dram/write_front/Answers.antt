@@ -1,5 +1,5 @@
 use Rattle.std.proofs.Common.{arith, refl, slice_index}
-use Rattle.board_prelude.proofs.Common.{concat}
+use Rattle.board_prelude.proofs.{concat}
 use Rattle.dram_store.proofs.ConcatLemmas.{AreWritten, bank_written, lost}
 use Rattle.dram_store.proofs.StretchLemmas.{front_put}
 use Rattle.dram_store.proofs.dram.Dram.write_front.Goals as goal

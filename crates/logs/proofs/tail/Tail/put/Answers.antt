@@ -1,7 +1,7 @@
 use Rattle.std.proofs.lemmas.Bool.Decides.{nat_tests}
 use Rattle.std.proofs.Common.{ℕ, ◌≡◌, ◌+◌, ◌-◌, ◌∷◌, List, drop, get_or, length, ap, arith, sym, zero, suc, ◌<◌, []}
 use Rattle.std.proofs.Common.{◌++◌}
-use Rattle.board_prelude.proofs.Common.{length-append, length-drop, drop_more}
+use Rattle.board_prelude.proofs.{length-append, length-drop, drop_more}
 use Rattle.std.specs.Str.{IsAscii}
 use Rattle.logs.proofs.tail.Tail.put.Goals as goal
 

@@ -1,5 +1,5 @@
 use Rattle.std.proofs.Common.{◌≡◌, ◌<◌, ℕ, length, slice_index}
-use Rattle.board_prelude.specs.Common.{expansion_byte}
+use Rattle.board_prelude.specs.{expansion_byte}
 use Rattle.machine.specs.Roms.{byte_in}
 use Rattle.machine.proofs.rom.Rom.grown.Given as goal
 

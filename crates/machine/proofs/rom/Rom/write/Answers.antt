@@ -1,5 +1,5 @@
 use Rattle.std.proofs.Common.{◌≡◌, ◌≤◌, ◌-◌, ◌+◌, ◌++◌, ℕ, List, length, take, drop, sym, ◌∙◌, subst}
-use Rattle.board_prelude.proofs.Common.{with_items, with_items_is}
+use Rattle.board_prelude.proofs.{with_items, with_items_is}
 use Rattle.dram_store.proofs.StretchLemmas.{stretch_put, length_same}
 use Rattle.machine.proofs.rom.Rom.write.Goals as goal
 

@@ -1,8 +1,11 @@
 use Rattle.std.proofs.Common.{◌≡◌, true, ap, arith, refl}
-use Rattle.board_prelude.proofs.Common.{length-map, Setup, Bytes, MapChange}
+use Rattle.board_prelude.proofs.{length-map, Setup, Bytes, MapChange}
 use Rattle.pci_bars.specs.Cards.{cards_of}
-use Rattle.addr_decode.specs.Common.{names_of, StandsFor, map_bytes}
-use Rattle.map_builder.specs.Common.{range_of, after, stores_rows, windows_covered}
+use Rattle.addr_decode.specs.MapRegister.{names_of}
+use Rattle.addr_decode.specs.MapRegs.{StandsFor, map_bytes}
+use Rattle.map_builder.specs.Ranges.{range_of}
+use Rattle.map_builder.specs.Changed.{after, windows_covered}
+use Rattle.map_builder.specs.Rows.{stores_rows}
 use Rattle.map_builder.proofs.BuildLemmas.{are_map_of}
 use Rattle.map_builder.proofs.ChangeLemmas.{board_after, where_kept, are_changed, keeps_byte, pushed_found, AreFound}
 use Rattle.map_builder.proofs.ChangeLemmas.{Idle, Chosen, chosen}

@@ -1,5 +1,5 @@
 use Rattle.std.proofs.Common.{◌≡◌, ◌∙◌, refl, sym}
-use Rattle.board_prelude.proofs.Common.{false≢true, MapChange, Setup, Store, touches_map}
+use Rattle.board_prelude.proofs.{false≢true, MapChange, Setup, Store, touches_map}
 use Rattle.pci_bars.specs.Cards.{cards_of}
 use Rattle.map_builder.proofs.ChangeLemmas.{names_touched, stored_if, untouched_map}
 use Rattle.map_builder.proofs.flat_map.FlatMap.store_at.Goals.{After-touch_map}

@@ -1,4 +1,5 @@
-use Rattle.map_publish.specs.Common.{bytes_after, changes_of}
+use Rattle.map_publish.specs.Changes.{bytes_after}
+use Rattle.map_publish.specs.Lists.{changes_of}
 use Rattle.map_publish.proofs.viewer.Viewer.find.Goals as goal
 
 pub returns-clause-look : goal.returns-clause-look

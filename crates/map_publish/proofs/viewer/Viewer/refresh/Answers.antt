@@ -1,5 +1,5 @@
 use Rattle.std.proofs.Common.{rules}
-use Rattle.map_publish.specs.Common.{IsMapOfLog}
+use Rattle.map_publish.specs.Lists.{IsMapOfLog}
 use Rattle.map_publish.proofs.Naming.{enters}
 use Rattle.map_publish.proofs.Sights.{sight_of}
 use Rattle.map_publish.proofs.viewer.Viewer.refresh.Goals as goal

@@ -1,5 +1,5 @@
 use Rattle.std.proofs.Common.{arith}
-use Rattle.board_prelude.proofs.Common.{err_from_is_err_and, length_push}
+use Rattle.board_prelude.proofs.{err_from_is_err_and, length_push}
 use Rattle.std.proofs.lemmas.List.{map_push}
 use Rattle.byte_fields.proofs.Loops.{goes_on, is_done}
 use Rattle.pci_bars.proofs.StateFormats.{slots_loop, slot_failed}

@@ -1,5 +1,5 @@
 use Rattle.std.proofs.Common.{◌≡◌, ◌+◌, ◌-◌, [], length, set, sym, refl, ◌∙◌, arith}
-use Rattle.board_prelude.proofs.Common.{get_or-set_same, get_or-set_other, with_items, drop-drop}
+use Rattle.board_prelude.proofs.{get_or-set_same, get_or-set_other, with_items, drop-drop}
 use Rattle.pci_bars.specs.Contents.{slot_number}
 use Rattle.pci_bars.proofs.ContentsLemmas.{IsBuffer, buffer_held, buffer_set, buffer_there, lists, stretch}
 use Rattle.pci_bars.proofs.ContentsLemmas.{stretch_length, same_slot}

@@ -1,5 +1,5 @@
 use Rattle.std.proofs.Common.{arith}
-use Rattle.board_prelude.proofs.Common.{nat_tests}
+use Rattle.board_prelude.proofs.{nat_tests}
 use Rattle.pci_bars.proofs.CardLemmas.{read}
 use Rattle.pci_bars.proofs.regs.CardRegs.read.Goals as goal
 

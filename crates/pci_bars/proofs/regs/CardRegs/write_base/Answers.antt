@@ -1,5 +1,5 @@
 use Rattle.std.proofs.Common.{arith, rules, inr}
-use Rattle.board_prelude.proofs.Common.{nat_tests}
+use Rattle.board_prelude.proofs.{nat_tests}
 use Rattle.pci_bars.proofs.CardLemmas.{are_written, base_stored}
 use Rattle.pci_bars.proofs.regs.CardRegs.write_base.Goals as goal
 

@@ -1,5 +1,5 @@
 use Rattle.std.proofs.Common.{◌≡◌, ◌∷◌, ap, ◌∙◌}
-use Rattle.board_prelude.proofs.Common.{next_entry}
+use Rattle.board_prelude.proofs.{next_entry}
 use Rattle.board_core.specs.Kept.{Standing}
 use Rattle.phase_threads.proofs.OneActs.{gone_alone}
 use Rattle.phase_threads.proofs.alone.AloneCaller.bus.Goals as goal

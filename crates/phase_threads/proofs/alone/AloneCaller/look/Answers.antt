@@ -1,5 +1,5 @@
 use Rattle.std.proofs.Common.{[], refl, ◌∙◌}
-use Rattle.board_prelude.proofs.Common.{map_writes_of, registers_after}
+use Rattle.board_prelude.proofs.{map_writes_of, registers_after}
 use Rattle.board_live.proofs.Standing.{stands_after}
 use Rattle.phase_threads.proofs.alone.AloneCaller.look.Goals as goal
 

@@ -1,5 +1,5 @@
 use Rattle.std.proofs.Common.{refl}
-use Rattle.board_prelude.proofs.Common.{next_entry}
+use Rattle.board_prelude.proofs.{next_entry}
 use Rattle.phase_threads.proofs.cpu.CpuUnrecordedBoardCaller.bus.Goals as goal
 
 pub returns-clause-gone : goal.returns-clause-gone

@@ -1,8 +1,7 @@
 use Rattle.std.proofs.Common.{rules, ◌≡◌, List, Some, reverse}
-use Rattle.board_prelude.proofs.Common.{Entry, reverse-reverse}
-use Rattle.run_log.specs.Common.{AreLinesOf}
-use Rattle.phase_threads.specs.Common.{entries_of}
-use Rattle.phase_threads.specs.Placed.{actors_in}
+use Rattle.board_prelude.proofs.{Entry, reverse-reverse}
+use Rattle.run_log.specs.Lines.{AreLinesOf}
+use Rattle.phase_threads.specs.Placed.{entries_of, actors_in}
 use Rattle.phase_threads.proofs.ended.EndedRun.log.Given.{Over}
 use Rattle.phase_threads.proofs.ended.EndedRun.log.Goals.{After-deref-3}
 use Rattle.phase_threads.proofs.ended.EndedRun.log.Goals as goal

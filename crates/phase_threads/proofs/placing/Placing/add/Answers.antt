@@ -1,9 +1,11 @@
 use Rattle.std.proofs.Common.{rules, ℕ, ◌≡◌, ◌≤◌, List, map, length, take, drop, reverse, None, Some, sym, ◌∙◌, ap}
 use Rattle.std.proofs.Common.{arith}
 use Rattle.std.proofs.lemmas.List.{take-map}
-use Rattle.board_prelude.proofs.Common.{reverse-reverse, length-map, length-take-le, Entry}
+use Rattle.board_prelude.proofs.{reverse-reverse, length-map, length-take-le, Entry}
 use Rattle.run_order.specs.declared.done.Done.{Done}
-use Rattle.run_order.specs.Common.{Order, all_looks_in, over, placed}
+use Rattle.run_order.specs.Room.{Order, all_looks_in}
+use Rattle.run_order.specs.Over.{over}
+use Rattle.run_order.specs.Placing.{placed}
 use Rattle.run_order.proofs.Settled.{unlooked}
 use Rattle.phase_threads.proofs.Phases.{cut_is, legal_front, on_ok, taken_in}
 use Rattle.phase_threads.proofs.placing.Placing.add.Goals as goal

@@ -1,5 +1,5 @@
 use Rattle.std.proofs.Common.{◌≡◌, ◌+◌, ◌≤◌, List, length, take}
-use Rattle.board_prelude.proofs.Common.{Entry, entries_by, events_by}
+use Rattle.board_prelude.proofs.{Entry, entries_by, events_by}
 use Rattle.phase_threads.specs.Works.{HasDone, page, page_of}
 use Rattle.phase_threads.proofs.worker.Work.run.Given as goal
 

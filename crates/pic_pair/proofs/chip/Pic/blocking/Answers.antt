@@ -1,5 +1,5 @@
 -- No masked level passes outside special mask mode.
-use Rattle.device_spec.proofs.Common.{levels_where-same, has-levels_where}
+use Rattle.device_spec.proofs.Levels.{levels_where-same, has-levels_where}
 use Rattle.std.proofs.Common.{refl, false}
 use Rattle.pic_pair.proofs.chip.Pic.blocking.Goals as goal
 

@@ -1,6 +1,7 @@
 -- The first level of those that block is the first that blocks.
 use Rattle.std.proofs.Common.{ap, sym, ◌∙◌}
-use Rattle.device_spec.specs.Common.{Chip, is_blocking, levels_where}
+use Rattle.device_spec.specs.Pic.{Chip, is_blocking}
+use Rattle.device_spec.specs.Levels.{levels_where}
 use Rattle.pic_pair.specs.contracts.chip.Pic.{the_view}
 use Rattle.pic_pair.proofs.ChipLemmas.{first_is}
 use Rattle.pic_pair.proofs.chip.Pic.first_blocking.Goals as goal

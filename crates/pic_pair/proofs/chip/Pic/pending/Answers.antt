@@ -1,8 +1,9 @@
 -- The union of two sets, by levels.
 use Rattle.pic_pair.proofs.ChipLemmas.{either-of}
 use Rattle.std.proofs.Common.{arith}
-use Rattle.device_spec.proofs.Common.{levels_where-same, has-levels_where, nat_tests}
-use Rattle.device_spec.specs.Common.{pending}
+use Rattle.device_spec.proofs.Levels.{levels_where-same, has-levels_where}
+use Rattle.std.proofs.lemmas.Bool.Decides.{nat_tests}
+use Rattle.device_spec.specs.Pic.{pending}
 use Rattle.pic_pair.proofs.chip.Pic.pending.Goals as goal
 
 pub returns : goal.returns

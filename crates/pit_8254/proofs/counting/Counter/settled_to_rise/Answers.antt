@@ -1,5 +1,6 @@
 use Rattle.std.proofs.Common.{rules, ◌≡◌, None, true, false, arith}
-use Rattle.device_spec.proofs.Common.{is_periodic, nat_tests}
+use Rattle.device_spec.specs.Pit.{is_periodic}
+use Rattle.std.proofs.lemmas.Bool.Decides.{nat_tests}
 use Rattle.pit_8254.proofs.Periods.{period_rises}
 use Rattle.pit_8254.proofs.Rising.{never_later, rises_after, edge_rises, edge_passes, never, begins_period, all_quiet}
 use Rattle.pit_8254.proofs.counting.Counter.settled_to_rise.Goals as goal

@@ -1,5 +1,5 @@
 use Rattle.std.proofs.Common.{◌∙◌, ap, arith}
-use Rattle.board_prelude.proofs.Common.{Entry, get_or-map, length-map}
+use Rattle.board_prelude.proofs.{Entry, get_or-map, length-map}
 use Rattle.run_order.proofs.actors.EntriesActors.actor.Goals as goal
 
 pub returns : goal.returns

@@ -1,5 +1,5 @@
 use Rattle.std.proofs.Common.{reverse, ◌∙◌, ap, arith}
-use Rattle.run_order.specs.Common.{Order}
+use Rattle.run_order.specs.Room.{Order}
 use Rattle.run_order.proofs.BusActors.{actors_next, all_actors}
 use Rattle.run_order.proofs.order.RunOrder.actors.Goals as goal
 

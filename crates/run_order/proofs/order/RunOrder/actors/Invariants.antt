@@ -1,6 +1,6 @@
 use Rattle.std.proofs.Common.{List, take}
-use Rattle.board_prelude.proofs.Common.{Entry}
-use Rattle.run_order.specs.Common.{AreActorsOf, over}
+use Rattle.board_prelude.proofs.{Entry}
+use Rattle.run_order.specs.Over.{AreActorsOf, over}
 use Rattle.run_order.proofs.order.RunOrder.actors.Given as goal
 
 abbrev pub invariant-loop-entry : goal.invariant-loop-entry

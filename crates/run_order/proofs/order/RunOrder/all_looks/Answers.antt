@@ -1,7 +1,8 @@
 use Rattle.std.proofs.Common.{◌≡◌, List, [], map, length, refl, sym, ◌∙◌, arith, inl, inr}
-use Rattle.board_prelude.proofs.Common.{Entry, cases_lt, get_or_past, length-map}
+use Rattle.board_prelude.proofs.{Entry, cases_lt, get_or_past, length-map}
 use Rattle.run_order.specs.declared.done.Done.{Done}
-use Rattle.run_order.specs.Common.{over, IsSettled}
+use Rattle.run_order.specs.Over.{over}
+use Rattle.run_order.specs.Settled.{IsSettled}
 use Rattle.run_order.proofs.Counts.{one_of}
 use Rattle.run_order.proofs.Settled.{look_at, settled}
 use Rattle.run_order.proofs.order.RunOrder.all_looks.Goals as goal

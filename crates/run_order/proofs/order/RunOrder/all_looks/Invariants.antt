@@ -1,6 +1,9 @@
 use Rattle.std.proofs.Common.{◌≡◌, ◌+◌, ◌<◌, ℕ, List, [], map, slice_index_or}
 use Rattle.board_spec.specs.declared.event.Entry.{Entry}
-use Rattle.run_order.specs.Common.{over, in_all, with_all_looks, all_left, all_looks_in, IsNotDue}
+use Rattle.run_order.specs.Over.{over}
+use Rattle.run_order.specs.Room.{in_all, all_looks_in}
+use Rattle.run_order.specs.Placing.{with_all_looks, all_left}
+use Rattle.run_order.specs.Settled.{IsNotDue}
 use Rattle.run_order.proofs.order.RunOrder.all_looks.Given as goal
 
 abbrev pub invariant-loop-actor : goal.invariant-loop-actor

@@ -1,5 +1,5 @@
 use Rattle.std.proofs.Common.{◌<◌, ◌≤◌, ◌∙◌, ℕ, List, length, reverse, ap, arith}
-use Rattle.board_prelude.proofs.Common.{take_all}
+use Rattle.board_prelude.proofs.{take_all}
 use Rattle.run_order.specs.Over.{nowhere, over}
 use Rattle.run_order.proofs.BusActors.{actor_at, actors_length}
 use Rattle.run_order.proofs.Settled.{begin_step}

@@ -1,6 +1,7 @@
 use Rattle.std.proofs.Common.{◌≡◌, ◌+◌, ◌≤◌, List, length, take, reverse}
-use Rattle.board_prelude.proofs.Common.{Entry, Setup, IsLegal}
-use Rattle.run_order.specs.Common.{AreActorsOf, over, in_all}
+use Rattle.board_prelude.proofs.{Entry, Setup, IsLegal}
+use Rattle.run_order.specs.Over.{AreActorsOf, over}
+use Rattle.run_order.specs.Room.{in_all}
 use Rattle.run_order.proofs.order.RunOrder.begin.Given as goal
 
 abbrev pub invariant-loop-i : goal.invariant-loop-i

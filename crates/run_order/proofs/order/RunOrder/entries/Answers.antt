@@ -1,6 +1,7 @@
 use Rattle.std.proofs.Common.{ℕ, List, All, sym, ap, subst}
 use Rattle.run_order.specs.declared.entry.RunEntry.{RunEntry}
-use Rattle.run_order.specs.Common.{IsPlacedBelow, Order}
+use Rattle.run_order.specs.Over.{IsPlacedBelow}
+use Rattle.run_order.specs.Room.{Order}
 use Rattle.run_order.proofs.Histories.{all_turned}
 use Rattle.run_order.proofs.order.RunOrder.entries.Goals as goal
 

@@ -1,6 +1,7 @@
 use Rattle.std.proofs.Common.{sym, ◌∙◌, ap, arith, List}
-use Rattle.run_order.specs.Common.{over, with_looks}
-use Rattle.board_prelude.proofs.Common.{Entry}
+use Rattle.run_order.specs.Over.{over}
+use Rattle.run_order.specs.Placing.{with_looks}
+use Rattle.board_prelude.proofs.{Entry}
 use Rattle.run_order.proofs.order.RunOrder.looks.Goals as goal
 
 pub loop-next-preserved : goal.loop-next-preserved

@@ -1,6 +1,8 @@
 use Rattle.std.proofs.Common.{◌≡◌, ◌+◌, List, length}
 use Rattle.board_spec.specs.declared.event.Entry.{Entry}
-use Rattle.run_order.specs.Common.{over, with_looks, left_after, in_all, looks_in}
+use Rattle.run_order.specs.Over.{over}
+use Rattle.run_order.specs.Placing.{with_looks, left_after}
+use Rattle.run_order.specs.Room.{in_all, looks_in}
 use Rattle.run_order.proofs.order.RunOrder.looks.Given as goal
 
 abbrev pub invariant-loop-next : goal.invariant-loop-next

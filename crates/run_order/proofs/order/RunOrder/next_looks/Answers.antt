@@ -1,6 +1,6 @@
 use Rattle.std.proofs.Common.{List, [], sym, ◌∙◌, arith}
-use Rattle.board_prelude.proofs.Common.{Entry}
-use Rattle.run_order.specs.Common.{over}
+use Rattle.board_prelude.proofs.{Entry}
+use Rattle.run_order.specs.Over.{over}
 use Rattle.run_order.proofs.Counts.{one_of}
 use Rattle.run_order.proofs.Settled.{look_at, settled}
 use Rattle.run_order.proofs.order.RunOrder.next_looks.Goals as goal

@@ -1,6 +1,7 @@
 use Rattle.std.proofs.Common.{ℕ, ◌+◌, length, ◌∙◌, ap, arith, slice_index}
 use Rattle.board_spec.specs.Legal.{entries_by}
-use Rattle.run_order.specs.Common.{over, Order}
+use Rattle.run_order.specs.Over.{over}
+use Rattle.run_order.specs.Room.{Order}
 use Rattle.run_order.proofs.Counts.{number_fits}
 use Rattle.run_order.proofs.order.RunOrder.next_number.Goals as goal
 

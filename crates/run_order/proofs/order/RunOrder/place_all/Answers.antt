@@ -1,7 +1,8 @@
 use Rattle.std.proofs.Common.{◌≡◌, ◌<◌, ◌≤◌, ◌-◌, ℕ, List, length, get_or, map, drop, refl, sym, ◌∙◌, ap, arith, ◌+◌}
-use Rattle.board_prelude.proofs.Common.{get_or-drop, length-drop, length-set, Entry}
+use Rattle.board_prelude.proofs.{get_or-drop, length-drop, length-set, Entry}
 use Rattle.run_order.specs.declared.done.Done.{Done}
-use Rattle.run_order.specs.Common.{nowhere, over, Order}
+use Rattle.run_order.specs.Over.{nowhere, over}
+use Rattle.run_order.specs.Room.{Order}
 use Rattle.run_order.proofs.BusActors.{actor_below, later_actor, later_callers, later_length}
 use Rattle.run_order.proofs.Counts.{no_more_looks}
 use Rattle.run_order.proofs.Settled.{left_is_settled, looked_again, next_placed, placed_last, but_one}

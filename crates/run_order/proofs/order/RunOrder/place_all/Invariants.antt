@@ -1,6 +1,9 @@
 use Rattle.std.proofs.Common.{◌≡◌, ◌≤◌, ◌+◌, List, map, drop}
-use Rattle.board_prelude.proofs.Common.{Entry}
-use Rattle.run_order.specs.Common.{AreActorsOf, over, in_all, placed, all_looks_in, IsSettled}
+use Rattle.board_prelude.proofs.{Entry}
+use Rattle.run_order.specs.Over.{AreActorsOf, over}
+use Rattle.run_order.specs.Room.{in_all, all_looks_in}
+use Rattle.run_order.specs.Placing.{placed}
+use Rattle.run_order.specs.Settled.{IsSettled}
 use Rattle.run_order.proofs.order.RunOrder.place_all.Given as goal
 
 abbrev pub invariant-loop-i : goal.invariant-loop-i

@@ -1,5 +1,5 @@
 use Rattle.std.proofs.Common.{ap}
-use Rattle.run_order.specs.Common.{Order}
+use Rattle.run_order.specs.Room.{Order}
 use Rattle.run_order.proofs.order.RunOrder.push_bus.Goals as goal
 
 pub returns-clause-pushed : goal.returns-clause-pushed

@@ -1,5 +1,5 @@
 use Rattle.std.proofs.Common.{◌≡◌, sym, ◌∙◌, rules, tests}
-use Rattle.board_prelude.proofs.Common.{YieldsList-from_slice, position_from_yields_List}
+use Rattle.board_prelude.proofs.{YieldsList-from_slice, position_from_yields_List}
 use Rattle.script_spec.specs.Fields.{fields_of}
 use Rattle.scripts.proofs.FieldLemmas.{is_space, cut_at, uncut}
 use Rattle.scripts.proofs.fields.Fields.next.Goals as goal

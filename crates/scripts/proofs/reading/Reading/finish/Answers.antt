@@ -1,5 +1,5 @@
 use Rattle.std.proofs.Common.{arith, refl}
-use Rattle.board_prelude.proofs.Common.{nat_tests}
+use Rattle.board_prelude.proofs.{nat_tests}
 use Rattle.scripts.proofs.Reasons.{setup_kept, lacks_is}
 use Rattle.scripts.proofs.reading.Reading.finish.Goals as goal
 

@@ -1,7 +1,7 @@
 use Rattle.std.proofs.Common.{◌≡◌, ap, arith}
 use Rattle.script_spec.proofs.ReadingExists.{put}
 use Rattle.scripts.proofs.TakenSetup.{card_taken}
-use Rattle.board_prelude.proofs.Common.{nat_tests}
+use Rattle.board_prelude.proofs.{nat_tests}
 use Rattle.scripts.proofs.reading.Reading.take_card.Goals as goal
 
 pub returns : goal.returns

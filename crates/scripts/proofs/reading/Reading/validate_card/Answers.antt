@@ -1,6 +1,6 @@
-use Rattle.board_prelude.proofs.Common.{common_steps, nat_tests}
+use Rattle.board_prelude.proofs.{common_steps, nat_tests}
 use Rattle.std.proofs.Common.{refl, sym, arith}
-use Rattle.script_spec.specs.Common.{FitCard}
+use Rattle.script_spec.specs.Grammar.{FitCard}
 use Rattle.scripts.specs.Items.{card_said}
 use Rattle.scripts.proofs.Reasons.{out_of_range, past_limit, no_reason, none_in_case, some_in_case, limits_with}
 use Rattle.scripts.proofs.Reasons.{past_memory, setup_within}

@@ -1,5 +1,5 @@
 use Rattle.std.proofs.Common.{◌∙◌, sym, arith}
-use Rattle.board_prelude.proofs.Common.{common_steps, nat_tests}
+use Rattle.board_prelude.proofs.{common_steps, nat_tests}
 use Rattle.scripts.proofs.Reasons.{misplaced, out_of_range, asked_place, asked_repeated, asked_begun, none_in_case}
 use Rattle.scripts.proofs.Reasons.{some_in_case, few_pulses, asked_reason}
 use Rattle.scripts.proofs.reading.Reading.validate_statement.Goals as goal

@@ -1,5 +1,5 @@
 use Rattle.std.proofs.Common.{refl, arith}
-use Rattle.board_prelude.proofs.Common.{nat_tests}
+use Rattle.board_prelude.proofs.{nat_tests}
 use Rattle.south_bridge.proofs.IdeLemmas.{ide_stored}
 use Rattle.south_bridge.proofs.ide.Ide.write.Goals as goal
 

@@ -1,5 +1,5 @@
 use Rattle.std.proofs.Common.{arith}
-use Rattle.board_prelude.proofs.Common.{nat_tests}
+use Rattle.board_prelude.proofs.{nat_tests}
 use Rattle.south_bridge.proofs.PiixLemmas.{isa_stored}
 use Rattle.south_bridge.proofs.piix.Piix.write_isa_bridge.Goals as goal
 

@@ -1,6 +1,6 @@
 -- No line is held at first; then each pin adds its own.
 use Rattle.std.proofs.Common.{◌≡◌, Bool, List, false, get_or, ◌||◌, ap, ◌∙◌, arith, add-one}
-use Rattle.board_prelude.proofs.Common.{get_or-replicate, drives, line_of_route, is_line_driven}
+use Rattle.board_prelude.proofs.{get_or-replicate, drives, line_of_route, is_line_driven}
 use Rattle.south_bridge.proofs.RouteLemmas.{drives_among, drives_among-all}
 use Rattle.south_bridge.proofs.pirq.Pirq.route.Goals as goal
 

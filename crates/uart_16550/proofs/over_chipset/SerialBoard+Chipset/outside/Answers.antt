@@ -1,6 +1,7 @@
 use Rattle.std.proofs.Common.{rules, ◌≡◌, ℕ, Bool, List, refl, sym}
-use Rattle.board_prelude.proofs.Common.{Event, Line, Reply, Entry, Setup, IsAnswer}
-use Rattle.board_chipset.specs.Common.{IsAnswerModulo, IsForDevices}
+use Rattle.board_prelude.proofs.{Event, Line, Reply, Entry, Setup, IsAnswer}
+use Rattle.board_chipset.specs.Versions.{IsAnswerModulo}
+use Rattle.board_chipset.specs.Steps.{IsForDevices}
 use Rattle.board_chipset.proofs.Exact.{modulo}
 use Rattle.uart_16550.proofs.SerialSteps.{IsPlain, is_plain, plain_step}
 use Rattle.uart_16550.proofs.over_chipset.SerialBoard+Chipset.outside.Goals as goal

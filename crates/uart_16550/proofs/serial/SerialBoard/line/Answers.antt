@@ -1,6 +1,6 @@
 use Rattle.std.proofs.Common.{◌≡◌, false, ◌==◌, refl}
-use Rattle.board_prelude.proofs.Common.{ne_eqb}
-use Rattle.uart_16550.specs.Common.{com1_irq}
+use Rattle.board_prelude.proofs.{ne_eqb}
+use Rattle.uart_16550.specs.Com1.{com1_irq}
 use Rattle.uart_16550.proofs.SerialSteps.{named_step}
 use Rattle.uart_16550.proofs.serial.SerialBoard.line.Goals as goal
 

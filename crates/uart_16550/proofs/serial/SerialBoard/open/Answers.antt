@@ -1,5 +1,5 @@
 use Rattle.std.proofs.Common.{refl}
-use Rattle.board_prelude.proofs.Common.{irq_of}
+use Rattle.board_prelude.proofs.{irq_of}
 use Rattle.uart_16550.proofs.serial.SerialBoard.open.Goals as goal
 
 pub returns-clause-left : goal.returns-clause-left

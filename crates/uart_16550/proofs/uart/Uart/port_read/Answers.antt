@@ -1,4 +1,5 @@
-use Rattle.uart_16550.specs.Common.{is_dlab, register_read}
+use Rattle.uart_16550.specs.Uart.{is_dlab}
+use Rattle.uart_16550.specs.Reads.{register_read}
 use Rattle.uart_16550.proofs.CallProofs.{read_in_order}
 use Rattle.uart_16550.proofs.uart.Uart.port_read.Goals as goal
 

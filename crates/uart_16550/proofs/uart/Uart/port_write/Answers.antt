@@ -1,4 +1,4 @@
-use Rattle.uart_16550.specs.Common.{is_dlab}
+use Rattle.uart_16550.specs.Uart.{is_dlab}
 use Rattle.uart_16550.proofs.CallProofs.{write_keeps}
 use Rattle.uart_16550.proofs.uart.Uart.port_write.Goals as goal
 
