@@ -8,8 +8,10 @@ from shared.board_texts import WIDTHS, Entry, register_name
 from .case_files import Case
 from .reference import answers_of
 
-REGISTERS = {  # the tables of RegisterTable.antt: a register by the first and the last of its bytes
-    "00.0": (
+# The registers by the first and the last of their bytes; what answers, and what denies, as in a log.
+# made by tools/make-names: reached
+REGISTERS: dict[str, list[tuple[int, int]]] = {
+    "00.0": [
         (0x00, 0x01),
         (0x02, 0x03),
         (0x04, 0x05),
@@ -17,9 +19,25 @@ REGISTERS = {  # the tables of RegisterTable.antt: a register by the first and t
         (0x08, 0x08),
         (0x09, 0x0B),
         (0x0E, 0x0E),
-        *((at, at) for at in (*range(0x59, 0x69), 0x72)),
-    ),
-    "01.0": (
+        (0x59, 0x59),
+        (0x5A, 0x5A),
+        (0x5B, 0x5B),
+        (0x5C, 0x5C),
+        (0x5D, 0x5D),
+        (0x5E, 0x5E),
+        (0x5F, 0x5F),
+        (0x60, 0x60),
+        (0x61, 0x61),
+        (0x62, 0x62),
+        (0x63, 0x63),
+        (0x64, 0x64),
+        (0x65, 0x65),
+        (0x66, 0x66),
+        (0x67, 0x67),
+        (0x68, 0x68),
+        (0x72, 0x72),
+    ],
+    "01.0": [
         (0x00, 0x01),
         (0x02, 0x03),
         (0x04, 0x05),
@@ -28,9 +46,12 @@ REGISTERS = {  # the tables of RegisterTable.antt: a register by the first and t
         (0x09, 0x0B),
         (0x0E, 0x0E),
         (0x4E, 0x4F),
-        *((at, at) for at in range(0x60, 0x64)),
-    ),
-    "01.1": (
+        (0x60, 0x60),
+        (0x61, 0x61),
+        (0x62, 0x62),
+        (0x63, 0x63),
+    ],
+    "01.1": [
         (0x00, 0x01),
         (0x02, 0x03),
         (0x04, 0x05),
@@ -39,36 +60,36 @@ REGISTERS = {  # the tables of RegisterTable.antt: a register by the first and t
         (0x09, 0x0B),
         (0x0E, 0x0E),
         (0x40, 0x41),
-    ),
-    "DD.0": ((0x04, 0x05), (0x10, 0x27), (0x30, 0x33), (0x3C, 0x3D)),
+    ],
+    "DD.0": [
+        (0x04, 0x05),
+        (0x10, 0x27),
+        (0x30, 0x33),
+        (0x3C, 0x3C),
+        (0x3D, 0x3D),
+    ],
 }
-TARGETS = {  # what answers, as in a log
+TARGETS = {
     "confadd": "the configuration address",
     "reset": "reset control",
-    "elcr": "edge and level control",
     "pic0": "the master 8259A",
     "pic1": "the slave 8259A",
+    "pit": "the 8254",
+    "sys": "port 61h",
+    "kbd": "the keyboard controller's socket",
+    "clock": "the clock",
+    "elcr": "edge and level control",
+    "ata": "the disk",
     "vec0": "a vector of the master",
     "vec1": "a vector of the slave",
     "spur0": "level 7 of the master",
     "spur1": "level 7 of the slave",
-    "pit": "the 8254",
-    "sys": "port 61h",
-    "clock": "the clock",
-    "kbd": "the keyboard controller's " "socket",
-    "ata": "the disk",
-    "com1": "COM1",
     "dram": "DRAM",
     "shadow": "a shadow window",
     "smram": "SMRAM",
     "rom": "the ROM",
     "card": "a card",
     "abort": "nobody",
-    "time": "a second",
-    "pulse": "pulses of the 8254",
-    "wire": "INTA# of a card",
-    "irq": "a line",
-    "bad": "a bad sector",
 }
 DENIALS = {
     "00.0.5": "a PAM register",
@@ -76,12 +97,21 @@ DENIALS = {
     "00.0.68": "FDHC",
     "00.0.72": "SMRAM",
     "01.0.4E": "XBCS",
-    "01.1.04": "the " "command of 01.1",
+    "01.1.04": "the command of 01.1",
     "01.1.40": "IDETIM",
     "DD.0.04": "a card's command",
     "DD.0.30": "an expansion ROM's register",
     "confadd": "the configuration address",
     "none": "no register",
+}
+# end of what is made
+STATEMENTS = {  # what no reply names: COM1, and what the world outside does
+    "com1": "COM1",
+    "time": "a second",
+    "pulse": "pulses of the 8254",
+    "wire": "INTA# of a card",
+    "irq": "a line",
+    "bad": "a bad sector",
 }
 EXAMPLES = 3
 
@@ -153,7 +183,7 @@ def rows(cases: Sequence[Case], images: pathlib.Path) -> list[Row]:
         for function, registers in REGISTERS.items()
         for first, _ in registers
     ]
-    named += [("target", name, what) for name, what in TARGETS.items()]
+    named += [("target", name, what) for name, what in {**TARGETS, **STATEMENTS}.items()]
     named += [("denial", name, what) for name, what in DENIALS.items()]
     return [Row(kind, name, what, tuple(reached.get((kind, name), ()))) for kind, name, what in named]
 

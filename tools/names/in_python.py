@@ -1,5 +1,6 @@
 """What is made of the tables for the Python binding and for the tools."""
 import json
+from os.path import commonprefix
 from typing import Any, Iterator
 
 from names.tables import ANY, Register, Tables
@@ -95,5 +96,58 @@ def register_names(tables: Tables) -> str:
 def byte_ports(tables: Tables) -> str:
     """The ports of tools/traces/board_parts.py."""
     lines = [f'    **dict.fromkeys(({", ".join(f"0x{port:X}" for port in it.ports)},), "{it.word}"),'
-             for it in tables.devices if it.ports]
+             for it in tables.devices if it.ports and it.traced]
     return "\n".join(["BYTE_PORTS = {", *lines, "}"]) + "\n"
+
+
+def hearers(tables: Tables) -> str:
+    """Each device with its ports, of tools/refusals/denials.py."""
+    lines = []
+    for it in tables.devices:
+        heard = [(it.heard_as, it.ports, [1])] if it.ports else []
+        heard += [(wide.called or it.heard_as, [wide.port], wide.sizes) for wide in it.wide]
+        lines += [f'    ("{name}", ({", ".join(f"0x{port:X}" for port in ports)},), ({", ".join(map(str, sizes))},)),'
+                  for name, ports, sizes in heard]
+    return "\n".join(["HEARERS: list[tuple[str, tuple[int, ...], tuple[int, ...]]] = [", *lines, "]"]) + "\n"
+
+
+CARD = "DD.0"
+
+
+def places_of(tables: Tables, function: str) -> list[tuple[int, int]]:
+    """The first and the last byte of each register of a function; the bases of a card are one."""
+    group = "cards" if function == CARD else "chips"
+    found = []
+    for it in tables.registers:
+        if it.absent or it.function not in (function, ANY) or it.function == ANY and it.of not in ("", group):
+            continue
+        firsts = [first for _, first in it.each()]
+        if function == CARD:
+            found.append((Offset(firsts[0]), Offset(firsts[-1] + it.bytes - 1)))
+        else:
+            found += [(Offset(first), Offset(first + it.bytes - 1)) for first in firsts]
+    return sorted(found)
+
+
+def denials(tables: Tables) -> dict[str, str]:
+    """What a denial begins with, and what it is called."""
+    found = {}
+    for function in (*FUNCTIONS, CARD):
+        for it in tables.registers:
+            if function in it.denies:
+                found[commonprefix([f"{function}.{first:02X}" for _, first in it.each()])] = it.denies[function]
+    found = dict(sorted(found.items()))
+    confadd = next(it for it in tables.devices if it.name == "CONFADD")
+    return {**found, confadd.word: confadd.called, "none": "no register"}
+
+
+def reached(tables: Tables) -> str:
+    """What can answer and deny, of tools/conformance/reached.py."""
+    targets = {it.word: it.called for it in tables.devices if it.in_log and it.name != "WIRES"}
+    targets |= {it.log.partition(":")[0]: it.called for it in tables.enum("board_target").cases if it.called}
+    found = {
+        "REGISTERS: dict[str, list[tuple[int, int]]]": {it: places_of(tables, it) for it in (*FUNCTIONS, CARD)},
+        "TARGETS": targets,
+        "DENIALS": denials(tables),
+    }
+    return "\n".join(f"{name} = {literal(value)}" for name, value in found.items()) + "\n"

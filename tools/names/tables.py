@@ -1,4 +1,5 @@
-"""The tables of names, as they are read: the numbers of board.h, and the registers of configuration space."""
+"""The tables of names, as they are read: the numbers of board.h, the registers of configuration space, and where they
+stand in the datasheets."""
 import pathlib
 import sys
 from dataclasses import dataclass, field
@@ -9,6 +10,7 @@ if sys.version_info < (3, 11):
 import tomllib
 
 FOLDER = pathlib.Path(__file__).resolve().parent
+FILES = ("numbers", "registers", "datasheets")
 ANY = "any"
 Says = Union[str, list[str]]  # of a field: a formula, or a text for each value
 
@@ -29,8 +31,8 @@ class Status:
 
 @dataclass(frozen=True)
 class Case:
-    """A case of an enum. Of a target also its text in a log as Python formats it and as a page writes it, and what it
-    means there."""
+    """A case of an enum. Of a target also its text in a log as Python formats it and as a page writes it, what it means
+    there, and what it is called in a sentence."""
 
     name: str
     number: int
@@ -39,6 +41,7 @@ class Case:
     text: str = ""
     log: str = ""
     means: str = ""
+    called: str = ""
 
 
 @dataclass(frozen=True)
@@ -53,8 +56,19 @@ class Enum:
 
 
 @dataclass(frozen=True)
+class Wide:
+    """A port whose accesses have other sizes than one byte."""
+
+    port: int
+    sizes: list[int]
+    called: str = ""
+
+
+@dataclass(frozen=True)
 class Device:
-    """A device, or what gave a vector: its word in a log, its variant in Rust, and its ports of one byte each."""
+    """A device, or what gave a vector: its word in a log, its variant in Rust, its ports of one byte each and those of
+    other sizes, whether traces of other monitors name it, and what it is called in a sentence, here and as one that hears a
+    port."""
 
     name: str
     number: int
@@ -62,7 +76,17 @@ class Device:
     rust: str
     says: str
     ports: list[int] = field(default_factory=list)
+    wide: list[Wide] = field(default_factory=list)
+    traced: bool = True
+    called: str = ""
+    heard_as: str = ""
     in_log: bool = True
+
+    @staticmethod
+    def read(said: dict[str, Any]) -> "Device":
+        wide = [Wide(**it) for it in said.pop("wide", [])]
+        called = said.pop("called", said["says"])
+        return Device(wide=wide, called=called, heard_as=said.pop("heard_as", called), **said)
 
 
 @dataclass(frozen=True)
@@ -86,6 +110,8 @@ class Register:
     decides: bool = False
     absent: bool = False
     identity: bool = False
+    of: str = ""
+    denies: dict[str, str] = field(default_factory=dict)
     opens: str = ""
     denying: str = ""
     fields: list[dict[str, Any]] = field(default_factory=list)
@@ -98,6 +124,17 @@ class Register:
 
 
 @dataclass(frozen=True)
+class Source:
+    """Where a part of the board stands in a datasheet: registers or a device of the other tables, or a part in words."""
+
+    defined: str
+    document: str
+    what: str = ""
+    device: str = ""
+    registers: list[str] = field(default_factory=list)
+
+
+@dataclass(frozen=True)
 class Tables:
     statuses: list[Status]
     enums: list[Enum]
@@ -105,14 +142,15 @@ class Tables:
     bounds: list[Bound]
     registers: list[Register]
     effects: dict[str, str]
+    sources: list[Source]
 
     @staticmethod
     def read() -> "Tables":
-        numbers, registers = (tomllib.loads((FOLDER / f"{name}.toml").read_text()) for name in ("numbers", "registers"))
+        numbers, registers, datasheets = (tomllib.loads((FOLDER / f"{name}.toml").read_text()) for name in FILES)
         enums = [Enum(cases=[Case(**case) for case in it.pop("cases")], **it) for it in numbers["enum"]]
-        return Tables([Status(**it) for it in numbers["status"]], enums, [Device(**it) for it in numbers["device"]],
+        return Tables([Status(**it) for it in numbers["status"]], enums, [Device.read(it) for it in numbers["device"]],
                       [Bound(**it) for it in numbers["bound"]], [Register(**it) for it in registers["register"]],
-                      registers["effects"])
+                      registers["effects"], [Source(**it) for it in datasheets["source"]])
 
     def enum(self, c: str) -> Enum:
         return next(it for it in self.enums if it.c == c)

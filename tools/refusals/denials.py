@@ -3,23 +3,25 @@ there, or nobody."""
 from typing import Optional
 
 from shared.board_texts import OTHER_DENIALS, WIDTHS, Entry
-from traces.board_parts import CONFADD, CONFDATA, DISK_DATA, OTHER_PORTS, named
+from traces.board_parts import CONFADD, CONFDATA, OTHER_PORTS, named
 
 COUNT = {1: "one byte", 2: "two", 4: "four"}
 # Each device with its ports and how many bytes it hears there.
-HEARERS = [
-    ("the master 8259A", (0x20, 0x21), (1,)),
-    ("the slave 8259A", (0xA0, 0xA1), (1,)),
-    ("the 8254", (0x40, 0x41, 0x42, 0x43), (1,)),
-    ("port B of the system", (0x61,), (1,)),
-    ("the keyboard controller's socket", (0x60, 0x64), (1,)),
-    ("the clock", (0x70, 0x71), (1,)),
-    ("edge and level control", (0x4D0, 0x4D1), (1,)),
-    ("the disk", tuple(range(0x1F1, 0x1F8)) + (0x3F6,), (1,)),
-    ("the disk's data", (DISK_DATA,), (2, 4)),
+# made by tools/make-names: hearers
+HEARERS: list[tuple[str, tuple[int, ...], tuple[int, ...]]] = [
+    ("the configuration address", (0xCF8,), (4,)),
     ("reset control", (0xCF9,), (1,)),
-    ("the configuration address", (CONFADD,), (4,)),
+    ("the master 8259A", (0x20, 0x21,), (1,)),
+    ("the slave 8259A", (0xA0, 0xA1,), (1,)),
+    ("the 8254", (0x40, 0x41, 0x42, 0x43,), (1,)),
+    ("port B of the system", (0x61,), (1,)),
+    ("the keyboard controller's socket", (0x60, 0x64,), (1,)),
+    ("the clock", (0x70, 0x71,), (1,)),
+    ("edge and level control", (0x4D0, 0x4D1,), (1,)),
+    ("the disk", (0x1F1, 0x1F2, 0x1F3, 0x1F4, 0x1F5, 0x1F6, 0x1F7, 0x3F6,), (1,)),
+    ("the disk's data", (0x1F0,), (2, 4,)),
 ]
+# end of what is made
 DISK_PORTS = (*range(0x1F0, 0x1F8), 0x3F6)
 
 
