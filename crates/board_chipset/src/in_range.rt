@@ -123,7 +123,7 @@ fn fits(writes: bool, width: Width, value: u32) -> bool
 }
 
 /// Whether a wide access is in range; if not, the first reason in the order of its size, alignment, end and value.
-fn test_wide(access: &WideAccess) -> Result<(), OutOfRange>
+pub fn test_wide(access: &WideAccess) -> Result<(), OutOfRange>
     ensures exact { MatchResult result (λ _. IsWideAccess access.now) (λ fault. IsWideFault access.now fault) }
 {
     if !is_wide_size(access.bytes) {

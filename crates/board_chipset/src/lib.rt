@@ -40,7 +40,7 @@ pub use check::{SetupFault, check_sizes, is_memory_size};
 pub use chipset::Chipset;
 pub use dram_store::PastTheEnd;
 pub use given::OtherLength;
-pub use in_range::{OutOfRange, test_memory, test_port};
+pub use in_range::{OutOfRange, test_memory, test_port, test_wide};
 pub use load::NoClockByte;
 pub use reset_control::ResetKind;
 pub use saved::{law_loaded_is_saved, law_one_state};

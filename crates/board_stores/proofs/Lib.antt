@@ -3,3 +3,4 @@ pub mod CutLemmas
 pub mod PutLemmas
 pub mod ValueLemmas
 pub mod JoinLemmas
+pub mod RowLemmas

@@ -14,7 +14,7 @@ ghost use Rattle.machine_records.specs.Numbers.{look_event, memory_event, port_e
 ghost use Rattle.machine_records.specs.Statuses.{IsEventRefusal, IsOutcome};
 ghost use Rattle.machine_records.specs.Steps.{IsAskedStep, IsStepOutcome};
 
-use crate::event::{EventRecord, asked_of, cycle_of, look_of, memory_of, port_of};
+use crate::event::{EventRecord, asked_of, cycle_of, look_of, port_of, wide_of};
 use crate::fitted_reply::fit_reply;
 use crate::numbers::{LOOK_EVENT, MEMORY_EVENT, PORT_EVENT};
 use crate::reply::{
@@ -23,7 +23,7 @@ use crate::reply::{
 };
 use crate::status::{NO_EVENT, OK, SERIAL_FULL, fault_status};
 use board_base::{Access, Kind, PortAccess, WideAccess};
-use board_chipset::{Chipset, ResetKind, test_memory, test_port};
+use board_chipset::{Chipset, ResetKind, test_memory, test_port, test_wide};
 use board_spec::Event;
 use machine::Machine;
 use uart_16550::{Happening, SerialBoard, is_for_uart};
@@ -109,9 +109,28 @@ fn other_memory_asked(
     requires memory { event.now.what ≡ memory_event }
     ensures outcome { IsStepOutcome result (asked_said event.now) serial.old serial.new reply.old reply.new }
 {
-    match memory_of(event) {
-        Some(event) => other(serial, &event, reply),
-        None => NO_EVENT,
+    match wide_of(event) {
+        Some(access) => wide_asked(serial, &access, reply),
+        None => any_asked(serial, event, reply),
+    }
+}
+
+/// The same of a wide access. Refused with why where it is out of range.
+#[inline(always)]
+fn wide_asked(
+    serial: &mut SerialBoard<Chipset>,
+    access: &WideAccess,
+    reply: &mut ReplyRecord,
+) -> u32
+    ensures outcome { IsStepOutcome result (Some (Happens (Wide access.now))) serial.old serial.new
+        reply.old reply.new }
+{
+    match test_wide(access) {
+        Ok(()) => {
+            wide(serial, access, reply);
+            OK
+        }
+        Err(fault) => fault_status(fault),
     }
 }
 

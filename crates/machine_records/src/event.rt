@@ -142,16 +142,45 @@ fn width_cycle(record: &EventRecord, kind: Kind, width: Width) -> Option<Access>
     })
 }
 
-/// The access to memory that a record of `MEMORY_EVENT` says. None exactly where it says none.
+/// The wide access that a record of `MEMORY_EVENT` says. None where it may say none.
 #[tactic(auto, unfolding(crate::specs::Events::asked_said, crate::specs::Events::event_said, crate::specs::Events::asked_by))]
-pub(crate) fn memory_of(record: &EventRecord) -> Option<Event>
+#[inline(always)]
+pub(crate) fn wide_of(record: &EventRecord) -> Option<WideAccess>
     requires memory { record.now.what ≡ memory_event }
-    ensures said { asked_said record.now ≡ option_map (λ event. Happens event) result }
+    ensures said { IfSome result (λ access. asked_said record.now ≡ Some (Happens (Wide access))) }
 {
     if !record.is_plain() {
         return None;
     }
-    memory_event(record)
+    match kind_of(record.kind) {
+        Some(kind) => kind_wide(record, kind),
+        None => None,
+    }
+}
+
+#[tactic(auto, unfolding(crate::specs::Events::access_said))]
+#[inline(always)]
+fn kind_wide(record: &EventRecord, kind: Kind) -> Option<WideAccess>
+    ensures said { IfSome result (λ access. access_said record.now kind ≡ Some (Wide access)) }
+{
+    if record.bytes == 8 {
+        return Some(wide_access(record, kind));
+    }
+    match width_of(record.bytes) {
+        Some(width) => width_wide(record, kind, width),
+        None => None,
+    }
+}
+
+#[tactic(auto, unfolding(crate::specs::Events::cycle_said))]
+#[inline(always)]
+fn width_wide(record: &EventRecord, kind: Kind, width: Width) -> Option<WideAccess>
+    ensures said { IfSome result (λ access. cycle_said record.now kind width ≡ Some (Wide access)) }
+{
+    if width.is_aligned(record.addr) {
+        return None;
+    }
+    Some(wide_access(record, kind))
 }
 
 /// The access at a port that a record of `PORT_EVENT` says. None exactly where it says none.

@@ -5,8 +5,8 @@ use Rattle.board_stores.proofs.MemoryLemmas.{parts_answered}
 use Rattle.board_chipset.proofs.StateSteps.{writes_none, state_put, state_stays}
 use Rattle.board_chipset.proofs.HeldTargets.{stands}
 use Rattle.board_chipset.proofs.MemorySteps.{writes_when, all_ready, all_write, parts_none}
-use Rattle.board_chipset.proofs.wide.access.Goals.{After-is_write}
-use Rattle.board_chipset.proofs.wide.access.Goals as goal
+use Rattle.board_chipset.proofs.wide.in_cycles.Goals.{After-is_write}
+use Rattle.board_chipset.proofs.wide.in_cycles.Goals as goal
 
 -- the cycles can be done
 ready : (c : After-is_write) →
