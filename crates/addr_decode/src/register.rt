@@ -10,7 +10,7 @@ ghost use Rattle.addr_decode.specs.MapRegister.{in_device, map_register, names_f
 
 use crate::found::{ConfigRegister, Function};
 use crate::regs::MapRegs;
-use crate::singles::{number_in_bridge, number_in_isa_bridge};
+use crate::singles::number_at;
 use arrayvec::ArrayVec;
 use board_base::{Reg, Width};
 use board_spec::MapChange;
@@ -183,7 +183,7 @@ fn in_bridge(off: u8) -> Option<MapRegister>
     match off {
         PAM0..=PAM6 => Some(MapRegister::Pam(off - PAM0)),
         DRB0..=DRB7 => Some(MapRegister::RowBoundary(off - DRB0)),
-        _ => named_single(number_in_bridge(off)),
+        _ => named_single(number_at(HOST_BRIDGE, off)),
     }
 }
 
@@ -191,7 +191,7 @@ fn in_bridge(off: u8) -> Option<MapRegister>
 fn in_isa_bridge(off: u8) -> Option<MapRegister>
     ensures named { result ≡ in_isa_bridge off }
 {
-    named_single(number_in_isa_bridge(off))
+    named_single(number_at(SOUTH_BRIDGE, off))
 }
 
 /// The name of a register of one byte that has a number.

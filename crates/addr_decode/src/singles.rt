@@ -1,14 +1,17 @@
 //! The registers of one byte each that the address map depends on: FDHC and SMRAM of the host bridge, and XBCS of the
 //! ISA bridge. Each stands at its number in a table, and all that a register says of an address is told here.
-ghost use Rattle.std.specs.Prelude.{◌≡◌, ◌++◌, ◌<◌};
+ghost use Rattle.std.specs.Prelude.{◌≡◌, ◌++◌, ◌<◌, ◌==◌, ◌&&◌, map, position};
 ghost use Rattle.board_prelude.specs.{One, Store, Setup, Bytes, changed_byte, reset_byte, is_in, hole_of as hole_by};
-ghost use Rattle.board_prelude.specs.{bridge, isa, xbcs as select_register, is_in_hole, is_smram_open};
-ghost use Rattle.board_prelude.specs.{is_bios_selected};
-ghost use Rattle.addr_decode.specs.Singles.{AreSinglesOf, hole_denial, single, single_count, single_number};
+ghost use Rattle.board_prelude.specs.{xbcs as select_register, is_in_hole, is_smram_open, is_bios_selected};
+ghost use Rattle.addr_decode.specs.Singles.{AreSinglesOf, decided, ends_of_range, hole_denial, single};
+ghost use Rattle.addr_decode.specs.Singles.{single_count, single_number};
 
 use crate::denied_by::host_bridge;
 use board_base::{Denial, Kind};
-use board_spec::offset::{FDHC, SMRAM, XBCS};
+use board_spec::offset::{FDHC, HOST_BRIDGE, SMRAM, SOUTH_BRIDGE, XBCS};
+use board_spec::range::{
+    AddressRange, HOLE_AT_15_MIB, HOLE_AT_512_KIB, LOWER_BIOS, SELECTABLE_BIOS, SMRAM_RANGE,
+};
 use host_bridge::{FDHC_RESET, SMRAM_RESET, fdhc_after, hole_of, smram_after, smram_reaches};
 use south_bridge::{XBCS_RESET, rom_selected, xbcs_after};
 
@@ -25,33 +28,70 @@ pub const SINGLE_COUNT: usize = 3;
 /// What they hold, by their numbers.
 pub type Singles = [u8; SINGLE_COUNT];
 
+/// A register: where it stands, in function 0 of a bridge, what it holds after a reset, and the ranges of addresses
+/// whose areas it decides.
+#[derive(Clone, Copy)]
+struct Row {
+    dev: u8,
+    off: u8,
+    reset: u8,
+    decides: &'static [AddressRange],
+}
+
+/// The registers by their numbers.
+const ROWS: [Row; SINGLE_COUNT] = [
+    Row {
+        dev: HOST_BRIDGE,
+        off: FDHC,
+        reset: FDHC_RESET,
+        decides: &[HOLE_AT_512_KIB, HOLE_AT_15_MIB],
+    },
+    Row {
+        dev: HOST_BRIDGE,
+        off: SMRAM,
+        reset: SMRAM_RESET,
+        decides: &[SMRAM_RANGE],
+    },
+    Row {
+        dev: SOUTH_BRIDGE,
+        off: XBCS,
+        reset: XBCS_RESET,
+        decides: &[LOWER_BIOS, SELECTABLE_BIOS],
+    },
+];
+
 /// What they hold after a reset.
 #[tactic(auto, using(crate::proofs::SingleLemmas::singles_are), unfolding(board_spec::specs::RegisterTable::reset_byte, board_spec::specs::RegisterTable::host_bridge, board_spec::specs::RegisterTable::isa_bridge))]
 pub(crate) fn reset_singles() -> Singles
     ensures reset { (setup : Setup) → AreSinglesOf (reset_byte setup) result }
 {
-    [FDHC_RESET, SMRAM_RESET, XBCS_RESET]
+    ROWS.map(|row| row.reset)
 }
 
-/// The number of a register of the host bridge. None where it is none of these.
-pub(crate) fn number_in_bridge(off: u8) -> Option<u8>
-    ensures number { result ≡ single_number (bridge off) }
+/// The number of a register of function 0 of a bridge. None where it is none of these.
+#[tactic(auto, using(std::proofs::lemmas::Bool::Decides::nat_tests))]
+pub(crate) fn number_at(dev: u8, off: u8) -> Option<u8>
+    ensures number { result ≡ single_number (record { dev = dev; fun = 0; off = off }) }
 {
-    match off {
-        FDHC => Some(HOLE as u8),
-        SMRAM => Some(SMRAM_CONTROL as u8),
-        _ => None,
+    match place_in(&ROWS, dev, off) {
+        Some(number) => Some(number as u8),
+        None => None,
     }
 }
 
-/// The number of a register of the ISA bridge. None where it is none of these.
-pub(crate) fn number_in_isa_bridge(off: u8) -> Option<u8>
-    ensures number { result ≡ single_number (isa off) }
+/// The place of a register in a list of rows.
+fn place_in(rows: &[Row], dev: u8, off: u8) -> Option<usize>
+    ensures place { result ≡ position (λ row. row.dev == dev && row.off == off) rows.now }
 {
-    match off {
-        XBCS => Some(CHIP_SELECTS as u8),
-        _ => None,
-    }
+    rows.iter().position(|row| row.dev == dev && row.off == off)
+}
+
+/// The ranges of addresses whose areas the register of a number decides.
+pub fn decided(number: usize) -> &'static [AddressRange]
+    requires number { number < single_count }
+    ensures ranges { map ends_of_range result.now ≡ decided number }
+{
+    ROWS[number].decides
 }
 
 /// The register of a number after a byte is written to it.
@@ -71,9 +111,9 @@ pub(crate) fn single_after(number: usize, old: u8, written: u8) -> u8
 pub(crate) fn joined(first: [u8; 1], others: [u8; SINGLE_COUNT - 1]) -> Singles
     ensures joined { result ≡ first ++ others }
 {
-    let [hole] = first;
-    let [smram, xbcs] = others;
-    [hole, smram, xbcs]
+    let mut bytes = [first[0]; SINGLE_COUNT];
+    bytes[1..].copy_from_slice(&others);
+    bytes
 }
 
 /// Whether an address lies in a hole of DRAM.

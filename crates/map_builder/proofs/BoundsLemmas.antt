@@ -1,17 +1,23 @@
 -- Each window that a change may change ends where it begins or above. Addresses outside windows and outside their
 -- bounds.
 use Rattle.board_prelude.proofs.{common_steps, nat_tests, AllByRecursion, bytes_of, MapChange, Store, Reset, Setup}
-use Rattle.board_prelude.proofs.{Bytes, Window, reg_after, ne_eqb, pow_pos, is_covered, and-false}
+use Rattle.board_prelude.proofs.{Bytes, Window, reg_after, ne_eqb, pow_pos, is_covered, and-false, each_below}
+use Rattle.board_prelude.proofs.{length-map, list_all}
 use Rattle.std.proofs.Common.{◌≡◌, ℕ, zero, suc, ◌≤◌, List, [], ◌∷◌, ◌++◌, map, Option, Some, None, refl, arith}
-use Rattle.std.proofs.Common.{flat_map, get_or, take, ◌<◌, ◌⊎◌, inl, inr, Bool, false, ◌&&◌, IfSome, find}
+use Rattle.std.proofs.Common.{flat_map, get_or, length, take, ◌<◌, ◌⊎◌, inl, inr, Bool, true, false, rules, ◌&&◌, IfSome, find}
 use Rattle.std.proofs.ByRecursion.{All-append}
 use Rattle.map_builder.specs.declared.range.Changed.{Changed}
 use Rattle.addr_decode.specs.declared.register.MapRegister.{MapRegister}
 use Rattle.addr_decode.specs.declared.register.MapRegister.TheVariants.{Pam, RowBoundary, Single, Card}
 use Rattle.addr_decode.specs.MapRegister.{map_register}
+use Rattle.addr_decode.specs.Singles.{decided, ends_of_range, single_count, single_rows}
+use Rattle.board_spec.specs.declared.range.AddressRange.{AddressRange}
+use Rattle.addr_decode.specs.Edges.{fixed_edges}
 use Rattle.addr_decode.proofs.NameLemmas.{offsets}
 use Rattle.map_builder.specs.Changed.{decoded, name_windows, windows_of, windows_covered, changed_windows, bounds}
-use Rattle.map_builder.specs.Changed.{windows_of_singles, bounds_or_zero, both, IsOutside, after}
+use Rattle.map_builder.specs.Changed.{whole, pam_windows, single_windows, bounds_or_zero, both, IsOutside}
+use Rattle.map_builder.specs.Changed.{after}
+use Rattle.map_builder.specs.Laws.{WindowsEndAtEdges, is_between_edges}
 use Rattle.std.proofs.Math.Pow.{split}
 
 abbrev pub IsOrdered : Changed → Type 0
@@ -32,16 +38,40 @@ decoded_ordered : (windows : List Window) → Ordered (map decoded windows)
 decoded_ordered [] = tt
 decoded_ordered (window ∷ later) = (omega arith, decoded_ordered later)
 
-row_ordered : (rows : List (List Changed)) → AllByRecursion Ordered rows → (k : ℕ) → Ordered (get_or rows k [])
-row_ordered [] all k = tt
-row_ordered (row ∷ later) all zero = all.0
-row_ordered (row ∷ later) all (suc k) = row_ordered later all.1 k
+-- of the ranges that a register of one byte decides there are few, and each ends where it begins or above
+abbrev Fine : List (ℕ × ℕ) → Type 0
+Fine ranges = (length ranges ≤ 8) × Ordered (map whole ranges)
+
+each_row : (rows : List (List (ℕ × ℕ))) → AllByRecursion Fine rows → (k : ℕ) → Fine (get_or rows k [])
+each_row [] all k = (omega arith, tt)
+each_row (row ∷ later) all zero = all.0
+each_row (row ∷ later) all (suc k) = each_row later all.1 k
+
+decided_fine : (number : ℕ) → Fine (decided number)
+decided_fine number = each_row (map (λ row. row.decides) single_rows) (search arith) number
+
+pub decided_few : (number : ℕ) (ranges : List AddressRange) → map ends_of_range ranges ≡ decided number →
+    length ranges ≤ 8
+decided_few number ranges is =
+    let few : length (map ends_of_range ranges) ≤ 8 = rw is (decided_fine number).0 in
+    omega (arith, few, length-map ranges ends_of_range)
+
+-- both are at edges
+pub windows_end_at_edges : WindowsEndAtEdges
+unfolding fixed_edges
+windows_end_at_edges = record {
+  pam = λ number below.
+      each_below (λ number. is_between_edges (pam_windows number) ≡ true) 7 number (search rules) below;
+  singles = λ number below.
+      each_below (λ number. list_all is_between_edges (single_windows number) ≡ true) single_count number
+      (search rules) below;
+}
 
 name_ordered : (setup : Setup) (bytes : Bytes) (name : Option MapRegister) → Ordered (name_windows setup bytes name)
 name_ordered setup bytes None = tt
 name_ordered setup bytes (Some (Pam number)) = (grind (arith, nat_tests), tt)
 name_ordered setup bytes (Some (RowBoundary row)) = (omega arith, tt)
-name_ordered setup bytes (Some (Single number)) = row_ordered windows_of_singles (search arith) number
+name_ordered setup bytes (Some (Single number)) = (decided_fine number).1
 name_ordered setup bytes (Some (Card dev register)) = grind (arith, nat_tests, decoded_ordered)
 
 pub covered_ordered : (setup : Setup) (bytes : Bytes) (change : MapChange) →

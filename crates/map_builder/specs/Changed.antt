@@ -1,17 +1,17 @@
 -- The windows of the address map that each register byte governs, and the bounds of those that a change may change.
 use Rattle.std.specs.Prelude.{ℕ, ◌+◌, ◌-◌, ◌*◌, ◌/◌, ◌^◌, ◌<◌, ◌⊎◌, ◌==◌, nat_lt, nat_le, Bool, false, ◌&&◌}
 use Rattle.std.specs.Prelude.{length, if◌then◌else◌, List, [], ◌∷◌, ◌++◌, take, map, filter, flat_map, Option, Some}
-use Rattle.std.specs.Prelude.{None, unwrap_or, get_or}
+use Rattle.std.specs.Prelude.{None, unwrap_or}
 use Rattle.board_prelude.specs.{option_map_or, enumerate_from, list_any, Reg, bytes_of, MapChange, Store, Reset}
 use Rattle.board_prelude.specs.{FittedCard, Setup, card_at, Bytes, Window, memory_window, rom_window, vga_window}
-use Rattle.board_prelude.specs.{smram_range, expansion_range, system_bios, hole_at_512_kib, hole_at_15_mib, lower_bios}
-use Rattle.board_prelude.specs.{selectable_bios, largest_top, address_count, changed_byte, reg_after}
+use Rattle.board_prelude.specs.{expansion_range, system_bios, largest_top, address_count, changed_byte, reg_after}
 use Rattle.addr_decode.specs.declared.register.MapRegister.{MapRegister}
 use Rattle.addr_decode.specs.declared.register.MapRegister.TheVariants.{Pam, RowBoundary, Single, Card}
 use Rattle.addr_decode.specs.declared.register.CardRegister.{CardRegister}
 use Rattle.addr_decode.specs.declared.register.CardRegister.TheVariants.{Command, Base, ExpansionRom}
 use Rattle.addr_decode.specs.MapRegister.{is_of_card, map_register}
 use Rattle.addr_decode.specs.Edges.{edges_of, first_address}
+use Rattle.addr_decode.specs.Singles.{decided}
 use Rattle.map_builder.specs.declared.range.Changed.{Changed}
 pub use Rattle.map_builder.specs.Bounds.{from_to, both, joined}
 unfoldable pub use Rattle.map_builder.specs.Bounds.{bounds}
@@ -53,17 +53,9 @@ card_windows bytes Command card = map decoded (base_windows bytes card ++ rom_wi
 card_windows bytes (Base k) card = map decoded (filter (λ window. window.base == k / 4) (base_windows bytes card))
 card_windows bytes (ExpansionRom k) card = map decoded (rom_window bytes card)
 
--- those of each register of one byte, by its number. FDHC: the two holes. SMRAM: where it can lie. XBCS: the ranges of
--- the ROM that it selects
-abbrev pub windows_of_singles : List (List Changed)
-windows_of_singles =
-    (whole hole_at_512_kib ∷ whole hole_at_15_mib ∷ [])
-    ∷ (whole smram_range ∷ [])
-    ∷ (whole lower_bios ∷ whole selectable_bios ∷ [])
-    ∷ []
-
+-- those of each register of one byte, by its number: the ranges that it decides
 abbrev pub single_windows : (number : ℕ) → List Changed
-single_windows number = get_or windows_of_singles number []
+single_windows number = map whole (decided number)
 
 -- where the registers hold these bytes. The boundaries: every address that a row can have
 abbrev pub register_windows : Setup → Bytes → MapRegister → List Changed

@@ -1,8 +1,12 @@
 -- What the laws say: each is proved on a function of `laws`.
-use Rattle.std.specs.Prelude.{ℕ, ◌≡◌, ◌<◌, ◌≤◌, [], None, All}
+use Rattle.std.specs.Prelude.{ℕ, ◌≡◌, ◌+◌, ◌<◌, ◌≤◌, ◌==◌, Bool, true, ◌&&◌, [], None, All}
 use Rattle.board_prelude.specs.{One, MapChange, Store, Reset, pam, fdhc, reset_byte, Setup, IsCardList, largest_top}
-use Rattle.board_prelude.specs.{Bytes, top_of, address_count, six_areas}
-use Rattle.map_builder.specs.Changed.{after, changed_windows, bounds_or_zero, most_rows, IsOutside}
+use Rattle.board_prelude.specs.{Bytes, top_of, address_count, six_areas, list_all, list_any}
+use Rattle.addr_decode.specs.Edges.{fixed_edges}
+use Rattle.addr_decode.specs.Singles.{single_count}
+use Rattle.map_builder.specs.declared.range.Changed.{Changed}
+use Rattle.map_builder.specs.Changed.{after, changed_windows, bounds_or_zero, most_rows, IsOutside, pam_windows}
+use Rattle.map_builder.specs.Changed.{single_windows}
 
 -- an address outside the windows that a change may change has the same areas before and after. The last boundary
 -- register is a byte, so that DRAM ends at most at 255 times 8 MiB
@@ -20,6 +24,16 @@ BoundsHoldChanges =
     IsCardList setup.cards → top_of bytes ≤ largest_top → addr < address_count →
     IsOutside addr (bounds_or_zero (changed_windows setup bytes change)) →
     six_areas setup (after setup change bytes) addr ≡ six_areas setup bytes addr
+
+-- a window begins at an edge that no register moves, and ends below one
+abbrev pub is_between_edges : Changed → Bool
+is_between_edges window =
+    list_any (λ edge. window.lo == edge) fixed_edges && list_any (λ edge. window.hi + 1 == edge) fixed_edges
+
+-- each window does that PAM0 to PAM6 govern, and each that a register of one byte does
+pub record WindowsEndAtEdges : Type 0 where
+  pub pam : (number : ℕ) → number < 7 → is_between_edges (pam_windows number) ≡ true
+  pub singles : (number : ℕ) → number < single_count → list_all is_between_edges (single_windows number) ≡ true
 
 -- a board of 1 MiB without cards
 abbrev pub plain_board : Setup

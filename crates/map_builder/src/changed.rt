@@ -6,20 +6,17 @@ ghost use Rattle.pci_bars.specs.Bases.{base_of};
 ghost use Rattle.pci_bars.specs.Cards.{AreCards, AreFitted, cards_of};
 ghost use Rattle.addr_decode.specs.MapRegister.{AreNumbered, IsCardNumber, IsNumbered, IsNumberedName, names_of};
 ghost use Rattle.addr_decode.specs.MapRegs.{StandsFor, map_bytes};
-ghost use Rattle.addr_decode.specs.Singles.{single_count};
+ghost use Rattle.addr_decode.specs.Singles.{ends_of_range, single_count};
 ghost use Rattle.map_builder.specs.Changed.{pam_windows, register_windows, name_windows, windows_covered, from_to};
-ghost use Rattle.map_builder.specs.Changed.{is_card_name, rest_on_registers, single_windows};
+ghost use Rattle.map_builder.specs.Changed.{is_card_name, rest_on_registers, single_windows, whole};
 ghost use Rattle.map_builder.specs.Held.{block, held_by, held_from, held_at, rom_held, vga_held, card_held};
 ghost use Rattle.map_builder.specs.Held.{device_held};
 
 use crate::list::FixedList;
 use crate::range::{Changed, LAST_ADDRESS};
-use addr_decode::singles::{HOLE, SMRAM_CONTROL};
+use addr_decode::singles::decided;
 use addr_decode::{CardRegister, MapChange, MapRegister, MapRegs};
-use board_spec::range::{
-    AddressRange, EXPANSION_RANGE, HOLE_AT_15_MIB, HOLE_AT_512_KIB, LARGEST_TOP, LOWER_BIOS,
-    SELECTABLE_BIOS, SMRAM_RANGE, SYSTEM_BIOS,
-};
+use board_spec::range::{AddressRange, EXPANSION_RANGE, LARGEST_TOP, SMRAM_RANGE, SYSTEM_BIOS};
 use pci_bars::{BaseSpec, CardRegs, card_at};
 
 /// Every address.
@@ -158,17 +155,24 @@ fn push_of_register(windows: &mut Covered, regs: &MapRegs, register: MapRegister
     }
 }
 
-/// Adds the windows of the register of one byte that has a number.
+/// Adds the windows of the register of one byte that has a number: the ranges that it decides.
 fn push_of_single(windows: &mut Covered, number: usize)
     requires number { number < single_count }
     requires room { length windows.old.items ≤ 56 }
     ensures few { length windows.new.items ≤ length windows.old.items + 8 }
     ensures windows { windows.new.items ≡ windows.old.items ++ single_windows number }
 {
-    match number {
-        HOLE => push_two(windows, HOLE_AT_512_KIB, HOLE_AT_15_MIB),
-        SMRAM_CONTROL => push_range(windows, SMRAM_RANGE),
-        _ => push_two(windows, LOWER_BIOS, SELECTABLE_BIOS),
+    push_ranges(windows, decided(number));
+}
+
+/// Adds ranges as windows.
+fn push_ranges(windows: &mut Covered, ranges: &[AddressRange])
+    requires room { length windows.old.items + length ranges.now ≤ 64 }
+    ensures few { length windows.new.items ≤ length windows.old.items + length ranges.now }
+    ensures windows { windows.new.items ≡ windows.old.items ++ map whole (map ends_of_range ranges.now) }
+{
+    for range in ranges {
+        push_range(windows, *range);
     }
 }
 
@@ -181,16 +185,6 @@ fn push_range(windows: &mut Covered, range: AddressRange)
         lo: range.first,
         hi: range.last,
     });
-}
-
-/// Adds two ranges as windows.
-fn push_two(windows: &mut Covered, first: AddressRange, second: AddressRange)
-    requires room { length windows.old.items ≤ 62 }
-    ensures windows { windows.new.items
-        ≡ windows.old.items ++ from_to first.first first.last ∷ from_to second.first second.last ∷ [] }
-{
-    push_range(windows, first);
-    push_range(windows, second);
 }
 
 /// The shadow windows of a PAM register: that of PAM0, and the two of PAM1 to PAM6.
