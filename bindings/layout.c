@@ -31,7 +31,8 @@ static void replied(void) {
     FIELD(board_reply, value), FIELD(board_reply, version), FIELD(board_reply, seen), FIELD(board_reply, lo);
     FIELD(board_reply, hi), FIELD(board_reply, form), FIELD(board_reply, has_value), FIELD(board_reply, parts);
     FIELD(board_reply, interrupt), FIELD(board_reply, reset), FIELD(board_reply, part), FIELD(board_reply, sent);
-    FIELD(board_reply, has_sent), FIELD(board_reply, irq4), FIELD(board_reply, serial_room), FIELD(board_reply, reserved);
+    FIELD(board_reply, has_sent), FIELD(board_reply, irq4), FIELD(board_reply, serial_room), FIELD(board_reply, lines);
+    FIELD(board_reply, rose);
 }
 
 static void mapped(void) {

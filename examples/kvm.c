@@ -158,7 +158,7 @@ static void load(const char *name) {
     if (bytes > place + sizeof s) memcpy(&s, guest + place, sizeof s);
     if (s.mib << 20 != place || bytes != place + sizeof s + s.image_bytes) ok(BOARD_BAD_IMAGE);
     ok(board_load(&b, guest + place + sizeof s, s.image_bytes));
-    ok(board_look(&b, BOARD_READ, 0, false, &last)); /* a load tells no reply */
+    ok(board_now(&b, &last)); /* a load tells no reply */
     MOVE_ALL(SET);
 }
 static void power_on(const uint8_t *bios, size_t bios_bytes) {

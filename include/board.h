@@ -252,7 +252,9 @@ typedef struct board_reply {
     uint8_t has_sent;
     uint8_t irq4;        /* line 4 after the step: the or of COM1's level and of BOARD_IRQ's */
     uint8_t serial_room; /* 1 where COM1 can receive a byte */
-    uint32_t reserved;
+    uint16_t lines;      /* the levels of the interrupt lines after the step, as board_lines has them */
+    uint16_t rose;       /* the lines that rose in it: at 1 after it, and at 0 before; and line 0 also where OUT
+                          * of counter 0 rose at one of its pulses, though it may have fallen again */
 } board_reply;
 
 /* What one kind of access to a range reaches, as board_part has it. */
@@ -353,8 +355,8 @@ uint32_t board_step(board *handle, const board_event *event, board_reply *reply)
 uint32_t board_second(board *handle, board_event *event, board_reply *reply);
 /* Reads a port, or writes it, for each of the values in turn, as a string instruction does: a
  * BOARD_PORT event of 1, 2 or 4 bytes each. It ends early after one that asks for the processor: INT
- * is asserted, there was a reset, or COM1 sent a byte. done is how many were made, and reply is the
- * last one's; of no values it is as before.
+ * is asserted, an interrupt line rose, there was a reset, or COM1 sent a byte. done is how many were
+ * made, and reply is the last one's, of which alone a line rose; of no values it is as before.
  * BAD_HANDLE; of the first one NO_EVENT, ALIGNMENT, VALUE; a later one that would be refused ends it
  * before, so that a write of it is refused by the next call. */
 uint32_t board_in_many(board *handle, uint16_t port, uint8_t bytes, uint32_t *values, size_t count,
@@ -374,8 +376,8 @@ uint32_t board_save(board *handle, uint8_t *into, size_t room, size_t *bytes);
 /* Opens the board that was saved as these bytes: it is equal to that one, and goes on as that one
  * would. Nothing past them is read, and they may be freed. Bytes that no board wrote are refused, or
  * are those of another state that is in range: then that board is opened, and is as safe as any.
- * There is no reply: what stands, as INT, line 4, COM1's room and the version of the map, a look
- * (board_look) tells, which changes nothing.
+ * There is no reply: board_now tells what stands, as INT, the lines, COM1's room and the version of
+ * the map.
  * BAD_HANDLE where the handle is open already, OTHER_VERSION, BAD_IMAGE, NO_MEMORY. */
 uint32_t board_load(board *handle, const uint8_t *from, size_t bytes);
 /* Writes the board as board_save does, without bytes that a monitor keeps itself: with dram those of
@@ -424,10 +426,15 @@ uint32_t board_disk_read(board *handle, uint32_t sector, uint8_t *into, size_t b
  * BAD_HANDLE, NO_BYTE. */
 uint32_t board_cmos_read(board *handle, uint8_t address, uint8_t *byte);
 
-/* Writes to *lines the levels of the sixteen interrupt lines, as the pair of 8259A hears them: bit k is
- * that of line k. Line 0 is the 8254's, 4 the or of COM1's and of BOARD_IRQ's, 8 the clock's, 14 the disk's.
+/* Writes to *lines the levels of the sixteen interrupt lines, as they reached the pair of 8259A last: bit k
+ * is that of line k. Line 0 is the 8254's, 4 the or of COM1's and of BOARD_IRQ's, 8 the clock's, 14 the
+ * disk's; 2 is 0.
  * BAD_HANDLE. */
 uint32_t board_lines(board *handle, uint16_t *lines);
+/* Writes to *reply what stands now, as after a load, or after board_cmos_write: version, interrupt, lines,
+ * irq4 and serial_room. All else is 0, as nothing was asked: no form, no part, no reset, and no line rose.
+ * BAD_HANDLE. */
+uint32_t board_now(board *handle, board_reply *reply);
 /* Writes to *state what COM1 holds.
  * BAD_HANDLE. */
 uint32_t board_serial_state(board *handle, board_com1 *state);
@@ -452,8 +459,8 @@ uint32_t board_card_read(board *handle, uint8_t device, uint8_t base, uint32_t o
 uint32_t board_dram_write(board *handle, uint32_t addr, const uint8_t *from, size_t bytes);
 /* Writes a byte of the clock, address 0 to 127, as the guest's writes of ports 70h and 71h would:
  * registers A and B take what a write changes of them, C and D nothing. Of register B that may raise
- * line 8, and so INT, as where UF is set and UIE is written: what the last reply says of INT does not
- * stand then, and a look (board_look) tells what does.
+ * line 8, and so INT, as where UF is set and UIE is written: what the last reply says of INT and of the
+ * lines does not stand then, and board_now tells what does.
  * BAD_HANDLE, NO_BYTE. */
 uint32_t board_cmos_write(board *handle, uint8_t address, uint8_t byte);
 /* Puts bytes into a card from an offset in one of its bases on, as the guest's writes would, wherever
@@ -589,36 +596,38 @@ static inline uint32_t board_port_status(const board *handle, uint16_t port, uin
 }
 
 /* Reads a port of 1, 2 or 4 bytes. Where it is not aligned the bus cuts it into cycles in rising
- * order, and the reply is the last one's but for the value, which is the whole.
+ * order, and the reply is the last one's but for the value, which is the whole, and for the lines that
+ * rose, which are those of all.
  * BAD_HANDLE, NO_EVENT of another count of bytes and past port FFFFh. */
 static inline uint32_t board_in(board *handle, uint16_t port, uint8_t bytes, board_reply *reply) {
     uint64_t value = 0;
-    uint32_t done = 0, status = board_port_status(handle, port, bytes);
+    uint32_t done = 0, rose = 0, status = board_port_status(handle, port, bytes);
     while (status == BOARD_OK && done < bytes) {
         uint8_t cycle = board_cycle(port + done, bytes - done);
         status = board_ask(handle, BOARD_PORT, BOARD_READ, port + done, cycle, 0, 0, reply);
-        if (status == BOARD_OK) value |= reply->value << (8 * done);
+        if (status == BOARD_OK) value |= reply->value << (8 * done), rose |= reply->rose;
         done += cycle;
     }
-    if (status == BOARD_OK) reply->value = value;
+    if (status == BOARD_OK) reply->value = value, reply->rose = (uint16_t)rose;
     return status;
 }
 
 /* Writes a port of 1, 2 or 4 bytes, cut as board_in cuts. Each cut makes its own reset:
- * reply->reset is the strongest.
+ * reply->reset is the strongest, and reply->rose has the lines that rose in any.
  * BAD_HANDLE, NO_EVENT as board_in, VALUE. */
 static inline uint32_t board_out(board *handle, uint16_t port, uint8_t bytes, uint32_t value,
                                  board_reply *reply) {
-    uint32_t done = 0, reset = BOARD_NO_RESET, status = board_port_status(handle, port, bytes);
+    uint32_t done = 0, rose = 0, reset = BOARD_NO_RESET, status = board_port_status(handle, port, bytes);
     if (status == BOARD_OK && bytes < 4 && value >> (8 * bytes) != 0) return BOARD_VALUE;
     while (status == BOARD_OK && done < bytes) {
         uint8_t cycle = board_cycle(port + done, bytes - done);
         uint32_t part = (uint32_t)(((uint64_t)value >> (8 * done)) & ((1ull << (8 * cycle)) - 1));
         status = board_ask(handle, BOARD_PORT, BOARD_WRITE, port + done, cycle, 0, part, reply);
         if (status == BOARD_OK && reply->reset > reset) reset = reply->reset;
+        if (status == BOARD_OK) rose |= reply->rose;
         done += cycle;
     }
-    if (status == BOARD_OK) reply->reset = reset;
+    if (status == BOARD_OK) reply->reset = reset, reply->rose = (uint16_t)rose;
     return status;
 }
 
@@ -733,13 +742,14 @@ static inline uint32_t board_access_cycle(board *handle, const board_event *even
 /* Does an access as a processor's exit tells it: what is BOARD_PORT or BOARD_MEMORY, kind BOARD_READ or
  * BOARD_WRITE, from any address on and of any count of bytes at data, which a read fills. The bus cuts it.
  * Bytes of memory are those of guest, which has mib MiB as at board_open. Past port FFFFh and from 4 GiB on
- * nobody answers: a read gives ones. reply is the last cycle's, with the strongest reset of all and with the
- * last byte that one sent; where no cycle was made it is as before.
+ * nobody answers: a read gives ones. reply is the last cycle's, with the strongest reset of all, the lines that
+ * rose in any, and the last byte that one sent; where no cycle was made it is as before.
  * BAD_HANDLE, NO_EVENT. */
 static inline uint32_t board_access(board *handle, uint8_t what, uint8_t kind, uint64_t addr, uint8_t *data,
                                     uint64_t bytes, uint8_t *guest, uint32_t mib, board_reply *reply) {
     uint64_t end = what == BOARD_PORT ? 0x10000 : 0x100000000ull;
     uint32_t status = BOARD_OK, reset = BOARD_NO_RESET;
+    uint16_t rose = 0;
     uint8_t has_sent = 0, sent = 0;
     while (status == BOARD_OK && bytes > 0 && addr < end) {
         uint8_t cycle = board_cycle((uint32_t)addr, bytes);
@@ -752,6 +762,8 @@ static inline uint32_t board_access(board *handle, uint8_t what, uint8_t kind, u
             has_sent = 1;
             sent = reply->sent;
         }
+        rose |= reply->rose;
+        reply->rose = rose;
         reply->reset = reset;
         reply->has_sent = has_sent;
         reply->sent = sent;
@@ -772,22 +784,25 @@ typedef struct board_clocks {
 /* Lets time go by until so many nanoseconds after the power came: the 8254's pulses, 1,193,182 a second, and
  * the seconds of the MC146818, but for those in which it stands. Where line 0 rises on the way the pulses end
  * there, so that no tick is lost: the guest takes that interrupt, and the next call goes on. So it does after
- * 1,000,000 pulses and after 60 seconds, so that no call takes long. reply is as before where there was
- * nothing to do.
+ * 1,000,000 pulses and after 60 seconds, so that no call takes long. reply is the last step's, with the lines
+ * that rose in any; it is as before where there was nothing to do.
  * BAD_HANDLE. */
 static inline uint32_t board_run_until(board *handle, board_clocks *clocks, uint64_t nanoseconds, board_reply *reply) {
     uint64_t second = 1000000000, hertz = 1193182, whole = nanoseconds / second;
     uint64_t due = whole * hertz + nanoseconds % second * hertz / second;
     uint64_t count = due > clocks->pulses ? due - clocks->pulses : 0;
     uint32_t to_rise, status = board_pulses_to_rise(handle, &to_rise);
+    uint16_t rose = 0;
     board_event event;
     if (status != BOARD_OK) return status;
     if (to_rise > 0 && count > to_rise) count = to_rise;
     if (count > 1000000) count = 1000000;
     if (count > 0) status = board_pulse(handle, (uint32_t)count, reply);
+    if (count > 0 && status == BOARD_OK) rose = reply->rose;
     clocks->pulses += count;
     for (int k = 0; k < 60 && status == BOARD_OK && clocks->seconds < whole; k++, clocks->seconds++) {
         status = board_second(handle, &event, reply);
+        if (status == BOARD_OK) reply->rose = rose |= reply->rose;
         if (status == BOARD_NO_TIME) status = BOARD_OK;
     }
     return status;

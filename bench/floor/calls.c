@@ -44,7 +44,7 @@ static inline void fill(const chip *it, board_reply *reply) {
     memset(&reply->part[1], 0, sizeof reply->part - sizeof *reply->part);
     reply->sent = reply->has_sent = reply->irq4 = 0;
     reply->serial_room = 1;
-    reply->reserved = 0;
+    reply->lines = reply->rose = 0;
 }
 
 static inline uint32_t read_as(board_reply *reply, uint64_t value) {

@@ -128,7 +128,7 @@ static void tell_reply(void) {
     TELL("", r, value), TELL("", r, version), TELL("", r, seen), TELL("", r, lo), TELL("", r, hi);
     TELL("", r, form), TELL("", r, has_value), TELL("", r, parts), TELL("", r, interrupt), TELL("", r, reset);
     for (int k = 0; k < 4; k++) tell_part((const char *[]){"0.", "1.", "2.", "3."}[k], &r->part[k]);
-    TELL("", r, sent), TELL("", r, has_sent), TELL("", r, irq4), TELL("", r, serial_room), TELL("", r, reserved);
+    TELL("", r, sent), TELL("", r, has_sent), TELL("", r, irq4), TELL("", r, serial_room), TELL("", r, rose);
 }
 
 static void tell_com1(const board_com1 *c) {

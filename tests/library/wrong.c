@@ -141,7 +141,7 @@ static void no_replies(const board_event *event, const board_reply *good) {
     size_t n = sizeof r / sizeof *r;
     for (size_t k = 0; k < n; k++) r[k] = *good;
     memset(&r[0], 0, sizeof *r);
-    r[1].reserved = 1;
+    r[1].parts = 3;
     r[2].has_value = 2;
     r[3].form = 4;
     r[4].form = BOARD_LOOK_REPLY, r[4].part[0].target = BOARD_IS_DEVICE;

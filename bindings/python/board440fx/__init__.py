@@ -14,14 +14,15 @@ from .errors import BoardError, LibraryError
 from .events import Event
 from .library import INTERFACE
 from .maps import Map, Range, Window
-from .replies import Answer, Denial, Look, Part, Register, Reset, Target, Value
+from .replies import Answer, Denial, Look, Now, Part, Register, Reset, Target, Value
 from .script import Line, Script, ScriptError, replay
 from .transfers import Descriptor, Ended, Transfer, Words
+from .watch import Seen, Watch
 
 __version__ = "8.0.0"  # the first number is INTERFACE
 
 __all__ = [
     "INTERFACE", "Answer", "Board", "BoardError", "Card", "Denial", "Descriptor", "Ended", "Event", "Identity",
-    "LibraryError", "Line", "Look", "Map", "Part", "Range", "Register", "Reset", "Script", "ScriptError", "Target",
-    "Transfer", "Value", "Window", "Words", "errors", "replay",
+    "LibraryError", "Line", "Look", "Map", "Now", "Part", "Range", "Register", "Reset", "Script", "ScriptError", "Seen",
+    "Target", "Transfer", "Value", "Watch", "Window", "Words", "errors", "replay",
 ]

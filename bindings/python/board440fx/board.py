@@ -11,7 +11,7 @@ from .errors import BadSize, BadValue, NoByte, NoCycle, NoEvent, NoMemory, NoRep
 from .events import Event, Kind, why_none
 from .library import library
 from .maps import Map, Window, range_of
-from .replies import Answer, Denial, Look, Part, Reset, Value, answer_of, part_of
+from .replies import Answer, Denial, Look, Now, Part, Reset, Value, answer_of, now_of, part_of
 from .transfers import Transfer
 
 PORTS = 0x10000
@@ -134,27 +134,28 @@ class Board:
 
     def in_(self, port: int, bytes: int = 1) -> Value:
         """Reads a port of 1, 2 or 4 bytes. One that is not aligned is cut into cycles, as the bus cuts it; the answer
-        is then the last cycle's but for the value, which is the whole."""
-        whole = 0
+        is then the last cycle's but for the value, which is the whole, and the lines that rose, which are those of all."""
+        whole = rose = 0
         with self._lock:
             for at, size, done in _cycles(port, bytes):
                 answer = self.step(Event.in_(at, size))
                 whole |= (answer.value or 0) << 8 * done
-            self.last = replace(answer, event=Event.in_(port, bytes), value=whole)
+                rose |= answer.rose
+            self.last = replace(answer, event=Event.in_(port, bytes), value=whole, rose=rose)
             return Value(self.last)
 
     def out(self, port: int, bytes: int, value: int) -> Answer:
         """Writes a port of 1, 2 or 4 bytes, cut as in_ cuts; the answer is then the last cycle's but for the reset,
-        which is the strongest."""
+        which is the strongest, and the lines that rose, which are those of all."""
         cycles = list(_cycles(port, bytes))
         if value >> 8 * bytes:
             raise BadValue(f"{value:#x}")
-        reset = Reset.NONE
+        reset, rose = Reset.NONE, 0
         with self._lock:
             for at, size, done in cycles:
                 answer = self.step(Event.out(at, size, value >> 8 * done & (1 << 8 * size) - 1))
-                reset = max(reset, answer.reset)
-            self.last = replace(answer, event=Event.out(port, bytes, value), reset=reset)
+                reset, rose = max(reset, answer.reset), rose | answer.rose
+            self.last = replace(answer, event=Event.out(port, bytes, value), reset=reset, rose=rose)
             return self.last
 
     def in_many(self, port: int, bytes: int, count: int) -> list[int]:
@@ -254,7 +255,7 @@ class Board:
 
     @property
     def lines(self) -> int:
-        """The levels of the sixteen interrupt lines, as the pair of 8259A hears them: bit k is that of line k."""
+        """The levels of the sixteen interrupt lines, as they reached the pair of 8259A last: bit k is that of line k."""
         lines = records.U16()
         self._ask("board_lines", lines)
         return lines.value
@@ -341,13 +342,14 @@ class Board:
         with self._lock:
             self._ask("board_cmos_write", _byte(address, NoByte), _byte(byte, BadValue))
             if self.last:
-                self.last = self.last.as_of(self._now())
+                self.last = self.last.as_of(self.now)
 
-    def _now(self) -> Answer:
-        """What stands now, by a look, which changes nothing."""
-        event = Event.look("r", 0)
-        check(self._library.board_step(self._handle, event.record(), self._reply))
-        return answer_of(event, self._reply)
+    @property
+    def now(self) -> Now:
+        """What stands now, without a step: after a load, or where nothing was asked yet."""
+        reply = records.ReplyRecord()
+        self._ask("board_now", reply)
+        return now_of(reply)
 
     def card_write(self, device: int, base: int, offset: int, data: bytes) -> None:
         """Puts bytes into a card from an offset in one of its bases on, wherever the base lies, or into its expansion ROM, base

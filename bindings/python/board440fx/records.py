@@ -123,7 +123,7 @@ class PartRecord(c.Structure):
 class ReplyRecord(c.Structure):
     _fields_ = [("value", U64), ("version", U32), ("seen", U32), ("lo", U32), ("hi", U32), ("form", U8),
                 ("has_value", U8), ("parts", U8), ("interrupt", U8), ("reset", U32), ("part", PartRecord * 4),
-                ("sent", U8), ("has_sent", U8), ("irq4", U8), ("serial_room", U8), ("reserved", U32)]
+                ("sent", U8), ("has_sent", U8), ("irq4", U8), ("serial_room", U8), ("lines", U16), ("rose", U16)]
 
 
 class AreaRecord(c.Structure):
@@ -192,6 +192,7 @@ CALLS: dict[str, list[type]] = {
     "board_decode": [_HANDLE, c.POINTER(EventRecord), c.POINTER(PartRecord)],
     "board_pulses_to_rise": [_HANDLE, c.POINTER(U32)],
     "board_lines": [_HANDLE, c.POINTER(U16)],
+    "board_now": [_HANDLE, c.POINTER(ReplyRecord)],
     "board_serial_state": [_HANDLE, c.POINTER(Com1Record)],
     "board_dram_read": [_HANDLE, U32, _BYTES, _SIZE],
     "board_disk_read": [_HANDLE, U32, _BYTES, _SIZE],

@@ -1,5 +1,5 @@
 """Replies: what answered, what denied it, and what stands after the step."""
-from dataclasses import dataclass, replace
+from dataclasses import asdict, dataclass, replace
 from enum import IntEnum
 from typing import NamedTuple
 
@@ -191,6 +191,22 @@ def part_of(part: PartRecord) -> Part:
     return Part(target, _denial(part))
 
 
+def lines_in(bits: int) -> tuple[int, ...]:
+    """The numbers of the lines whose bit is 1."""
+    return tuple(line for line in range(16) if bits >> line & 1)
+
+
+@dataclass(frozen=True)
+class Now:
+    """What stands now, without a step."""
+
+    version: int
+    interrupt: bool
+    irq4: bool
+    serial_room: bool
+    lines: int
+
+
 @dataclass(frozen=True)
 class Answer:
     """A reply, and what stands after its step. Its text is that of a log's line, and what denied it, by name: `r b 000CC000 =
@@ -206,6 +222,13 @@ class Answer:
     sent: int | None
     irq4: bool
     serial_room: bool
+    lines: int  # the levels of the sixteen interrupt lines after the step: bit k is that of line k
+    rose: int  # those that rose in it; line 0 also where it fell again
+
+    @property
+    def risen(self) -> tuple[int, ...]:
+        """The numbers of the lines that rose."""
+        return lines_in(self.rose)
 
     @property
     def target(self) -> Target | None:
@@ -225,10 +248,9 @@ class Answer:
         value = "-" if self.value is None else f"{self.value:0{self.event.digits()}X}"
         return " ".join([value, *map(str, self.parts)])
 
-    def as_of(self, now: "Answer") -> "Answer":
-        """The same reply with what stands now, as the answer of a later step has it."""
-        stands = {name: getattr(now, name) for name in ("version", "interrupt", "irq4", "serial_room")}
-        return replace(self, **stands)
+    def as_of(self, now: "Now") -> "Answer":
+        """The same reply with what stands now."""
+        return replace(self, **asdict(now))
 
     def __str__(self) -> str:
         denied = f", denied by {self.denied_by.in_words}" if self.denied_by else ""
@@ -287,4 +309,11 @@ def answer_of(event: Event, reply: ReplyRecord) -> Answer:
         sent=reply.sent if reply.has_sent else None,
         irq4=bool(reply.irq4),
         serial_room=bool(reply.serial_room),
+        lines=reply.lines,
+        rose=reply.rose,
     )
+
+
+def now_of(reply: ReplyRecord) -> Now:
+    """What stands now, of the record of a reply."""
+    return Now(reply.version, bool(reply.interrupt), bool(reply.irq4), bool(reply.serial_room), reply.lines)

@@ -3,8 +3,8 @@
 use crate::error::check;
 use crate::raw;
 use crate::{
-    cycles, Answer, Builder, Card, Com1, Error, Event, Kind, Look, Map, Moment, Part, Piece, Ranges, Reply, Transfer,
-    Value, Width,
+    cycles, Answer, Builder, Card, Com1, Error, Event, Kind, Look, Map, Moment, Now, Part, Piece, Ranges, Reply,
+    Transfer, Value, Width,
 };
 use std::cell::UnsafeCell;
 use std::fmt;
@@ -294,25 +294,28 @@ fn port_cycles(port: u16, width: Width) -> Result<impl Iterator<Item = (u16, Wid
 /// Ports. One that is not aligned is cut into cycles, as the bus cuts it.
 impl Board {
     /// Reads a port of one, two or four bytes. Where it was cut the answer, [`Board::last`], is the last cycle's but
-    /// for the value, which is the whole.
+    /// for the value, which is the whole, and the lines that rose, which are those of all.
     ///
     /// # Errors
     ///
     /// [`Error::NoEvent`] of eight bytes, and where its last byte lies past port FFFFh.
     pub fn input(&mut self, port: u16, width: Width) -> Result<u32, Error> {
-        let mut bits = 0;
+        let (mut bits, mut lines) = (0, 0);
         for (port, width, shift) in port_cycles(port, width)? {
-            bits |= self.value(&Event::In { port, width })? << shift;
+            let answer = self.step(&Event::In { port, width })?;
+            bits |= answer.value().ok_or(Error::NoReply)? << shift;
+            lines |= answer.rose;
         }
-        if let Some(Answer { event, reply: Reply::Bus { value, .. }, .. }) = &mut self.last {
+        if let Some(Answer { event, reply: Reply::Bus { value, .. }, rose, .. }) = &mut self.last {
             *event = Event::In { port, width };
             *value = Some(Value { bits, width });
+            *rose = lines;
         }
         Ok(bits as u32)
     }
 
     /// Writes a port of one, two or four bytes. Where it was cut the answer is the last cycle's but for the reset,
-    /// which is the strongest.
+    /// which is the strongest, and the lines that rose, which are those of all.
     ///
     /// # Errors
     ///
@@ -322,13 +325,15 @@ impl Board {
         if u64::from(value) > width.mask() {
             return Err(Error::Value);
         }
-        let (mut reset, event) = (None, Event::Out { port, width, value });
+        let (mut reset, mut rose, event) = (None, 0, Event::Out { port, width, value });
         for (port, width, shift) in cycles {
             let value = (u64::from(value) >> shift & width.mask()) as u32;
-            reset = reset.max(self.step(&Event::Out { port, width, value })?.reset);
+            let answer = self.step(&Event::Out { port, width, value })?;
+            reset = reset.max(answer.reset);
+            rose |= answer.rose;
         }
         let last = self.last.as_mut().ok_or(Error::NoReply)?;
-        (last.event, last.reset) = (event, reset);
+        (last.event, last.reset, last.rose) = (event, reset, rose);
         Ok(*last)
     }
 
@@ -577,7 +582,7 @@ impl Board {
         Ok(bytes)
     }
 
-    /// The levels of the sixteen interrupt lines, as the pair of 8259A hears them: bit k is that of line k.
+    /// The levels of the sixteen interrupt lines, as they reached the pair of 8259A last: bit k is that of line k.
     ///
     /// # Errors
     ///
@@ -691,13 +696,25 @@ impl Board {
         Ok(())
     }
 
-    /// What stands now, by a look, which changes nothing.
-    fn now(&mut self) -> Result<Answer, Error> {
-        let event = Event::Look { kind: Kind::Read, addr: 0, smm: false };
+    /// What stands now, without a step: after a load, or where nothing was asked yet.
+    ///
+    /// ```
+    /// use board_440fx::Board;
+    ///
+    /// let board = Board::builder().rom(&[0; 65536]).open()?;
+    /// let now = Board::load(&board.save()?)?.now()?;
+    /// assert_eq!((now.lines, now.interrupt, now.serial_room), (1, false, true)); // OUT of counter 0 is 1 at power-on
+    /// # Ok::<(), board_440fx::Error>(())
+    /// ```
+    ///
+    /// # Errors
+    ///
+    /// None: an open board tells it.
+    pub fn now(&self) -> Result<Now, Error> {
         let mut reply = raw::Reply::default();
-        // SAFETY: as of `step`.
-        check(unsafe { raw::board_step(self.handle.get(), &event.record(), &mut reply) })?;
-        Answer::of(&event, &reply)
+        // SAFETY: as of `decode`.
+        check(unsafe { raw::board_now(self.handle.get(), &mut reply) })?;
+        Ok(Now::of(&reply))
     }
 
     /// Puts bytes into a card from an offset in one of its bases on, wherever the base lies; the bases are those of

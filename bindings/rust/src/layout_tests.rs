@@ -43,7 +43,7 @@ fn records() -> Vec<String> {
             subsystem_id revision_id interrupt_pin reserved),
         record!("board_part" Part: offset target unit base denial denial_dev denial_fun denial_off reserved),
         record!("board_reply" Reply: value version seen lo hi form has_value parts interrupt reset part sent has_sent
-            irq4 serial_room reserved),
+            irq4 serial_room lines rose),
         record!("board_area" Area: target unit base reserved),
         record!("board_range" Range: lo hi area),
         record!("board_window" Window: lo hi),

@@ -41,6 +41,7 @@ mod slots;
 mod statement;
 mod target;
 mod transfer;
+mod watch;
 
 pub use access::{cycles, Kind, Moment, Value, Width};
 pub use board::Board;
@@ -52,12 +53,13 @@ pub use log::Line;
 pub use map::{is_installed, Area, Map, Range, Ranges, Window};
 pub use monitor::{Clocks, Memory};
 pub use pages::Pages;
-pub use reply::{Answer, Look, Parts, Reply, Reset};
+pub use reply::{Answer, Look, Now, Parts, Reply, Reset};
 pub use serial::Com1;
 pub use slots::{Slot, SlotChange, Slots};
 pub use statement::NoStatement;
 pub use target::{Denial, Device, Part, Register, Target};
 pub use transfer::{End, Piece, Transfer};
+pub use watch::{Seen, Watch};
 
 /// The version of `board.h` that this crate is for: `build.rs` refuses a library of another.
 pub const INTERFACE: u32 = 8;

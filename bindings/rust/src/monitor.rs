@@ -35,10 +35,11 @@ pub struct Clocks {
     pub seconds: u64,
 }
 
-/// The answer of an access after another cycle of it: with the strongest reset and the last byte that COM1 sent.
+/// The answer of a step after others: with the strongest reset, the last byte that COM1 sent, and all lines that rose.
 fn after(before: Option<Answer>, next: Answer) -> Answer {
     let reset = next.reset.max(before.and_then(|answer| answer.reset));
-    Answer { reset, sent: next.sent.or(before.and_then(|answer| answer.sent)), ..next }
+    let rose = next.rose | before.map_or(0, |answer| answer.rose);
+    Answer { reset, sent: next.sent.or(before.and_then(|answer| answer.sent)), rose, ..next }
 }
 
 /// A monitor that keeps the guest's memory itself.
@@ -91,8 +92,8 @@ impl Board {
     }
 
     /// Reads ports as an exit tells it, from any one on and any count of bytes, cut as the bus cuts it. Past port FFFFh
-    /// nobody answers: that is ones. The answer is the last cycle's, with the strongest reset of all and the last byte
-    /// that one sent; none where no cycle was made.
+    /// nobody answers: that is ones. The answer is the last cycle's, with the strongest reset of all, the lines that
+    /// rose in any and the last byte that one sent; none where no cycle was made.
     ///
     /// ```
     /// let mut board = board_440fx::Board::builder().rom(&[0; 65536]).open()?;
@@ -182,7 +183,8 @@ impl Board {
 
     /// Lets time go by until so long after the power came: the 8254's pulses, and the seconds of the MC146818, but for
     /// those in which it stands. Where line 0 rises on the way the pulses end there, so that no tick is lost: the guest
-    /// takes that interrupt, and the next call goes on. So it does after 1,000,000 pulses and after 60 seconds.
+    /// takes that interrupt, and the next call goes on. So it does after 1,000,000 pulses and after 60 seconds. The
+    /// answer is the last step's, with the lines that rose in any; none where there was nothing to do.
     ///
     /// ```
     /// use std::time::Duration;
@@ -197,21 +199,25 @@ impl Board {
     /// # Errors
     ///
     /// None: no such time is refused.
-    pub fn run_until(&mut self, clocks: &mut Clocks, now: Duration) -> Result<(), Error> {
+    pub fn run_until(&mut self, clocks: &mut Clocks, now: Duration) -> Result<Option<Answer>, Error> {
         let due = u64::try_from(now.as_nanos() * PIT_HERTZ / 1_000_000_000).unwrap_or(u64::MAX);
         let to_rise = self.pulses_to_rise()?.map_or(MOST_PULSES, u64::from);
         let count = due.saturating_sub(clocks.pulses).min(to_rise).min(MOST_PULSES);
+        let mut whole = None;
         if count > 0 {
-            self.pulse(count as u32)?;
+            whole = Some(self.pulse(count as u32)?);
         }
         clocks.pulses += count;
         for _ in 0..now.as_secs().saturating_sub(clocks.seconds).min(MOST_SECONDS) {
             match self.second() {
-                Ok(_) | Err(Error::NoTime) => clocks.seconds += 1,
+                Ok(answer) => whole = Some(after(whole, answer)),
+                Err(Error::NoTime) => (),
                 Err(error) => return Err(error),
             }
+            clocks.seconds += 1;
         }
-        Ok(())
+        self.last = whole.or(self.last);
+        Ok(whole)
     }
 }
 

@@ -114,7 +114,8 @@ pub(crate) struct Reply {
     pub(crate) has_sent: u8,
     pub(crate) irq4: u8,
     pub(crate) serial_room: u8,
-    pub(crate) reserved: u32,
+    pub(crate) lines: u16,
+    pub(crate) rose: u16,
 }
 
 #[repr(C)]
@@ -286,6 +287,7 @@ extern "C" {
     pub(crate) fn board_decode(handle: *mut Handle, event: *const Event, part: *mut Part) -> u32;
     pub(crate) fn board_pulses_to_rise(handle: *mut Handle, pulses: *mut u32) -> u32;
     pub(crate) fn board_lines(handle: *mut Handle, lines: *mut u16) -> u32;
+    pub(crate) fn board_now(handle: *mut Handle, reply: *mut Reply) -> u32;
     pub(crate) fn board_serial_state(handle: *mut Handle, state: *mut Com1) -> u32;
     pub(crate) fn board_dram_read(handle: *mut Handle, addr: u32, into: *mut u8, bytes: usize) -> u32;
     pub(crate) fn board_disk_read(handle: *mut Handle, sector: u32, into: *mut u8, bytes: usize) -> u32;

@@ -211,6 +211,39 @@ pub struct Answer {
     pub irq4: bool,
     /// Whether COM1 can receive a byte.
     pub serial_room: bool,
+    /// The levels of the sixteen interrupt lines, as [`Board::lines`](crate::Board::lines) has them.
+    pub lines: u16,
+    /// The lines that rose in the step: at 1 after it, and at 0 before; and line 0 also where OUT of counter 0 rose at
+    /// one of its pulses, though it may have fallen again. [`Watch`](crate::Watch) tells what follows from them.
+    pub rose: u16,
+}
+
+/// What stands now, without a step: see [`Board::now`](crate::Board::now).
+#[derive(Clone, Copy, Debug, PartialEq, Eq, Hash)]
+#[non_exhaustive]
+pub struct Now {
+    /// The version of the map.
+    pub version: u32,
+    /// Whether INT is asserted.
+    pub interrupt: bool,
+    /// The level of interrupt request line 4.
+    pub irq4: bool,
+    /// Whether COM1 can receive a byte.
+    pub serial_room: bool,
+    /// The levels of the sixteen interrupt lines.
+    pub lines: u16,
+}
+
+impl Now {
+    pub(crate) fn of(reply: &raw::Reply) -> Now {
+        Now {
+            version: reply.version,
+            interrupt: reply.interrupt != 0,
+            irq4: reply.irq4 != 0,
+            serial_room: reply.serial_room != 0,
+            lines: reply.lines,
+        }
+    }
 }
 
 impl Answer {
@@ -230,13 +263,15 @@ impl Answer {
             sent: (reply.has_sent != 0).then_some(reply.sent),
             irq4: reply.irq4 != 0,
             serial_room: reply.serial_room != 0,
+            lines: reply.lines,
+            rose: reply.rose,
         })
     }
 
-    /// The same reply with what stands now, as the answer of a later step has it.
-    pub(crate) fn as_of(&self, now: &Answer) -> Answer {
-        let Answer { version, interrupt, irq4, serial_room, .. } = *now;
-        Answer { version, interrupt, irq4, serial_room, ..*self }
+    /// The same reply with what stands now.
+    pub(crate) fn as_of(&self, now: &Now) -> Answer {
+        let Now { version, interrupt, irq4, serial_room, lines } = *now;
+        Answer { version, interrupt, irq4, serial_room, lines, ..*self }
     }
 
     /// What was read, or the vector.

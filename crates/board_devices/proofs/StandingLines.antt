@@ -22,10 +22,10 @@ use Rattle.board_devices.proofs.DeviceLemmas.{devices_of, they_are, driven_is}
 -- ---- a chip whose inputs stand
 
 -- a chip whose inputs, and which of them are level triggered, were last given so
-record Holds (inputs triggers : Levels) (chip : Chip) : Type 0 where
-  inputs_are : chip.inputs ≡ inputs
-  triggers_are : chip.triggers ≡ triggers
-  whole : length chip.latches ≡ 8
+pub record Holds (inputs triggers : Levels) (chip : Chip) : Type 0 where
+  pub inputs_are : chip.inputs ≡ inputs
+  pub triggers_are : chip.triggers ≡ triggers
+  pub whole : length chip.latches ≡ 8
 
 -- given once more they change nothing
 given_again : (chip : Chip) (inputs triggers : Levels) → Holds inputs triggers chip →
@@ -37,12 +37,12 @@ given_again chip inputs triggers holds =
 
 -- ---- a pair whose lines stand
 
-record Sees (levels : List Bool) (elcr : ℕ) (pair : Pair) : Type 0 where
-  master : Holds (master_inputs (take 8 levels)) (master_inputs (levels_of_byte (elcr % 256))) pair.master
-  slave : Holds (drop 8 levels) (levels_of_byte (elcr / 256)) pair.slave
+pub record Sees (levels : List Bool) (elcr : ℕ) (pair : Pair) : Type 0 where
+  pub master : Holds (master_inputs (take 8 levels)) (master_inputs (levels_of_byte (elcr % 256))) pair.master
+  pub slave : Holds (drop 8 levels) (levels_of_byte (elcr / 256)) pair.slave
 
 module _ (levels : List Bool) (elcr : ℕ) where
-  lines_seen : (pair : Pair) → Sees levels elcr (pair_after_lines pair levels elcr)
+  pub lines_seen : (pair : Pair) → Sees levels elcr (pair_after_lines pair levels elcr)
   lines_seen pair = grind (arith, nat_tests, common_steps, eight, settled-asks, settled-quiet)
 
   -- the lines change nothing of a pair that sees them so, once its slave is heard

@@ -1,13 +1,12 @@
 //! What the devices hold, told without a change: the clock, and the sixteen lines.
 
 ghost use Rattle.std.specs.Prelude.{◌≡◌, List};
-ghost use Rattle.board_prelude.specs.{Entry, Setup, clock_of, levels_of};
-ghost use Rattle.board_devices.specs.Devices.{AreDevicesOf, AreRoutesOf};
+ghost use Rattle.board_prelude.specs.{Entry, Setup, byte_of_levels, clock_of, levels_of};
+ghost use Rattle.pic_pair.specs.Lines.{heard_lines};
+ghost use Rattle.board_devices.specs.Devices.{AreDevicesOf};
 
 use crate::devices::Devices;
 use cmos_clock::Cmos;
-use pic_pair::Lines;
-use south_bridge::Pirq;
 
 impl Devices {
     /// The clock.
@@ -19,11 +18,13 @@ impl Devices {
         &self.clock
     }
 
-    /// The levels of the sixteen lines, as the pair hears them, with the PCI interrupts routed so.
-    pub fn lines(&self, routes: &Pirq) -> Lines
+    /// The levels of the sixteen lines as they reached the pair last: bit k is that of line k.
+    #[tactic(auto, using(crate::proofs::HeardLines::heard_levels))]
+    pub fn lines(&self) -> u16
+        ensures held { result ≡ heard_lines self.now.pair }
         ensures levels { (setup : Setup) (history : List Entry) → AreDevicesOf setup history self.now
-            → AreRoutesOf setup history routes.now → result ≡ levels_of setup history }
+            → result ≡ byte_of_levels (levels_of setup history) }
     {
-        self.levels(routes)
+        self.pair.heard()
     }
 }

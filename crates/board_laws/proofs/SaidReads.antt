@@ -152,6 +152,6 @@ step_reads old new said reply event read history k asks step left within =
     } in
     let after : AfterStep =
     after_step serial.board.setup answered.goes_on.after (reset_by history (Happens event)) new.saved.serial.com1 in
-    rw (fitted.told, answered.told)
+    rw (fitted.told.told, answered.told)
     (by_reply serial.board.setup history old.roms asks.fits asks.bytes old.saved.identities said read after k within
     serial refl event fitted.step.reply says answered.answer)

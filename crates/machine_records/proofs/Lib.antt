@@ -6,7 +6,7 @@ pub mod Openings
 pub mod Identities
 pub mod Digits
 pub mod Filled
-pub mod LineLevels
+pub mod StepPulses
 pub mod Cycles
 pub mod Masters
 pub mod RomParts

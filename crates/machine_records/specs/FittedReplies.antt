@@ -14,6 +14,7 @@ use Rattle.machine_records.specs.declared.reply.ReplyRecord.{ReplyRecord}
 use Rattle.machine_records.specs.Numbers.{bus_reply, config_target}
 use Rattle.machine_records.specs.Events.{width_said}
 use Rattle.machine_records.specs.RomReplies.{with_roms}
+use Rattle.machine_records.specs.StepLines.{AreLinesTold}
 use Rattle.machine_records.specs.Steps.{IsAskedStep}
 
 -- a reply to a read of configuration data
@@ -38,12 +39,12 @@ identified_record identities event said =
 abbrev pub fitted_record : List FittedIdentity → (roms : List (List ℕ)) → EventRecord → ReplyRecord → ReplyRecord
 fitted_record identities roms event said = with_roms roms event (identified_record identities event said)
 
--- a step of the chipset with its serial port, and the record of its reply with these bytes
+-- a step of the chipset with its serial port, and the record of its reply with these bytes and the interrupt lines
 pub record IsFittedStep (identities : List FittedIdentity) (roms : List (List ℕ)) (old new : Serial Running)
     (event : EventRecord) (said : ReplyRecord) (asked : Happening) : Type 0 where
   pub plain : ReplyRecord
   pub step : IsAskedStep old new plain asked
-  pub told : said ≡ fitted_record identities roms event plain
+  pub told : AreLinesTold old.board new.board asked (fitted_record identities roms event plain) said
 
 -- something holds of the chipset with its serial port before and after, and the cards are the same
 pub record IsGoneOn (P : Serial Running → Serial Running → Type 0) (old new : MachineState) : Type 0 where

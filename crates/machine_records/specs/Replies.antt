@@ -74,7 +74,7 @@ pub record AfterStep : Type 0 where
   pub irq4 : Bool
   pub serial_room : Bool
 
--- what every record has of what stands after the step
+-- what every record has of what stands after the step, but for the interrupt lines, which are written last
 unfoldable pub blank : AfterStep → ReplyRecord
 blank after = record {
   value = 0;
@@ -95,7 +95,8 @@ blank after = record {
   has_sent = 0;
   irq4 = flag after.irq4;
   serial_room = flag after.serial_room;
-  reserved = 0;
+  lines = 0;
+  rose = 0;
 }
 
 abbrev pub with_value : ReplyRecord → Option ℕ → ReplyRecord
@@ -130,7 +131,8 @@ cleared said = record said {
   part3 = no_part;
   sent = 0;
   has_sent = 0;
-  reserved = 0;
+  lines = 0;
+  rose = 0;
 }
 
 abbrev pub with_cycle : ReplyRecord → Option ℕ → Target → Option Denial → ReplyRecord
@@ -158,6 +160,10 @@ with_after said after = record said {
   irq4 = flag after.irq4;
   serial_room = flag after.serial_room;
 }
+
+-- the levels of the interrupt lines after a step, and which of them rose in it
+abbrev pub with_lines : ReplyRecord → (lines rose : ℕ) → ReplyRecord
+with_lines said lines rose = record said { lines = lines; rose = rose }
 
 -- ---- the record of a reply
 

@@ -1,7 +1,7 @@
 -- Which reply a record says: none where a number of it names nothing, or does not fit where it goes. What a reply has
 -- no
 -- use for is not read, nor what stands after the step.
-use Rattle.std.specs.Prelude.{ℕ, ◌==◌, ◌^◌, nat_lt, nat_le, ◌&&◌, if◌then◌else◌, Option, Some, None}
+use Rattle.std.specs.Prelude.{ℕ, ◌==◌, ◌^◌, nat_lt, nat_le, if◌then◌else◌, Option, Some, None}
 use Rattle.board_prelude.specs.{Parts, Reply}
 use Rattle.board_spec.specs.declared.event.Parts.TheVariants as parts
 use Rattle.board_spec.specs.declared.event.Reply.TheVariants as replies
@@ -72,6 +72,6 @@ form_recorded said =
     else None)
     else None
 
--- what is kept for later versions is 0, and the flag of a value 0 or 1
+-- the flag of a value is 0 or 1
 unfoldable pub reply_recorded : ReplyRecord → Option Reply
-reply_recorded said = if (said.reserved == 0) && nat_le said.has_value 1 then form_recorded said else None
+reply_recorded said = if nat_le said.has_value 1 then form_recorded said else None

@@ -14,9 +14,11 @@ abbrev pub port_record : (kind port bytes value : ℕ) → EventRecord
 port_record kind port bytes value =
     record { value = value; addr = port; what = port_event; kind = kind; bytes = bytes; smm = 0; reserved = 0 }
 
--- after this reply the processor is asked for: INT is asserted, there was a reset, or COM1 sent a byte
+-- after this reply the processor is asked for: INT is asserted, an interrupt line rose, there was a reset, or COM1 sent
+-- a byte
 abbrev pub asks_back : ReplyRecord → Bool
-asks_back reply = (reply.interrupt == 1) || not (reply.reset == 0) || (reply.has_sent == 1)
+asks_back reply =
+    (reply.interrupt == 1) || not (reply.rose == 0) || not (reply.reset == 0) || (reply.has_sent == 1)
 
 -- a board does what a record asks, and this is its reply
 abbrev pub IsStep : EventRecord → (old new : MachineState) → ReplyRecord → Type 0

@@ -16,12 +16,14 @@ ghost use Rattle.machine_records.specs.Steps.{IsAskedStep, IsStepOutcome};
 
 use crate::event::{EventRecord, asked_of, cycle_of, look_of, port_of, wide_of};
 use crate::fitted_reply::fit_reply;
+use crate::lines::lines_of;
 use crate::numbers::{LOOK_EVENT, MEMORY_EVENT, PORT_EVENT};
 use crate::reply::{
     ReplyRecord, write_after, write_cycle, write_look, write_memory, write_port, write_reply,
     write_uart, write_wide,
 };
 use crate::status::{NO_EVENT, OK, SERIAL_FULL, fault_status};
+use crate::step_lines::{is_pulsed, tell_lines};
 use board_base::{Access, Kind, PortAccess, WideAccess};
 use board_chipset::{Chipset, ResetKind, test_memory, test_port, test_wide};
 use board_spec::Event;
@@ -29,10 +31,10 @@ use machine::Machine;
 use uart_16550::{Happening, SerialBoard, is_for_uart};
 
 /// Does what a record asks, and writes the reply to another: the chipset's, in which a read of configuration data has
-/// the bytes of the card's identity, and one of an expansion ROM those that it was given; what a guest writes to the
-/// address of one is lost. Refused with why where the record asks nothing (`NO_EVENT`), an event that is out of range,
+/// the bytes of the card's identity, and one of an expansion ROM those that it was given, and then the interrupt lines;
+/// what a guest writes to the address of an expansion ROM is lost. Refused with why where the record asks nothing (`NO_EVENT`), an event that is out of range,
 /// or a byte for which COM1 has no room (`SERIAL_FULL`); then nothing has changed.
-#[tactic(auto, using(crate::proofs::FittedSteps::fitted_step))]
+#[tactic(auto, using(crate::proofs::FittedSteps::fitted_step, crate::proofs::FittedSteps::lines_told))]
 #[inline(always)]
 pub fn step(machine: &mut Machine, event: &EventRecord, reply: &mut ReplyRecord) -> u32
     ensures outcome { IsOutcome result
@@ -41,8 +43,11 @@ pub fn step(machine: &mut Machine, event: &EventRecord, reply: &mut ReplyRecord)
         ((machine.new ≡ machine.old) × (reply.new ≡ reply.old)) }
     ensures same_roms { machine.new.roms ≡ machine.old.roms }
 {
+    let before = lines_of(machine.serial.board());
+    let is_pulsed = is_pulsed(machine.serial.board(), event);
     let status = asked(&mut machine.serial, event, reply);
     fit_reply(&machine.identities, &machine.roms, event, status, reply);
+    tell_lines(reply, machine.serial.board(), before, is_pulsed, status);
     status
 }
 

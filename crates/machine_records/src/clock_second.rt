@@ -9,9 +9,11 @@ ghost use Rattle.machine_records.specs.Statuses.{IsOutcome, no_time};
 
 use crate::asked_step::happened;
 use crate::event::EventRecord;
+use crate::lines::lines_of;
 use crate::numbers::TIME_EVENT;
 use crate::reply::ReplyRecord;
 use crate::status::{NO_TIME, OK};
+use crate::step_lines::tell_lines;
 use board_base::Moment;
 use board_chipset::Chipset;
 use board_spec::Event;
@@ -19,6 +21,7 @@ use uart_16550::SerialBoard;
 
 /// Lets the clock go on one second from what it shows, and writes the event by which it does and the reply. Refused with
 /// `NO_TIME` where SET holds its time, or its registers say no moment; then nothing has changed.
+#[tactic(auto, using(crate::proofs::FittedSteps::second_told))]
 pub fn second(
     serial: &mut SerialBoard<Chipset>,
     event: &mut EventRecord,
@@ -31,7 +34,9 @@ pub fn second(
     let Some(next) = serial.board().clock().next_second() else {
         return NO_TIME;
     };
+    let before = lines_of(serial.board());
     happened(serial, &Event::Time(next), reply);
+    tell_lines(reply, serial.board(), before, false, OK);
     *event = time_record(next);
     OK
 }

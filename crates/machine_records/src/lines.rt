@@ -1,16 +1,11 @@
 //! The levels of the interrupt lines, and what the serial port holds.
 
 ghost use Rattle.std.specs.Prelude.{◌≡◌, ◌≤◌, length, replicate};
-ghost use Rattle.board_prelude.specs.{byte_of_levels};
 ghost use Rattle.machine_records.specs.Maps.{filled};
 ghost use Rattle.machine_records.specs.Lines.{AreLinesOf, serial_state_said};
 
 use board_chipset::Chipset;
-use pic_pair::Lines;
 use uart_16550::SerialBoard;
-
-/// The interrupt lines are sixteen.
-const LINE_COUNT: u8 = 16;
 
 /// The most bytes that COM1 keeps.
 const MOST_RECEIVED: usize = 16;
@@ -37,24 +32,19 @@ pub struct SerialRecord {
     pub reserved: u32,
 }
 
-/// Sets bit k of `lines` to the level of interrupt line k, as the pair of 8259A hears it.
-#[tactic(auto, using(crate::proofs::LineLevels::sixteen_levels))]
+/// Sets bit k of `lines` to the level of interrupt line k, as it reached the pair of 8259A last.
 pub fn read_lines(chipset: &Chipset, lines: &mut u16)
     ensures read { AreLinesOf chipset.now lines.new }
 {
-    *lines = bits_of(&chipset.lines());
+    *lines = lines_of(chipset);
 }
 
-/// The number whose bit k is the level of line k.
-#[tactic(auto, using(std::proofs::lemmas::Grind::common_steps, crate::proofs::LineLevels::one_more_line, crate::proofs::LineLevels::level_number, crate::proofs::LineLevels::fits, crate::proofs::LineLevels::none_left))]
-fn bits_of(lines: &Lines) -> u16
-    ensures bits { length lines.now ≡ 16 → result ≡ byte_of_levels lines.now }
+/// The number whose bit k is the level of line k, as it reached the pair of 8259A last.
+#[inline(always)]
+pub(crate) fn lines_of(chipset: &Chipset) -> u16
+    ensures lines { AreLinesOf chipset.now result }
 {
-    let mut bits: u16 = 0;
-    for line in 0..LINE_COUNT {
-        bits = 2 * bits + u16::from(lines.level(LINE_COUNT - 1 - line));
-    }
-    bits
+    chipset.lines()
 }
 
 /// Sets `state` to what COM1 holds. Nothing is taken or cleared.

@@ -1,4 +1,5 @@
-//! Replies as records of numbers. A record has two halves: what answered, and what stands after the step.
+//! Replies as records of numbers. A record has two halves: what answered, and what stands after the step. Of that the
+//! interrupt lines are written last, by `step_lines`.
 
 ghost use Rattle.std.specs.Prelude.{◌≡◌, List, Some};
 ghost use Rattle.board_base.specs.declared.target.Denial.TheVariants.{Register};
@@ -41,7 +42,8 @@ pub struct PartRecord {
 /// A reply in numbers: what was read, where anything was; which reply it is (`BUS_REPLY` ..) and how many of its parts
 /// are filled; of a look the version of the map before it and the interval; the byte that COM1 sent, where it sent one;
 /// and what stands after the step: the version of the map, whether INT is asserted, the reset that the step made, the
-/// level of interrupt line 4, and whether COM1 has room for a byte.
+/// level of interrupt line 4, whether COM1 has room for a byte, the levels of the sixteen interrupt lines, and which of
+/// them rose in it.
 #[repr(C)]
 #[derive(Clone, Copy, Default)]
 pub struct ReplyRecord {
@@ -63,7 +65,8 @@ pub struct ReplyRecord {
     pub has_sent: u8,
     pub irq4: u8,
     pub serial_room: u8,
-    pub reserved: u32,
+    pub lines: u16,
+    pub rose: u16,
 }
 
 /// Writes what stands of a chipset with a serial port after a step that made this reset.
@@ -191,7 +194,8 @@ pub(crate) fn write_cycle(into: &mut ReplyRecord, reply: &BusReply)
     into.part3 = no_part();
     into.sent = 0;
     into.has_sent = 0;
-    into.reserved = 0;
+    into.lines = 0;
+    into.rose = 0;
 }
 
 /// Writes what answered a wide access.
@@ -239,7 +243,7 @@ pub(crate) fn write_uart(into: &mut ReplyRecord, value: Option<u8>, sent: Option
 
 /// Writes that nothing answered.
 #[inline(always)]
-fn clear(into: &mut ReplyRecord)
+pub(crate) fn clear(into: &mut ReplyRecord)
     ensures cleared { into.new ≡ cleared into.old }
 {
     into.value = 0;
@@ -255,7 +259,8 @@ fn clear(into: &mut ReplyRecord)
     into.part3 = no_part();
     into.sent = 0;
     into.has_sent = 0;
-    into.reserved = 0;
+    into.lines = 0;
+    into.rose = 0;
 }
 
 fn write_value(into: &mut ReplyRecord, value: u64)

@@ -139,7 +139,7 @@ fn form_recorded(record: &ReplyRecord) -> Option<Reply>
 pub fn reply_recorded(record: &ReplyRecord) -> Option<Reply>
     ensures said { result ≡ reply_recorded record.now }
 {
-    if record.reserved != 0 || record.has_value > 1 {
+    if record.has_value > 1 {
         return None;
     }
     form_recorded(record)

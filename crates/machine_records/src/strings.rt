@@ -126,11 +126,12 @@ fn done_or_refused(done: usize, status: u32) -> Result<usize, u32>
     if done == 0 { Err(status) } else { Ok(done) }
 }
 
-/// Whether the processor is asked for after a reply: INT is asserted, there was a reset, or COM1 sent a byte.
+/// Whether the processor is asked for after a reply: INT is asserted, an interrupt line rose, there was a reset, or COM1
+/// sent a byte.
 fn asks_back(reply: &ReplyRecord) -> bool
     ensures asks { result ≡ asks_back reply.now }
 {
-    reply.interrupt == 1 || reply.reset != NO_RESET || reply.has_sent == 1
+    reply.interrupt == 1 || reply.rose != 0 || reply.reset != NO_RESET || reply.has_sent == 1
 }
 
 /// The record of one access.

@@ -5,6 +5,7 @@ ghost use Rattle.device_spec.specs.Pair.{chip_answer, master_inputs, pair_at_res
 ghost use Rattle.device_spec.specs.Pair.{pair_after_lines, is_slave_port, is_odd_port, pair_written, pair_after_write};
 ghost use Rattle.device_spec.specs.Pair.{port_byte, pair_read, pair_after_read, answer_at, answer_of};
 ghost use Rattle.device_spec.specs.Pair.{pair_acknowledged, pair_after_acknowledge};
+ghost use Rattle.pic_pair.specs.Lines.{heard_lines};
 ghost use Rattle.pic_pair.specs.View.{answer_shown};
 
 use crate::chip::{CASCADE, Pic};
@@ -100,6 +101,14 @@ impl PicPair {
         self.slave
             .set_inputs(levels.slaves(), LevelSet::from_byte(high_triggers));
         self.settle();
+    }
+
+    /// The levels of the sixteen lines as they reached the pair last: bit k is that of line k. Line 2 reaches no input, so
+    /// that its bit is 0.
+    pub fn heard(&self) -> u16
+        ensures levels { result ≡ heard_lines self.now }
+    {
+        u16::from_le_bytes([self.master.inputs.byte(), self.slave.inputs.byte()])
     }
 
     /// Whether the master's INT is 1, which requests an interrupt of the processor.
