@@ -104,15 +104,24 @@ fn push_short(
 fn push_long_line(
     text: &mut String,
     n: u64,
-    entry: &Entry,
+    actor: u8,
+    seq: u32,
+    event: &Event,
+    reply: &Reply,
     access: &WideAccess,
 ) -> Result<(), NoMemory>
-    requires event { entry.now.event ≡ Wide access.now }
+    requires event { event.now ≡ Wide access.now }
     ensures appended { OnOk result (AddsWords text.old text.new
-        (line_text n entry.now ++ line_feed ∷ [])) }
+        (line_text n (entry_with actor seq event.now reply.now) ++ line_feed ∷ [])) }
     ensures front { OnErr result (KeepsFront text.old text.new) }
 {
-    push_long(text, n, entry, access)?;
+    let entry = Entry {
+        actor,
+        seq,
+        event: *event,
+        reply: *reply,
+    };
+    push_long(text, n, &entry, access)?;
     text.push('\n')?;
     Ok(())
 }
@@ -131,13 +140,7 @@ pub fn push_parts_line(
     ensures front { OnErr result (KeepsFront text.old text.new) }
 {
     if let Some(access) = long_access(event) {
-        let entry = Entry {
-            actor,
-            seq,
-            event: *event,
-            reply: *reply,
-        };
-        return push_long_line(text, n, &entry, access);
+        return push_long_line(text, n, actor, seq, event, reply, access);
     }
     push_short(text, n, actor, seq, event, reply)
 }

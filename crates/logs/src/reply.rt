@@ -26,6 +26,7 @@ pub(crate) fn reply_bytes(event: &Event) -> u32
 }
 
 /// Puts the value of a reply, or `-` for none.
+#[inline(always)]
 fn put_value(line: &mut Tail, bytes: u32, value: Option<u64>)
     requires few { bytes ≤ 8 }
     requires room { HasRoom line.old 16 }
@@ -60,6 +61,7 @@ pub(crate) fn push_interval(text: &mut String, lo: u32, hi: u32) -> Result<(), N
 }
 
 /// Puts the interval that a look saw and its area, each after a space.
+#[inline(always)]
 fn put_seen(line: &mut Tail, look: Look)
     requires room { HasRoom line.old 48 }
     ensures words { line.new
@@ -73,6 +75,7 @@ fn put_seen(line: &mut Tail, look: Look)
 }
 
 /// Puts what a look saw: how many map writes came before, the ends of the interval, and its area.
+#[inline(always)]
 pub(crate) fn put_look(line: &mut Tail, look: Look)
     requires room { HasRoom line.old 70 }
     ensures words { line.new ≡ look_text look ++ line.old }
@@ -185,6 +188,7 @@ pub(crate) fn put_parts(line: &mut Tail, parts: &Parts)
 }
 
 /// Puts a reply. A value has two digits for each of `bytes` bytes.
+#[inline(always)]
 #[tactic(auto, unfolding(board_spec::specs::LogText::reply_text))]
 pub(crate) fn put_reply(line: &mut Tail, bytes: u32, reply: &Reply)
     requires few { bytes ≤ 8 }

@@ -90,6 +90,7 @@ fn put_memory(line: &mut Tail, kind: Kind, bytes: u32, addr: u32, value: u64, sm
 }
 
 /// Puts an access to memory that one bus cycle moves.
+#[inline(always)]
 fn put_access(line: &mut Tail, access: &Access)
     requires room { HasRoom line.old 33 }
     ensures words { line.new ≡ access_text access.now ++ line.old }
@@ -137,6 +138,7 @@ fn put_verb(line: &mut Tail, write: bool)
 }
 
 /// Puts an access to a port, like `out d 0CF8 80000058`.
+#[inline(always)]
 fn put_port(line: &mut Tail, access: &PortAccess)
     requires room { HasRoom line.old 27 }
     ensures words { line.new ≡ port_text access.now ++ line.old }
@@ -150,6 +152,7 @@ fn put_port(line: &mut Tail, access: &PortAccess)
 }
 
 /// Puts a look at the address map, like `look r 000F0000`.
+#[inline(always)]
 fn put_look_at(line: &mut Tail, kind: Kind, addr: u32, smm: bool)
     requires room { HasRoom line.old 19 }
     ensures words { line.new ≡ codes "look " ++ kind_text kind ++ space ∷ hex_long addr ++ smm_text smm ++ line.old }
@@ -268,6 +271,7 @@ fn put_found(line: &mut Tail, found: Option<Applied>)
 }
 
 /// Puts an event as the statement that asks for it, without its processor.
+#[inline(always)]
 #[tactic(auto, unfolding(board_spec::specs::LogText::event_text))]
 pub(crate) fn put_event(line: &mut Tail, event: &Event)
     requires short { HasShortValue event.now }

@@ -1,13 +1,15 @@
 //! The ranges of the map at the end, watched while the changes are made one after another.
 ghost use Rattle.std.specs.Prelude.{◌≡◌, ◌<◌, ℕ, true, false, [], length, map, reverse, slice_index_or, All, IfOk};
-ghost use Rattle.board_prelude.specs.{entry_limit, Setup, IsCardList, Bytes, IsRight};
-ghost use Rattle.addr_decode.specs.MapRegs.{StandsFor};
+ghost use Rattle.board_prelude.specs.{entry_limit, Setup, IsCardList, Bytes, IsRight, registers_after};
+ghost use Rattle.pci_bars.specs.Cards.{AreFitted};
+ghost use Rattle.addr_decode.specs.MapRegs.{StandsFor, map_bytes};
 ghost use Rattle.map_builder.specs.Map.{range_of};
 ghost use Rattle.map_blame.specs.Report.{AreBlamed};
 ghost use Rattle.map_blame.specs.Watch.{IsInterval, IsWatchable, IsAfter, IsWatched, IsWatchedOn};
 ghost use Rattle.map_blame.specs.declared.watch.Watched.{Watched};
 
 use crate::blamed::Blamed;
+use addr_decode::MapRegs;
 use board_base::NoMemory;
 use board_spec::MapChange;
 use map_builder::{Changed, FlatMap, Range, index_of};
@@ -37,16 +39,25 @@ pub fn blamed_ranges(
     all_blamed(alloc, &watched)
 }
 
-/// A map after some changes.
+/// The map after some changes to one after a reset. It is built once, from the registers after the last change.
 fn changed_map(map: &FlatMap, changes: &[MapChange]) -> FlatMap
-    requires count { length changes.now < entry_limit }
     ensures after { (setup : Setup) → IsAfter setup [] map.now → IsAfter setup (reverse changes.now) result }
 {
-    let mut map = map.copy();
+    FlatMap::from_scratch(changed_regs(map.regs(), changes))
+}
+
+/// The registers after some changes to those after a reset.
+fn changed_regs(regs: &MapRegs, changes: &[MapChange]) -> MapRegs
+    requires cards { AreFitted regs.now.cards.items }
+    ensures fitted { AreFitted result.cards.items }
+    ensures after { (setup : Setup) → StandsFor setup (registers_after setup []) (map_bytes regs.now)
+        → StandsFor setup (registers_after setup (reverse changes.now)) (map_bytes result) }
+{
+    let mut regs = regs.copy();
     for change in changes {
-        map.apply(change);
+        regs.apply(change);
     }
-    map
+    regs
 }
 
 /// Begins to watch some ranges, by the map after a reset.
