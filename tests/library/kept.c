@@ -79,13 +79,19 @@ static void add_field(char *line) {
     wanted_count += it->bytes;
 }
 
-/* another value of a field, of as many bytes */
+/* another value of a field, which may have more bytes than it had, or fewer */
 static void change_field(char *line) {
+    static uint8_t bytes[MOST_BYTES];
     char *colon = strchr(line, ':');
     if (!colon) fail("a line changes no field");
     *colon = 0;
     field *it = named(line);
-    if (put_bytes(wanted + it->at, colon + 1) != it->bytes) fail("a change has another length");
+    size_t old = it->bytes, rest = it->at + old;
+    it->bytes = put_bytes(bytes, colon + 1);
+    memmove(wanted + it->at + it->bytes, wanted + rest, wanted_count - rest);
+    memcpy(wanted + it->at, bytes, it->bytes);
+    wanted_count = wanted_count - old + it->bytes;
+    for (field *later = it + 1; later < fields + field_count; later++) later->at = later->at - old + it->bytes;
 }
 
 /* ---- events */
@@ -239,7 +245,37 @@ static void fourth(void) {
     out(0xA1, 0x28), out(0xA1, 0x02);
 }
 
-static void (*const later[])(void) = {second, third, fourth};
+/* What a counter has in store, the alarm, a write of the disk under way, and of the modem's inputs DSR alone. */
+static void fifth(void) {
+    out(0x43, 0x58), out(0x41, 0x01);                   /* counter 1: mode 4, and both pulses of its count */
+    happen(BOARD_PULSE, 0, 2);
+    out(0x43, 0x38), out(0x40, 0x77), out(0x40, 0x66);  /* counter 0: mode 4, and a count that no pulse has loaded */
+    out(0x61, 0x00);
+    out(0x43, 0x9A), out(0x42, 0x05);                   /* counter 2: mode 5, and its gate rises */
+    out(0x61, 0x01);
+    happen(BOARD_TIME, 0, 20261201224342);
+    static const uint8_t registers[] = {0x01, 0x01, 0x00, 0x00, 0xE0};
+    for (uint16_t k = 0; k < 5; k++) out(0x1F2 + k, registers[k]);
+    out(0x1F7, 0x30);
+    must("a word of the disk", board_out(&b, 0x1F0, 2, 0xB2B1, &reply));
+    must("a word of the disk", board_out(&b, 0x1F0, 2, 0xB4B3, &reply));
+    in(0x3FE);
+    out(0x3FC, 0x13);
+}
+
+/* RI falls, and THR is empty again */
+static void sixth(void) {
+    out(0x3FC, 0x17), in(0x3FE), out(0x3FC, 0x13);
+    out(0x3F8, 0x6A);
+}
+
+/* DCD alone */
+static void seventh(void) {
+    in(0x3FE);
+    out(0x3FC, 0x1B);
+}
+
+static void (*const later[])(void) = {second, third, fourth, fifth, sixth, seventh};
 
 /* ---- read back */
 

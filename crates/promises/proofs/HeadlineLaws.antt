@@ -1,20 +1,24 @@
 -- The headline can be met, leaves `replay` one text, and is what `check` accepts.
-use Rattle.std.proofs.Common.{◌≡◌, ℕ, List, arith, sym, refl}
+use Rattle.std.proofs.Common.{◌≡◌, ℕ, List, All, arith, sym, refl}
 use Rattle.board_prelude.proofs.{nat_tests}
 use Rattle.board_spec.specs.declared.event.Entry.{Entry}
 use Rattle.board_spec.specs.declared.event.Event.{Event}
+use Rattle.board_spec.specs.declared.event.Statement.{Statement}
 use Rattle.board_spec.specs.Setup.{Setup}
+use Rattle.board_spec.specs.Legal.{IsLegal}
 use Rattle.board_spec.specs.Orders.{IsReplayOf}
 use Rattle.board_spec.specs.Laws.{OneReplay, SomeReplay, LegalKeepsLock, IsAddressed}
 use Rattle.board_spec.specs.InRange.{IsInRange}
 use Rattle.board_spec.specs.OrderLaws.{in_file_order}
 use Rattle.board_spec.specs.LogText.{log_text}
 use Rattle.board_spec.proofs.OrderLawProofs.{replay_is_complete}
-use Rattle.script_spec.specs.ScriptText.{Script}
+use Rattle.script_spec.specs.ScriptText.{Script, IsScriptText}
 use Rattle.script_spec.specs.Laws.{OneScript, ScriptsAreInRange}
-use Rattle.promises.specs.Headline.{board_for, IsHeadline, InFileOrder}
-use Rattle.promises.specs.Laws.{LooksAtAddress, SomeReplayLog, OneReplayLog, ReplaysAreAccepted, RunsAreAccepted}
+use Rattle.promises.specs.Headline.{board_for, IsHeadline, InFileOrder, InRunOrder}
+use Rattle.promises.specs.Laws.{SomeReplayLog, SomeRunLog, OneReplayLog, ReplaysAreAccepted, RunsAreAccepted}
 use Rattle.promises.specs.Laws.{AcceptedAreLogged}
+use Rattle.promises.proofs.Addresses.{LooksAtAddress, looks_at_addresses}
+use Rattle.promises.proofs.RunOrders.{some_run}
 use Rattle.promises.proofs.Headlines.{looks_show}
 
 -- ---- it can be met
@@ -22,27 +26,54 @@ use Rattle.promises.proofs.Headlines.{looks_show}
 addressed : (setup : Setup) (event : Event) → IsInRange setup event → LooksAtAddress event → IsAddressed event
 addressed setup event in_range look = grind (arith, nat_tests)
 
-pub some_replay_log : SomeReplay → LegalKeepsLock → ScriptsAreInRange → SomeReplayLog
-some_replay_log some_replay keeps in_range = λ files name script spelled look.
-    let setup = board_for files script in
-    let scripted = (in_range (files name) script spelled).each setup refl in
-    let found =
-    some_replay setup (in_file_order script.phases)
-    (λ i d within. addressed setup _ (scripted i d within).event (look i d within)) in (
-      log_text script.version found.history,
+-- the log of a legal history with such an order
+logged : LegalKeepsLock → (InOrder : Setup → List (List Statement) → List Entry → Type 0) →
+    (files : List ℕ → List ℕ) (name : List ℕ) (script : Script) → IsScriptText (files name) script →
+    (history : List Entry) → IsLegal (board_for files script) history →
+    InOrder (board_for files script) script.phases history →
+    (log : List ℕ) × IsHeadline InOrder files name log
+logged keeps InOrder files name script spelled history legal order =
+    let setup = board_for files script in (
+      log_text script.version history,
       record {
         script = script;
         spelled = spelled;
         said = record {
-          history = found.history;
-          order = found.replay.same;
-          legal = found.replay.legal;
-          looks = looks_show setup found.history found.replay.legal;
-          locked = keeps setup found.history found.replay.legal;
+          history = history;
+          order = order;
+          legal = legal;
+          looks = looks_show setup history legal;
+          locked = keeps setup history legal;
           text = refl;
         };
       },
     )
+
+module _ (some_replay : SomeReplay) (keeps : LegalKeepsLock) (in_range : ScriptsAreInRange) where
+  -- what a script says can be asked of its board
+  all_addressed : (files : List ℕ → List ℕ) (name : List ℕ) (script : Script) → IsScriptText (files name) script →
+      All (λ statement. IsAddressed statement.event) (in_file_order script.phases)
+  all_addressed files name script spelled =
+      let setup = board_for files script in
+      let scripted = (in_range (files name) script spelled).each setup refl in
+      let look = looks_at_addresses (files name) script spelled in
+      λ i d within. addressed setup _ (scripted i d within).event (look i d within)
+
+  pub some_replay_log : SomeReplayLog
+  some_replay_log = λ files name script spelled.
+      let setup = board_for files script in
+      let found =
+      some_replay setup (in_file_order script.phases) (all_addressed files name script spelled) in
+      logged keeps InFileOrder files name script spelled found.history found.replay.legal found.replay.same
+
+  pub some_run_log : SomeRunLog
+  some_run_log = λ files name script spelled.
+      let setup = board_for files script in
+      let scripted = (in_range (files name) script spelled).each setup refl in
+      let found =
+      some_run some_replay setup script.phases script.cpus (all_addressed files name script spelled)
+      (λ i d within. (scripted i d within).actor) in
+      logged keeps InRunOrder files name script spelled found.history found.legal found.order
 
 -- ---- it leaves one text
 
@@ -92,15 +123,25 @@ runs_are_accepted = λ files name log is. record {
 }
 
 pub accepted_are_logged : LegalKeepsLock → AcceptedAreLogged
-accepted_are_logged keeps = λ files name log is. record {
-  script = is.script;
-  spelled = is.spelled;
-  said = record {
-    history = is.history;
-    order = is.order;
-    legal = is.legal;
-    looks = looks_show (board_for files is.script) is.history is.legal;
-    locked = keeps (board_for files is.script) is.history is.legal;
-    text = is.text;
-  };
-}
+accepted_are_logged keeps = λ files name log. (
+  λ is. record {
+    script = is.script;
+    spelled = is.spelled;
+    said = record {
+      history = is.history;
+      order = is.order;
+      legal = is.legal;
+      looks = looks_show (board_for files is.script) is.history is.legal;
+      locked = keeps (board_for files is.script) is.history is.legal;
+      text = is.text;
+    };
+  },
+  λ is. record {
+    script = is.script;
+    spelled = is.spelled;
+    history = is.said.history;
+    order = is.said.order;
+    legal = is.said.legal;
+    text = is.said.text;
+  },
+)

@@ -8,10 +8,12 @@ use Rattle.board_spec.specs.Setup.{Setup}
 use Rattle.board_spec.specs.Legal.{IsLegal}
 use Rattle.board_spec.specs.Answer.{IsAnswer}
 use Rattle.script_spec.specs.ScriptText.{Script, IsScriptText}
-use Rattle.command_words.specs.Words.{Command, Run, Replay, Check, Resume, IsCommand, AreWordsOf, command_of}
+use Rattle.command_words.specs.Words.{Command, Run, Replay, Map, Check, Dma, Save, Resume, Serial, Blame, IsCommand}
+use Rattle.command_words.specs.Words.{AreWordsOf, command_of}
+use Rattle.command_words.specs.declared.transfer.Transfer.{Transfer}
 use Rattle.command_words.proofs.WordLaws.{words_decide}
 use Rattle.command_files.specs.declared.status.Which.TheVariants.{Script as ScriptFile, Rom, Disk}
-use Rattle.command_files.specs.declared.status.Which.TheVariants.{Log as LogFile, Image as ImageFile}
+use Rattle.command_files.specs.declared.status.Which.TheVariants.{Log as LogFile, Image as ImageFile, Input as InputFile}
 use Rattle.command_files.specs.declared.status.Status.{Status}
 use Rattle.command_files.specs.declared.status.Status.TheVariants.{Done}
 use Rattle.command_files.specs.Known.{Known, nothing_known, Passes, rom_name, disk_name, board_of, Learns, OfScript}
@@ -20,15 +22,18 @@ use Rattle.command_files.specs.Outcomes.{ShelfCall}
 use Rattle.command_files.specs.Asked.{BoardsAgree}
 use Rattle.board_commands.specs.Outcomes.{IsCaused, SinkCall, PutsText as PutsOf}
 use Rattle.board_commands.specs.Texts.{IsCommandText, IsRunText}
-use Rattle.command_texts.specs.Replays.{IsReplayText, IsLegalText}
-use Rattle.command_texts.specs.Images.{IsResumeText}
+use Rattle.command_texts.specs.Replays.{IsReplayText, IsLegalText, IsMapText}
+use Rattle.command_texts.specs.Images.{IsResumeText, IsSaveText}
+use Rattle.command_texts.specs.Transfers.{IsTransferText}
+use Rattle.command_texts.specs.Serial.{IsSerialText}
+use Rattle.command_texts.specs.Blame.{IsBlameText}
 use Rattle.board_image.specs.ImageBytes.{Saved, image_bytes}
 use Rattle.script_spec.specs.Boards.{IsForBoard}
 use Rattle.std.specs.Io.KnownBytes.{Appends}
 use Rattle.command_files.proofs.Refusals.{at_files}
 use Rattle.promises.proofs.LookPlaces.{all_stand}
 use Rattle.promises.specs.Headline.{board_for, Each, IsTrueLook, InRunOrder, InFileOrder, IsHeadline}
-use Rattle.promises.specs.Accepted.{IsVerdict, IsResumed, IsTextOf, PutsText}
+use Rattle.promises.specs.Accepted.{IsVerdict, IsResumed, OnBoard, IsTextOf, PutsText}
 
 -- ---- the files
 
@@ -51,12 +56,12 @@ module _ (files : List ℕ → List ℕ) where
   disk_learnt script before now is passes = grind (arith, nat_tests)
 
   -- the script is what the file spells, and all that is known comes from the files that it names
-  record Learnt (name : List ℕ) (known : Known) : Type 0 where
+  pub record Learnt (name : List ℕ) (known : Known) : Type 0 where
     pub script : Script
     pub spelled : IsScriptText (files name) script
     pub known_is : known ≡ with_disk script
 
-  learnt : (name : List ℕ) (one two three known : Known) → one ≡ nothing_known →
+  pub learnt : (name : List ℕ) (one two three known : Known) → one ≡ nothing_known →
       Passes files one ScriptFile (Some name) two → Passes files two Rom (rom_name two.script) three →
       Passes files three Disk (disk_name three.script) known → Learnt name known
   learnt name one two three known is first second third =
@@ -74,6 +79,13 @@ module _ (files : List ℕ → List ℕ) where
   pub log_learnt : (script : Script) (log : List ℕ) (before now : Known) → before ≡ with_disk script →
       Passes files before LogFile (Some log) now → now ≡ with_log script log
   log_learnt script log before now is passes = grind (arith, nat_tests)
+
+  abbrev pub with_input : Script → List ℕ → Known
+  with_input script input = record (with_disk script) { input = files input }
+
+  pub input_learnt : (script : Script) (input : List ℕ) (before now : Known) → before ≡ with_disk script →
+      Passes files before InputFile (Some input) now → now ≡ with_input script input
+  input_learnt script input before now is passes = grind (arith, nat_tests)
 
 -- ---- the history
 
@@ -94,13 +106,21 @@ read_board : (files : List ℕ → List ℕ) (script other : Script) (known : Kn
     known.script ≡ Some other → (other ≡ script) × (board_of known other ≡ board_for files script)
 read_board files script other known is has = grind (arith, nat_tests)
 
-record IsLogged (files : List ℕ → List ℕ) (script other : Script) (log : List ℕ) (known : Known) : Type 0 where
+pub record IsLogged (files : List ℕ → List ℕ) (script other : Script) (log : List ℕ) (known : Known) : Type 0 where
   pub board : (other ≡ script) × (board_of known other ≡ board_for files script)
   pub log_is : known.log ≡ files log
 
-logged_board : (files : List ℕ → List ℕ) (script other : Script) (log_name : List ℕ) (known : Known) →
+pub logged_board : (files : List ℕ → List ℕ) (script other : Script) (log_name : List ℕ) (known : Known) →
     known ≡ with_log files script log_name → known.script ≡ Some other → IsLogged files script other log_name known
 logged_board files script other log_name known is has = grind (arith, nat_tests)
+
+record IsGiven (files : List ℕ → List ℕ) (script other : Script) (input : List ℕ) (known : Known) : Type 0 where
+  pub board : (other ≡ script) × (board_of known other ≡ board_for files script)
+  pub input_is : known.input ≡ files input
+
+given_board : (files : List ℕ → List ℕ) (script other : Script) (input : List ℕ) (known : Known) →
+    known ≡ with_input files script input → known.script ≡ Some other → IsGiven files script other input known
+given_board files script other input known is has = grind (arith, nat_tests)
 
 -- ---- `resume`
 
@@ -241,6 +261,74 @@ module _ (files : List ℕ → List ℕ) (name : List ℕ) where
         said = is.said;
       }
 
+  -- what is said of the script that was read, on the board of what is known
+  of_read : (P : Setup → Script → Type 0) (script other : Script) (setup : Setup) →
+      IsScriptText (files name) script → other ≡ script → setup ≡ board_for files script → P setup other →
+      OnBoard files name P
+  of_read P script other setup spelled other_is setup_is says =
+      let of_script = rw other_is at says in
+      let of_setup = rw setup_is at of_script in record { script = script; spelled = spelled; holds = of_setup }
+
+  on_board : (P : Setup → Script → Type 0) (one two three known : Known) → one ≡ nothing_known →
+      Passes files one ScriptFile (Some name) two → Passes files two Rom (rom_name two.script) three →
+      Passes files three Disk (disk_name three.script) known → OfScript known (λ script. P (board_of known script)
+      script) → OnBoard files name P
+  on_board P one two three known is first second third (other, has, says) =
+      let got = learnt files name one two three known is first second third in
+      let same = read_board files got.script other known got.known_is has in
+      of_read P got.script other (board_of known other) got.spelled same.0 same.1 says
+
+  map_text : (text : List ℕ) → IsCommandText (Map name) files text →
+      OnBoard files name (λ setup script. IsMapText setup script text)
+  map_text text is =
+      let third = is.read in
+      let second = third.1 in
+      let first = second.1 in
+      on_board (λ setup script. IsMapText setup script text) first.0 second.0 third.0 is.known first.1 first.2
+      second.2 third.2 is.says
+
+  dma_text : (transfer : Transfer) (text : List ℕ) → IsCommandText (Dma name transfer) files text →
+      OnBoard files name (λ setup script. IsTransferText setup script transfer text)
+  dma_text transfer text is =
+      let third = is.read in
+      let second = third.1 in
+      let first = second.1 in
+      on_board (λ setup script. IsTransferText setup script transfer text) first.0 second.0 third.0 is.known first.1 first.2
+      second.2 third.2 is.says
+
+  save_text : (text : List ℕ) → IsCommandText (Save name) files text →
+      OnBoard files name (λ setup script. IsSaveText setup script text)
+  save_text text is =
+      let third = is.read in
+      let second = third.1 in
+      let first = second.1 in
+      on_board (λ setup script. IsSaveText setup script text) first.0 second.0 third.0 is.known first.1 first.2
+      second.2 third.2 is.says
+
+  blame_text : (text : List ℕ) → IsCommandText (Blame name) files text →
+      OnBoard files name (λ setup script. IsBlameText setup script text)
+  blame_text text is =
+      let third = is.read in
+      let second = third.1 in
+      let first = second.1 in
+      on_board (λ setup script. IsBlameText setup script text) first.0 second.0 third.0 is.known first.1 first.2
+      second.2 third.2 is.says
+
+  serial_text : (input text : List ℕ) → IsCommandText (Serial name input) files text →
+      OnBoard files name (λ setup script. IsSerialText setup script (files input) text)
+  serial_text input text is =
+      let fourth = is.read in
+      let third = fourth.1 in
+      let second = third.1 in
+      let first = second.1 in
+      let got = learnt files name first.0 second.0 third.0 fourth.0 first.1 first.2 second.2 third.2 in
+      let known_is = input_learnt files got.script input fourth.0 is.known got.known_is fourth.2 in
+      let said = is.says in
+      let same = given_board files got.script said.0 input is.known known_is said.1 in
+      let of_input = rw same.input_is at said.2 in
+      of_read (λ setup script. IsSerialText setup script (files input) text) got.script said.0
+      (board_of is.known said.0) got.spelled same.board.0 same.board.1 of_input
+
   replay_text : (text : List ℕ) → IsCommandText (Replay name) files text → IsHeadline InFileOrder files name text
   replay_text text is =
       let third = is.read in
@@ -280,6 +368,11 @@ text_of files (Replay name) text is = replay_text files name text is
 text_of files (Run name) text is = run_text files name text is
 text_of files (Check name log) text is = check_text files name log text is
 text_of files (Resume image name) text is = resume_text files image name text is
+text_of files (Map name) text is = map_text files name text is
+text_of files (Dma name transfer) text is = dma_text files name transfer text is
+text_of files (Save name) text is = save_text files name text is
+text_of files (Serial name input) text is = serial_text files name input text is
+text_of files (Blame name) text is = blame_text files name text is
 text_of files _ text is = is
 
 module _ (files : List ℕ → List ℕ) (put_before put_now : List ℕ) (shelf : ShelfCall) (sink : SinkCall)

@@ -1,6 +1,9 @@
 pub mod LookPlaces
 pub mod Headlines
+pub mod RunOrders
+pub mod Addresses
 pub mod HeadlineLaws
+pub mod DoneLaws
 pub mod Totals
 pub mod Programs
 pub mod CallerPlaces

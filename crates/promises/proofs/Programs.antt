@@ -8,7 +8,10 @@ use Rattle.std.specs.Io.KnownBytes.{Keeps}
 use Rattle.board_spec.specs.Text.{line_feed}
 use Rattle.command_words.specs.Words.{Command, IsCommand, AreWordsOf, command_of}
 use Rattle.command_files.specs.declared.status.Status.{Status}
-use Rattle.command_files.specs.declared.status.Status.TheVariants.{Done, Usage, NoMemory}
+use Rattle.command_files.specs.declared.status.Which.{Which}
+use Rattle.command_files.specs.declared.status.Status.TheVariants.{Done, Usage, NoMemory, ReadFault, WriteFault}
+use Rattle.command_files.specs.Asked.{AsksFor}
+use Rattle.board_outside.specs.Outside.{Rose}
 use Rattle.command_files.specs.Status.{code_of}
 use Rattle.command_files.specs.Outcomes.{ShelfCall}
 use Rattle.command_files.specs.FaultText.{text_of}
@@ -16,13 +19,14 @@ use Rattle.board_commands.specs.Outcomes.{SinkCall, IsCaused}
 use Rattle.board_main.specs.declared.line.WordFault.{WordFault}
 use Rattle.board_main.specs.declared.line.WordFault.TheVariants.{NoText, NoRoom}
 use Rattle.board_main.specs.Given.{AreRead, status_of_words}
-use Rattle.board_main.specs.Ends.{EndsAfter, EndsProgram}
+use Rattle.board_main.specs.declared.answers.OwnAnswer.{OwnAnswer}
+use Rattle.board_main.specs.Ends.{Ends, EndsAfter, EndsProgram, IsWritten}
 use Rattle.board_main.specs.Outputs.{IsIdle, TookAll, TookFront}
-use Rattle.board_main.specs.Own.{own_of}
+use Rattle.board_main.specs.Own.{own_of, own_text}
 use Rattle.promises.specs.Accepted.{PutsText}
-use Rattle.promises.specs.Totality.{AreNoCommand, Told, IsCause, Leaves, WritesFront}
+use Rattle.promises.specs.Totality.{AreNoCommand, Told, IsCause, Leaves, CanEndSo, WritesFront}
 use Rattle.promises.proofs.Headlines.{puts_text}
-use Rattle.promises.proofs.Totals.{ends_so, no_command, found}
+use Rattle.promises.proofs.Totals.{ends_so, no_command, found, comes, possible}
 
 is_done : (status : Status) → 0 ≡ code_of status → status ≡ Done
 is_done status e = grind (arith, nat_tests)
@@ -56,6 +60,45 @@ module _ (shelf : ShelfCall) (sink errors : SinkCall) (given : Option (List (Lis
         let caused = done_by is.ends.words coded (rw given_is at read) is.ends.ends in
         puts_text files before now shelf sink told took takes words command is.status there are caused
         (is_done is.status coded)
+
+    module _ (texts : All IsUtf8 words) where
+      comes_by : (read : Result (List (List ℕ)) WordFault) (files : List ℕ → List ℕ) (wanted : Status) →
+          shelf.files ≡ Some files → AreRead (Some words) read → EndsAfter read is.status shelf sink →
+          AsksFor command files wanted → ¬ Rose shelf.faults_before shelf.faults_now →
+          (wanted ≡ Done → ¬ Rose sink.faults_before sink.faults_now) →
+          (is.status ≡ wanted) ⊎ (is.status ≡ NoMemory)
+      comes_by (Ok others) files wanted told same ends asks quiet_shelf quiet_sink =
+          let of_words = rw same at ends in
+          comes words command shelf.files files is.status wanted _ _ there are told
+          (of_words.command (not_own words command are)).exact asks quiet_shelf quiet_sink
+      comes_by (Err NoText) files wanted told bad ends asks quiet_shelf quiet_sink = absurd (bad texts)
+      comes_by (Err NoRoom) files wanted told bad ends asks quiet_shelf quiet_sink = inr ends.0
+
+      code_so : (wanted : Status) → (is.status ≡ wanted) ⊎ (is.status ≡ NoMemory) →
+          (code ≡ code_of wanted) ⊎ (code ≡ 8)
+      code_so wanted (inl ends) = inl (is.coded ∙ ap code_of ends)
+      code_so wanted (inr memory) = inr (is.coded ∙ ap code_of memory)
+
+      pub comes_so : (files : List ℕ → List ℕ) (wanted : Status) → shelf.files ≡ Some files →
+          AsksFor command files wanted → ¬ Rose shelf.faults_before shelf.faults_now →
+          (wanted ≡ Done → ¬ Rose sink.faults_before sink.faults_now) → (code ≡ code_of wanted) ⊎ (code ≡ 8)
+      comes_so files wanted told asks quiet_shelf quiet_sink =
+          let read = is.ends.read in
+          code_so wanted (comes_by is.ends.words files wanted told (rw given_is at read) is.ends.ends asks quiet_shelf
+          quiet_sink)
+
+      possible_by : (read : Result (List (List ℕ)) WordFault) → AreRead (Some words) read →
+          EndsAfter read is.status shelf sink → CanEndSo command is.status
+      possible_by (Ok others) same ends =
+          let of_words = rw same at ends in
+          possible words command is.status there are (of_words.command (not_own words command are)).caused.possible
+      possible_by (Err NoText) bad ends = absurd (bad texts)
+      possible_by (Err NoRoom) bad ends = rw ends.0 tt
+
+      pub possible_so : (status : Status) × (code ≡ code_of status) × CanEndSo command status
+      possible_so =
+          let read = is.ends.read in
+          (is.status, is.coded, possible_by is.ends.words (rw given_is at read) is.ends.ends)
 
     module _ (told : Told) (files_told : shelf.files ≡ Some told.files)
         (failed_told : shelf.failed_name ≡ told.failed_name)
@@ -114,6 +157,46 @@ module _ (shelf : ShelfCall) (sink errors : SinkCall) (given : Option (List (Lis
   pub no_command_so : own_of words ≡ None → AreNoCommand words → (code ≡ 1) ⊎ (code ≡ 8)
   no_command_so own none =
       let read = is.ends.read in coded_so (no_command_by is.ends.words own none (rw given_is at read) is.ends.ends)
+
+-- ---- no fault is hidden
+
+module _ (shelf : ShelfCall) (sink : SinkCall) (status : Status) where
+  read_by : (words : List (List ℕ)) (own : Option OwnAnswer) → own_of words ≡ own → Ends words status shelf sink →
+      ((which : Which) → status ≢ ReadFault which) → shelf.faults_now ≡ shelf.faults_before
+  read_by words None none ends other = (ends.command none).caused.no_fault_hidden other
+  read_by words (Some own) is ends other = (ends.own own is).unread
+
+  written_quiet : (text : List ℕ) (ended : Status) → IsWritten ended text sink → ended ≢ WriteFault →
+      sink.faults_now ≡ sink.faults_before
+  written_quiet text Done written other = written.quiet
+  written_quiet text WriteFault written other = absurd (other refl)
+  written_quiet text _ written other = absurd written
+
+  put_by : (words : List (List ℕ)) (own : Option OwnAnswer) → own_of words ≡ own → Ends words status shelf sink →
+      status ≢ WriteFault → sink.faults_now ≡ sink.faults_before
+  put_by words None none ends other = (ends.command none).caused.no_put_fault_hidden other
+  put_by words (Some own) is ends other = written_quiet (own_text own) status (ends.own own is).written other
+
+  read_after : (read : Result (List (List ℕ)) WordFault) → EndsAfter read status shelf sink →
+      ((which : Which) → status ≢ ReadFault which) → shelf.faults_now ≡ shelf.faults_before
+  read_after (Ok words) ends other = read_by words (own_of words) refl ends other
+  read_after (Err fault) ends other = ends.1
+
+  put_after : (read : Result (List (List ℕ)) WordFault) → EndsAfter read status shelf sink → status ≢ WriteFault →
+      sink.faults_now ≡ sink.faults_before
+  put_after (Ok words) ends other = put_by words (own_of words) refl ends other
+  put_after (Err fault) ends other = ends.2.quiet
+
+module _ (shelf : ShelfCall) (sink errors : SinkCall) (given : Option (List (List ℕ))) (code : ℕ)
+    (is : EndsProgram given code shelf sink errors) where
+  pub read_so : code ≢ 2 → shelf.faults_now ≡ shelf.faults_before
+  read_so other =
+      read_after shelf sink is.status is.ends.words is.ends.ends
+      (λ which fault. other (is.coded ∙ ap code_of fault))
+
+  pub put_so : code ≢ 3 → sink.faults_now ≡ sink.faults_before
+  put_so other =
+      put_after shelf sink is.status is.ends.words is.ends.ends (λ fault. other (is.coded ∙ ap code_of fault))
 
 -- ---- standard error
 

@@ -176,15 +176,15 @@ nothing_put words ended shelf sink before now took takes caused is =
 
 -- ---- the other way
 
-quiet_for : (wanted : Status) (quiet_shelf quiet_sink : Type 0) → quiet_shelf → quiet_sink →
+quiet_for : (wanted : Status) (quiet_shelf quiet_sink : Type 0) → quiet_shelf → (wanted ≡ Done → quiet_sink) →
     IsQuietFor wanted quiet_shelf quiet_sink
-quiet_for Done quiet_shelf quiet_sink shelf sink = (shelf, sink)
+quiet_for Done quiet_shelf quiet_sink shelf sink = (shelf, sink refl)
 quiet_for _ quiet_shelf quiet_sink shelf sink = shelf
 
 comes_of : (read : Option Command) (command : Command) (told : Option Files) (files : Files) (ended wanted : Status)
     (quiet_shelf quiet_sink : Type 0) → read ≡ Some command → told ≡ Some files →
-    IsExact ended read told quiet_shelf quiet_sink → AsksFor command files wanted → quiet_shelf → quiet_sink →
-    (ended ≡ wanted) ⊎ (ended ≡ NoMemory)
+    IsExact ended read told quiet_shelf quiet_sink → AsksFor command files wanted → quiet_shelf →
+    (wanted ≡ Done → quiet_sink) → (ended ≡ wanted) ⊎ (ended ≡ NoMemory)
 comes_of read command told files ended wanted quiet_shelf quiet_sink read_is told_is exact asks shelf sink =
     let of_both = rw (read_is, told_is) at exact in
     of_both wanted asks (quiet_for wanted quiet_shelf quiet_sink shelf sink)
@@ -192,7 +192,7 @@ comes_of read command told files ended wanted quiet_shelf quiet_sink read_is tol
 pub comes : (words : List (List ℕ)) (command : Command) (told : Option Files) (files : Files) (ended wanted : Status)
     (quiet_shelf quiet_sink : Type 0) → IsCommand command → AreWordsOf words command → told ≡ Some files →
     IsExact ended (command_of words) told quiet_shelf quiet_sink → AsksFor command files wanted → quiet_shelf →
-    quiet_sink → (ended ≡ wanted) ⊎ (ended ≡ NoMemory)
+    (wanted ≡ Done → quiet_sink) → (ended ≡ wanted) ⊎ (ended ≡ NoMemory)
 comes words command told files ended wanted quiet_shelf quiet_sink there are told_is =
     comes_of (command_of words) command told files ended wanted quiet_shelf quiet_sink (said words command there are)
     told_is

@@ -10,7 +10,12 @@ use Rattle.board_spec.specs.OrderLaws.{in_file_order}
 use Rattle.board_spec.specs.Text.{line_feed}
 use Rattle.script_spec.specs.ScriptText.{Script, IsScriptText}
 use Rattle.board_image.specs.ImageBytes.{image_bytes}
-use Rattle.command_words.specs.Words.{Command, Replay, Run, Check, Resume}
+use Rattle.command_words.specs.Words.{Command, Replay, Run, Map, Check, Dma, Save, Resume, Serial, Blame}
+use Rattle.command_texts.specs.Replays.{IsMapText}
+use Rattle.command_texts.specs.Transfers.{IsTransferText}
+use Rattle.command_texts.specs.Images.{IsSaveText}
+use Rattle.command_texts.specs.Serial.{IsSerialText}
+use Rattle.command_texts.specs.Blame.{IsBlameText}
 use Rattle.board_commands.specs.Texts.{IsCommandText}
 use Rattle.promises.specs.Headline.{IsTrueLog, IsHeadline, InRunOrder, InFileOrder, board_for}
 
@@ -42,12 +47,24 @@ pub record IsResumed (files : List ℕ → List ℕ) (image name log : List ℕ)
   pub disk : is_some setup.disk ≡ is_some script.disk
   pub said : IsTrueLog setup (λ history. statements_of history ≡ steps ++ in_file_order script.phases) 2 log
 
--- what each command puts; that of `map`, `make`, `dma`, `save`, `serial` and `blame` by its own definition
+-- of the others: the file spells a script, and this holds of it and of the board that it asks for
+pub record OnBoard (files : List ℕ → List ℕ) (name : List ℕ) (Holds : Setup → Script → Type 0) : Type 0 where
+  pub script : Script
+  pub spelled : IsScriptText (files name) script
+  pub holds : Holds (board_for files script) script
+
+-- what each command puts; that of `make` by its own definition
 abbrev pub IsTextOf : (files : List ℕ → List ℕ) → Command → List ℕ → Type 0
 IsTextOf files (Replay name) text = IsHeadline InFileOrder files name text
 IsTextOf files (Run name) text = IsHeadline InRunOrder files name text
 IsTextOf files (Check name log) text = IsVerdict files name log text
 IsTextOf files (Resume image name) text = IsResumed files image name text
+IsTextOf files (Map name) text = OnBoard files name (λ setup script. IsMapText setup script text)
+IsTextOf files (Dma name transfer) text = OnBoard files name (λ setup script. IsTransferText setup script transfer text)
+IsTextOf files (Save name) text = OnBoard files name (λ setup script. IsSaveText setup script text)
+IsTextOf files (Serial name input) text =
+    OnBoard files name (λ setup script. IsSerialText setup script (files input) text)
+IsTextOf files (Blame name) text = OnBoard files name (λ setup script. IsBlameText setup script text)
 IsTextOf files command text = IsCommandText command files text
 
 -- it was put, whole

@@ -4,18 +4,20 @@ use Rattle.std.specs.Prelude.{ℕ, ◌≡◌, ◌≢◌, ◌+◌, ◌*◌, ◌%�
 use Rattle.std.specs.Prelude.{Result, Ok, Err}
 use Rattle.board_spec.specs.declared.event.Entry.{Entry}
 use Rattle.board_spec.specs.Setup.{Setup}
+use Rattle.board_spec.specs.Decode.{Bytes, is_smram_range}
 use Rattle.board_spec.specs.Legal.{IsLegal}
 use Rattle.board_spec.specs.Orders.{statements_of}
 use Rattle.board_spec.specs.Stored.{first_cell, DramCell}
-use Rattle.board_spec.specs.Decode.{is_smram_range}
 use Rattle.board_base.specs.declared.target.Target.{Target}
 use Rattle.board_base.specs.declared.target.Target.TheVariants.{Smram}
 use Rattle.board_base.specs.declared.target.Area.{Area}
+use Rattle.board_base.specs.declared.access.Kind.TheVariants.{Read}
 use Rattle.board_base.specs.declared.target.Area.TheVariants.{Dram as DramArea, Shadow as ShadowArea}
+use Rattle.board_base.specs.declared.target.Area.TheVariants.{Smram as SmramArea}
+use Rattle.board_chipset.specs.Masters.{master_target}
 use Rattle.board_core.specs.Kept.{Standing}
 use Rattle.bus_master.specs.declared.piece.Piece.{Piece}
-use Rattle.bus_master.specs.declared.piece.Piece.TheVariants.{Move}
-use Rattle.bus_master.specs.declared.piece.Stretch.{Stretch}
+use Rattle.bus_master.specs.declared.piece.Piece.TheVariants.{Descriptor, Move, Ended}
 
 -- ---- images
 
@@ -47,8 +49,14 @@ IsDram (DramArea row) = Unit {0}
 IsDram (ShadowArea row) = Unit {0}
 IsDram _ = ⊥
 
--- the words of a piece that lie in DRAM lie beside A0000h to BFFFFh
-abbrev pub PieceMissesSmram : Piece → Type 0
-PieceMissesSmram piece =
-    (stretch : Stretch) → piece ≡ Move stretch → IsDram stretch.area → (i : ℕ) → i < 2 * stretch.words →
-    is_smram_range ((stretch.addr + i) % 0x1_0000_0000) ≡ false
+-- no byte of a piece is SMRAM: neither of a descriptor's two doublewords, by what a bus master reaches at each byte, nor
+-- of the words that are moved, by what answers them
+abbrev pub PieceMissesSmram : Setup → Bytes → Piece → Type 0
+PieceMissesSmram setup bytes (Descriptor addr) =
+    (i : ℕ) → i < 8 →
+    MissesSmram (master_target setup bytes Read ((addr + i) % 0x1_0000_0000)) ((addr + i) % 0x1_0000_0000)
+PieceMissesSmram setup bytes (Move stretch) =
+    (stretch.area ≢ SmramArea)
+    × (IsDram stretch.area → (i : ℕ) → i < 2 * stretch.words →
+    is_smram_range ((stretch.addr + i) % 0x1_0000_0000) ≡ false)
+PieceMissesSmram setup bytes (Ended end) = Unit {0}

@@ -7,7 +7,7 @@
 //!   `board_with_causes`, `program_with_causes`, `room_or_as_before`.
 //! - A caller's history (`specs/Caller.antt`): `bus_in_its_place`, `look_never_back`.
 //! - Images and bus masters (`specs/Images.antt`): `image_as_saved`, `board_as_saved`, `chipset_as_saved`,
-//!   `reach_beside_smram`, `transfer_beside_smram`, `piece_beside_smram`.
+//!   `machine_as_saved`, `saved_and_loaded`, `reach_beside_smram`, `transfer_beside_smram`, `piece_beside_smram`.
 //! - The definitions (`specs/Definitions.antt`): `map_as_decoded`, `map_changed_as_decoded`, `span_as_decoded`,
 //!   `law_wide_is_its_cycles`.
 //!
@@ -19,6 +19,7 @@ mod definitions;
 mod headline;
 mod images;
 pub mod laws;
+mod machines;
 mod masters;
 mod program;
 mod totality;
@@ -29,6 +30,7 @@ pub use definitions::{
 };
 pub use headline::board_with_headline;
 pub use images::{board_as_saved, chipset_as_saved, image_as_saved};
+pub use machines::{machine_as_saved, saved_and_loaded};
 pub use masters::{piece_beside_smram, reach_beside_smram, transfer_beside_smram};
 pub use program::{program_with_causes, program_with_headline};
 pub use totality::{board_with_causes, room_or_as_before};

@@ -48,11 +48,12 @@ pub fn transfer_beside_smram(
     master.transfer(store, lba, count)
 }
 
-/// The next piece of a transfer over a memory that the caller keeps: no word of it in DRAM lies at A0000h to BFFFFh.
+/// The next piece of a transfer over a memory that the caller keeps: no byte of a descriptor's halves or of its words is
+/// SMRAM, or lies in DRAM at A0000h to BFFFFh.
 pub fn piece_beside_smram(transfer: &Transfer, regs: &MapRegs, disk: Option<&Ata>) -> Piece
     requires cards { AreFitted regs.now.cards.items }
     ensures beside { (setup : Setup) (bytes : Bytes) → StandsFor setup bytes (map_bytes regs.now) →
-        PieceMissesSmram result }
+        PieceMissesSmram setup bytes result }
 {
     transfer.next(regs, disk)
 }

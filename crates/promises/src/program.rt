@@ -4,13 +4,15 @@
 ghost use Rattle.std.specs.Prelude.{◌≡◌, ◌≢◌, ◌++◌, ◌∷◌, ◌⊎◌, [], All, IsUtf8, List, ℕ, None, Some};
 ghost use Rattle.std.specs.Process.{exit_status};
 ghost use Rattle.board_spec.specs.Text.{line_feed};
+ghost use Rattle.board_outside.specs.Outside.{Rose};
 ghost use Rattle.command_words.specs.Words.{Command, IsCommand, AreWordsOf};
+ghost use Rattle.command_files.specs.Asked.{AsksFor};
 ghost use Rattle.command_files.specs.FaultText.{text_of};
 ghost use Rattle.command_files.specs.Status.{code_of};
 ghost use Rattle.command_files.specs.declared.status.Status.{Status};
 ghost use Rattle.board_main.specs.Own.{own_of};
 ghost use Rattle.promises.specs.Accepted.{PutsText};
-ghost use Rattle.promises.specs.Totality.{AreNoCommand, Told, IsCause, Leaves, WritesFront};
+ghost use Rattle.promises.specs.Totality.{AreNoCommand, Told, IsCause, Leaves, CanEndSo, WritesFront};
 
 use board_files::OutSink;
 use board_main::{CommandLine, run_program};
@@ -72,6 +74,21 @@ where
           now = now;
         } in (status : Status) × (exit_status result ≡ code_of status) × IsCause command told status
         × Leaves command told status }
+    // It is that of the status for which the words and the files ask, unless memory ran out or a fault rose; of the
+    // output none matters where the command is refused.
+    ensures comes { (words : List (List ℕ)) (command : Command) (files : List ℕ → List ℕ) (wanted : Status) →
+        L.given line.now ≡ Some words → All IsUtf8 words → IsCommand command → AreWordsOf words command →
+        S.files shelf.old ≡ Some files → AsksFor command files wanted →
+        ¬ Rose (S.faults shelf.old) (S.faults shelf.new) →
+        (wanted ≡ Status.Done → ¬ Rose out.old.faults out.new.faults) →
+        (exit_status result ≡ code_of wanted) ⊎ (exit_status result ≡ 8) }
+    // Whatever the files are, it is that of a status that the command can have.
+    ensures possible { (words : List (List ℕ)) (command : Command) → L.given line.now ≡ Some words →
+        All IsUtf8 words → IsCommand command → AreWordsOf words command →
+        (status : Status) × (exit_status result ≡ code_of status) × CanEndSo command status }
+    // No fault is hidden: where one rose it is 2 or 3.
+    ensures read_faults { exit_status result ≢ 2 → S.faults shelf.new ≡ S.faults shelf.old }
+    ensures put_faults { exit_status result ≢ 3 → out.new.faults ≡ out.old.faults }
     // It is 1 only where a word is not UTF-8, or the words are neither a command nor the program's own; and there it is
     // 1, or 8 for want of memory.
     ensures usage { (words : List (List ℕ)) → L.given line.now ≡ Some words → exit_status result ≡ 1 →

@@ -46,11 +46,12 @@ pub fn board_with_causes<R: Threads + Wait + Sync, S: Shelf, K: Sink, G: Gate>(
           before = before;
           now = now;
         } in IsCause command told result × Leaves command told result }
-    // It comes where the words and the files ask for it, unless memory ran out or a fault rose.
+    // It comes where the words and the files ask for it, unless memory ran out or a fault rose; of the sink none
+    // matters where the command is refused.
     ensures comes { (command : Command) (files : List ℕ → List ℕ) (wanted : Ended) → IsCommand command →
         AreWordsOf (map string_bytes words.now) command → S.files shelf.old ≡ Some files →
         AsksFor command files wanted → ¬ Rose (S.faults shelf.old) (S.faults shelf.new) →
-        ¬ Rose (K.faults out.old) (K.faults out.new) → (result ≡ wanted) ⊎ (result ≡ Status.NoMemory) }
+        (wanted ≡ Status.Done → ¬ Rose (K.faults out.old) (K.faults out.new)) → (result ≡ wanted) ⊎ (result ≡ Status.NoMemory) }
     // Whatever the files are, it is one that the command can have.
     ensures possible { (command : Command) → IsCommand command → AreWordsOf (map string_bytes words.now) command →
         CanEndSo command result }
