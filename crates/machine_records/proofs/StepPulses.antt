@@ -153,8 +153,8 @@ once timer (suc count) k small here =
     elim (cases_lt k (suc count)) [
       | inl below ↦ let some = once timer count k (omega (arith, below)) here in omega (arith, some)
       | inr above ↦
-      let last : k ≡ suc count = omega (arith, small, above) in
-      at_last timer count (subst (RisesAt timer) last here)
+          let last : k ≡ suc count = omega (arith, small, above) in
+          at_last timer count (subst (RisesAt timer) last here)
     ]
 
 -- ---- what the call that tells the next rise says of a count of pulses
@@ -163,7 +163,7 @@ within : (timer : PitState) (count n : ℕ) → IsNextRise timer (Some n) → na
 within timer count n next =
     elim (cases_lt count n) [
       | inl before ↦
-      let none = never timer count (λ k small here. omega (arith, before, small, next.1 k here)) in grind (arith, nat_tests)
+          let none = never timer count (λ k small here. omega (arith, before, small, next.1 k here)) in grind (arith, nat_tests)
       | inr reached ↦ let some = once timer count n reached next.0 in grind (arith, nat_tests)
     ]
 
@@ -186,4 +186,3 @@ never_pulsed chipset count held left = record {
   held = none_within chipset.state.devices.timer count held;
   left = λ history is. none_within (timer_of history) count (left history is);
 }
-
