@@ -2,7 +2,7 @@
 import pathlib
 import subprocess
 
-from running_guest import END, SECTOR, STARVED, Failed, Guest, make
+from running_guest import END, RUST_KVM, SECTOR, STARVED, Failed, Guest, make
 
 DISK_SECTOR = 512
 WRITTEN = {2: 0xC1, 3: 0xC2, 5: 0x51}  # by flush.asm: sectors, and the first byte of each
@@ -35,13 +35,24 @@ def killed(out: pathlib.Path, processor: str) -> None:
     print(f"passed: on {processor} what a guest flushed is in the disk's file of a monitor that was killed")
 
 
-def one_killed(out: pathlib.Path, processor: str) -> None:
-    """The same of the monitor of one file."""
-    before, disk = (out / "flush.img").read_bytes(), out / f"one-killed-{processor}.img"
+def own_disk_killed(out: pathlib.Path, name: str, processor: str, program: str) -> None:
+    """The same of a monitor that has its disk's file as its second word."""
+    before, disk = (out / "flush.img").read_bytes(), out / f"{name}.img"
     disk.write_bytes(before)
     words = ["/usr/share/seabios/bios.bin", disk, "8"]
-    killed_amid(Guest(out, f"one-killed-{processor}", processor, *words, program=f"{processor}-one"), before, disk)
+    killed_amid(Guest(out, name, processor, *words, program=program), before, disk)
+
+
+def one_killed(out: pathlib.Path, processor: str) -> None:
+    """The same of the monitor of one file."""
+    own_disk_killed(out, f"one-killed-{processor}", processor, f"{processor}-one")
     print(f"passed: what a guest flushed is in the disk's file of examples/{processor}.c that was killed")
+
+
+def rust_killed(out: pathlib.Path) -> None:
+    """The same of Rust's example for KVM."""
+    own_disk_killed(out, "rust-killed", "kvm", RUST_KVM)
+    print("passed: what a guest flushed is in the disk's file of Rust's example for KVM that was killed")
 
 
 def dma_sum(sector: bytes) -> int:

@@ -8,13 +8,12 @@ import struct
 import subprocess
 from typing import Any
 
-from running_guest import END, HERE, SECTOR, STARVED, Failed, Guest, indented
+from running_guest import END, HERE, RUST_KVM, SECTOR, STARVED, Failed, Guest, indented
 
 BOARD = os.environ.get("BOARD", str(HERE.parent / "board"))
 HEAD = 64  # bytes before the parts of a saved guest, of which the last eight are their sum
 STRING_SECTORS = 60  # that string.asm reads
 STRADDLE_SAVES = 60
-RUST_KVM = "rust/debug/examples/kvm"  # in OUT
 ONE_ENDS = b"\x1d"  # Ctrl-], which ends a monitor of one file
 BOCHS_BIOSES = [pathlib.Path("/usr/share/bochs") / name for name in ("BIOS-bochs-latest", "BIOS-bochs-legacy")]
 

@@ -11,7 +11,9 @@ from guest_sectors import ONE_ENDS, refused_files
 from running_guest import END, MONITOR, SECTOR, SHELL, STARVED, Failed, Guest, indented
 
 LINUX = 1800  # seconds of each part of Linux's boot, of a processor that an emulated KVM has
-EARLY = "earlyprintk=ttyS0,115200"  # Linux's lines before it has a console
+DEVICE_FLAGS = ("--bus-master", "--fw-cfg", "--acpi", "--power", "--virtio-modern")
+DEVICE_BYTES = 256 << 10  # that Linux writes on both
+PARTITION = 2048 * 512  # where the guests' disk has it
 
 
 def one_linux(out: pathlib.Path, processor: str) -> None:
@@ -22,9 +24,8 @@ def one_linux(out: pathlib.Path, processor: str) -> None:
     guest = Guest(out, f"one-linux-{processor}", processor, *words, program=f"{processor}-one")
     try:
         prompt = guest.wait("grub> ", LINUX)
-        for line in (MONITOR / "guests/linux.cfg").read_text().replace("nokaslr", "nokaslr " + EARLY).splitlines():
-            guest.type(line)
-            guest.wait("grub> " if line != "boot" else "Linux version", LINUX)
+        guest.type("configfile /boot/linux.cfg")
+        guest.wait("Linux version", LINUX)
         shell = guest.wait(SHELL, LINUX)
         guest.do("uname -m", "i686", LINUX)
         guest.do("echo by the monitor of one file > /disk/message; sync; umount /disk; echo do''ne", "done", LINUX)
@@ -240,6 +241,51 @@ def virtio(out: pathlib.Path, mib: int) -> None:
         raise Failed(f"virtio: the sums differ: {first}, {outside}, {again}")
     print(f"passed: Linux with its root on a virtio card: {mib} MiB written and read, sum {first}, e2fsck clean, restarted, the same sum")
     print(indented("\n".join(figures.splitlines()[-3:])))
+
+
+def said_of_devices(text: str) -> None:
+    """What Linux says of the disk's bus master, and of the virtio card's features: bit 32 is VERSION_1."""
+    if not re.search(r"ata1: PATA max MWDMA2 cmd 0x1f0 ctl 0x3f6 bmdma 0x[0-9a-f]+ irq 14", text):
+        raise Failed("linux-devices: it says of no bus master")
+    if "XFER_MW_DMA_2" not in text or "falling back to PIO" in text:
+        raise Failed("linux-devices: its disk has no DMA")
+    if "ACPI: button: Power Button [PWRF]" not in text or "ACPI Error" in text:
+        raise Failed("linux-devices: it says of no power button")
+    features = re.findall(r"\b[01]{64}\b", text)
+    if not features or features[-1][32] != "1":
+        raise Failed(f"linux-devices: the virtio card has features {features}, without VERSION_1")
+
+
+def linux_devices(out: pathlib.Path, processor: str) -> None:
+    """Linux drives the monitor's devices: the disk's bus master and a card of virtio 1.0, on which it writes the same
+    bytes; it hears the power button, and takes the power away."""
+    kept, card = out / "devices-disk.img", out / "devices-card.img"
+    card.write_bytes(bytes(DEVICE_BYTES))
+    words = ["--disk", out / "disk.img", "--keep-disk", kept, "--memory", "64", "--virtio", card, *DEVICE_FLAGS]
+    guest = Guest(out, f"linux-devices-{processor}", processor, *words)
+    try:
+        guest.wait("grub> ", LINUX)
+        guest.type("configfile /boot/linux.cfg")
+        seconds = guest.wait(SHELL, LINUX)
+        guest.do("cat /sys/class/ata_device/dev1.0/xfer_mode /sys/bus/virtio/devices/virtio0/features; echo fea''tures", "features", LINUX)
+        said_of_devices(guest.text)
+        guest.do(f"dd if=/dev/urandom of=/bytes bs=4k count={DEVICE_BYTES // 4096} && echo ma''de", "made", LINUX)
+        guest.do("cat /bytes > /disk/bytes; cat /bytes > /dev/vda; sync; umount /disk && echo un''mounted", "unmounted", LINUX)
+        guest.do("mount -t ext2 /dev/sda1 /disk && cmp /bytes /disk/bytes && cmp /bytes /dev/vda && echo sa''me", "same", LINUX)
+        guest.do("umount /disk; exec 3</dev/input/event0; echo op''ened", "opened", LINUX)
+        guest.type("dd bs=24 count=1 <&3 >/dev/null && echo pre''ssed && poweroff -f")
+        guest.key("p")
+        guest.wait("pressed", LINUX)
+        guest.process.wait(STARVED * END)
+    finally:
+        figures = guest.end()
+    if "the guest has taken the power away" not in figures:
+        raise Failed(f"linux-devices: it did not take the power away: {figures[-300:]!r}")
+    with open(out / "devices-partition.img", "wb") as file:
+        file.write(kept.read_bytes()[PARTITION:])
+    if clean_sum(out / "devices-partition.img", "/bytes") != hashlib.md5(card.read_bytes()).hexdigest():
+        raise Failed("linux-devices: the disk's file and the card's have not the same bytes")
+    print(f"passed: on {processor} Linux, at its shell after {seconds:.1f} s, with the disk's bus master, virtio 1.0 and ACPI's power")
 
 
 def default_restart(out: pathlib.Path) -> None:

@@ -10,6 +10,7 @@ from typing import Any
 
 HERE = pathlib.Path(__file__).resolve().parent
 MONITOR = HERE.parent / "examples" / "monitor"
+RUST_KVM = "rust/debug/examples/kvm"  # in OUT
 SHELL = "/ # "
 STARVED = 10  # times as long may a guest take by the clock, where others have the processors
 SECTOR = 120  # seconds of a boot sector; an emulated KVM takes many

@@ -4,7 +4,7 @@
 #include "machine.h"
 
 enum { FIRST = 0x600, STATUS = 0x600, ENABLE = 0x602, CONTROL = 0x604, TIMER = 0x608, END = 0x60C };
-enum { BUTTON = 0x0100 };                          /* of status and enable */
+enum { BUTTON = 0x0100, EVENTS = 0x0521 };         /* of status and enable; all that enable keeps */
 enum { BY_INTERRUPT = 0x0001, SLEEP_TYPE = 0x1C00, SLEEP = 0x2000, OFF = 5 << 10 }; /* of the control */
 enum { LINE = 9, TIMER_HERTZ = 3579545, TIMER_BITS = 0xFFFFFF };
 
@@ -43,7 +43,7 @@ static uint8_t read_byte(uint32_t port, uint32_t now) {
 static void write_byte(uint32_t port, uint8_t value) {
     uint16_t bits = (uint16_t)(value << 8 * (port % 2)), others = (uint16_t)(port % 2 ? 0x00FF : 0xFF00);
     if (port < ENABLE) s.status &= (uint16_t)~bits;
-    else if (port < CONTROL) s.enable = (uint16_t)((s.enable & others) | bits) & BUTTON;
+    else if (port < CONTROL) s.enable = (uint16_t)((s.enable & others) | bits) & EVENTS;
     else if (port < CONTROL + 2) s.control = (uint16_t)((s.control & others) | (bits & (SLEEP_TYPE | SLEEP)));
 }
 

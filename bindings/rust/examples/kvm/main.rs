@@ -2,9 +2,12 @@
 //!
 //!     kvm BIOS DISK MIB     as in kvm /usr/share/seabios/bios.bin disk.img 64
 //!
-//! `stty raw -echo` stands before it, and Ctrl-] ends it. Then DISK gets what the guest wrote.
+//! `stty raw -echo` stands before it, and Ctrl-] ends it. DISK has each sector as soon as the guest has written it.
+
+mod disk;
 
 use board_440fx::{Board, Clocks, Memory, Pages, Reset, Slot, Slots};
+use disk::Disk;
 use std::io::{self, Error, Read, Write};
 use std::os::raw::{c_int, c_long, c_ulong, c_void};
 use std::os::unix::io::{AsRawFd, RawFd};
@@ -17,11 +20,11 @@ type Outcome<T> = Result<T, Box<dyn std::error::Error>>;
 
 const ROM_BYTES: usize = 512 << 10; // a smaller BIOS stands in them again and again
 const TICK: Duration = Duration::from_millis(1); // after which time and keys are looked at again
-const SECTOR: usize = 512;
 const END_KEY: u8 = 0x1D;
 
 struct Monitor {
     board: Board,
+    disk: Disk,
     processor: Processor,
     memory: Pages,
     rom: Pages,
@@ -70,6 +73,9 @@ impl Monitor {
             (false, true) => self.board.memory_write(addr, &data, &self.memory)?,
         };
         self.processor.page.put(place, &data); // of a write as they were
+        if is_port && is_write {
+            self.disk.see(&mut self.board, addr as u16, &data)?;
+        }
         self.reset = self.reset.max(answer.and_then(|answer| answer.reset));
         let sent = answer.and_then(|answer| answer.sent);
         Ok(sent.map_or(Ok(()), |byte| io::stdout().write_all(&[byte]).and_then(|()| io::stdout().flush()))?)
@@ -137,8 +143,7 @@ impl Monitor {
 fn main() -> Outcome<()> {
     let mut words = env::args().skip(1);
     let mut word = || words.next().ok_or("usage: kvm BIOS DISK MIB");
-    let (bios, disk, mib) = (fs::read(word()?)?, word()?, word()?.parse()?);
-    let sectors = fs::read(&disk)?;
+    let (bios, (disk, sectors), mib) = (fs::read(word()?)?, Disk::open(&word()?)?, word()?.parse()?);
     let board = Board::builder().memory_mib(mib).rom(&bios).disk(&sectors).open()?;
     let (memory, rom) = (Pages::new((mib as usize) << 20)?, Pages::new(ROM_BYTES)?);
     (0..ROM_BYTES).step_by(bios.len()).for_each(|at| rom.put(at, &bios));
@@ -146,11 +151,7 @@ fn main() -> Outcome<()> {
     thread::spawn(move || io::stdin().lock().bytes().flatten().try_for_each(|key| sender.send(key)));
     let (processor, slots, clocks) = (Processor::open()?, Slots::default(), Clocks::default());
     let (version, reset, is_halted, begun) = (None, Some(Reset::Hard), false, Instant::now());
-    let mut monitor = Monitor { board, processor, memory, rom, slots, version, reset, is_halted, begun, clocks, keys };
-    let ended = monitor.run();
-    let sectors = (0..(sectors.len() / SECTOR) as u32).map(|number| monitor.board.disk_read(number));
-    fs::write(disk, sectors.collect::<Result<Vec<_>, _>>()?.concat())?;
-    ended
+    Monitor { board, disk, processor, memory, rom, slots, version, reset, is_halted, begun, clocks, keys }.run()
 }
 
 // ---- what it needs of KVM, for which Debian 12 has no crate
