@@ -348,6 +348,16 @@ uint32_t board_open(board *handle, uint32_t mib, const board_card *cards, size_t
  * BAD_HANDLE, NO_EVENT; of BOARD_MEMORY VALUE, END; of BOARD_PORT ALIGNMENT, VALUE; of BOARD_PULSE
  * PULSES; of BOARD_WIRE DEVICE; of BOARD_IRQ LINE; of BOARD_SERIAL SERIAL_FULL. */
 uint32_t board_step(board *handle, const board_event *event, board_reply *reply);
+/* Reads 1, 2 or 4 bytes from a port on, or writes them. Where that is not aligned the bus cuts it as an access to
+ * memory of as many bytes at the same address, and does two or three cycles in rising order; no other call comes
+ * between them. reply joins theirs, in parts as of such an access: part[0] .. tell each cycle's target and what
+ * denied it, value has the bytes of all, reset is the strongest that one of them made, and has_sent and sent tell the
+ * byte that one of them sent: no access sends two. version, interrupt, irq4 and serial_room are as after the last
+ * cycle. Where version grew by more than 1 the windows of board_ranges are those of the last change alone.
+ * BAD_HANDLE; NO_EVENT of another count of bytes, and where the last one lies past port FFFFh; of board_out VALUE.
+ * Then no cycle was made. */
+uint32_t board_in(board *handle, uint16_t port, uint8_t bytes, board_reply *reply);
+uint32_t board_out(board *handle, uint16_t port, uint8_t bytes, uint32_t value, board_reply *reply);
 /* Lets the clock go on one second: BOARD_TIME of the second after the one that its registers say, in
  * whichever form register B has them. Two digits of the year are one of 1980 to 2079; the weekday's
  * register is not read, and set to the date's. event is what was done, for board_text.
@@ -586,49 +596,6 @@ static inline bool board_range_clip(board_range *range, uint32_t mib) {
 static inline uint8_t board_cycle(uint32_t addr, uint64_t bytes) {
     if (bytes >= 4 && addr % 4 == 0) return 4;
     return bytes >= 2 && addr % 2 == 0 ? 2 : 1;
-}
-
-/* What refuses an access to ports before its first cycle, but for its value. */
-static inline uint32_t board_port_status(const board *handle, uint16_t port, uint8_t bytes) {
-    if (!handle->open) return BOARD_BAD_HANDLE;
-    if (bytes != 1 && bytes != 2 && bytes != 4) return BOARD_NO_EVENT;
-    return (uint32_t)port + bytes > 0x10000 ? BOARD_NO_EVENT : BOARD_OK;
-}
-
-/* Reads a port of 1, 2 or 4 bytes. Where it is not aligned the bus cuts it into cycles in rising
- * order, and the reply is the last one's but for the value, which is the whole, and for the lines that
- * rose, which are those of all.
- * BAD_HANDLE, NO_EVENT of another count of bytes and past port FFFFh. */
-static inline uint32_t board_in(board *handle, uint16_t port, uint8_t bytes, board_reply *reply) {
-    uint64_t value = 0;
-    uint32_t done = 0, rose = 0, status = board_port_status(handle, port, bytes);
-    while (status == BOARD_OK && done < bytes) {
-        uint8_t cycle = board_cycle(port + done, bytes - done);
-        status = board_ask(handle, BOARD_PORT, BOARD_READ, port + done, cycle, 0, 0, reply);
-        if (status == BOARD_OK) value |= reply->value << (8 * done), rose |= reply->rose;
-        done += cycle;
-    }
-    if (status == BOARD_OK) reply->value = value, reply->rose = (uint16_t)rose;
-    return status;
-}
-
-/* Writes a port of 1, 2 or 4 bytes, cut as board_in cuts. Each cut makes its own reset:
- * reply->reset is the strongest, and reply->rose has the lines that rose in any.
- * BAD_HANDLE, NO_EVENT as board_in, VALUE. */
-static inline uint32_t board_out(board *handle, uint16_t port, uint8_t bytes, uint32_t value,
-                                 board_reply *reply) {
-    uint32_t done = 0, rose = 0, reset = BOARD_NO_RESET, status = board_port_status(handle, port, bytes);
-    if (status == BOARD_OK && bytes < 4 && value >> (8 * bytes) != 0) return BOARD_VALUE;
-    while (status == BOARD_OK && done < bytes) {
-        uint8_t cycle = board_cycle(port + done, bytes - done);
-        uint32_t part = (uint32_t)(((uint64_t)value >> (8 * done)) & ((1ull << (8 * cycle)) - 1));
-        status = board_ask(handle, BOARD_PORT, BOARD_WRITE, port + done, cycle, 0, part, reply);
-        if (status == BOARD_OK && reply->reset > reset) reset = reply->reset;
-        if (status == BOARD_OK) rose |= reply->rose;
-        done += cycle;
-    }
-    if (status == BOARD_OK) reply->reset = reset, reply->rose = (uint16_t)rose;
-    return status;
 }
 
 /* Acknowledges the interrupt: reply->value is its vector.

@@ -1,9 +1,8 @@
 """The board itself."""
 import datetime
 import threading
-from dataclasses import replace
 from types import TracebackType
-from typing import Any, Callable, Iterable, Iterator, NoReturn
+from typing import Any, Callable, Iterable, NoReturn
 
 from . import records
 from .cards import Card
@@ -11,25 +10,12 @@ from .errors import BadSize, BadValue, NoByte, NoCycle, NoEvent, NoMemory, NoRep
 from .events import Event, Kind, why_none
 from .library import library
 from .maps import Map, Window, range_of
-from .replies import Answer, Denial, Look, Now, Part, Reset, Value, answer_of, now_of, part_of
+from .replies import Answer, Denial, Look, Now, Part, Value, answer_of, now_of, part_of
 from .transfers import Transfer
 
 PORTS = 0x10000
 U32 = 1 << 32
 DEFAULT_ROM_BYTES = 65536
-
-
-def _cycles(port: int, count: int) -> Iterator[tuple[int, int, int]]:
-    """The cycles that the bus makes of an access to a port, in rising order: each the widest of 4, 2 or 1 bytes that is
-    aligned and does not pass the end. Of each the port, the bytes, and how many bytes come before it."""
-    if count not in (1, 2, 4) or not 0 <= port <= PORTS - count:
-        why = "an access to a port has 1, 2 or 4 bytes, the last of them at FFFF or below"
-        raise NoEvent(f"{count} bytes at port {port:#x}", why)
-    done = 0
-    while done < count:
-        cycle = next(size for size in (4, 2, 1) if size <= count - done and (port + done) % size == 0)
-        yield port + done, cycle, done
-        done += cycle
 
 
 class Board:
@@ -134,29 +120,32 @@ class Board:
 
     def in_(self, port: int, bytes: int = 1) -> Value:
         """Reads a port of 1, 2 or 4 bytes. One that is not aligned is cut into cycles, as the bus cuts it; the answer
-        is then the last cycle's but for the value, which is the whole, and the lines that rose, which are those of all."""
-        whole = rose = 0
-        with self._lock:
-            for at, size, done in _cycles(port, bytes):
-                answer = self.step(Event.in_(at, size))
-                whole |= (answer.value or 0) << 8 * done
-                rose |= answer.rose
-            self.last = replace(answer, event=Event.in_(port, bytes), value=whole, rose=rose)
-            return Value(self.last)
+        then has a part for each, the strongest reset of them, and what stands after the last one."""
+        return Value(self._port_access(Event.in_(port, bytes)))
 
     def out(self, port: int, bytes: int, value: int) -> Answer:
-        """Writes a port of 1, 2 or 4 bytes, cut as in_ cuts; the answer is then the last cycle's but for the reset,
-        which is the strongest, and the lines that rose, which are those of all."""
-        cycles = list(_cycles(port, bytes))
-        if value >> 8 * bytes:
-            raise BadValue(f"{value:#x}")
-        reset, rose = Reset.NONE, 0
+        """Writes a port of 1, 2 or 4 bytes, cut and answered as in_ is."""
+        return self._port_access(Event.out(port, bytes, value))
+
+    def _port_access(self, event: Event) -> Answer:
+        """The answer to an access to ports, aligned or not. ctypes would cut a number that does not fit."""
+        port, count = event.addr, event.bytes
+        if count not in (1, 2, 4) or not 0 <= port <= PORTS - count:
+            why = "an access to a port has 1, 2 or 4 bytes, the last of them at FFFF or below"
+            raise NoEvent(f"{count} bytes at port {port:#x}", why)
+        if not 0 <= event.value < U32:
+            raise BadValue(f"{event.value:#x}")
         with self._lock:
-            for at, size, done in cycles:
-                answer = self.step(Event.out(at, size, value >> 8 * done & (1 << 8 * size) - 1))
-                reset, rose = max(reset, answer.reset), rose | answer.rose
-            self.last = replace(answer, event=Event.out(port, bytes, value), reset=reset, rose=rose)
-            return self.last
+            if event.kind == records.KindNumber.READ:
+                status = self._library.board_in(self._handle, port, count, self._reply)
+            else:
+                status = self._library.board_out(self._handle, port, count, event.value, self._reply)
+            check(status, event)
+            answer = answer_of(event, self._reply)
+            self.last = answer
+        if self.watch:
+            self.watch(answer)
+        return answer
 
     def in_many(self, port: int, bytes: int, count: int) -> list[int]:
         """Reads a port of 1, 2 or 4 bytes so many times, until the processor is asked for."""

@@ -197,11 +197,11 @@ def test_a_port_that_is_not_aligned_is_cut(board):
     set_up_interrupts(board)
     board.out(0x21, 2, 0x115A)  # 21h is the mask, 22h nobody's
     assert board.in_(0x21) == 0x5A
-    assert repr(board.in_(0x21, 2)) == "<in w 0021 = FF5A abort none>"
+    assert repr(board.in_(0x21, 2)) == "<in w 0021 = FF5A pic0 - abort none>"
     assert board.in_(0x20, 2) == 0xFFFF  # aligned, and nobody's in this width
     board.out(RESET_CONTROL, 1, 2)
     answer = board.out(RESET_CONTROL, 2, 6)
-    assert (answer.reset, answer.target) == (Reset.HARD, "abort")
+    assert (answer.reset, answer.target) == (Reset.HARD, "reset")
 
 
 def test_the_map_after_a_reset(board):

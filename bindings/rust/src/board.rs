@@ -3,14 +3,12 @@
 use crate::error::check;
 use crate::raw;
 use crate::{
-    cycles, Answer, Builder, Card, Com1, Error, Event, Kind, Look, Map, Moment, Now, Part, Piece, Ranges, Reply,
-    Transfer, Value, Width,
+    Answer, Builder, Card, Com1, Error, Event, Kind, Look, Map, Moment, Now, Part, Piece, Ranges, Reply, Transfer, Value,
+    Width,
 };
 use std::cell::UnsafeCell;
 use std::fmt;
 use std::ptr;
-
-const PORTS: u32 = 0x10000;
 
 /// A PC board. Dropping it frees it.
 ///
@@ -226,8 +224,7 @@ impl Board {
         Ok(done)
     }
 
-    /// The answer to the last event that was done; of a port that is not aligned, as [`Board::input`] and
-    /// [`Board::out`] have it.
+    /// The answer to the last event that was done; of a port that is not aligned, to all its cycles.
     pub fn last(&self) -> Option<&Answer> {
         self.last.as_ref()
     }
@@ -282,59 +279,34 @@ memory_calls! {
     Qword u64 fetch_u64 read_u64 write_u64 "eight bytes"
 }
 
-/// The cycles of an access to ports, each with how many bits of the access come before it.
-fn port_cycles(port: u16, width: Width) -> Result<impl Iterator<Item = (u16, Width, u32)>, Error> {
-    if width == Width::Qword || u32::from(port) + u32::from(width.bytes()) > PORTS {
-        return Err(Error::NoEvent);
-    }
-    let cut = cycles(port.into(), width.bytes().into());
-    Ok(cut.map(move |(at, width)| (at as u16, width, 8 * (at - u32::from(port)))))
-}
-
-/// Ports. One that is not aligned is cut into cycles, as the bus cuts it.
+/// Ports. One that is not aligned is cut into cycles, as the bus cuts an access to memory, and answered in parts as that is.
 impl Board {
-    /// Reads a port of one, two or four bytes. Where it was cut the answer, [`Board::last`], is the last cycle's but
-    /// for the value, which is the whole, and the lines that rose, which are those of all.
+    /// Reads a port of one, two or four bytes. Where it was cut the answer, [`Board::last`], has a part for each cycle, the
+    /// strongest reset of them, the lines that rose in any, and what stands after the last one.
     ///
     /// # Errors
     ///
     /// [`Error::NoEvent`] of eight bytes, and where its last byte lies past port FFFFh.
     pub fn input(&mut self, port: u16, width: Width) -> Result<u32, Error> {
-        let (mut bits, mut lines) = (0, 0);
-        for (port, width, shift) in port_cycles(port, width)? {
-            let answer = self.step(&Event::In { port, width })?;
-            bits |= answer.value().ok_or(Error::NoReply)? << shift;
-            lines |= answer.rose;
-        }
-        if let Some(Answer { event, reply: Reply::Bus { value, .. }, rose, .. }) = &mut self.last {
-            *event = Event::In { port, width };
-            *value = Some(Value { bits, width });
-            *rose = lines;
-        }
-        Ok(bits as u32)
+        let mut reply = raw::Reply::default();
+        // SAFETY: as of `step`.
+        check(unsafe { raw::board_in(self.handle.get(), port, width.bytes(), &mut reply) })?;
+        self.last = Some(Answer::of(&Event::In { port, width }, &reply)?);
+        Ok(reply.value as u32)
     }
 
-    /// Writes a port of one, two or four bytes. Where it was cut the answer is the last cycle's but for the reset,
-    /// which is the strongest, and the lines that rose, which are those of all.
+    /// Writes a port of one, two or four bytes, answered as [`Board::input`] is.
     ///
     /// # Errors
     ///
     /// [`Error::NoEvent`] of eight bytes, and where its last byte lies past port FFFFh; [`Error::Value`].
     pub fn out(&mut self, port: u16, width: Width, value: u32) -> Result<Answer, Error> {
-        let cycles = port_cycles(port, width)?;
-        if u64::from(value) > width.mask() {
-            return Err(Error::Value);
-        }
-        let (mut reset, mut rose, event) = (None, 0, Event::Out { port, width, value });
-        for (port, width, shift) in cycles {
-            let value = (u64::from(value) >> shift & width.mask()) as u32;
-            let answer = self.step(&Event::Out { port, width, value })?;
-            reset = reset.max(answer.reset);
-            rose |= answer.rose;
-        }
-        let last = self.last.as_mut().ok_or(Error::NoReply)?;
-        (last.event, last.reset, last.rose) = (event, reset, rose);
-        Ok(*last)
+        let mut reply = raw::Reply::default();
+        // SAFETY: as of `step`.
+        check(unsafe { raw::board_out(self.handle.get(), port, width.bytes(), value, &mut reply) })?;
+        let answer = Answer::of(&Event::Out { port, width, value }, &reply)?;
+        self.last = Some(answer);
+        Ok(answer)
     }
 
     /// Reads a byte of a port.

@@ -178,11 +178,11 @@ fn a_port_that_is_not_aligned_is_cut() {
     board.out_u16(0x21, 0x115A).unwrap(); // 21h is the mask, 22h nobody's
     assert_eq!(board.in_u8(0x21), Ok(0x5A));
     assert_eq!(board.in_u16(0x21), Ok(0xFF5A));
-    assert_eq!(board.last().unwrap().reply.to_string(), "FF5A abort none");
+    assert_eq!(board.last().unwrap().reply.to_string(), "FF5A pic0 - abort none");
     assert_eq!(board.in_u16(0x20), Ok(0xFFFF)); // aligned, and nobody's in this width
     board.out_u8(RESET_CONTROL, 2).unwrap();
     let answer = board.out_u16(RESET_CONTROL, 0x0006).unwrap();
-    assert_eq!((answer.reset, answer.target()), (Some(Reset::Hard), Some(Target::Abort)));
+    assert_eq!((answer.reset, answer.target()), (Some(Reset::Hard), Some(Target::Device(Device::ResetControl))));
 }
 
 #[test]

@@ -94,7 +94,10 @@ fn an_answer_prints_with_its_event_and_what_denied_it() -> Result<(), Error> {
     assert_eq!(denied.reply.to_string(), "FFFF abort 00.0.5B");
     assert_eq!(board.write_u8(0x1000, 0x5A)?.to_string(), "w b 00001000 5A = - dram:0 -");
     board.in_u16(0x21)?; // cut into two cycles
-    assert_eq!(board.last().map(ToString::to_string).as_deref(), Some("in w 0021 = FF00 abort none, denied by none"));
+    assert_eq!(
+        board.last().map(ToString::to_string).as_deref(),
+        Some("in w 0021 = FF00 pic0 - abort none, denied by none")
+    );
     Ok(())
 }
 

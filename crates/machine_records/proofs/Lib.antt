@@ -11,5 +11,6 @@ pub mod Cycles
 pub mod Masters
 pub mod RomParts
 pub mod Turns
+pub mod PortCycles
 pub mod PartsBack
 pub mod ReadBack

@@ -17,6 +17,7 @@ pub mod Seconds
 pub mod Masters
 pub mod CardBytes
 pub mod Strings
+pub mod PortAccesses
 pub mod PartsBack
 pub mod RepliesBack
 pub mod LogLines
