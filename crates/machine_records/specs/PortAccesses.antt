@@ -55,8 +55,9 @@ joined_parts index before last = record last {
 
 -- The reply to a cycle, number `index` from 0 on, joined to what was told of those before it, which moved so many bytes:
 -- each cycle is a part, as of an access to memory; the value has the bytes of all; the reset is the strongest that one of
--- them made; the byte that one of them sent is told; and the lines that rose are those of all. What stands after the step is as after the last cycle, and the
--- version of the map counts the changes by all. The reply to the first cycle stays as it is.
+-- them made; the byte that one of them sent is told; and the lines that rose are those of all. What stands after the step
+-- is as after the last cycle, and the version of the map counts the changes by all. The reply to the first cycle stays as
+-- it is.
 abbrev pub joined_reply : (index done : ℕ) (before : ReplyRecord) (bytes : ℕ) → ReplyRecord → ReplyRecord
 joined_reply index done before bytes last =
     if index == 0 then last
