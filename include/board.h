@@ -353,7 +353,8 @@ uint32_t board_step(board *handle, const board_event *event, board_reply *reply)
  * between them. reply joins theirs, in parts as of such an access: part[0] .. tell each cycle's target and what
  * denied it, value has the bytes of all, reset is the strongest that one of them made, and has_sent and sent tell the
  * byte that one of them sent: no access sends two; rose has the lines that rose in any. version, interrupt, lines, irq4
- * and serial_room are as after the last cycle. Where version grew by more than 1 the windows of board_ranges are those of the last change alone.
+ * and serial_room are as after the last cycle. Where version grew by more than 1 the windows of board_ranges are those
+ * of the last change alone.
  * BAD_HANDLE; NO_EVENT of another count of bytes, and where the last one lies past port FFFFh; of board_out VALUE.
  * Then no cycle was made. */
 uint32_t board_in(board *handle, uint16_t port, uint8_t bytes, board_reply *reply);

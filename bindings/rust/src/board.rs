@@ -3,8 +3,7 @@
 use crate::error::check;
 use crate::raw;
 use crate::{
-    Answer, Builder, Card, Com1, Error, Event, Kind, Look, Map, Moment, Now, Part, Piece, Ranges, Reply, Transfer, Value,
-    Width,
+    Answer, Builder, Card, Com1, Error, Event, Kind, Look, Map, Moment, Now, Part, Piece, Ranges, Reply, Transfer, Width,
 };
 use std::cell::UnsafeCell;
 use std::fmt;
