@@ -3,7 +3,8 @@
 use crate::error::check;
 use crate::raw;
 use crate::{
-    Answer, Builder, Card, Com1, Error, Event, Kind, Look, Map, Moment, Now, Part, Piece, Ranges, Reply, Transfer, Width,
+    Answer, Builder, Card, Com1, Error, Event, Kind, Look, Map, Moment, Now, Part, Piece, Ranges, Reply, Transfer,
+    Width,
 };
 use std::cell::UnsafeCell;
 use std::fmt;
