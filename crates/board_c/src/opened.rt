@@ -3,7 +3,7 @@
 use machine::Machine;
 use std::marker::Model;
 
-/// A machine as a handle has it. Contracts see it as some: the value of no machine is None.
+/// A machine as a handle has it. In contracts it is `Some`; `None` stands for a closed handle.
 #[derive(Drop)]
 pub struct Opened {
     pub machine: Machine,

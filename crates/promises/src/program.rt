@@ -1,5 +1,4 @@
-//! The headline and totality, of the whole program: over a command line, files and outputs that say what they give and
-//! take.
+//! The headline and totality, of the whole program: against models of the command line, files and outputs.
 
 ghost use Rattle.std.specs.Prelude.{◌≡◌, ◌≢◌, ◌++◌, ◌∷◌, ◌⊎◌, [], All, IsUtf8, List, ℕ, None, Some};
 ghost use Rattle.std.specs.Process.{exit_status};
