@@ -1,5 +1,5 @@
 use Rattle.std.proofs.Common.{◌∙◌, ap, subst}
-use Rattle.board_chipset.specs.Common.{Running}
+use Rattle.board_chipset.specs.Chipset.{Running}
 use Rattle.machine_records.specs.declared.reply.ReplyRecord.{ReplyRecord}
 use Rattle.machine_records.specs.Lines.{AreLinesOf}
 use Rattle.machine_records.specs.Replies.{with_lines}
