@@ -3,3 +3,4 @@ pub mod PutLemmas
 pub mod Answers
 pub mod Causes
 pub mod Exact
+pub mod OwnPlaces

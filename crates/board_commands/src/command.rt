@@ -98,7 +98,8 @@ fn run_words<R: Threads + Wait + Sync, S: Shelf, K: Sink, G: Gate>(
 
 /// Does the command that the words are (`Command` has them all), with files from a shelf, and puts its text to a sink.
 /// Where several causes of a status hold, the words come first, then the files in the order in which they are read,
-/// then the output. Nothing is put before all else is done. Only `run` may wait.
+/// then the output. Nothing is put before all else is done. Only `run` may wait, and only where several processors act
+/// does it call the gate.
 pub fn board<R: Threads + Wait + Sync, S: Shelf, K: Sink, G: Gate>(
     rt: &R,
     alloc: Global,

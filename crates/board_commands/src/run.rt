@@ -1,16 +1,19 @@
 //! Runs of scripts on threads.
 
-ghost use Rattle.std.specs.Prelude.{◌≡◌, [], reverse, IfOk};
+ghost use Rattle.std.specs.Prelude.{◌≡◌, [], All, reverse, IfOk, IsTrue};
 ghost use Rattle.board_prelude.specs.{IsLegal, IsCompleteFor};
 ghost use Rattle.run_order.specs.Places.{AreAllInPlace};
 ghost use Rattle.script_spec.specs.ScriptRange.{IsInRangeScript};
 ghost use Rattle.scripts.specs.Script.{said_of};
+ghost use Rattle.command_texts.specs.Fresh.{IsFreshFor};
 ghost use Rattle.board_commands.specs.Texts.{IsRunText};
 
 use board_base::NoMemory;
 use board_core::Board;
 use board_outside::Gate;
+use board_spec::Statement;
 use board_spec::laws::law_lock;
+use command_texts::log_of_replay;
 use logs::Text;
 use phase_threads::{EndedRun, run_phases};
 use scripts::Script;
@@ -39,7 +42,42 @@ pub fn run_script<R: Threads + Wait + Sync, G: Gate>(
     run_phases(rt, alloc, board, script.cpus, script.phases, gate)
 }
 
-/// The log of a run of a script. As many threads write it as the script has processors.
+/// The processor of a script's first statement, and 0 where there is none.
+fn first_actor(phases: &[Vec<Statement>]) -> u8 {
+    for phase in phases {
+        if let Some(first) = phase.first() {
+            return first.actor;
+        }
+    }
+    0
+}
+
+/// Whether all statements of a phase are of one processor.
+fn is_by(phase: &[Statement], actor: u8) -> bool
+    ensures by { IsTrue result → All (λ statement. statement.actor ≡ actor) phase.now }
+{
+    phase.iter().all(|statement| statement.actor == actor)
+}
+
+/// Whether all statements of a script are of one processor.
+fn are_by(phases: &[Vec<Statement>], actor: u8) -> bool
+    ensures by { IsTrue result → All (λ phase. All (λ statement. statement.actor ≡ actor) phase.items) phases.now }
+{
+    phases.iter().all(|phase| is_by(phase, actor))
+}
+
+/// The log of a run of a script whose statements are all of one processor: that of its replay, since nobody else acts
+/// meanwhile. No gate is called.
+fn log_of_one(alloc: Global, board: Board, script: &Script, actor: u8) -> Result<Text, NoMemory>
+    requires fresh { IsFreshFor (said_of script.now) board }
+    requires one { All (All (λ statement. statement.actor ≡ actor)) (said_of script.now).phases }
+    ensures text { IfOk result (λ text. IsRunText board.setup (said_of script.now) text) }
+{
+    log_of_replay(alloc, board, script)
+}
+
+/// The log of a run of a script. As many threads write it as the script has processors, where more than one has
+/// statements.
 #[tactic(auto, using(std::proofs::lemmas::Bool::Decides::nat_tests))]
 pub(crate) fn log_of_run<R: Threads + Wait + Sync, G: Gate>(
     rt: &R,
@@ -53,6 +91,10 @@ pub(crate) fn log_of_run<R: Threads + Wait + Sync, G: Gate>(
     requires fresh { board.entries ≡ [] }
     ensures text { IfOk result (λ text. IsRunText board.setup (said_of script) text) }
 {
+    let only = first_actor(&script.phases);
+    if are_by(&script.phases, only) {
+        return log_of_one(alloc, board, &script, only);
+    }
     let (version, cpus) = (script.version, script.cpus);
     let ended = run_script(rt, alloc, board, script, gate)?;
     let text = ended.log(rt, alloc, cpus, version)?;
