@@ -1,7 +1,6 @@
 -- What the record of a part names is this part.
 use Rattle.std.proofs.Common.{◌≡◌, Option, Some, refl, arith}
 use Rattle.board_prelude.proofs.{lt-ltb, nat_tests, Dev, Area, Target, Denial, Register, Part}
-use Rattle.board_base.specs.declared.target.Dev.TheVariants as devices
 use Rattle.board_base.specs.declared.target.Area.TheVariants as areas
 use Rattle.board_base.specs.declared.target.Target.TheVariants as targets
 use Rattle.script_spec.specs.WellFormed.{FitsDevice, FitsTarget, FitsPart}

@@ -1,5 +1,5 @@
 -- Which records ask for no pulses, and whether OUT of counter 0 rises at one of some.
-use Rattle.std.proofs.Common.{◌≡◌, ℕ, zero, suc, ◌+◌, ◌-◌, ◌<◌, ◌≤◌, Bool, true, false, not, ◌&&◌, if◌then◌else◌, List}
+use Rattle.std.proofs.Common.{◌≡◌, ℕ, zero, suc, ◌-◌, ◌<◌, ◌≤◌, Bool, true, false, not, ◌&&◌, if◌then◌else◌, List}
 use Rattle.std.proofs.Common.{Option, Some, None, IfSome, nat_lt, nat_le, option_map, option_and_then, inl, inr, refl}
 use Rattle.std.proofs.Common.{subst, sym, arith, ◌==◌}
 use Rattle.std.proofs.lemmas.Bool.{cases_lt}
@@ -11,7 +11,7 @@ use Rattle.board_spec.specs.declared.event.Event.TheVariants.{Look as LookAt}
 use Rattle.pit_8254.specs.NextRise.{IsNextRise, RisesAt}
 use Rattle.board_chipset.specs.Chipset.{Running, IsLeftBy}
 use Rattle.uart_16550.specs.declared.com1.Happening.{Happening}
-use Rattle.uart_16550.specs.declared.com1.Happening.TheVariants.{Comes, Happens}
+use Rattle.uart_16550.specs.declared.com1.Happening.TheVariants.{Happens}
 use Rattle.machine_records.specs.declared.event.EventRecord.{EventRecord}
 use Rattle.machine_records.specs.Events.{access_said, asked_by, asked_said, cycle_said, event_said}
 use Rattle.machine_records.specs.Events.{direction_said, is_plain, kind_said, port_said, width_said}

@@ -1,5 +1,4 @@
--- Which reply a record says: none where a number of it names nothing, or does not fit where it goes. What a reply has
--- no
+-- Which reply a record says: none where a number of it names nothing, or does not fit where it goes. What a reply has no
 -- use for is not read, nor what stands after the step.
 use Rattle.std.specs.Prelude.{ℕ, ◌==◌, ◌^◌, nat_lt, nat_le, if◌then◌else◌, Option, Some, None}
 use Rattle.board_prelude.specs.{Parts, Reply}

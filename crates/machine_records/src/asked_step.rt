@@ -32,9 +32,9 @@ use uart_16550::{Happening, SerialBoard, is_for_uart};
 
 /// Does what a record asks, and writes the reply to another: the chipset's, in which a read of configuration data has
 /// the bytes of the card's identity, and one of an expansion ROM those that it was given, and then the interrupt lines;
-/// what a guest writes to the address of an expansion ROM is lost. Refused with why where the record asks nothing (`NO_EVENT`), an event that is out of range,
-/// or a byte for which COM1 has no room (`SERIAL_FULL`); then nothing has changed.
-#[tactic(auto, using(crate::proofs::FittedSteps::fitted_step, crate::proofs::FittedSteps::lines_told))]
+/// what a guest writes to the address of an expansion ROM is lost. Refused with why where the record asks nothing
+/// (`NO_EVENT`), an event that is out of range, or a byte for which COM1 has no room (`SERIAL_FULL`); then nothing has
+/// changed.
 #[inline(always)]
 pub fn step(machine: &mut Machine, event: &EventRecord, reply: &mut ReplyRecord) -> u32
     ensures outcome { IsOutcome result
