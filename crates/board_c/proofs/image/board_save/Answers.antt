@@ -1,4 +1,4 @@
-use Rattle.std.proofs.Common.{◌≡◌, length, subst, sym, ◌∙◌, true, false, true≢false, arith}
+use Rattle.std.proofs.Common.{◌≡◌, length, subst, sym, ◌∙◌, false, true≢false, arith}
 use Rattle.board_prelude.proofs.{nat_tests}
 use Rattle.machine.specs.Images.{IsSavedState, image_bytes}
 use Rattle.machine.specs.Machines.{Saved}
