@@ -188,6 +188,7 @@ static board_reply one_by_one(uint8_t kind, uint16_t port, uint8_t bytes, uint32
         joined.value = whole.value | reply.value << 8 * done;
         if (whole.reset > reply.reset) joined.reset = whole.reset;
         if (whole.has_sent) joined.has_sent = 1, joined.sent = whole.sent;
+        joined.rose |= whole.rose;
         if (cycles > 0) {
             memcpy(joined.part, whole.part, sizeof joined.part);
             joined.part[cycles] = reply.part[0];
