@@ -355,10 +355,10 @@ uint32_t board_step(board *handle, const board_event *event, board_reply *reply)
  * byte that one of them sent: no access sends two; rose has the lines that rose in any. version, interrupt, lines, irq4
  * and serial_room are as after the last cycle. Where version grew by more than 1 the windows of board_ranges are those
  * of the last change alone.
- * BAD_HANDLE; NO_EVENT of another count of bytes, and where the last one lies past port FFFFh; of board_out VALUE.
+ * BAD_HANDLE; NO_EVENT of another count of bytes, and where the last one lies past port FFFFh; of board_out_cycles VALUE.
  * Then no cycle was made. */
-uint32_t board_in(board *handle, uint16_t port, uint8_t bytes, board_reply *reply);
-uint32_t board_out(board *handle, uint16_t port, uint8_t bytes, uint32_t value, board_reply *reply);
+uint32_t board_in_cycles(board *handle, uint16_t port, uint8_t bytes, board_reply *reply);
+uint32_t board_out_cycles(board *handle, uint16_t port, uint8_t bytes, uint32_t value, board_reply *reply);
 /* Lets the clock go on one second: BOARD_TIME of the second after the one that its registers say, in
  * whichever form register B has them. Two digits of the year are one of 1980 to 2079; the weekday's
  * register is not read, and set to the date's. event is what was done, for board_text.
@@ -597,6 +597,19 @@ static inline bool board_range_clip(board_range *range, uint32_t mib) {
 static inline uint8_t board_cycle(uint32_t addr, uint64_t bytes) {
     if (bytes >= 4 && addr % 4 == 0) return 4;
     return bytes >= 2 && addr % 2 == 0 ? 2 : 1;
+}
+
+/* Reads a port of 1, 2 or 4 bytes, or writes it: an aligned one is one event, as board_step does it, and another is that
+ * of board_in_cycles, whose statuses these have. */
+static inline uint32_t board_in(board *handle, uint16_t port, uint8_t bytes, board_reply *reply) {
+    if (board_cycle(port, bytes) != bytes) return board_in_cycles(handle, port, bytes, reply);
+    return board_ask(handle, BOARD_PORT, BOARD_READ, port, bytes, 0, 0, reply);
+}
+
+static inline uint32_t board_out(board *handle, uint16_t port, uint8_t bytes, uint32_t value,
+                                 board_reply *reply) {
+    if (board_cycle(port, bytes) != bytes) return board_out_cycles(handle, port, bytes, value, reply);
+    return board_ask(handle, BOARD_PORT, BOARD_WRITE, port, bytes, 0, value, reply);
 }
 
 /* Acknowledges the interrupt: reply->value is its vector.

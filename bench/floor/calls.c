@@ -207,6 +207,15 @@ uint32_t board_step(board *handle, const board_event *event, board_reply *reply)
 
 /* ---- a board of a BIOS's first steps: no cards, and a disk that is ready */
 
+/* No row has an access at ports that is cut. */
+uint32_t board_in_cycles(board *handle, uint16_t at, uint8_t bytes, board_reply *reply) {
+    return (void)handle, (void)at, (void)bytes, (void)reply, UNKNOWN;
+}
+
+uint32_t board_out_cycles(board *handle, uint16_t at, uint8_t bytes, uint32_t value, board_reply *reply) {
+    return (void)handle, (void)at, (void)bytes, (void)value, (void)reply, UNKNOWN;
+}
+
 uint32_t board_open(board *handle, uint32_t mib, const board_card *cards, size_t card_count, const uint8_t *rom,
                     size_t rom_bytes, const uint8_t *sectors, size_t sectors_bytes) {
     (void)cards, (void)sectors;

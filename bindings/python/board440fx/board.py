@@ -137,9 +137,9 @@ class Board:
             raise BadValue(f"{event.value:#x}")
         with self._lock:
             if event.kind == records.KindNumber.READ:
-                status = self._library.board_in(self._handle, port, count, self._reply)
+                status = self._library.board_in_cycles(self._handle, port, count, self._reply)
             else:
-                status = self._library.board_out(self._handle, port, count, event.value, self._reply)
+                status = self._library.board_out_cycles(self._handle, port, count, event.value, self._reply)
             check(status, event)
             answer = answer_of(event, self._reply)
             self.last = answer

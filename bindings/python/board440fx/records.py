@@ -180,8 +180,8 @@ _HANDLE, _BYTES, _SIZE = c.POINTER(HandleRecord), c.POINTER(U8), c.c_size_t
 CALLS: dict[str, list[type]] = {
     "board_open": [_HANDLE, U32, c.POINTER(CardRecord), _SIZE, c.c_char_p, _SIZE, c.c_char_p, _SIZE],
     "board_step": [_HANDLE, c.POINTER(EventRecord), c.POINTER(ReplyRecord)],
-    "board_in": [_HANDLE, U16, U8, c.POINTER(ReplyRecord)],
-    "board_out": [_HANDLE, U16, U8, U32, c.POINTER(ReplyRecord)],
+    "board_in_cycles": [_HANDLE, U16, U8, c.POINTER(ReplyRecord)],
+    "board_out_cycles": [_HANDLE, U16, U8, U32, c.POINTER(ReplyRecord)],
     "board_second": [_HANDLE, c.POINTER(EventRecord), c.POINTER(ReplyRecord)],
     "board_in_many": [_HANDLE, U16, U8, c.POINTER(U32), _SIZE, c.POINTER(_SIZE), c.POINTER(ReplyRecord)],
     "board_out_many": [_HANDLE, U16, U8, c.POINTER(U32), _SIZE, c.POINTER(_SIZE), c.POINTER(ReplyRecord)],

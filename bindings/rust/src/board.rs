@@ -290,7 +290,7 @@ impl Board {
     pub fn input(&mut self, port: u16, width: Width) -> Result<u32, Error> {
         let mut reply = raw::Reply::default();
         // SAFETY: as of `step`.
-        check(unsafe { raw::board_in(self.handle.get(), port, width.bytes(), &mut reply) })?;
+        check(unsafe { raw::board_in_cycles(self.handle.get(), port, width.bytes(), &mut reply) })?;
         self.last = Some(Answer::of(&Event::In { port, width }, &reply)?);
         Ok(reply.value as u32)
     }
@@ -303,7 +303,7 @@ impl Board {
     pub fn out(&mut self, port: u16, width: Width, value: u32) -> Result<Answer, Error> {
         let mut reply = raw::Reply::default();
         // SAFETY: as of `step`.
-        check(unsafe { raw::board_out(self.handle.get(), port, width.bytes(), value, &mut reply) })?;
+        check(unsafe { raw::board_out_cycles(self.handle.get(), port, width.bytes(), value, &mut reply) })?;
         let answer = Answer::of(&Event::Out { port, width, value }, &reply)?;
         self.last = Some(answer);
         Ok(answer)

@@ -236,8 +236,8 @@ extern "C" {
         disk_bytes: usize,
     ) -> u32;
     pub(crate) fn board_step(handle: *mut Handle, event: *const Event, reply: *mut Reply) -> u32;
-    pub(crate) fn board_in(handle: *mut Handle, port: u16, bytes: u8, reply: *mut Reply) -> u32;
-    pub(crate) fn board_out(handle: *mut Handle, port: u16, bytes: u8, value: u32, reply: *mut Reply) -> u32;
+    pub(crate) fn board_in_cycles(handle: *mut Handle, port: u16, bytes: u8, reply: *mut Reply) -> u32;
+    pub(crate) fn board_out_cycles(handle: *mut Handle, port: u16, bytes: u8, value: u32, reply: *mut Reply) -> u32;
     pub(crate) fn board_second(handle: *mut Handle, event: *mut Event, reply: *mut Reply) -> u32;
     pub(crate) fn board_in_many(
         handle: *mut Handle,

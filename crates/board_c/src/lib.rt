@@ -27,7 +27,7 @@ pub use image::{board_load, board_load_with, board_save, board_save_without};
 pub use many::{board_in_many, board_out_many};
 pub use map::{board_decode, board_pulses_to_rise, board_ranges};
 pub use now::board_now;
-pub use ports::{board_in, board_out};
+pub use ports::{board_in_cycles, board_out_cycles};
 pub use second::{board_lines, board_second, board_serial_state};
 pub use text::board_text;
 pub use transfer::{board_transfer_begin, board_transfer_next, board_transfer_region};

@@ -14,7 +14,7 @@ use std::alloc::Global;
 /// has, and writes their replies, joined. `BAD_HANDLE` exactly where the handle is closed; refused with why where there
 /// is no such access. Then nothing has changed.
 #[unsafe(no_mangle)]
-pub extern "C" fn board_in(
+pub extern "C" fn board_in_cycles(
     alloc: Global,
     handle: &mut Handle,
     port: u16,
@@ -35,9 +35,9 @@ pub extern "C" fn board_in(
     status
 }
 
-/// Writes so many bytes from a port on, as `board_in` reads them.
+/// Writes so many bytes from a port on, as `board_in_cycles` reads them.
 #[unsafe(no_mangle)]
-pub extern "C" fn board_out(
+pub extern "C" fn board_out_cycles(
     alloc: Global,
     handle: &mut Handle,
     port: u16,
