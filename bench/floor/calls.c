@@ -28,6 +28,7 @@ typedef struct {
     uint32_t address, version;
     pic pics[2];                                  /* the master and the slave */
     uint8_t interrupt;
+    uint16_t lines;                               /* the levels of the interrupt lines */
 } chip;
 typedef uint32_t handler(chip *, const board_event *, board_reply *);
 
@@ -44,7 +45,8 @@ static inline void fill(const chip *it, board_reply *reply) {
     memset(&reply->part[1], 0, sizeof reply->part - sizeof *reply->part);
     reply->sent = reply->has_sent = reply->irq4 = 0;
     reply->serial_room = 1;
-    reply->lines = reply->rose = 0;
+    reply->lines = it->lines;
+    reply->rose = 0;                              /* no row raises a line */
 }
 
 static inline uint32_t read_as(board_reply *reply, uint64_t value) {
@@ -146,9 +148,10 @@ static uint32_t interrupts(chip *it, const board_event *event, board_reply *repl
     return written(reply);
 }
 
-/* The count that a BIOS writes: nothing here counts it. */
+/* The mode and the count that a BIOS writes. Mode 2 sets OUT of counter 0, which is line 0; nothing here counts. */
 static uint32_t timer(chip *it, const board_event *event, board_reply *reply) {
     if (event->bytes != 1 || event->kind != BOARD_WRITE) return UNKNOWN;
+    if (event->addr == 0x43) it->lines = 1;
     by_device(it, reply, BOARD_PIT);
     return written(reply);
 }
