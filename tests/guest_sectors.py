@@ -177,6 +177,27 @@ def in_one_file(out: pathlib.Path, processor: str) -> None:
     print(f"passed: examples/{processor}.c boots a sector in {seconds:.1f} s, writes its disk, is saved and goes on")
 
 
+def in_kernel(out: pathlib.Path) -> None:
+    """The monitor over KVM's own pair of 8259A boots a sector, which ticks and takes keys by the lines that rose."""
+    disk = out / "hello-irqchip.img"
+    disk.write_bytes((out / "hello.img").read_bytes())
+    byte = disk.read_bytes()[512]
+    words = ["/usr/share/seabios/bios.bin", disk, "8"]
+    guest = Guest(out, "irqchip", "kvm-irqchip", *words, program="kvm-irqchip-one")
+    try:
+        seconds = guest.wait(f"hello: the disk's byte is {byte + 1:02X}\r\n01 ", SECTOR)
+        guest.press(b"x")
+        guest.wait("xx", SECTOR)
+        guest.wait("06 ", SECTOR)
+        guest.press(ONE_ENDS)
+        guest.process.wait(STARVED * END)
+    finally:
+        guest.end()
+    if disk.read_bytes()[512] != byte + 1:
+        raise Failed("irqchip: the disk's file is as it was")
+    print(f"passed: examples/kvm-irqchip.c boots a sector in {seconds:.1f} s, ticks, and writes its disk")
+
+
 def rust(out: pathlib.Path, library: pathlib.Path) -> None:
     """Rust's example for KVM boots a sector of a disk's file, which it writes, and takes keys."""
     target, folder, disk = out / "rust", HERE.parent / "bindings/rust", out / "hello-rust.img"
