@@ -153,7 +153,7 @@ static void save(const char *name) {
     munmap(image, s.image_bytes), write_disk();
 }
 static void load(const char *name) {
-    size_t bytes, place = s.mib << 20;
+    size_t bytes = 0, place = s.mib << 20;
     guest = map_file(name, MAP_PRIVATE, &bytes);
     if (bytes > place + sizeof s) memcpy(&s, guest + place, sizeof s);
     if (s.mib << 20 != place || bytes != place + sizeof s + s.image_bytes) ok(BOARD_BAD_IMAGE);
